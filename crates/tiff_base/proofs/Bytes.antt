@@ -1,0 +1,48 @@
+-- Reads in pieces.
+use Rattle.std.proofs.Common.{◌≡◌, ℕ, ◌+◌, ◌-◌, ◌≤◌, List, ◌++◌, length, take, drop, ap, sym, ◌∙◌, arith, length-append, length-drop, append_assoc}
+use Rattle.std.proofs.lemmas.List.{take_at, drop-drop, length-take-le}
+use Rattle.std.proofs.Math.Seq.{take-add}
+use borrow.Rule.Slice.PartMut.{put_mid, post_of}
+use Rattle.std.proofs.lemmas.Slice.{between_to_end}
+use Rattle.tiff_base.specs.Told.{bytes_at, Reads, Appends}
+
+-- A read gives as many bytes as it says.
+pub length-bytes_at : (bytes : List ℕ) (at n : ℕ) → n ≤ length bytes - at → length (bytes_at bytes at n) ≡ n
+length-bytes_at bytes at n h = length-take-le n (drop at bytes) (omega (arith, length-drop at bytes))
+
+-- two reads in a row
+pub bytes_at-add : (bytes : List ℕ) (at m n : ℕ) → bytes_at bytes at (m + n) ≡ bytes_at bytes at m ++ bytes_at bytes (at + m) n
+bytes_at-add bytes at m n = take-add m n (drop at bytes) ∙ ap (λ l. take m (drop at bytes) ++ take n l) (drop-drop m at bytes)
+
+-- what stands in a buffer after a read into the part from done on
+pub next_read : (bytes buf new old : List ℕ) (at done n k place : ℕ) → place ≡ at + done
+    → take done buf ≡ bytes_at bytes at done → done ≤ length buf
+    → Reads bytes place old n new
+    → take (done + n) (put_mid done k buf new) ≡ bytes_at bytes at (done + n)
+next_read bytes buf new old at done n k place p sofar fits r =
+    let part = bytes_at bytes place n in
+    let post = post_of done k buf in
+    let len : length (take done buf ++ part) ≡ done + n =
+    length-append (take done buf) part ∙ omega (arith, length-take-le done buf fits, length-bytes_at bytes place n r.in_bytes) in
+    let regroup : put_mid done k buf new ≡ (take done buf ++ part) ++ (drop n old ++ post) =
+    ap (λ l. take done buf ++ (l ++ post)) r.next
+    ∙ ap (λ l. take done buf ++ l) (append_assoc part (drop n old) post)
+    ∙ sym (append_assoc (take done buf) part (drop n old ++ post)) in
+    ap (take (done + n)) regroup
+    ∙ take_at (take done buf ++ part) (drop n old ++ post) (done + n) len
+    ∙ ap (λ l. l ++ part) sofar
+    ∙ ap (λ q. bytes_at bytes at done ++ bytes_at bytes q n) p
+    ∙ sym (bytes_at-add bytes at done n)
+
+-- what stands in a sink after a write of the rest
+pub next_append : (first old bytes new : List ℕ) (done n : ℕ)
+    → old ≡ first ++ take done bytes
+    → Appends old (take (length bytes - done) (drop done bytes)) n new
+    → new ≡ first ++ take (done + n) bytes
+next_append first old bytes new done n sofar r =
+    let le : length bytes ≤ length bytes = omega arith in
+    r.next
+    ∙ ap (λ (l : List ℕ). old ++ take n l) (between_to_end bytes done (length bytes) le)
+    ∙ ap (λ (l : List ℕ). l ++ take n (drop done bytes)) sofar
+    ∙ append_assoc first (take done bytes) (take n (drop done bytes))
+    ∙ ap (λ (l : List ℕ). first ++ l) (sym (take-add done n bytes))

@@ -1,0 +1,17 @@
+use Rattle.std.proofs.Common.{length, take, ◌-◌, ◌≡◌, ◌≤◌}
+use Rattle.tiff_base.specs.Told.{bytes_at}
+use Rattle.tiff_base.proofs.read.read_exact_at.Given as goal
+
+abbrev pub invariant-loop-done : goal.invariant-loop-done
+invariant-loop-done g l =
+    let bytes = g.R.Source.bytes l.fn.source in
+    record {
+      same_bytes : g.R.Source.bytes l.source ≡ bytes;
+      count : g.R.Source.failures l.fn.source ≤ g.R.Source.failures l.source;
+      in_buffer : l.done ≤ length l.buf;
+      in_bytes : l.done ≤ length bytes - l.at;
+      so_far : take l.done l.buf ≡ bytes_at bytes l.at l.done;
+    }
+
+abbrev pub decreases-loop-done : goal.decreases-loop-done
+decreases-loop-done g l = length l.initial.buf - l.done

@@ -1,0 +1,83 @@
+-- Entries and directories of a file (TIFF 6.0 section 2; BigTIFF).
+use Rattle.std.specs.Prelude.{ℕ, ◌+◌, ◌*◌, List, [], ◌∷◌, ◌++◌, reverse, Option, Some, None, Result, Ok, if◌then◌else◌, ◌==◌}
+use Rattle.std.specs.Option.{option_map}
+use Rattle.std.specs.Int.{Width, w16, w32, w64, byte_len}
+use Rattle.std.specs.List.{filter_map, range_with_len}
+use Rattle.std.specs.FinMap.{FinMap, from_entries}
+use Rattle.std.specs.Ordering.{nat_cmp}
+use Rattle.tiff_base.specs.declared.error.TiffError.{TiffError}
+use Rattle.tiff_base.specs.declared.tags.ByteOrder.{ByteOrder}
+use Rattle.tiff_base.specs.declared.tags.FileKind.{FileKind}
+use Rattle.tiff_base.specs.declared.tags.«Type».{«Type»}
+use Rattle.tiff_base.specs.declared.tags.FileKind.TheVariants.{Classic, Big}
+use Rattle.tiff_base.specs.Field.{Field, DirectoryRecord}
+use Rattle.tiff_base.specs.Tags.{type_of}
+use Rattle.tiff_base.specs.Told.{bytes_at, exactly_at}
+use Rattle.tiff_base.specs.Number.{number, number_at}
+use Rattle.tiff_base.specs.Answers.{◌>>=◌}
+
+-- the width of a directory's count of entries
+abbrev pub count_width : FileKind → Width
+count_width Classic = w16
+count_width Big = w64
+
+-- the width of each place, link, count of values and value field
+abbrev pub place_width : FileKind → Width
+place_width Classic = w32
+place_width Big = w64
+
+-- the bytes of an entry
+abbrev pub entry_len : FileKind → ℕ
+entry_len Classic = 12
+entry_len Big = 20
+
+-- the eight bytes of a value field; a short one is filled up by zeros
+abbrev pub value_of : FileKind → List ℕ → List ℕ
+value_of Classic entry = bytes_at entry 8 4 ++ (0 ∷ 0 ∷ 0 ∷ 0 ∷ [])
+value_of Big entry = bytes_at entry 12 8
+
+-- the field that the bytes of an entry of this type are
+abbrev pub field_of : FileKind → ByteOrder → List ℕ → «Type» → Field
+field_of kind order entry type = record {
+  field_type = type;
+  count = number order (place_width kind) (bytes_at entry 4 (byte_len (place_width kind)));
+  value = value_of kind entry;
+}
+
+-- the tag number and the field that an entry holds, where its type is known
+unfoldable pub entry_of : FileKind → ByteOrder → List ℕ → Option (ℕ × Field)
+entry_of kind order entry =
+    option_map (λ type. (number order w16 (bytes_at entry 0 2), field_of kind order entry type)) (type_of (number order w16 (bytes_at entry 2 2)))
+
+-- the entry at a place; none of unknown type
+abbrev pub entry_at : FileKind → ByteOrder → List ℕ → ℕ → Result (Option (ℕ × Field)) TiffError
+entry_at kind order bytes at = do
+  entry ← exactly_at bytes at (entry_len kind)
+  Ok (entry_of kind order entry)
+
+-- the entries of known type among the first `count` from a place on
+unfoldable pub entries_from : FileKind → ByteOrder → List ℕ → ℕ → ℕ → List (ℕ × Field)
+entries_from kind order bytes first count =
+    filter_map (λ i. entry_of kind order (bytes_at bytes (first + entry_len kind * i) (entry_len kind))) (range_with_len 0 count)
+
+-- each tag number with the last entry that has it
+unfoldable pub last_of_each : List (ℕ × Field) → FinMap nat_cmp Field
+last_of_each entries = from_entries (reverse entries)
+
+-- a link of 0 is no next directory
+abbrev pub link : ℕ → Option ℕ
+link place = if place == 0 then None else Some place
+
+-- where the entries and the link of a directory stand
+abbrev pub first_entry : FileKind → ℕ → ℕ
+first_entry kind at = at + byte_len (count_width kind)
+
+abbrev pub link_place : FileKind → ℕ → ℕ → ℕ
+link_place kind at count = first_entry kind at + entry_len kind * count
+
+-- the directory at a place: a count, so many entries, a link
+unfoldable pub directory_at : FileKind → ByteOrder → List ℕ → ℕ → Result DirectoryRecord TiffError
+directory_at kind order bytes at = do
+  count ← number_at order (count_width kind) bytes at
+  next ← number_at order (place_width kind) bytes (link_place kind at count)
+  Ok (record { entries = last_of_each (entries_from kind order bytes (first_entry kind at) count); next = link next })

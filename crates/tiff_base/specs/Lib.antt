@@ -1,0 +1,12 @@
+pub mod Depth
+pub mod Color
+pub mod Tags
+pub mod Types
+pub mod Told
+pub mod Answers
+pub mod Number
+pub mod Memory
+pub mod Field
+pub mod Directory
+pub mod Header
+pub mod FieldBytes

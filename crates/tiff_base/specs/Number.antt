@@ -1,0 +1,23 @@
+-- Numbers in a byte order (TIFF 6.0 section 2).
+use Rattle.std.specs.Prelude.{ℕ, List, Result, Ok}
+use Rattle.std.specs.Int.{Width, byte_len, from_le_bytes, from_be_bytes, bytes_low_first}
+use Rattle.tiff_base.specs.declared.error.TiffError.{TiffError}
+use Rattle.tiff_base.specs.declared.tags.ByteOrder.{ByteOrder}
+use Rattle.tiff_base.specs.declared.tags.ByteOrder.TheVariants.{LittleEndian, BigEndian}
+use Rattle.tiff_base.specs.Told.{exactly_at}
+use Rattle.tiff_base.specs.Answers.{◌>>=◌}
+
+-- the number that bytes of this width are
+unfoldable pub number : ByteOrder → Width → List ℕ → ℕ
+number LittleEndian w bytes = from_le_bytes w bytes
+number BigEndian w bytes = from_be_bytes w bytes
+
+-- the number at a place
+abbrev pub number_at : ByteOrder → Width → List ℕ → ℕ → Result ℕ TiffError
+number_at order w bytes at = do
+  found ← exactly_at bytes at (byte_len w)
+  Ok (number order w found)
+
+-- the lowest k bytes of a number, the least first
+abbrev pub le : ℕ → ℕ → List ℕ
+le k n = bytes_low_first 0 k n

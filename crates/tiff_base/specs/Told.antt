@@ -1,0 +1,37 @@
+-- What a source tells, and what a sink takes.
+use Rattle.std.specs.Prelude.{◌≡◌, ℕ, ◌+◌, ◌-◌, ◌≤◌, ◌<◌, List, ◌++◌, length, take, drop, if◌then◌else◌, nat_le, Result, Ok, Err}
+use Rattle.tiff_base.specs.declared.error.TiffError.{TiffError}
+use Rattle.tiff_base.specs.declared.error.TiffError.TheVariants.{IoError}
+use Rattle.tiff_base.specs.declared.io.IoKind.TheVariants.{UnexpectedEof}
+
+-- the bytes from a place on, or fewer at the end
+abbrev pub bytes_at : List ℕ → ℕ → ℕ → List ℕ
+bytes_at bytes at len = take len (drop at bytes)
+
+-- the bytes at a place, where there are so many; no bytes stand at every place
+abbrev pub exactly_at : List ℕ → ℕ → ℕ → Result (List ℕ) TiffError
+exactly_at bytes at len =
+    if nat_le len (length bytes - at) then Ok (bytes_at bytes at len) else Err (IoError UnexpectedEof)
+
+-- A read at a place gave n bytes into a buffer that held old and holds new.
+pub record Reads (bytes : List ℕ) (at : ℕ) (old : List ℕ) (n : ℕ) (new : List ℕ) : Type 0 where
+  pub in_buffer : n ≤ length old
+  pub in_bytes : n ≤ length bytes - at
+  pub some : 0 < length old → at < length bytes → 0 < n
+  pub next : new ≡ bytes_at bytes at n ++ drop n old
+
+-- A write at the end took the first n bytes.
+pub record Appends (old : List ℕ) (bytes : List ℕ) (n : ℕ) (new : List ℕ) : Type 0 where
+  pub in_bytes : n ≤ length bytes
+  pub some : 0 < length bytes → 0 < n
+  pub next : new ≡ old ++ take n bytes
+
+-- the bytes with others written over those from a place on
+abbrev pub put : List ℕ → ℕ → List ℕ → List ℕ
+put bytes at over = take at bytes ++ (over ++ drop (at + length over) bytes)
+
+-- A write at a place took the first n bytes.
+pub record Overwrites (old : List ℕ) (at : ℕ) (bytes : List ℕ) (n : ℕ) (new : List ℕ) : Type 0 where
+  pub in_bytes : n ≤ length bytes
+  pub some : 0 < length bytes → 0 < n
+  pub next : new ≡ put old at (take n bytes)

@@ -1,0 +1,77 @@
+//! What a page's samples are.
+
+ghost use Rattle.std.specs.Prelude.{◌≡◌};
+ghost use Rattle.tiff_base.specs.Color.{bit_depth, num_samples};
+
+/// The colour of a page, with the bits of each sample.
+#[derive(Clone, Copy, Debug, PartialEq, Eq, Hash)]
+#[non_exhaustive]
+pub enum ColorType {
+    /// One gray sample.
+    Gray(u8),
+    /// Red, green, blue.
+    RGB(u8),
+    /// An index of a colour map; never answered.
+    Palette(u8),
+    /// Gray and alpha; never answered.
+    GrayA(u8),
+    /// Red, green, blue, alpha.
+    RGBA(u8),
+    /// Cyan, magenta, yellow, black.
+    CMYK(u8),
+    /// Cyan, magenta, yellow, black, alpha.
+    CMYKA(u8),
+    /// Luminance and two chrominances.
+    YCbCr(u8),
+    /// CIE L*a*b* by ICC's encoding.
+    Lab(u8),
+    /// Several samples of one kind.
+    Multiband { bit_depth: u8, num_samples: u16 },
+}
+
+impl ColorType {
+    /// The bits of each sample.
+    pub fn bit_depth(&self) -> u8
+        ensures { result ≡ bit_depth self.now }
+    {
+        match *self {
+            ColorType::Gray(n) => n,
+            ColorType::RGB(n) => n,
+            ColorType::Palette(n) => n,
+            ColorType::GrayA(n) => n,
+            ColorType::RGBA(n) => n,
+            ColorType::CMYK(n) => n,
+            ColorType::CMYKA(n) => n,
+            ColorType::YCbCr(n) => n,
+            ColorType::Lab(n) => n,
+            ColorType::Multiband { bit_depth, .. } => bit_depth,
+        }
+    }
+
+    /// How many samples a pixel shows.
+    pub fn num_samples(&self) -> u16
+        ensures { result ≡ num_samples self.now }
+    {
+        match *self {
+            ColorType::Gray(_) => 1,
+            ColorType::RGB(_) => 3,
+            ColorType::Palette(_) => 1,
+            ColorType::GrayA(_) => 2,
+            ColorType::RGBA(_) => 4,
+            ColorType::CMYK(_) => 4,
+            ColorType::CMYKA(_) => 5,
+            ColorType::YCbCr(_) => 3,
+            ColorType::Lab(_) => 3,
+            ColorType::Multiband { num_samples, .. } => num_samples,
+        }
+    }
+}
+
+/// How an image is cut into chunks.
+#[derive(Clone, Copy, Debug, PartialEq, Eq)]
+pub enum ChunkType {
+    /// Rows of the whole width.
+    Strip,
+    /// Rectangles of one size.
+    Tile,
+}

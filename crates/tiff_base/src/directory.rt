@@ -1,0 +1,162 @@
+//! Directories: a field for each of some tags.
+
+ghost use Rattle.std.specs.Prelude.{◌≡◌, ◌++◌, ◌∷◌, [], IfOk, OnOk, OnErr, None, option_map};
+ghost use Rattle.std.specs.FinMap as map;
+ghost use Rattle.tiff_base.specs.Tags.{tag_number};
+ghost use Rattle.tiff_base.specs.Directory.{link};
+
+use crate::tags::{IfdPointer, Tag, Type};
+use std::alloc::{AllocError, Global};
+use std::collections::BTreeMap;
+use std::marker::Model;
+
+/// A field of a directory: the type of its values, how many there are, and their bytes or their place.
+#[derive(Clone, Debug, Drop)]
+pub struct Entry {
+    field_type: Type,
+    count: u64,
+    value: [u8; 8],
+}
+
+impl Model for Entry {
+    ghost use Rattle.tiff_base.specs.Field.{Field};
+
+    ghost Value = { Field };
+
+    ghost view = { λ e. record { field_type = e.field_type; count = e.count; value = e.value } };
+
+    ghost inverse = { λ f. record { field_type = f.field_type; count = f.count; value = f.value } };
+}
+
+impl Entry {
+    /// A field whose value field has 4 bytes, filled up by zeros.
+    pub fn new(field_type: Type, count: u32, value: [u8; 4]) -> Self
+        ensures { result ≡ record { field_type = field_type; count = count; value = value ++ (0 ∷ 0 ∷ 0 ∷ 0 ∷ []) } }
+    {
+        let mut wide = [0u8; 8];
+        wide[..4].copy_from_slice(&value);
+        Entry {
+            field_type,
+            count: u64::from(count),
+            value: wide,
+        }
+    }
+
+    /// A field whose value field has 8 bytes.
+    pub fn new_u64(field_type: Type, count: u64, value: [u8; 8]) -> Self
+        ensures { result ≡ record { field_type = field_type; count = count; value = value } }
+    {
+        Entry {
+            field_type,
+            count,
+            value,
+        }
+    }
+
+    /// The type of the values.
+    pub fn field_type(&self) -> Type
+        ensures { result ≡ self.now.field_type }
+    {
+        self.field_type
+    }
+
+    /// How many values there are.
+    pub fn count(&self) -> u64
+        ensures { result ≡ self.now.count }
+    {
+        self.count
+    }
+
+    /// The eight bytes of the value field.
+    pub fn value(&self) -> [u8; 8]
+        ensures { result ≡ self.now.value }
+    {
+        self.value
+    }
+}
+
+/// The fields of a directory by their tags, and the place of the next directory.
+#[derive(Debug, Drop)]
+pub struct Directory {
+    entries: BTreeMap<u16, Entry>,
+    next: u64,
+}
+
+impl Model for Directory {
+    ghost use Rattle.std.specs.FinMap as map;
+    ghost use Rattle.tiff_base.specs.Field.{DirectoryRecord};
+
+    ghost Value = { DirectoryRecord };
+
+    ghost use Rattle.std.specs.Coded.{codes};
+
+    ghost coded = { Prim.hlevel (codes, map.code) };
+
+    ghost use Rattle.tiff_base.specs.Directory.{link};
+
+    ghost view = { λ d. record { entries = map.from_entries d.entries.entries; next = link d.next } };
+}
+
+impl Directory {
+    /// A directory with no field and no next one.
+    pub fn empty(alloc: Global) -> Self
+        ensures { result ≡ record { entries = map.empty; next = None } }
+    {
+        Directory {
+            entries: BTreeMap::new(alloc),
+            next: 0,
+        }
+    }
+
+    /// The field of a tag.
+    #[tactic(auto, using(crate::proofs::Maps::get_of_tree))]
+    pub fn get(&self, tag: Tag) -> Option<&Entry>
+        ensures { option_map (λ e. e.now) result ≡ map.get self.now.entries (tag_number tag) }
+    {
+        self.entries.get(&tag.to_u16())
+    }
+
+    /// Whether there is a field of a tag.
+    #[tactic(auto, using(crate::proofs::Maps::get_of_tree))]
+    pub fn contains(&self, tag: Tag) -> bool
+        ensures { result ≡ map.contains_key self.now.entries (tag_number tag) }
+    {
+        self.entries.contains_key(&tag.to_u16())
+    }
+
+    /// How many fields there are.
+    #[tactic(auto, using(crate::proofs::Maps::len_of_tree))]
+    pub fn len(&self) -> usize
+        ensures { result ≡ map.len self.now.entries }
+    {
+        self.entries.len()
+    }
+
+    /// The place of the next directory.
+    pub fn next(&self) -> Option<IfdPointer>
+        ensures { option_map (λ p. p.0) result ≡ self.now.next }
+    {
+        if self.next == 0 {
+            None
+        } else {
+            Some(IfdPointer(self.next))
+        }
+    }
+
+    /// Sets the field of a tag number.
+    #[tactic(auto, using(crate::proofs::Maps::insert_of_tree))]
+    pub fn insert(&mut self, tag: u16, entry: Entry) -> Result<(), AllocError>
+        ensures ok { OnOk result (self.new ≡ record self.old { entries = map.insert self.old.entries tag entry }) }
+        ensures err { OnErr result (self.new ≡ self.old) }
+    {
+        self.entries.insert(tag, entry)?;
+        Ok(())
+    }
+
+    /// Sets the place of the next directory; 0 is none.
+    pub fn link_to(&mut self, place: u64)
+        ensures { self.new ≡ record self.old { next = link place } }
+    {
+        self.next = place;
+    }
+}

@@ -1,0 +1,191 @@
+//! Where bytes come from and go to.
+
+ghost use Rattle.std.specs.Prelude.{◌≡◌, ℕ, ◌+◌, ◌^◌, ◌≤◌, ◌<◌, List, length, IfOk, OnOk, OnErr};
+ghost use Rattle.tiff_base.specs.Told.{Reads, Appends, Overwrites};
+
+use crate::count::Count;
+use thiserror::Error;
+
+/// What went wrong between this library and its bytes.
+#[derive(Clone, Copy, Debug, PartialEq, Eq, Error)]
+pub enum IoKind {
+    /// The bytes end before what was asked for.
+    #[error("unexpected end of file")]
+    UnexpectedEof,
+    /// The samples handed in are too few or too many.
+    #[error("invalid data")]
+    InvalidData,
+    /// An argument that no file can have.
+    #[error("invalid input")]
+    InvalidInput,
+    /// Nothing to write.
+    #[error("write zero")]
+    WriteZero,
+    /// The source or the sink failed.
+    #[error("device fault")]
+    Device,
+}
+
+/// A source did not answer.
+#[derive(Clone, Copy, Debug, PartialEq, Eq)]
+pub struct DeviceFault;
+
+/// Why a sink took nothing.
+#[derive(Clone, Copy, Debug, PartialEq, Eq)]
+pub enum SinkFault {
+    /// The device failed.
+    Device,
+    /// The sink found no memory.
+    OutOfMemory,
+}
+
+/// Bytes that can be read at any place.
+pub trait Source {
+    /// The bytes; they never change.
+    ghost bytes: { Self → List ℕ };
+
+    /// How many reads failed so far.
+    ghost failures: { Self → ℕ };
+
+    /// Reads the bytes from `at` on, as many as it gives, but none only at the end or for an empty buffer.
+    fn read_at(&mut self, at: u64, buf: &mut [u8]) -> Result<usize, DeviceFault>
+        ensures bytes { bytes self.new ≡ bytes self.old }
+        ensures ok { IfOk result (λ n. Reads (bytes self.old) at buf.old n buf.new) }
+        ensures answered { OnOk result (failures self.new ≡ failures self.old) }
+        ensures failed { OnErr result (failures self.old < failures self.new) };
+
+    /// Every place is below 2^64.
+    ghost places: { (s : Self) → length (bytes s) < 2 ^ 64 };
+}
+
+/// Bytes that can be added to, and written over.
+pub trait Sink {
+    /// The bytes that it was told and took.
+    ghost told: { Self → List ℕ };
+
+    /// How many writes failed so far.
+    ghost failures: { Self → ℕ };
+
+    /// How many bytes there are.
+    fn len(&self) -> u64
+        ensures { result ≡ length (told self.now) };
+
+    /// Adds bytes at the end, as many as it takes, but none only of an empty list. After a fault the bytes are as
+    /// they were.
+    fn append(&mut self, bytes: &[u8]) -> Result<usize, SinkFault>
+        ensures ok { IfOk result (λ n. Appends (told self.old) bytes.now n (told self.new)) }
+        ensures err { OnErr result (told self.new ≡ told self.old) }
+        ensures answered { OnOk result (failures self.new ≡ failures self.old) }
+        ensures failed { OnErr result (failures self.old < failures self.new) };
+
+    /// Writes over the bytes from `at` on, as many as it takes, but none only of an empty list. After a fault the
+    /// bytes are as they were.
+    fn overwrite(&mut self, at: u64, bytes: &[u8]) -> Result<usize, SinkFault>
+        requires { at + length bytes.now ≤ length (told self.old) }
+        ensures ok { IfOk result (λ n. Overwrites (told self.old) at bytes.now n (told self.new)) }
+        ensures err { OnErr result (told self.new ≡ told self.old) }
+        ensures answered { OnOk result (failures self.new ≡ failures self.old) }
+        ensures failed { OnErr result (failures self.old < failures self.new) };
+
+    /// A sink holds less than 2^63 bytes.
+    ghost short: { (s : Self) → length (told s) < 2 ^ 63 };
+}
+
+/// A source in memory. No read of it fails.
+#[derive(Drop)]
+pub struct MemorySource {
+    items: Vec<u8>,
+    ghost places: { length items.items < 2 ^ 64 },
+}
+
+impl MemorySource {
+    ghost use Rattle.tiff_base.specs.Memory.{source_bytes};
+
+    /// The source of these bytes.
+    pub fn new(items: Vec<u8>) -> Self
+        ensures { source_bytes result ≡ items.items }
+    {
+        let _len = items.len();
+        MemorySource { items }
+    }
+}
+
+impl Source for MemorySource {
+    ghost use Rattle.tiff_base.specs.Memory.{source_bytes};
+
+    ghost bytes = { source_bytes };
+
+    ghost failures = { λ _. 0 };
+
+    ghost places = { λ s. s.places };
+
+    fn read_at(&mut self, at: u64, buf: &mut [u8]) -> Result<usize, DeviceFault> {
+        let items = self.items.as_slice();
+        if at >= items.len() as u64 {
+            return Ok(0);
+        }
+        let rest = &items[at as usize..];
+        let n = rest.len().min(buf.len());
+        buf[..n].copy_from_slice(&rest[..n]);
+        Ok(n)
+    }
+}
+
+/// A sink in memory. It fails only for want of memory.
+#[derive(Drop)]
+pub struct MemorySink {
+    items: Vec<u8>,
+    failed: Count,
+}
+
+impl MemorySink {
+    ghost use Rattle.tiff_base.specs.Memory.{sink_bytes};
+
+    /// A sink that holds these bytes.
+    pub fn new(items: Vec<u8>) -> Self
+        ensures { sink_bytes result ≡ items.items }
+    {
+        MemorySink {
+            items,
+            failed: Count::new(),
+        }
+    }
+
+    /// The bytes.
+    pub fn into_vec(self) -> Vec<u8>
+        ensures { result.items ≡ sink_bytes self }
+    {
+        let MemorySink { items, failed: _ } = self;
+        items
+    }
+}
+
+impl Sink for MemorySink {
+    ghost use Rattle.std.proofs.Common.{arith};
+    ghost use Rattle.tiff_base.specs.Memory.{sink_bytes};
+
+    ghost told = { sink_bytes };
+
+    ghost failures = { λ s. s.failed };
+
+    ghost short = { λ s. Prim.omega (arith, s.items.ok, s.items.small) };
+
+    fn len(&self) -> u64 {
+        self.items.len() as u64
+    }
+
+    fn append(&mut self, bytes: &[u8]) -> Result<usize, SinkFault> {
+        if self.items.extend_from_slice(bytes).is_err() {
+            self.failed.add();
+            return Err(SinkFault::OutOfMemory);
+        }
+        Ok(bytes.len())
+    }
+
+    fn overwrite(&mut self, at: u64, bytes: &[u8]) -> Result<usize, SinkFault> {
+        let from = at as usize;
+        let to = from + bytes.len();
+        self.items[from..to].copy_from_slice(bytes);
+        Ok(bytes.len())
+    }
+}

@@ -1,0 +1,12 @@
+//! What every other crate of this project stands on: faults, sources and sinks of bytes, the numbers of TIFF's
+//! enums, numbers in both byte orders, and directories.
+#![tactic(auto)]
+
+pub mod color;
+mod count;
+pub mod directory;
+pub mod error;
+pub mod io;
+pub mod lists;
+pub mod read;
+pub mod tags;

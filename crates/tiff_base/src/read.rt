@@ -1,0 +1,124 @@
+//! Reads of all of what is asked for, and numbers in a byte order.
+
+ghost use Rattle.std.specs.Prelude.{◌≡◌, ◌+◌, ◌≤◌, length};
+ghost use Rattle.std.specs.Int.{w16, w32, w64};
+ghost use Rattle.tiff_base.specs.Told.{bytes_at, exactly_at};
+ghost use Rattle.tiff_base.specs.Number.{number, number_at};
+ghost use Rattle.tiff_base.specs.Answers.{AnswersExactly, IsKept};
+
+use crate::error::{TiffError, TiffResult};
+use crate::io::{IoKind, Source};
+use crate::tags::ByteOrder;
+
+/// Fills the buffer with the bytes at a place. Fewer bytes there: `IoError(UnexpectedEof)`.
+#[tactic(auto, using(crate::proofs::Bytes::next_read))]
+pub fn read_exact_at<R: Source>(source: &mut R, at: u64, buf: &mut [u8]) -> TiffResult<()>
+    ensures kept { IsKept R.bytes R.failures source.old source.new }
+    ensures answer { AnswersExactly (λ _. buf.new) result (exactly_at (R.bytes source.old) at (length buf.old)) (R.failures source.old) (R.failures source.new) }
+{
+    let mut done = 0;
+    while done < buf.len() {
+        let Some(place) = at.checked_add(done as u64) else {
+            return Err(TiffError::IoError(IoKind::UnexpectedEof));
+        };
+        let n = source.read_at(place, &mut buf[done..])?;
+        if n == 0 {
+            return Err(TiffError::IoError(IoKind::UnexpectedEof));
+        }
+        done += n;
+    }
+    Ok(())
+}
+
+/// The number that two bytes are.
+#[tactic(auto, unfolding(crate::specs::Number::number))]
+pub fn u16_from(order: ByteOrder, bytes: [u8; 2]) -> u16
+    ensures { result ≡ number order w16 bytes }
+{
+    match order {
+        ByteOrder::LittleEndian => u16::from_le_bytes(bytes),
+        ByteOrder::BigEndian => u16::from_be_bytes(bytes),
+    }
+}
+
+/// The number that four bytes are.
+#[tactic(auto, unfolding(crate::specs::Number::number))]
+pub fn u32_from(order: ByteOrder, bytes: [u8; 4]) -> u32
+    ensures { result ≡ number order w32 bytes }
+{
+    match order {
+        ByteOrder::LittleEndian => u32::from_le_bytes(bytes),
+        ByteOrder::BigEndian => u32::from_be_bytes(bytes),
+    }
+}
+
+/// The number that eight bytes are.
+#[tactic(auto, unfolding(crate::specs::Number::number))]
+pub fn u64_from(order: ByteOrder, bytes: [u8; 8]) -> u64
+    ensures { result ≡ number order w64 bytes }
+{
+    match order {
+        ByteOrder::LittleEndian => u64::from_le_bytes(bytes),
+        ByteOrder::BigEndian => u64::from_be_bytes(bytes),
+    }
+}
+
+/// The number that the two bytes from `at` on are.
+pub fn u16_in(order: ByteOrder, bytes: &[u8], at: usize) -> u16
+    requires { at + 2 ≤ length bytes.now }
+    ensures { result ≡ number order w16 (bytes_at bytes.now at 2) }
+{
+    let mut part = [0u8; 2];
+    part.copy_from_slice(&bytes[at..at + 2]);
+    u16_from(order, part)
+}
+
+/// The number that the four bytes from `at` on are.
+pub fn u32_in(order: ByteOrder, bytes: &[u8], at: usize) -> u32
+    requires { at + 4 ≤ length bytes.now }
+    ensures { result ≡ number order w32 (bytes_at bytes.now at 4) }
+{
+    let mut part = [0u8; 4];
+    part.copy_from_slice(&bytes[at..at + 4]);
+    u32_from(order, part)
+}
+
+/// The number that the eight bytes from `at` on are.
+pub fn u64_in(order: ByteOrder, bytes: &[u8], at: usize) -> u64
+    requires { at + 8 ≤ length bytes.now }
+    ensures { result ≡ number order w64 (bytes_at bytes.now at 8) }
+{
+    let mut part = [0u8; 8];
+    part.copy_from_slice(&bytes[at..at + 8]);
+    u64_from(order, part)
+}
+
+/// The two bytes at a place as a number.
+pub fn read_u16_at<R: Source>(source: &mut R, at: u64, order: ByteOrder) -> TiffResult<u16>
+    ensures kept { IsKept R.bytes R.failures source.old source.new }
+    ensures answer { AnswersExactly (λ n. n) result (number_at order w16 (R.bytes source.old) at) (R.failures source.old) (R.failures source.new) }
+{
+    let mut bytes = [0u8; 2];
+    read_exact_at(source, at, &mut bytes)?;
+    Ok(u16_from(order, bytes))
+}
+
+/// The four bytes at a place as a number.
+pub fn read_u32_at<R: Source>(source: &mut R, at: u64, order: ByteOrder) -> TiffResult<u32>
+    ensures kept { IsKept R.bytes R.failures source.old source.new }
+    ensures answer { AnswersExactly (λ n. n) result (number_at order w32 (R.bytes source.old) at) (R.failures source.old) (R.failures source.new) }
+{
+    let mut bytes = [0u8; 4];
+    read_exact_at(source, at, &mut bytes)?;
+    Ok(u32_from(order, bytes))
+}
+
+/// The eight bytes at a place as a number.
+pub fn read_u64_at<R: Source>(source: &mut R, at: u64, order: ByteOrder) -> TiffResult<u64>
+    ensures kept { IsKept R.bytes R.failures source.old source.new }
+    ensures answer { AnswersExactly (λ n. n) result (number_at order w64 (R.bytes source.old) at) (R.failures source.old) (R.failures source.new) }
+{
+    let mut bytes = [0u8; 8];
+    read_exact_at(source, at, &mut bytes)?;
+    Ok(u64_from(order, bytes))
+}

@@ -1,0 +1,574 @@
+//! The numbers of TIFF as enums, byte orders, and bit patterns.
+
+ghost use Rattle.std.specs.Prelude.{◌≡◌};
+ghost use Rattle.tiff_base.specs.Tags.{extra_number, extra_of, format_number, format_of, interpretation_number, interpretation_of, method_number, method_of, planar_number, planar_of, predictor_number, predictor_of, tag_number, type_number, type_of, unit_number};
+ghost use Rattle.tiff_base.specs.Types.{type_size};
+
+use std::fmt;
+
+/// The tags of a directory (TIFF 6.0, its supplements, GeoTIFF, EXIF, ICC, GDAL).
+#[derive(Clone, Copy, Debug, PartialEq, Eq, Hash)]
+#[non_exhaustive]
+pub enum Tag {
+    NewSubfileType,
+    SubfileType,
+    ImageWidth,
+    ImageLength,
+    BitsPerSample,
+    Compression,
+    PhotometricInterpretation,
+    Threshholding,
+    CellWidth,
+    CellLength,
+    FillOrder,
+    ImageDescription,
+    Make,
+    Model,
+    StripOffsets,
+    Orientation,
+    SamplesPerPixel,
+    RowsPerStrip,
+    StripByteCounts,
+    MinSampleValue,
+    MaxSampleValue,
+    XResolution,
+    YResolution,
+    PlanarConfiguration,
+    FreeOffsets,
+    FreeByteCounts,
+    GrayResponseUnit,
+    GrayResponseCurve,
+    ResolutionUnit,
+    Software,
+    DateTime,
+    Artist,
+    HostComputer,
+    Predictor,
+    ColorMap,
+    TileWidth,
+    TileLength,
+    TileOffsets,
+    TileByteCounts,
+    SubIfd,
+    ExtraSamples,
+    SampleFormat,
+    SMinSampleValue,
+    SMaxSampleValue,
+    JPEGTables,
+    ChromaSubsampling,
+    ChromaPositioning,
+    Copyright,
+    ModelPixelScaleTag,
+    ModelTiepointTag,
+    ModelTransformationTag,
+    ExifDirectory,
+    IccProfile,
+    GeoKeyDirectoryTag,
+    GeoDoubleParamsTag,
+    GeoAsciiParamsTag,
+    GpsDirectory,
+    ExifVersion,
+    GdalNodata,
+    /// A number without a name here.
+    Unknown(u16),
+}
+
+impl Tag {
+    /// The number.
+    pub fn to_u16(&self) -> u16
+        ensures { result ≡ tag_number self.now }
+    {
+        match *self {
+            Tag::NewSubfileType => 254,
+            Tag::SubfileType => 255,
+            Tag::ImageWidth => 256,
+            Tag::ImageLength => 257,
+            Tag::BitsPerSample => 258,
+            Tag::Compression => 259,
+            Tag::PhotometricInterpretation => 262,
+            Tag::Threshholding => 263,
+            Tag::CellWidth => 264,
+            Tag::CellLength => 265,
+            Tag::FillOrder => 266,
+            Tag::ImageDescription => 270,
+            Tag::Make => 271,
+            Tag::Model => 272,
+            Tag::StripOffsets => 273,
+            Tag::Orientation => 274,
+            Tag::SamplesPerPixel => 277,
+            Tag::RowsPerStrip => 278,
+            Tag::StripByteCounts => 279,
+            Tag::MinSampleValue => 280,
+            Tag::MaxSampleValue => 281,
+            Tag::XResolution => 282,
+            Tag::YResolution => 283,
+            Tag::PlanarConfiguration => 284,
+            Tag::FreeOffsets => 288,
+            Tag::FreeByteCounts => 289,
+            Tag::GrayResponseUnit => 290,
+            Tag::GrayResponseCurve => 291,
+            Tag::ResolutionUnit => 296,
+            Tag::Software => 305,
+            Tag::DateTime => 306,
+            Tag::Artist => 315,
+            Tag::HostComputer => 316,
+            Tag::Predictor => 317,
+            Tag::ColorMap => 320,
+            Tag::TileWidth => 322,
+            Tag::TileLength => 323,
+            Tag::TileOffsets => 324,
+            Tag::TileByteCounts => 325,
+            Tag::SubIfd => 330,
+            Tag::ExtraSamples => 338,
+            Tag::SampleFormat => 339,
+            Tag::SMinSampleValue => 340,
+            Tag::SMaxSampleValue => 341,
+            Tag::JPEGTables => 347,
+            Tag::ChromaSubsampling => 530,
+            Tag::ChromaPositioning => 531,
+            Tag::Copyright => 33432,
+            Tag::ModelPixelScaleTag => 33550,
+            Tag::ModelTiepointTag => 33922,
+            Tag::ModelTransformationTag => 34264,
+            Tag::ExifDirectory => 34665,
+            Tag::IccProfile => 34675,
+            Tag::GeoKeyDirectoryTag => 34735,
+            Tag::GeoDoubleParamsTag => 34736,
+            Tag::GeoAsciiParamsTag => 34737,
+            Tag::GpsDirectory => 34853,
+            Tag::ExifVersion => 36864,
+            Tag::GdalNodata => 42113,
+            Tag::Unknown(n) => n,
+        }
+    }
+}
+
+/// The type of a field's values (TIFF 6.0 section 2; BigTIFF).
+#[derive(Clone, Copy, Debug, PartialEq, Eq, Hash)]
+#[non_exhaustive]
+pub enum Type {
+    BYTE,
+    ASCII,
+    SHORT,
+    LONG,
+    RATIONAL,
+    SBYTE,
+    UNDEFINED,
+    SSHORT,
+    SLONG,
+    SRATIONAL,
+    FLOAT,
+    DOUBLE,
+    IFD,
+    LONG8,
+    SLONG8,
+    IFD8,
+}
+
+impl Type {
+    /// The value of a number, if it has one.
+    #[tactic(auto, unfolding(crate::specs::Tags::type_of))]
+    pub fn from_u16(n: u16) -> Option<Self>
+        ensures { result ≡ type_of n }
+    {
+        match n {
+            1 => Some(Type::BYTE),
+            2 => Some(Type::ASCII),
+            3 => Some(Type::SHORT),
+            4 => Some(Type::LONG),
+            5 => Some(Type::RATIONAL),
+            6 => Some(Type::SBYTE),
+            7 => Some(Type::UNDEFINED),
+            8 => Some(Type::SSHORT),
+            9 => Some(Type::SLONG),
+            10 => Some(Type::SRATIONAL),
+            11 => Some(Type::FLOAT),
+            12 => Some(Type::DOUBLE),
+            13 => Some(Type::IFD),
+            16 => Some(Type::LONG8),
+            17 => Some(Type::SLONG8),
+            18 => Some(Type::IFD8),
+            _ => None,
+        }
+    }
+
+    /// The number.
+    pub fn to_u16(&self) -> u16
+        ensures { result ≡ type_number self.now }
+    {
+        match *self {
+            Type::BYTE => 1,
+            Type::ASCII => 2,
+            Type::SHORT => 3,
+            Type::LONG => 4,
+            Type::RATIONAL => 5,
+            Type::SBYTE => 6,
+            Type::UNDEFINED => 7,
+            Type::SSHORT => 8,
+            Type::SLONG => 9,
+            Type::SRATIONAL => 10,
+            Type::FLOAT => 11,
+            Type::DOUBLE => 12,
+            Type::IFD => 13,
+            Type::LONG8 => 16,
+            Type::SLONG8 => 17,
+            Type::IFD8 => 18,
+        }
+    }
+
+    /// How many bytes a value has.
+    pub fn byte_len(self) -> u8
+        ensures { result ≡ type_size self }
+    {
+        match self {
+            Type::BYTE => 1,
+            Type::ASCII => 1,
+            Type::SHORT => 2,
+            Type::LONG => 4,
+            Type::RATIONAL => 8,
+            Type::SBYTE => 1,
+            Type::UNDEFINED => 1,
+            Type::SSHORT => 2,
+            Type::SLONG => 4,
+            Type::SRATIONAL => 8,
+            Type::FLOAT => 4,
+            Type::DOUBLE => 8,
+            Type::IFD => 4,
+            Type::LONG8 => 8,
+            Type::SLONG8 => 8,
+            Type::IFD8 => 8,
+        }
+    }
+}
+
+/// How chunks are packed (TIFF 6.0 sections 3, 9 and later ones).
+#[derive(Clone, Copy, Debug, PartialEq, Eq, Hash)]
+#[non_exhaustive]
+pub enum CompressionMethod {
+    None,
+    Huffman,
+    Fax3,
+    Fax4,
+    LZW,
+    JPEG,
+    ModernJPEG,
+    Deflate,
+    PackBits,
+    OldDeflate,
+    ZSTD,
+    WebP,
+    /// A number without a name here.
+    Unknown(u16),
+}
+
+impl CompressionMethod {
+    /// The value of a number; one without a name is `Unknown`.
+    #[tactic(auto, unfolding(crate::specs::Tags::method_of))]
+    pub fn from_u16_exhaustive(n: u16) -> Self
+        ensures { result ≡ method_of n }
+    {
+        match n {
+            1 => CompressionMethod::None,
+            2 => CompressionMethod::Huffman,
+            3 => CompressionMethod::Fax3,
+            4 => CompressionMethod::Fax4,
+            5 => CompressionMethod::LZW,
+            6 => CompressionMethod::JPEG,
+            7 => CompressionMethod::ModernJPEG,
+            8 => CompressionMethod::Deflate,
+            32773 => CompressionMethod::PackBits,
+            32946 => CompressionMethod::OldDeflate,
+            50000 => CompressionMethod::ZSTD,
+            50001 => CompressionMethod::WebP,
+            _ => CompressionMethod::Unknown(n),
+        }
+    }
+
+    /// The number.
+    pub fn to_u16(&self) -> u16
+        ensures { result ≡ method_number self.now }
+    {
+        match *self {
+            CompressionMethod::None => 1,
+            CompressionMethod::Huffman => 2,
+            CompressionMethod::Fax3 => 3,
+            CompressionMethod::Fax4 => 4,
+            CompressionMethod::LZW => 5,
+            CompressionMethod::JPEG => 6,
+            CompressionMethod::ModernJPEG => 7,
+            CompressionMethod::Deflate => 8,
+            CompressionMethod::PackBits => 32773,
+            CompressionMethod::OldDeflate => 32946,
+            CompressionMethod::ZSTD => 50000,
+            CompressionMethod::WebP => 50001,
+            CompressionMethod::Unknown(n) => n,
+        }
+    }
+}
+
+/// What the samples of a page mean (TIFF 6.0 section 8).
+#[derive(Clone, Copy, Debug, PartialEq, Eq, Hash)]
+#[non_exhaustive]
+pub enum PhotometricInterpretation {
+    WhiteIsZero,
+    BlackIsZero,
+    RGB,
+    RGBPalette,
+    TransparencyMask,
+    CMYK,
+    YCbCr,
+    CIELab,
+    IccLab,
+    ItuLab,
+}
+
+impl PhotometricInterpretation {
+    /// The value of a number, if it has one.
+    #[tactic(auto, unfolding(crate::specs::Tags::interpretation_of))]
+    pub fn from_u16(n: u16) -> Option<Self>
+        ensures { result ≡ interpretation_of n }
+    {
+        match n {
+            0 => Some(PhotometricInterpretation::WhiteIsZero),
+            1 => Some(PhotometricInterpretation::BlackIsZero),
+            2 => Some(PhotometricInterpretation::RGB),
+            3 => Some(PhotometricInterpretation::RGBPalette),
+            4 => Some(PhotometricInterpretation::TransparencyMask),
+            5 => Some(PhotometricInterpretation::CMYK),
+            6 => Some(PhotometricInterpretation::YCbCr),
+            8 => Some(PhotometricInterpretation::CIELab),
+            9 => Some(PhotometricInterpretation::IccLab),
+            10 => Some(PhotometricInterpretation::ItuLab),
+            _ => None,
+        }
+    }
+
+    /// The number.
+    pub fn to_u16(&self) -> u16
+        ensures { result ≡ interpretation_number self.now }
+    {
+        match *self {
+            PhotometricInterpretation::WhiteIsZero => 0,
+            PhotometricInterpretation::BlackIsZero => 1,
+            PhotometricInterpretation::RGB => 2,
+            PhotometricInterpretation::RGBPalette => 3,
+            PhotometricInterpretation::TransparencyMask => 4,
+            PhotometricInterpretation::CMYK => 5,
+            PhotometricInterpretation::YCbCr => 6,
+            PhotometricInterpretation::CIELab => 8,
+            PhotometricInterpretation::IccLab => 9,
+            PhotometricInterpretation::ItuLab => 10,
+        }
+    }
+}
+
+/// Whether the samples of a pixel stand together or in planes (TIFF 6.0 section 8).
+#[derive(Clone, Copy, Debug, PartialEq, Eq, Hash)]
+#[non_exhaustive]
+pub enum PlanarConfiguration {
+    Chunky,
+    Planar,
+}
+
+impl PlanarConfiguration {
+    /// The value of a number, if it has one.
+    #[tactic(auto, unfolding(crate::specs::Tags::planar_of))]
+    pub fn from_u16(n: u16) -> Option<Self>
+        ensures { result ≡ planar_of n }
+    {
+        match n {
+            1 => Some(PlanarConfiguration::Chunky),
+            2 => Some(PlanarConfiguration::Planar),
+            _ => None,
+        }
+    }
+
+    /// The number.
+    pub fn to_u16(&self) -> u16
+        ensures { result ≡ planar_number self.now }
+    {
+        match *self {
+            PlanarConfiguration::Chunky => 1,
+            PlanarConfiguration::Planar => 2,
+        }
+    }
+}
+
+/// What is done to samples before they are packed (TIFF 6.0 section 14).
+#[derive(Clone, Copy, Debug, PartialEq, Eq, Hash)]
+#[non_exhaustive]
+pub enum Predictor {
+    None,
+    Horizontal,
+    FloatingPoint,
+}
+
+impl Predictor {
+    /// The value of a number, if it has one.
+    #[tactic(auto, unfolding(crate::specs::Tags::predictor_of))]
+    pub fn from_u16(n: u16) -> Option<Self>
+        ensures { result ≡ predictor_of n }
+    {
+        match n {
+            1 => Some(Predictor::None),
+            2 => Some(Predictor::Horizontal),
+            3 => Some(Predictor::FloatingPoint),
+            _ => None,
+        }
+    }
+
+    /// The number.
+    pub fn to_u16(&self) -> u16
+        ensures { result ≡ predictor_number self.now }
+    {
+        match *self {
+            Predictor::None => 1,
+            Predictor::Horizontal => 2,
+            Predictor::FloatingPoint => 3,
+        }
+    }
+}
+
+/// The unit of a resolution (TIFF 6.0 section 8).
+#[derive(Clone, Copy, Debug, PartialEq, Eq, Hash)]
+#[non_exhaustive]
+pub enum ResolutionUnit {
+    None,
+    Inch,
+    Centimeter,
+}
+
+impl ResolutionUnit {
+    /// The number.
+    pub fn to_u16(&self) -> u16
+        ensures { result ≡ unit_number self.now }
+    {
+        match *self {
+            ResolutionUnit::None => 1,
+            ResolutionUnit::Inch => 2,
+            ResolutionUnit::Centimeter => 3,
+        }
+    }
+}
+
+/// How a sample's bits are read (TIFF 6.0 section 19).
+#[derive(Clone, Copy, Debug, PartialEq, Eq, Hash)]
+#[non_exhaustive]
+pub enum SampleFormat {
+    Uint,
+    Int,
+    IEEEFP,
+    Void,
+    /// A number without a name here.
+    Unknown(u16),
+}
+
+impl SampleFormat {
+    /// The value of a number; one without a name is `Unknown`.
+    #[tactic(auto, unfolding(crate::specs::Tags::format_of))]
+    pub fn from_u16_exhaustive(n: u16) -> Self
+        ensures { result ≡ format_of n }
+    {
+        match n {
+            1 => SampleFormat::Uint,
+            2 => SampleFormat::Int,
+            3 => SampleFormat::IEEEFP,
+            4 => SampleFormat::Void,
+            _ => SampleFormat::Unknown(n),
+        }
+    }
+
+    /// The number.
+    pub fn to_u16(&self) -> u16
+        ensures { result ≡ format_number self.now }
+    {
+        match *self {
+            SampleFormat::Uint => 1,
+            SampleFormat::Int => 2,
+            SampleFormat::IEEEFP => 3,
+            SampleFormat::Void => 4,
+            SampleFormat::Unknown(n) => n,
+        }
+    }
+}
+
+/// What a sample beyond those of the colour is (TIFF 6.0 section 8).
+#[derive(Clone, Copy, Debug, PartialEq, Eq, Hash)]
+#[non_exhaustive]
+pub enum ExtraSamples {
+    Unspecified,
+    AssociatedAlpha,
+    UnassociatedAlpha,
+}
+
+impl ExtraSamples {
+    /// The value of a number, if it has one.
+    #[tactic(auto, unfolding(crate::specs::Tags::extra_of))]
+    pub fn from_u16(n: u16) -> Option<Self>
+        ensures { result ≡ extra_of n }
+    {
+        match n {
+            0 => Some(ExtraSamples::Unspecified),
+            1 => Some(ExtraSamples::AssociatedAlpha),
+            2 => Some(ExtraSamples::UnassociatedAlpha),
+            _ => None,
+        }
+    }
+
+    /// The number.
+    pub fn to_u16(&self) -> u16
+        ensures { result ≡ extra_number self.now }
+    {
+        match *self {
+            ExtraSamples::Unspecified => 0,
+            ExtraSamples::AssociatedAlpha => 1,
+            ExtraSamples::UnassociatedAlpha => 2,
+        }
+    }
+}
+
+/// The place of a directory; 0 is none.
+#[derive(Clone, Copy, Debug, PartialEq, Eq, Hash)]
+pub struct IfdPointer(pub u64);
+
+impl fmt::LowerHex for IfdPointer {
+    fn fmt<W: fmt::Write>(&self, f: &mut fmt::Formatter<W>) -> fmt::Result {
+        fmt::LowerHex::fmt(&self.0, f)
+    }
+}
+
+impl fmt::UpperHex for IfdPointer {
+    fn fmt<W: fmt::Write>(&self, f: &mut fmt::Formatter<W>) -> fmt::Result {
+        fmt::UpperHex::fmt(&self.0, f)
+    }
+}
+
+/// Which byte of a number comes first.
+#[derive(Clone, Copy, Debug, PartialEq, Eq)]
+pub enum ByteOrder {
+    /// The least one, `II`.
+    LittleEndian,
+    /// The most one, `MM`.
+    BigEndian,
+}
+
+/// The two kinds of file, by the width of their places (this project's own).
+#[derive(Clone, Copy, Debug, PartialEq, Eq)]
+pub enum FileKind {
+    /// TIFF 6.0: places of 4 bytes.
+    Classic,
+    /// BigTIFF: places of 8 bytes.
+    Big,
+}
+
+/// The bits of a 16 bit floating number.
+#[derive(Clone, Copy, Debug, PartialEq, Eq, Hash)]
+pub struct Bits16(pub u16);
+
+/// The bits of a 32 bit floating number.
+#[derive(Clone, Copy, Debug, PartialEq, Eq, Hash)]
+pub struct Bits32(pub u32);
+
+/// The bits of a 64 bit floating number.
+#[derive(Clone, Copy, Debug, PartialEq, Eq, Hash)]
+pub struct Bits64(pub u64);
