@@ -1,0 +1,108 @@
+-- The laws by which what stands in a file is kept, and grows, as the file is appended to and links are patched.
+use Rattle.std.specs.Prelude.{◌≡◌, ℕ, ◌+◌, ◌*◌, ◌^◌, ◌<◌, ◌≤◌, ◌⊎◌, List, [], ◌∷◌, ◌++◌, length, take}
+use Rattle.std.specs.FinMap.{FinMap, len, entries}
+use Rattle.std.specs.Ordering.{nat_cmp}
+use Rattle.tiff_base.specs.declared.tags.FileKind.{FileKind}
+use Rattle.tiff_base.specs.declared.tags.FileKind.TheVariants.{Classic, Big}
+use Rattle.tiff_base.specs.declared.tags.ByteOrder.TheVariants.{LittleEndian}
+use Rattle.tiff_base.specs.Field.{Field}
+use Rattle.tiff_base.specs.Told.{put}
+use Rattle.tiff_base.specs.Number.{le}
+use Rattle.tiff_base.specs.Directory.{value_of}
+use Rattle.tiff_base.specs.FieldBytes.{field_len, field_place}
+use Rattle.tiff_encode.specs.Written.{place_len, count_len, header_bytes, directory_bytes, short_field, long_field, rational_field, one_to_one, rows_per_strip, resolutions_place, strip_place, directory_place, page_map, with_page}
+use Rattle.tiff_encode.specs.Model.{In, FinishedDirectory, HandedField, Region, Model, IsLink, Stands, header_model, relinked, with_directory, with_region, with_handed, Grows}
+
+-- a field that fits the parts of an entry
+pub record IsWritable (kind : FileKind) (tag : ℕ) (f : Field) : Type 0 where
+  pub tag_fits : tag < 2 ^ 16
+  pub count : f.count < 256 ^ place_len kind
+  pub whole : length f.value ≡ 8
+  pub filled : (kind ≡ Classic) → f.value ≡ take 4 f.value ++ (0 ∷ 0 ∷ 0 ∷ 0 ∷ [])
+
+-- the header that was written stands
+abbrev pub HeaderStands : Type 0
+HeaderStands = (kind : FileKind) → Stands kind (header_bytes kind) (header_model kind)
+
+abbrev pub KeptByAppending : Type 0
+KeptByAppending = (kind : FileKind) (m : Model) (file more : List ℕ) → Stands kind file m → Stands kind (file ++ more) m
+
+abbrev pub KeptByPatching : Type 0
+KeptByPatching = (kind : FileKind) (m : Model) (file : List ℕ) (q t : ℕ) → IsLink kind m q → t < 256 ^ place_len kind → Stands kind file m
+    → Stands kind (put file q (le (place_len kind) t)) (relinked kind m q t)
+
+-- a patch that broke off: the link field holds some number, and all else stands
+abbrev pub KeptByTearing : Type 0
+KeptByTearing = (kind : FileKind) (m : Model) (file : List ℕ) (q : ℕ) (over : List ℕ) → IsLink kind m q → length over ≤ place_len kind → Stands kind file m
+    → (t : ℕ) × Stands kind (put file q over) (relinked kind m q t)
+
+abbrev pub GrownByRegion : Type 0
+GrownByRegion = (kind : FileKind) (m : Model) (file more : List ℕ) → Stands kind file m
+    → Stands kind (file ++ more) (with_region m (record { place = length file; bytes = more }))
+
+-- a field whose bytes stand in its entry
+abbrev pub GrownByInline : Type 0
+GrownByInline = (kind : FileKind) (m : Model) (file : List ℕ) (f : Field) → field_len f ≤ place_len kind → Stands kind file m
+    → Stands kind file (with_handed m (record { field = f; bytes = take (field_len f) f.value }))
+
+-- a field whose bytes are a region
+abbrev pub GrownByPlaced : Type 0
+GrownByPlaced = (kind : FileKind) (m : Model) (file : List ℕ) (f : Field) (r : Region) → In r m.regions
+    → field_place kind LittleEndian f ≡ r.place → field_len f ≡ length r.bytes → place_len kind < field_len f → field_len f < 2 ^ 64
+    → Stands kind file m → Stands kind file (with_handed m (record { field = f; bytes = r.bytes }))
+
+abbrev pub GrownByDirectory : Type 0
+GrownByDirectory = (kind : FileKind) (m : Model) (file : List ℕ) (fields : FinMap nat_cmp Field)
+    → ((e : ℕ × Field) → In e (entries fields) → IsWritable kind e.0 e.1) → len fields < 256 ^ count_len kind
+    → Stands kind file m → Stands kind (file ++ directory_bytes kind fields) (with_directory kind m (record { place = length file; fields = fields }))
+
+-- the step of `finish`: the directory is appended with link 0, then its parent's link is patched
+abbrev pub Finished : Type 0
+Finished = (kind : FileKind) (m : Model) (file : List ℕ) (fields : FinMap nat_cmp Field) (parent : ℕ)
+    → ((e : ℕ × Field) → In e (entries fields) → IsWritable kind e.0 e.1) → len fields < 256 ^ count_len kind
+    → length file < 256 ^ place_len kind → IsLink kind m parent → Stands kind file m
+    → Stands kind (put (file ++ directory_bytes kind fields) parent (le (place_len kind) (length file)))
+        (relinked kind (with_directory kind m (record { place = length file; fields = fields })) parent (length file))
+
+-- ---- the page of one gray strip
+
+-- what is handed in for the page's fields
+abbrev pub handed_short : ℕ → HandedField
+handed_short n = record { field = short_field n; bytes = le 2 n }
+
+abbrev pub handed_long : ℕ → HandedField
+handed_long n = record { field = long_field n; bytes = le 4 n }
+
+abbrev pub handed_resolution : ℕ → HandedField
+handed_resolution place = record { field = rational_field place; bytes = one_to_one }
+
+abbrev pub gray_handed : ℕ → ℕ → ℕ → ℕ → List HandedField
+gray_handed width height resolutions strip =
+    handed_long width ∷ handed_long height ∷ handed_short 8 ∷ handed_short 1 ∷ handed_long strip ∷ handed_long (rows_per_strip width)
+    ∷ handed_long (width * height) ∷ handed_resolution resolutions ∷ handed_resolution (resolutions + 8) ∷ []
+
+-- the model after the page was appended to a file of length n, at whose end the link at a place points to it
+unfoldable pub page_model : Model → ℕ → ℕ → ℕ → ℕ → List ℕ → Model
+page_model m n link width height samples =
+    relinked Classic (with_directory Classic (record m {
+      handed = gray_handed width height (resolutions_place n) (strip_place n) ++ m.handed;
+      regions = record { place = strip_place n; bytes = take (width * height) samples }
+        ∷ record { place = resolutions_place n + 8; bytes = one_to_one }
+        ∷ record { place = resolutions_place n; bytes = one_to_one }
+        ∷ m.regions;
+    }) (record { place = directory_place n width height; fields = page_map n width height }))
+      link (directory_place n width height)
+
+-- sides and samples of a page of one strip that fits a classic file of length n
+pub record IsGrayPage (n width height : ℕ) (samples : List ℕ) : Type 0 where
+  pub wide : 0 < width
+  pub high : 0 < height
+  pub width_fits : width < 2 ^ 32
+  pub one_strip : height ≤ rows_per_strip width
+  pub enough : width * height ≤ length samples
+  pub place_fits : directory_place n width height < 2 ^ 32
+
+abbrev pub PageStands : Type 0
+PageStands = (m : Model) (file : List ℕ) (link width height : ℕ) (samples : List ℕ)
+    → IsLink Classic m link → IsGrayPage (length file) width height samples → Stands Classic file m
+    → Stands Classic (with_page file link width height samples) (page_model m (length file) link width height samples)

@@ -1,0 +1,4 @@
+pub mod Written
+pub mod Model
+pub mod Laws
+pub mod Encoder

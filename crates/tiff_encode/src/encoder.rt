@@ -1,0 +1,3 @@
+//! Files are written.
+
+pub mod laws;

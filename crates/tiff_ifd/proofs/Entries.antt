@@ -1,0 +1,119 @@
+-- Directories are read entry by entry.
+use Rattle.std.proofs.Common.{◌≡◌, ℕ, suc, zero, ◌+◌, ◌*◌, ◌-◌, ◌≤◌, ◌<◌, Bool, true, false, cond, leb, length, List, [], ◌∷◌, ◌++◌, reverse, Option, Some, None, Result, Ok, Err, refl, ap, sym, ◌∙◌, arith, add-one, append-nil, lit<}
+use Rattle.std.specs.List.{filter_map, range_with_len, cons_option}
+use Rattle.std.proofs.lemmas.List.{reverse-append}
+use Rattle.std.proofs.lemmas.List.Elements.{filter_map-append}
+use Rattle.std.proofs.lemmas.Bool.{lt-leb}
+use Rattle.std.specs.Int.{Width, byte_len}
+use Rattle.std.specs.FinMap.{from_entries, insert, empty}
+use Rattle.std.specs.Ordering.{nat_cmp}
+use Rattle.tiff_base.specs.declared.error.TiffError.{TiffError}
+use Rattle.tiff_base.specs.declared.error.TiffError.TheVariants.{IoError}
+use Rattle.tiff_base.specs.declared.io.IoKind.TheVariants.{UnexpectedEof}
+use Rattle.tiff_base.specs.declared.tags.ByteOrder.{ByteOrder}
+use Rattle.tiff_base.specs.declared.tags.FileKind.{FileKind}
+use Rattle.tiff_base.specs.declared.tags.FileKind.TheVariants.{Classic, Big}
+use Rattle.tiff_base.specs.Told.{bytes_at, exactly_at}
+use Rattle.tiff_base.specs.Number.{number_at, number}
+use Rattle.tiff_base.specs.Answers.{◌>>=◌}
+use Rattle.tiff_base.specs.Field.{Field, DirectoryRecord}
+use Rattle.tiff_base.specs.Directory.{count_width, place_width, entry_len, entry_of, entries_from, last_of_each, link, first_entry, link_place, directory_at}
+
+range_more : (a n : ℕ) → range_with_len a (suc n) ≡ range_with_len a n ++ (a + n) ∷ []
+range_more a zero = let e : a ≡ a + 0 = omega arith in ap (λ (k : ℕ). k ∷ []) e
+range_more a (suc n) =
+    let e : (a + 1) + n ≡ a + suc n = omega arith in
+    ap (λ (l : List ℕ). a ∷ l) (range_more (a + 1) n) ∙ ap (λ (k : ℕ). a ∷ (range_with_len (a + 1) n ++ k ∷ [])) e
+
+pub no_entries : (kind : FileKind) (order : ByteOrder) (bytes : List ℕ) (first : ℕ) → last_of_each (entries_from kind order bytes first 0) ≡ empty
+unfolding last_of_each entries_from
+no_entries kind order bytes first = refl
+
+-- what is read at a place, seen by f
+pub read_there : {A : Type 0} (bytes : List ℕ) (at len : ℕ) (f : List ℕ → A) (x : A) → (exactly_at bytes at len >>= λ found. Ok (f found)) ≡ Ok x → f (bytes_at bytes at len) ≡ x
+read_there bytes at len f x =
+    elim (leb len (length bytes - at)) as (λ b. (cond b (Ok (bytes_at bytes at len)) (Err (IoError UnexpectedEof)) >>= λ found. Ok (f found)) ≡ Ok x → f (bytes_at bytes at len) ≡ x) [
+      | true ↦ λ e. cc
+      | false ↦ λ e. cc
+    ]
+
+-- nothing is read from the end on
+pub number_past : (order : ByteOrder) (w : Width) (bytes : List ℕ) (at : ℕ) → 0 < byte_len w → length bytes ≤ at → number_at order w bytes at ≡ Err (IoError UnexpectedEof)
+number_past order w bytes at some past =
+    ap (λ (b : Bool). cond b (Ok (bytes_at bytes at (byte_len w))) (Err (IoError UnexpectedEof)) >>= λ found. Ok (number order w found)) (lt-leb (byte_len w) (length bytes - at) (omega arith))
+
+entries_more : (kind : FileKind) (order : ByteOrder) (bytes : List ℕ) (first i : ℕ) (o : Option (ℕ × Field))
+    → entry_of kind order (bytes_at bytes (first + entry_len kind * i) (entry_len kind)) ≡ o
+    → entries_from kind order bytes first (i + 1) ≡ entries_from kind order bytes first i ++ cons_option o []
+unfolding entries_from
+entries_more kind order bytes first i o e =
+    let h : ℕ → Option (ℕ × Field) = λ k. entry_of kind order (bytes_at bytes (first + entry_len kind * k) (entry_len kind)) in
+    let same : 0 + i ≡ i = omega arith in
+    ap (λ (n : ℕ). filter_map h (range_with_len 0 n)) (add-one i)
+    ∙ ap (filter_map h) (range_more 0 i)
+    ∙ filter_map-append h (range_with_len 0 i) ((0 + i) ∷ [])
+    ∙ ap (λ (k : ℕ). filter_map h (range_with_len 0 i) ++ cons_option (h k) []) same
+    ∙ ap (λ (x : Option (ℕ × Field)). filter_map h (range_with_len 0 i) ++ cons_option x []) e
+
+-- one more entry: of unknown type, and of a known one
+pub entry_skipped : (kind : FileKind) (order : ByteOrder) (bytes : List ℕ) (first i : ℕ)
+    → entry_of kind order (bytes_at bytes (first + entry_len kind * i) (entry_len kind)) ≡ None
+    → last_of_each (entries_from kind order bytes first (i + 1)) ≡ last_of_each (entries_from kind order bytes first i)
+entry_skipped kind order bytes first i e =
+    ap last_of_each (entries_more kind order bytes first i None e ∙ append-nil (entries_from kind order bytes first i))
+
+pub entry_kept : (kind : FileKind) (order : ByteOrder) (bytes : List ℕ) (first i tag : ℕ) (field : Field)
+    → entry_of kind order (bytes_at bytes (first + entry_len kind * i) (entry_len kind)) ≡ Some (tag, field)
+    → last_of_each (entries_from kind order bytes first (i + 1)) ≡ insert (last_of_each (entries_from kind order bytes first i)) tag field
+unfolding last_of_each
+entry_kept kind order bytes first i tag field e =
+    ap (λ (l : List (ℕ × Field)). from_entries {R = nat_cmp} (reverse l)) (entries_more kind order bytes first i (Some (tag, field)) e)
+    ∙ ap (from_entries {R = nat_cmp}) (reverse-append (entries_from kind order bytes first i) ((tag, field) ∷ []))
+
+some_bytes : (kind : FileKind) → 0 < byte_len (place_width kind)
+some_bytes Classic = lit< tt
+some_bytes Big = lit< tt
+
+-- what a directory is, when all of it was read
+pub directory_is : (kind : FileKind) (order : ByteOrder) (bytes : List ℕ) (at count first place next : ℕ)
+    → number_at order (count_width kind) bytes at ≡ Ok count
+    → first ≡ first_entry kind at
+    → place ≡ first + entry_len kind * count
+    → number_at order (place_width kind) bytes place ≡ Ok next
+    → directory_at kind order bytes at ≡ Ok (record { entries = last_of_each (entries_from kind order bytes first count); next = link next })
+unfolding directory_at
+directory_is kind order bytes at count first place next n f p l =
+    let there : link_place kind at count ≡ place = ap (λ (q : ℕ). q + entry_len kind * count) (sym f) ∙ sym p in
+    let read : Result ℕ TiffError → ℕ → Result DirectoryRecord TiffError = λ r q. r >>= λ next. Ok (record { entries = last_of_each (entries_from kind order bytes q count); next = link next }) in
+    ap (λ (r : Result ℕ TiffError). r >>= λ count. number_at order (place_width kind) bytes (link_place kind at count) >>= λ next. Ok (record { entries = last_of_each (entries_from kind order bytes (first_entry kind at) count); next = link next })) n
+    ∙ ap (λ (q : ℕ). read (number_at order (place_width kind) bytes q) (first_entry kind at)) there
+    ∙ ap (λ (r : Result ℕ TiffError). read r (first_entry kind at)) l
+    ∙ ap (read (Ok next)) (sym f)
+
+-- the faults of a directory: at its count, at its link
+pub directory_uncounted : (kind : FileKind) (order : ByteOrder) (bytes : List ℕ) (at : ℕ) (e : TiffError)
+    → number_at order (count_width kind) bytes at ≡ Err e
+    → directory_at kind order bytes at ≡ Err e
+unfolding directory_at
+directory_uncounted kind order bytes at e n =
+    ap (λ (r : Result ℕ TiffError). r >>= λ count. number_at order (place_width kind) bytes (link_place kind at count) >>= λ next. Ok (record { entries = last_of_each (entries_from kind order bytes (first_entry kind at) count); next = link next })) n
+
+pub directory_unlinked : (kind : FileKind) (order : ByteOrder) (bytes : List ℕ) (at count place : ℕ) (e : TiffError)
+    → number_at order (count_width kind) bytes at ≡ Ok count
+    → place ≡ link_place kind at count
+    → number_at order (place_width kind) bytes place ≡ Err e
+    → directory_at kind order bytes at ≡ Err e
+unfolding directory_at
+directory_unlinked kind order bytes at count place e n p l =
+    let read : Result ℕ TiffError → Result DirectoryRecord TiffError = λ r. r >>= λ next. Ok (record { entries = last_of_each (entries_from kind order bytes (first_entry kind at) count); next = link next }) in
+    ap (λ (r : Result ℕ TiffError). r >>= λ count. number_at order (place_width kind) bytes (link_place kind at count) >>= λ next. Ok (record { entries = last_of_each (entries_from kind order bytes (first_entry kind at) count); next = link next })) n
+    ∙ ap (λ (q : ℕ). read (number_at order (place_width kind) bytes q)) (sym p)
+    ∙ ap read l
+
+-- a directory whose entries reach the end
+pub directory_cut : (kind : FileKind) (order : ByteOrder) (bytes : List ℕ) (at count : ℕ)
+    → number_at order (count_width kind) bytes at ≡ Ok count
+    → length bytes ≤ link_place kind at count
+    → directory_at kind order bytes at ≡ Err (IoError UnexpectedEof)
+directory_cut kind order bytes at count n past =
+    directory_unlinked kind order bytes at count (link_place kind at count) (IoError UnexpectedEof) n refl (number_past order (place_width kind) bytes (link_place kind at count) (some_bytes kind) past)

@@ -1,0 +1,13 @@
+use Rattle.std.proofs.Common.{◌≡◌, ◌≤◌, ◌+◌, ◌*◌, None}
+use Rattle.tiff_base.specs.Directory.{entry_len, entries_from, last_of_each}
+use Rattle.tiff_ifd.proofs.decode.read_entries.Given as goal
+
+abbrev pub invariant-loop-i : goal.invariant-loop-i
+invariant-loop-i g l =
+    let bytes = g.R.Source.bytes l.fn.source in
+    record {
+      same_bytes : g.R.Source.bytes l.source ≡ bytes;
+      failures : g.R.Source.failures l.fn.source ≤ g.R.Source.failures l.source;
+      here : l.place ≡ l.first + entry_len l.kind * l.i;
+      so_far : l.directory ≡ record { entries = last_of_each (entries_from l.kind l.order bytes l.first l.i); next = None };
+    }

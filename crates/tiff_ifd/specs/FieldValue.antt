@@ -1,0 +1,68 @@
+-- The value of a field (TIFF 6.0 section 2; its texts and limits as in the Rust crate).
+use Rattle.std.specs.Prelude.{ℕ, ◌-◌, ◌/◌, ◌^◌, Bool, true, false, not, ◌&&◌, ◌||◌, if◌then◌else◌, ◌==◌, nat_lt, nat_le, List, [], length, take, drop, slice_index, Result, Ok, Err}
+use Rattle.std.specs.List.{list_all, before_first, prefix_len, suffix_len}
+use Rattle.std.specs.Str.{is_utf8}
+use Rattle.std.specs.Int.{byte_len}
+use Rattle.tiff_base.specs.declared.error.TiffError.{TiffError}
+use Rattle.tiff_base.specs.declared.error.TiffError.TheVariants.{FormatError, LimitsExceeded}
+use Rattle.tiff_base.specs.declared.error.TiffFormatError.TheVariants.{InvalidTag}
+use Rattle.tiff_base.specs.declared.tags.ByteOrder.{ByteOrder}
+use Rattle.tiff_base.specs.declared.tags.FileKind.{FileKind}
+use Rattle.tiff_base.specs.declared.tags.«Type».{«Type»}
+use Rattle.tiff_base.specs.declared.tags.«Type».TheVariants as t
+use Rattle.tiff_base.specs.Field.{Field}
+use Rattle.tiff_base.specs.Types.{type_size}
+use Rattle.tiff_base.specs.Answers.{◌>>=◌}
+use Rattle.tiff_base.specs.Directory.{place_width}
+use Rattle.tiff_base.specs.FieldBytes.{field_len, field_bytes}
+use Rattle.tiff_ifd.specs.declared.limits.Limits.{Limits}
+use Rattle.tiff_ifd.specs.Datum.{Datum, data_of}
+use Rattle.tiff_ifd.specs.Datum as f
+use Rattle.tiff_ifd.specs.Item.{item, list_item, items}
+
+abbrev pub is_zero : ℕ → Bool
+is_zero b = b == 0
+
+abbrev pub is_ascii_byte : ℕ → Bool
+is_ascii_byte b = nat_lt b 128
+
+abbrev pub without_zeros : List ℕ → List ℕ
+without_zeros bs = let rest = drop (prefix_len is_zero bs) bs in take (length rest - suffix_len is_zero rest) rest
+
+-- a text in the entry itself: ASCII that ends in a zero, trimmed of zeros at both ends; one byte has to be a zero
+abbrev pub inline_text : List ℕ → Result Datum TiffError
+inline_text bs =
+    if list_all is_ascii_byte bs && is_zero (slice_index bs (length bs - 1)) then Ok (f.ascii (without_zeros bs)) else Err (FormatError InvalidTag)
+
+-- a text elsewhere: cut at the first zero, and UTF-8
+abbrev pub placed_text : List ℕ → Result Datum TiffError
+placed_text bs =
+    let text = before_first is_zero bs in if is_utf8 text then Ok (f.ascii text) else Err (FormatError InvalidTag)
+
+-- numbers: one stands alone, several are a list
+abbrev pub numbers : Bool → «Type» → ByteOrder → ℕ → List ℕ → Datum
+numbers inline type o n bs = if n == 1 then item type o bs else f.list (data_of (items (list_item inline type o) (type_size type) n bs))
+
+abbrev pub value_from : Bool → «Type» → ByteOrder → ℕ → List ℕ → Result Datum TiffError
+value_from inline t.ASCII o n bs = if inline then inline_text bs else placed_text bs
+value_from inline type o n bs = Ok (numbers inline type o n bs)
+
+-- whether so many values may be read from elsewhere: a value of a list is taken to be 32 bytes, one of a text a byte
+abbrev pub is_allowed : Limits → «Type» → ℕ → Bool
+is_allowed limits t.ASCII n = nat_le n limits.decoding_buffer_size
+is_allowed limits type n = n == 1 || nat_le n (limits.decoding_buffer_size / 32)
+
+-- values of so many bytes that stand elsewhere: the limit is told before the end of the source
+abbrev pub placed_value : FileKind → ByteOrder → List ℕ → Limits → Field → Result Datum TiffError
+placed_value kind order bytes limits e =
+    if is_allowed limits e.field_type e.count
+    then (field_bytes kind order bytes e >>= λ found. value_from false e.field_type order e.count found)
+    else Err LimitsExceeded
+
+-- the value of a field; no values are an empty list
+unfoldable pub field_value : FileKind → ByteOrder → List ℕ → Limits → Field → Result Datum TiffError
+field_value kind order bytes limits e =
+    if e.count == 0 then Ok (f.list (data_of []))
+    else if not (nat_lt (field_len e) (2 ^ 64)) then Err LimitsExceeded
+    else if nat_le (field_len e) (byte_len (place_width kind)) then value_from true e.field_type order e.count (take (field_len e) e.value)
+    else placed_value kind order bytes limits e

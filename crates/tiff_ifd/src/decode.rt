@@ -1,0 +1,162 @@
+//! Directories are read.
+
+ghost use Rattle.std.specs.Prelude.{◌≡◌, ◌+◌, ◌*◌, ◌≤◌, ◌<◌, None, length, IfOk, IfErr};
+ghost use Rattle.tiff_base.specs.declared.error.TiffError.TheVariants as tiff;
+ghost use Rattle.tiff_base.specs.declared.io.IoKind.TheVariants as io_kind;
+ghost use Rattle.std.specs.Int.{w16, w32, w64, byte_len};
+ghost use Rattle.tiff_base.specs.Answers.{Answers, AnswersExactly, IsCause, IsKept};
+ghost use Rattle.tiff_base.specs.Number.{number_at};
+ghost use Rattle.tiff_base.specs.Directory.{count_width, place_width, entry_len, entry_of, entry_at, value_of, directory_at, entries_from, last_of_each};
+
+use std::alloc::Global;
+use tiff_base::directory::{Directory, Entry};
+use tiff_base::error::TiffResult;
+use tiff_base::io::Source;
+use tiff_base::read::{
+    read_exact_at, read_u16_at, read_u32_at, read_u64_at, u16_in, u32_in, u64_in,
+};
+use tiff_base::tags::{ByteOrder, FileKind, Type};
+
+// How many bytes the number of entries takes.
+fn count_len(kind: FileKind) -> u64
+    ensures { result ≡ byte_len (count_width kind) }
+{
+    match kind {
+        FileKind::Classic => 2,
+        FileKind::Big => 8,
+    }
+}
+
+// How many bytes an entry has.
+fn entry_len(kind: FileKind) -> usize
+    ensures { result ≡ entry_len kind }
+{
+    match kind {
+        FileKind::Classic => 12,
+        FileKind::Big => 20,
+    }
+}
+
+// The value field of an entry.
+fn value_of(kind: FileKind, entry: &[u8]) -> [u8; 8]
+    requires { entry_len kind ≤ length entry.now }
+    ensures { result ≡ value_of kind entry.now }
+{
+    let mut value = [0u8; 8];
+    match kind {
+        FileKind::Classic => value[..4].copy_from_slice(&entry[8..12]),
+        FileKind::Big => value.copy_from_slice(&entry[12..20]),
+    }
+    value
+}
+
+// The tag number and the field of an entry, where its type is known.
+#[tactic(auto, unfolding(tiff_base::specs::Directory::entry_of))]
+fn entry_of(kind: FileKind, order: ByteOrder, entry: &[u8]) -> Option<(u16, Entry)>
+    requires { entry_len kind ≤ length entry.now }
+    ensures { result ≡ entry_of kind order entry.now }
+{
+    let field_type = Type::from_u16(u16_in(order, entry, 2))?;
+    let count = match kind {
+        FileKind::Classic => u64::from(u32_in(order, entry, 4)),
+        FileKind::Big => u64_in(order, entry, 4),
+    };
+    let field = Entry::new_u64(field_type, count, value_of(kind, entry));
+    Some((u16_in(order, entry, 0), field))
+}
+
+// The entry at a place, where its type is known.
+fn read_entry_at<R: Source>(
+    source: &mut R,
+    at: u64,
+    kind: FileKind,
+    order: ByteOrder,
+) -> TiffResult<Option<(u16, Entry)>>
+    ensures kept { IsKept R.bytes R.failures source.old source.new }
+    ensures answer { AnswersExactly (λ e. e) result (entry_at kind order (R.bytes source.old) at) (R.failures source.old) (R.failures source.new) }
+{
+    let mut buf = [0u8; 20];
+    let entry = &mut buf[..entry_len(kind)];
+    read_exact_at(source, at, entry)?;
+    Ok(entry_of(kind, order, entry))
+}
+
+// How many entries a directory has.
+fn read_count_at<R: Source>(
+    source: &mut R,
+    at: u64,
+    kind: FileKind,
+    order: ByteOrder,
+) -> TiffResult<u64>
+    ensures kept { IsKept R.bytes R.failures source.old source.new }
+    ensures answer { AnswersExactly (λ n. n) result (number_at order (count_width kind) (R.bytes source.old) at) (R.failures source.old) (R.failures source.new) }
+{
+    match kind {
+        FileKind::Classic => Ok(u64::from(read_u16_at(source, at, order)?)),
+        FileKind::Big => read_u64_at(source, at, order),
+    }
+}
+
+// A place that a directory holds.
+fn read_link_at<R: Source>(
+    source: &mut R,
+    at: u64,
+    kind: FileKind,
+    order: ByteOrder,
+) -> TiffResult<u64>
+    ensures kept { IsKept R.bytes R.failures source.old source.new }
+    ensures answer { AnswersExactly (λ n. n) result (number_at order (place_width kind) (R.bytes source.old) at) (R.failures source.old) (R.failures source.new) }
+{
+    match kind {
+        FileKind::Classic => Ok(u64::from(read_u32_at(source, at, order)?)),
+        FileKind::Big => read_u64_at(source, at, order),
+    }
+}
+
+// The fields of the first `count` entries from a place on, and the place after them.
+#[tactic(auto, using(crate::proofs::Entries::no_entries, crate::proofs::Entries::read_there, crate::proofs::Entries::entry_kept, crate::proofs::Entries::entry_skipped))]
+fn read_entries<R: Source>(
+    alloc: Global,
+    source: &mut R,
+    first: u64,
+    count: u64,
+    kind: FileKind,
+    order: ByteOrder,
+) -> TiffResult<(Directory, u64)>
+    ensures kept { IsKept R.bytes R.failures source.old source.new }
+    ensures fields { IfOk result (λ r. r.0 ≡ record { entries = last_of_each (entries_from kind order (R.bytes source.old) first count); next = None }) }
+    ensures place { IfOk result (λ r. r.1 ≡ first + entry_len kind * count) }
+    ensures cut { IfErr result (λ e. IsCause (Unit {0}) (R.failures source.old < R.failures source.new) e
+        ((e ≡ tiff.IoError io_kind.UnexpectedEof) × (length (R.bytes source.old) ≤ first + entry_len kind * count))) }
+{
+    let mut directory = Directory::empty(alloc);
+    let mut place = first;
+    for i in 0..count {
+        if let Some((tag, entry)) = read_entry_at(source, place, kind, order)? {
+            directory.insert(tag, entry)?;
+        }
+        place += entry_len(kind) as u64;
+    }
+    Ok((directory, place))
+}
+
+/// Reads the directory at a place: the last entry of each tag, entries of unknown type left out. Cut anywhere, it is
+/// `IoError(UnexpectedEof)`.
+#[tactic(auto, using(crate::proofs::Entries::directory_cut), unfolding(tiff_base::specs::Directory::directory_at))]
+pub fn read_directory<R: Source>(
+    alloc: Global,
+    source: &mut R,
+    at: u64,
+    kind: FileKind,
+    order: ByteOrder,
+) -> TiffResult<Directory>
+    ensures kept { IsKept R.bytes R.failures source.old source.new }
+    ensures answer { Answers (λ d. d) result (directory_at kind order (R.bytes source.old) at) (R.failures source.old) (R.failures source.new) }
+{
+    let count = read_count_at(source, at, kind, order)?;
+    let first = at + count_len(kind);
+    let (mut directory, place) = read_entries(alloc, source, first, count, kind, order)?;
+    let next = read_link_at(source, place, kind, order)?;
+    directory.link_to(next);
+    Ok(directory)
+}

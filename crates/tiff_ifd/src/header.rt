@@ -1,0 +1,65 @@
+//! The header of a file.
+
+ghost use Rattle.std.specs.Prelude.{◌≡◌};
+ghost use Rattle.tiff_base.specs.Answers.{AnswersExactly, IsKept};
+ghost use Rattle.tiff_base.specs.Header.{header_at, order_at};
+
+use tiff_base::error::{TiffError, TiffFormatError, TiffResult};
+use tiff_base::io::{IoKind, Source};
+use tiff_base::read::{read_u16_at, read_u32_at, read_u64_at};
+use tiff_base::tags::{ByteOrder, FileKind};
+
+/// What a header says.
+#[derive(Clone, Copy, Debug, PartialEq, Eq)]
+pub struct FileHeader {
+    pub order: ByteOrder,
+    pub kind: FileKind,
+    /// The place of the first directory.
+    pub first: u64,
+}
+
+fn read_order<R: Source>(source: &mut R) -> TiffResult<ByteOrder>
+    ensures kept { IsKept R.bytes R.failures source.old source.new }
+    ensures answer { AnswersExactly (λ o. o) result (order_at (R.bytes source.old)) (R.failures source.old) (R.failures source.new) }
+{
+    let mark = match read_u16_at(source, 0, ByteOrder::LittleEndian) {
+        Ok(mark) => mark,
+        Err(TiffError::IoError(IoKind::UnexpectedEof)) => {
+            return Err(TiffError::FormatError(TiffFormatError::TiffSignatureNotFound));
+        }
+        Err(e) => return Err(e),
+    };
+    match mark {
+        0x4949 => Ok(ByteOrder::LittleEndian),
+        0x4d4d => Ok(ByteOrder::BigEndian),
+        _ => Err(TiffError::FormatError(TiffFormatError::TiffSignatureNotFound)),
+    }
+}
+
+/// Reads the header. No `II` or `MM`, or in BigTIFF not 8 and 0: `TiffSignatureNotFound`; neither 42 nor 43:
+/// `TiffSignatureInvalid`; a number cut: `IoError(UnexpectedEof)`; the first place 0: `ImageFileDirectoryNotFound`.
+#[tactic(auto, unfolding(tiff_base::specs::Header::header_at))]
+pub fn read_header<R: Source>(source: &mut R) -> TiffResult<FileHeader>
+    ensures kept { IsKept R.bytes R.failures source.old source.new }
+    ensures answer { AnswersExactly (λ h. record { order = h.order; kind = h.kind; first = h.first }) result (header_at (R.bytes source.old)) (R.failures source.old) (R.failures source.new) }
+{
+    let order = read_order(source)?;
+    let version = read_u16_at(source, 2, order)?;
+    let (kind, first) = match version {
+        42 => (FileKind::Classic, u64::from(read_u32_at(source, 4, order)?)),
+        43 => {
+            if read_u16_at(source, 4, order)? != 8 {
+                return Err(TiffFormatError::TiffSignatureNotFound.into());
+            }
+            if read_u16_at(source, 6, order)? != 0 {
+                return Err(TiffFormatError::TiffSignatureNotFound.into());
+            }
+            (FileKind::Big, read_u64_at(source, 8, order)?)
+        }
+        _ => return Err(TiffFormatError::TiffSignatureInvalid.into()),
+    };
+    if first == 0 {
+        return Err(TiffFormatError::ImageFileDirectoryNotFound.into());
+    }
+    Ok(FileHeader { order, kind, first })
+}

@@ -1,0 +1,9 @@
+//! What a file's header, directories and tags say.
+#![tactic(auto)]
+
+pub mod decode;
+pub mod header;
+pub mod limits;
+pub mod tag_reader;
+pub mod tags;
+pub mod value;

@@ -1,0 +1,264 @@
+//! The values of fields.
+
+ghost use Rattle.std.specs.Prelude.{◌≡◌, [], ◌∷◌, ◌++◌, length, string_bytes};
+ghost use Rattle.tiff_ifd.specs.Datum.{data_of};
+ghost use Rattle.tiff_ifd.specs.Into as spec;
+ghost use Rattle.std.specs.Str.{chars as letters};
+ghost use Rattle.tiff_base.specs.Answers.{AnswersHere, Gives};
+ghost use Rattle.tiff_ifd.specs.View.{datum, datum_list};
+
+use std::alloc::Global;
+use std::marker::Model;
+use tiff_base::error::{TiffError, TiffFormatError, TiffResult};
+use tiff_base::tags::{Bits32, Bits64};
+
+/// The value of a field.
+#[derive(Debug, Drop)]
+#[cycle(value)]
+#[non_exhaustive]
+pub enum Value {
+    Byte(u8),
+    Short(u16),
+    SignedByte(i8),
+    SignedShort(i16),
+    Signed(i32),
+    SignedBig(i64),
+    Unsigned(u32),
+    UnsignedBig(u64),
+    Float(Bits32),
+    Double(Bits64),
+    List(ValueList),
+    Rational(u32, u32),
+    RationalBig(u64, u64),
+    SRational(i32, i32),
+    SRationalBig(i64, i64),
+    Ascii(AsciiText),
+    Ifd(u32),
+    IfdBig(u64),
+}
+
+/// Some text.
+#[derive(Debug, Drop)]
+pub struct AsciiText {
+    text: String,
+}
+
+impl Model for AsciiText {
+    ghost use Rattle.std.specs.Prelude.{List, ℕ, string_bytes};
+
+    ghost Value = { List ℕ };
+
+    ghost view = { λ a. string_bytes a.text };
+}
+
+/// Some values.
+#[derive(Debug, Drop)]
+#[cycle(value)]
+pub struct ValueList {
+    items: Vec<Value>,
+}
+
+impl Model for ValueList {
+    ghost use Rattle.std.specs.Prelude.{List};
+    ghost use Rattle.tiff_ifd.specs.Datum.{Datum, list_code, list_depth};
+
+    ghost Value = { List Datum };
+
+    ghost coded = { list_code };
+
+    ghost use Rattle.tiff_ifd.specs.View.{datum_list};
+
+    ghost view = { λ a. datum_list a.items.items };
+
+    ghost size = { list_depth };
+
+    ghost use Rattle.tiff_ifd.specs.Falls.{most_le-depth};
+
+    ghost size_decreases = { λ a h. most_le-depth a.items.items };
+}
+
+impl AsciiText {
+    pub fn from_string(text: String) -> AsciiText
+        ensures { result ≡ string_bytes text }
+    {
+        AsciiText { text }
+    }
+
+    pub fn into_string(self) -> String
+        ensures { string_bytes result ≡ self }
+    {
+        let AsciiText { text } = self;
+        text
+    }
+
+    pub fn as_str(&self) -> &str
+        ensures { result.now ≡ self.now }
+    {
+        self.text.as_str()
+    }
+}
+
+impl ValueList {
+    pub fn from_vec(items: Vec<Value>) -> ValueList
+        ensures { result ≡ datum_list items.items }
+    {
+        ValueList { items }
+    }
+
+    pub fn into_vec(self) -> Vec<Value>
+        ensures { datum_list result.items ≡ self }
+    {
+        let ValueList { items } = self;
+        items
+    }
+
+    pub fn len(&self) -> usize
+        ensures { result ≡ length self.now }
+    {
+        self.items.len()
+    }
+}
+
+impl Value {
+    /// A number below 2^16. Another kind of value: `InvalidTypeForTag`; a larger one: `IntSizeError`.
+    pub fn into_u16(self) -> TiffResult<u16>
+        ensures { Gives (λ n. n) result (spec.into_u16 (datum self)) }
+    {
+        match self {
+            Value::Byte(n) => Ok(n as u16),
+            Value::Short(n) => Ok(n),
+            Value::Unsigned(n) => u16::try_from(n).map_err(|_| TiffError::IntSizeError),
+            Value::UnsignedBig(n) => u16::try_from(n).map_err(|_| TiffError::IntSizeError),
+            _ => Err(TiffError::FormatError(TiffFormatError::InvalidTypeForTag)),
+        }
+    }
+
+    /// A number below 2^32. Another kind of value: `InvalidTypeForTag`; a larger one: `IntSizeError`.
+    pub fn into_u32(self) -> TiffResult<u32>
+        ensures { Gives (λ n. n) result (spec.into_u32 (datum self)) }
+    {
+        match self {
+            Value::Byte(n) => Ok(n as u32),
+            Value::Short(n) => Ok(n as u32),
+            Value::Unsigned(n) => Ok(n),
+            Value::UnsignedBig(n) => u32::try_from(n).map_err(|_| TiffError::IntSizeError),
+            Value::Ifd(n) => Ok(n),
+            Value::IfdBig(n) => u32::try_from(n).map_err(|_| TiffError::IntSizeError),
+            _ => Err(TiffError::FormatError(TiffFormatError::InvalidTypeForTag)),
+        }
+    }
+
+    /// A number. Another kind of value: `InvalidTypeForTag`.
+    pub fn into_u64(self) -> TiffResult<u64>
+        ensures { Gives (λ n. n) result (spec.into_u64 (datum self)) }
+    {
+        match self {
+            Value::Byte(n) => Ok(n as u64),
+            Value::Short(n) => Ok(n as u64),
+            Value::Unsigned(n) => Ok(n as u64),
+            Value::UnsignedBig(n) => Ok(n),
+            Value::Ifd(n) => Ok(n as u64),
+            Value::IfdBig(n) => Ok(n),
+            _ => Err(TiffError::FormatError(TiffFormatError::InvalidTypeForTag)),
+        }
+    }
+
+    /// Numbers below 2^16, of a list or of one number. The first item that fails gives the fault.
+    pub fn into_u16_vec(self, alloc: Global) -> TiffResult<Vec<u16>>
+        ensures { AnswersHere (λ v. v.items) result (spec.into_u16_vec (datum self)) }
+    {
+        match self {
+            Value::List(list) => each::<u16>(alloc, list),
+            Value::Byte(n) => one(alloc, n as u16),
+            Value::Short(n) => one(alloc, n),
+            _ => Err(TiffError::FormatError(TiffFormatError::InvalidTypeForTag)),
+        }
+    }
+
+    /// Numbers, of a list, of one number, of a rational or of a text's characters. The first item that fails gives the
+    /// fault.
+    pub fn into_u64_vec(self, alloc: Global) -> TiffResult<Vec<u64>>
+        ensures { AnswersHere (λ v. v.items) result (spec.into_u64_vec (datum self)) }
+    {
+        match self {
+            Value::List(list) => each::<u64>(alloc, list),
+            Value::Byte(n) => one(alloc, n as u64),
+            Value::Short(n) => one(alloc, n as u64),
+            Value::Unsigned(n) => one(alloc, n as u64),
+            Value::UnsignedBig(n) => one(alloc, n),
+            Value::Ifd(n) => one(alloc, n as u64),
+            Value::IfdBig(n) => one(alloc, n),
+            Value::Rational(n, d) => two(alloc, n as u64, d as u64),
+            Value::RationalBig(n, d) => two(alloc, n, d),
+            Value::Ascii(text) => chars(alloc, text.as_str()),
+            _ => Err(TiffError::FormatError(TiffFormatError::InvalidTypeForTag)),
+        }
+    }
+}
+
+fn two<T: Drop>(alloc: Global, x: T, y: T) -> TiffResult<Vec<T>>
+    ensures { AnswersHere (λ v. v.items) result (Ok (x ∷ y ∷ [])) }
+{
+    let mut all = Vec::new(alloc);
+    all.push(x)?;
+    all.push(y)?;
+    Ok(all)
+}
+
+/// A number that a single value gives.
+pub trait FromValue: Sized {
+    ghost use Rattle.std.specs.Prelude.{Result};
+    ghost use Rattle.tiff_base.specs.declared.error.TiffError.{TiffError};
+    ghost use Rattle.tiff_ifd.specs.Datum.{Datum};
+
+    // What each field gives.
+    ghost into: { Datum → Result Self TiffError };
+
+    fn from_value(value: Value) -> TiffResult<Self>
+        ensures { AnswersHere (λ x. x) result (into (datum value)) };
+}
+
+impl FromValue for u16 {
+    ghost into = { spec.into_u16 };
+
+    fn from_value(value: Value) -> TiffResult<u16> {
+        value.into_u16()
+    }
+}
+
+impl FromValue for u64 {
+    ghost into = { spec.into_u64 };
+
+    fn from_value(value: Value) -> TiffResult<u64> {
+        value.into_u64()
+    }
+}
+
+fn chars(alloc: Global, text: &str) -> TiffResult<Vec<u64>>
+    ensures { AnswersHere (λ v. v.items) result (Ok (letters text.now)) }
+{
+    let mut all = Vec::new(alloc);
+    for c in text.chars() {
+        all.push(c as u32 as u64)?;
+    }
+    Ok(all)
+}
+
+fn one<T: Drop>(alloc: Global, x: T) -> TiffResult<Vec<T>>
+    ensures { AnswersHere (λ v. v.items) result (Ok (x ∷ [])) }
+{
+    let mut all = Vec::new(alloc);
+    all.push(x)?;
+    Ok(all)
+}
+
+fn each<T: FromValue + Drop>(alloc: Global, list: ValueList) -> TiffResult<Vec<T>>
+    ensures { AnswersHere (λ v. v.items) result (spec.each T.into (data_of list)) }
+{
+    let ValueList { items } = list;
+    let mut all = Vec::new(alloc);
+    for item in items {
+        all.push(T::from_value(item)?)?;
+    }
+    Ok(all)
+}

@@ -1,0 +1,220 @@
+-- Colours, sample types and layouts.
+use Rattle.std.specs.Prelude.{ℕ, ◌+◌, ◌-◌, ◌*◌, ◌/◌, ◌%◌, ◌^◌, Bool, true, false, List, [], ◌∷◌, length, replicate, Option, Some, None, Result, Ok, Err, if◌then◌else◌, ◌==◌, ◌&&◌, nat_lt, nat_le, not}
+use Rattle.tiff_base.specs.declared.error.TiffError.{TiffError}
+use Rattle.tiff_base.specs.declared.error.TiffError.TheVariants.{UnsupportedError, UsageError, LimitsExceeded}
+use Rattle.tiff_base.specs.declared.error.UsageError.TheVariants.{InvalidCodingUnit}
+use Rattle.tiff_base.specs.declared.error.TiffUnsupportedError.TheVariants.{InterpretationWithBits, UnsupportedSampleFormat, UnsupportedSampleDepth, MisalignedTileBoundaries, ChromaSubsampling}
+use Rattle.tiff_base.specs.declared.tags.PhotometricInterpretation.{PhotometricInterpretation}
+use Rattle.tiff_base.specs.declared.tags.PhotometricInterpretation.TheVariants as meaning
+use Rattle.tiff_base.specs.declared.color.ColorType.{ColorType}
+use Rattle.tiff_base.specs.declared.color.ColorType.TheVariants.{Gray, RGB, RGBA, CMYK, CMYKA, YCbCr, Lab, Multiband}
+use Rattle.tiff_base.specs.declared.tags.CompressionMethod.{CompressionMethod}
+use Rattle.tiff_base.specs.declared.tags.CompressionMethod.TheVariants.{ModernJPEG}
+use Rattle.tiff_base.specs.declared.tags.PlanarConfiguration.{PlanarConfiguration}
+use Rattle.tiff_base.specs.declared.tags.PlanarConfiguration.TheVariants.{Chunky, Planar}
+use Rattle.tiff_base.specs.declared.tags.SampleFormat.{SampleFormat}
+use Rattle.tiff_base.specs.declared.tags.SampleFormat.TheVariants.{Uint, Int, IEEEFP}
+use Rattle.tiff_page.specs.declared.image.DecodingSampleType.{DecodingSampleType}
+use Rattle.tiff_page.specs.declared.image.DecodingSampleType.TheVariants.{U8, U16, U32, U64, F16, F32, F64, I8, I16, I32, I64}
+use Rattle.tiff_base.specs.declared.tags.ExtraSamples.{ExtraSamples}
+use Rattle.tiff_base.specs.declared.tags.ExtraSamples.TheVariants.{Unspecified, AssociatedAlpha, UnassociatedAlpha}
+use Rattle.tiff_base.specs.Color.{num_samples}
+use Rattle.tiff_base.specs.Answers.{◌>>=◌}
+use Rattle.std.specs.Int.{div_ceil}
+use Rattle.tiff_page.specs.Counts.{parts}
+use Rattle.tiff_page.specs.Page.{PageRecord}
+use Rattle.tiff_page.specs.declared.BufferLayoutPreference.{BufferLayoutPreference}
+use Rattle.tiff_page.specs.Rect.{RectRecord, rect, chunks_of_plane}
+
+-- ---- the colour
+
+abbrev pub first_is_alpha : List ExtraSamples → Bool
+first_is_alpha (AssociatedAlpha ∷ _) = true
+first_is_alpha (UnassociatedAlpha ∷ _) = true
+first_is_alpha _ = false
+
+unfoldable pub no_colour : PageRecord → Result ColorType TiffError
+no_colour p = Err (UnsupportedError (InterpretationWithBits p.interpretation (replicate p.samples p.depth)))
+
+abbrev pub photometric : PageRecord → ℕ
+photometric p = p.samples - length p.extra
+
+abbrev pub rgb : PageRecord → Result ColorType TiffError
+rgb p =
+    if photometric p == 3 then Ok (if first_is_alpha p.extra then RGBA p.depth else RGB p.depth)
+    else if photometric p == 4 then Ok (RGBA p.depth) else no_colour p
+
+abbrev pub cmyk : PageRecord → Result ColorType TiffError
+cmyk p =
+    if photometric p == 4 then Ok (if first_is_alpha p.extra then CMYKA p.depth else CMYK p.depth)
+    else if photometric p == 5 then Ok (CMYKA p.depth) else no_colour p
+
+abbrev pub ycbcr : PageRecord → Result ColorType TiffError
+ycbcr p = if photometric p == 3 then Ok (YCbCr p.depth) else no_colour p
+
+-- extra samples count here
+abbrev pub gray : PageRecord → Result ColorType TiffError
+gray p = if p.samples == 1 then Ok (Gray p.depth) else Ok (Multiband p.depth p.samples)
+
+abbrev pub lab : SampleFormat → PageRecord → Result ColorType TiffError
+lab Uint p = if photometric p == 3 then Ok (Lab p.depth) else no_colour p
+lab _ p = no_colour p
+
+abbrev pub colour_from : PhotometricInterpretation → PageRecord → Result ColorType TiffError
+colour_from meaning.RGB p = rgb p
+colour_from meaning.CMYK p = cmyk p
+colour_from meaning.YCbCr p = ycbcr p
+colour_from meaning.BlackIsZero p = gray p
+colour_from meaning.WhiteIsZero p = gray p
+colour_from meaning.IccLab p = lab p.format p
+colour_from _ p = no_colour p
+
+unfoldable pub colour_of : PageRecord → Result ColorType TiffError
+colour_of p = colour_from p.interpretation p
+
+-- ---- the sample type
+
+abbrev pub of_depth : ℕ → DecodingSampleType → DecodingSampleType → DecodingSampleType → DecodingSampleType → Result DecodingSampleType TiffError
+of_depth d a b c e =
+    if nat_le d 8 then Ok a else if nat_le d 16 then Ok b else if nat_le d 32 then Ok c else if nat_le d 64 then Ok e
+    else Err (UnsupportedError (UnsupportedSampleDepth d))
+
+abbrev pub float_of : ℕ → Result DecodingSampleType TiffError
+float_of d =
+    if d == 16 then Ok F16 else if d == 32 then Ok F32 else if d == 64 then Ok F64 else Err (UnsupportedError (UnsupportedSampleDepth d))
+
+abbrev pub sample_type_from : SampleFormat → ℕ → Result DecodingSampleType TiffError
+sample_type_from Uint d = of_depth d U8 U16 U32 U64
+sample_type_from Int d = of_depth d I8 I16 I32 I64
+sample_type_from IEEEFP d = float_of d
+sample_type_from f d = Err (UnsupportedError (UnsupportedSampleFormat (f ∷ [])))
+
+unfoldable pub sample_type_of : PageRecord → Result DecodingSampleType TiffError
+sample_type_of p = sample_type_from p.format p.depth
+
+abbrev pub size_of : DecodingSampleType → ℕ
+size_of U8 = 1
+size_of I8 = 1
+size_of U16 = 2
+size_of I16 = 2
+size_of F16 = 2
+size_of U32 = 4
+size_of I32 = 4
+size_of F32 = 4
+size_of U64 = 8
+size_of I64 = 8
+size_of F64 = 8
+
+-- ---- a layout
+
+pub record LayoutRecord : Type 0 where
+  pub colour : ColorType
+  pub row_bytes : ℕ
+  pub plane_stride : ℕ
+
+-- samples of a colour that a chunk shows, and planes that show the rest
+abbrev pub shown : PlanarConfiguration → ColorType → ℕ
+shown Chunky colour = num_samples colour
+shown Planar colour = 1
+
+abbrev pub planes : PlanarConfiguration → ColorType → ℕ
+planes Chunky colour = 1
+planes Planar colour = num_samples colour
+
+unfoldable pub row_bits : PageRecord → ColorType → ℕ → ℕ
+row_bits p colour width = width * p.depth * shown p.planar colour
+
+abbrev pub row_bytes : PageRecord → ColorType → ℕ → ℕ
+row_bytes p colour width = (row_bits p colour width + 7) / 8
+
+-- a number below 2^64
+abbrev pub wide : ℕ → Result ℕ TiffError
+wide n = if nat_lt n (2 ^ 64) then Ok n else Err LimitsExceeded
+
+-- more than one chunk in a row: each of whole bytes
+abbrev pub aligned : PageRecord → ColorType → ℕ → Result ColorType TiffError
+aligned p colour width =
+    if nat_lt 1 (parts width p.chunk_width) && not (row_bits p colour p.chunk_width % 8 == 0)
+    then Err (UnsupportedError MisalignedTileBoundaries)
+    else Ok colour
+
+abbrev pub jpeg_alone : CompressionMethod → ColorType → Result ColorType TiffError
+jpeg_alone ModernJPEG colour = Ok colour
+jpeg_alone _ colour = Err (UnsupportedError ChromaSubsampling)
+
+abbrev pub whole_chroma : PageRecord → ColorType → Result ColorType TiffError
+whole_chroma p (YCbCr d) = if p.subsampling.0 == 1 && p.subsampling.1 == 1 then Ok (YCbCr d) else jpeg_alone p.method (YCbCr d)
+whole_chroma p colour = Ok colour
+
+unfoldable pub layout_of : PageRecord → ℕ → ℕ → Result LayoutRecord TiffError
+layout_of p width height = do
+  colour ← colour_of p
+  _ ← wide (row_bytes p colour width * p.chunk_height)
+  plane_stride ← wide (row_bytes p colour width * height)
+  _ ← aligned p colour width
+  _ ← whole_chroma p colour
+  Ok (record { colour = colour; row_bytes = row_bytes p colour width; plane_stride = plane_stride })
+
+-- ---- what the calls answer
+
+abbrev pub answered : Result DecodingSampleType TiffError → Option DecodingSampleType
+answered (Ok t) = Some t
+answered (Err e) = None
+
+unfoldable pub image_layout : PageRecord → Result BufferLayoutPreference TiffError
+image_layout p = do
+  layout ← layout_of p p.width p.height
+  complete ← wide (layout.plane_stride * planes p.planar layout.colour)
+  Ok (record {
+    len = layout.plane_stride;
+    sample_format = p.format;
+    sample_type = answered (sample_type_of p);
+    row_stride = Some layout.row_bytes;
+    planes = planes p.planar layout.colour;
+    plane_stride = Some layout.plane_stride;
+    complete_len = complete;
+  })
+
+-- whole samples, below 2^63 bytes
+abbrev pub rounded : ℕ → ℕ → Result ℕ TiffError
+rounded bytes size = if nat_lt (div_ceil bytes size * size) (2 ^ 63) then Ok (div_ceil bytes size * size) else Err LimitsExceeded
+
+unfoldable pub chunk_layout : PageRecord → ℕ → Result BufferLayoutPreference TiffError
+chunk_layout p i = do
+  layout ← layout_of p (rect p i).width (rect p i).height
+  type ← sample_type_of p
+  len ← rounded layout.plane_stride (size_of type)
+  Ok (record {
+    len = len;
+    sample_format = p.format;
+    sample_type = Some type;
+    row_stride = Some layout.row_bytes;
+    planes = 1;
+    plane_stride = Some layout.plane_stride;
+    complete_len = len;
+  })
+
+abbrev pub unit_within : ℕ → ℕ → Result ℕ TiffError
+unit_within unit have = if nat_lt unit have then Ok unit else Err (UsageError (InvalidCodingUnit unit have))
+
+unfoldable pub planar_unit_layout : PageRecord → ℕ → Result BufferLayoutPreference TiffError
+planar_unit_layout p unit = do
+  layout ← layout_of p (rect p unit).width (rect p unit).height
+  complete ← wide (layout.plane_stride * planes p.planar layout.colour)
+  _ ← unit_within unit (chunks_of_plane p)
+  Ok (record {
+    len = layout.plane_stride;
+    sample_format = p.format;
+    sample_type = answered (sample_type_of p);
+    row_stride = Some layout.row_bytes;
+    planes = planes p.planar layout.colour;
+    plane_stride = Some layout.plane_stride;
+    complete_len = complete;
+  })
+
+abbrev pub unit_from : PlanarConfiguration → PageRecord → ℕ → Result BufferLayoutPreference TiffError
+unit_from Chunky p unit = chunk_layout p unit
+unit_from Planar p unit = planar_unit_layout p unit
+
+unfoldable pub unit_layout : PageRecord → ℕ → Result BufferLayoutPreference TiffError
+unit_layout p unit = unit_from p.planar p unit

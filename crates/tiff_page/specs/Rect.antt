@@ -1,0 +1,33 @@
+-- A chunk's place in the image.
+use Rattle.std.specs.Prelude.{ℕ, ◌-◌, ◌*◌, ◌/◌, ◌%◌, min}
+use Rattle.tiff_page.specs.Counts.{parts}
+use Rattle.tiff_page.specs.Page.{PageRecord}
+
+-- chunks of a plane
+abbrev pub across : PageRecord → ℕ
+across p = parts p.width p.chunk_width
+
+abbrev pub chunks_of_plane : PageRecord → ℕ
+chunks_of_plane p = across p * parts p.height p.chunk_height
+
+pub record RectRecord : Type 0 where
+  pub plane : ℕ
+  pub x : ℕ
+  pub y : ℕ
+  pub width : ℕ
+  pub height : ℕ
+
+-- the rectangle of the chunk at column and row, clipped to the image
+abbrev pub rect_at : PageRecord → ℕ → ℕ → RectRecord
+rect_at p plane j =
+    record {
+      plane = plane;
+      x = j % across p * p.chunk_width;
+      y = j / across p * p.chunk_height;
+      width = min p.chunk_width (p.width - j % across p * p.chunk_width);
+      height = min p.chunk_height (p.height - j / across p * p.chunk_height);
+    }
+
+-- an index past the planes is reduced
+unfoldable pub rect : PageRecord → ℕ → RectRecord
+rect p i = rect_at p (i / chunks_of_plane p) (i % chunks_of_plane p)

@@ -1,0 +1,47 @@
+//! A page.
+
+ghost use Rattle.std.specs.Prelude.{◌≡◌, ◌<◌, ◌≤◌, ◌^◌, length};
+ghost use Rattle.tiff_page.specs.Counts.{chunk_count, planes_of};
+
+use base::bits::{ExtraSampleList, NumberList};
+use base::kinds::{ChunkType, CompressionMethod, PhotometricInterpretation, PlanarConfiguration, Predictor, SampleFormat};
+
+/// Where the chunks of a page stand.
+#[derive(Drop)]
+pub struct ChunkTable {
+    pub chunk_width: u32,
+    pub chunk_height: u32,
+    pub offsets: NumberList,
+    pub byte_counts: NumberList,
+}
+
+/// What the tags of a page say.
+#[derive(Drop)]
+pub struct Page {
+    pub width: u32,
+    pub height: u32,
+    pub interpretation: PhotometricInterpretation,
+    pub method: CompressionMethod,
+    pub samples: u16,
+    pub extra: ExtraSampleList,
+    pub format: SampleFormat,
+    pub depth: u8,
+    pub predictor: Predictor,
+    pub planar: PlanarConfiguration,
+    pub subsampling: (u16, u16),
+    pub chunk_type: ChunkType,
+    pub chunk_width: u32,
+    pub chunk_height: u32,
+    pub offsets: NumberList,
+    pub byte_counts: NumberList,
+    ghost wide: { 0 < width },
+    ghost high: { 0 < height },
+    ghost sampled: { 0 < samples },
+    ghost extras: { length extra ≤ samples },
+    ghost deep: { 0 < depth },
+    ghost chunk_wide: { 0 < chunk_width },
+    ghost chunk_high: { 0 < chunk_height },
+    ghost counted: { length offsets ≡ chunk_count width height chunk_width chunk_height (planes_of planar samples) },
+    ghost counted_bytes: { length byte_counts ≡ length offsets },
+    ghost few: { length offsets < 2 ^ 32 },
+}
