@@ -1,10 +1,14 @@
 -- Reads in pieces.
-use Rattle.std.proofs.Common.{◌≡◌, ℕ, ◌+◌, ◌-◌, ◌≤◌, List, ◌++◌, length, take, drop, ap, sym, ◌∙◌, arith, length-append, length-drop, append_assoc}
+use Rattle.std.proofs.Common.{◌≡◌, ℕ, ◌+◌, ◌-◌, ◌≤◌, ◌<◌, List, ◌++◌, length, take, drop, Bool, true, false, cond, leb, Ok, Err, refl, ap, sym, ◌∙◌, arith, ⊎_elim, length-append, length-drop, append_assoc}
+use Rattle.std.proofs.lemmas.Bool.{cases_Bool, lt-leb, leb-false}
+use Rattle.tiff_base.specs.declared.error.TiffError.{TiffError}
+use Rattle.tiff_base.specs.declared.error.TiffError.TheVariants.{IoError}
+use Rattle.tiff_base.specs.declared.io.IoKind.TheVariants.{UnexpectedEof}
 use Rattle.std.proofs.lemmas.List.{take_at, drop-drop, length-take-le}
 use Rattle.std.proofs.Math.Seq.{take-add}
 use borrow.Rule.Slice.PartMut.{put_mid, post_of}
 use Rattle.std.proofs.lemmas.Slice.{between_to_end}
-use Rattle.tiff_base.specs.Told.{bytes_at, Reads, Appends}
+use Rattle.tiff_base.specs.Told.{bytes_at, exactly_at, Reads, Appends}
 
 -- A read gives as many bytes as it says.
 pub length-bytes_at : (bytes : List ℕ) (at n : ℕ) → n ≤ length bytes - at → length (bytes_at bytes at n) ≡ n
@@ -46,3 +50,23 @@ next_append first old bytes new done n sofar r =
     ∙ ap (λ (l : List ℕ). l ++ take n (drop done bytes)) sofar
     ∙ append_assoc first (take done bytes) (take n (drop done bytes))
     ∙ ap (λ (l : List ℕ). first ++ l) (sym (take-add done n bytes))
+
+-- no bytes where they reach past the end
+pub cut_past : (bytes : List ℕ) (at len : ℕ) → length bytes - at < len → exactly_at bytes at len ≡ Err (IoError UnexpectedEof)
+cut_past bytes at len past =
+    ap (λ (b : Bool). cond b (Ok (bytes_at bytes at len)) (Err (IoError UnexpectedEof))) (lt-leb len (length bytes - at) past)
+
+-- where bytes are missing there are fewer than those asked for, and that is the fault
+missing : (bytes : List ℕ) (at len : ℕ) (e : TiffError) → exactly_at bytes at len ≡ Err e → (length bytes - at < len) × (IoError UnexpectedEof ≡ e)
+missing bytes at len e =
+    ⊎_elim
+      (λ (t : leb len (length bytes - at) ≡ true). rw t (λ h. cc))
+      (λ (f : leb len (length bytes - at) ≡ false). rw f (λ h. (leb-false len (length bytes - at) f, cc)))
+      (cases_Bool (leb len (length bytes - at)))
+
+-- no bytes where the last of them is missing
+pub cut_at_last : (bytes : List ℕ) (at len place : ℕ) (e : TiffError) → place ≡ at + (len - 1) → 0 < len
+    → exactly_at bytes place 1 ≡ Err e → exactly_at bytes at len ≡ Err e
+cut_at_last bytes at len place e there some h =
+    let m : (length bytes - place < 1) × (IoError UnexpectedEof ≡ e) = missing bytes place 1 e h in
+    cut_past bytes at len (omega (arith, m.0)) ∙ ap Err m.1

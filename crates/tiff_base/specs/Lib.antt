@@ -10,3 +10,4 @@ pub mod Field
 pub mod Directory
 pub mod Header
 pub mod FieldBytes
+pub mod Runs

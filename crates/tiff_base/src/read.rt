@@ -4,11 +4,12 @@ ghost use Rattle.std.specs.Prelude.{◌≡◌, ◌+◌, ◌≤◌, length};
 ghost use Rattle.std.specs.Int.{w16, w32, w64};
 ghost use Rattle.tiff_base.specs.Told.{bytes_at, exactly_at};
 ghost use Rattle.tiff_base.specs.Number.{number, number_at};
-ghost use Rattle.tiff_base.specs.Answers.{AnswersExactly, IsKept};
+ghost use Rattle.tiff_base.specs.Answers.{Answers, AnswersExactly, IsKept};
 
 use crate::error::{TiffError, TiffResult};
 use crate::io::{IoKind, Source};
 use crate::tags::ByteOrder;
+use std::alloc::Global;
 
 /// Fills the buffer with the bytes at a place. Fewer bytes there: `IoError(UnexpectedEof)`.
 #[tactic(auto, using(crate::proofs::Bytes::next_read))]
@@ -28,6 +29,24 @@ pub fn read_exact_at<R: Source>(source: &mut R, at: u64, buf: &mut [u8]) -> Tiff
         done += n;
     }
     Ok(())
+}
+
+/// The `len` bytes at a place. Fewer bytes there: `IoError(UnexpectedEof)`, told before room for them is taken: the last
+/// byte is read first.
+#[tactic(auto, using(crate::proofs::Bytes::cut_at_last, crate::proofs::Bytes::cut_past))]
+pub fn read_bytes_at<R: Source>(alloc: Global, source: &mut R, at: u64, len: usize) -> TiffResult<Vec<u8>>
+    ensures kept { IsKept R.bytes R.failures source.old source.new }
+    ensures answer { Answers (λ v. v.items) result (exactly_at (R.bytes source.old) at len) (R.failures source.old) (R.failures source.new) }
+{
+    if len > 0 {
+        let Some(last) = at.checked_add(len as u64 - 1) else {
+            return Err(TiffError::IoError(IoKind::UnexpectedEof));
+        };
+        read_exact_at(source, last, &mut [0u8; 1])?;
+    }
+    let mut bytes = vec![in alloc; 0u8; len]?;
+    read_exact_at(source, at, &mut bytes)?;
+    Ok(bytes)
 }
 
 /// The number that two bytes are.

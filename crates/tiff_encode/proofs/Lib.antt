@@ -1,0 +1,6 @@
+pub mod Slices
+pub mod Kept
+pub mod Header
+pub mod Entries
+pub mod Grown
+pub mod Pages

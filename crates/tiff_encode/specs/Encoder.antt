@@ -1,5 +1,5 @@
 -- An encoder's file, and what writing a page does to it.
-use Rattle.std.specs.Prelude.{◌≡◌, ℕ, ◌+◌, ◌*◌, ◌^◌, ◌<◌, ◌≤◌, ◌⊎◌, Bool, true, false, not, ◌&&◌, ◌||◌, ◌==◌, List, [], ◌∷◌, ◌++◌, length, take, Option, Some, None, if◌then◌else◌, nat_lt, nat_le}
+use Rattle.std.specs.Prelude.{◌≡◌, ℕ, ◌+◌, ◌*◌, ◌^◌, ◌<◌, ◌≤◌, ◌⊎◌, Bool, true, false, not, ◌||◌, ◌==◌, List, [], ◌++◌, length, take, Option, Some, None, if◌then◌else◌, nat_lt, nat_le}
 use Rattle.tiff_base.specs.declared.error.TiffError.{TiffError}
 use Rattle.tiff_base.specs.declared.error.TiffError.TheVariants.{FormatError, UnsupportedError, IoError, IntSizeError, UsageError, OutOfMemory}
 use Rattle.tiff_base.specs.declared.error.TiffFormatError.TheVariants.{InvalidDimensions}
@@ -115,5 +115,5 @@ PageFails gray width height samples e old new =
     let refusal = page_refusal old gray width height samples in
     let page = page_bytes (length old.bytes) width height samples in
     IsStopped e old new ⊎ (IsRefused refusal e old new ⊎ (IsCut (appended_by refusal page) e old new
-      ⊎ (((refusal ≡ None) × IsTorn page (directory_place (length old.bytes) width height) e old new)
-      ⊎ IsWanting (appended_by refusal page) e old new)))
+    ⊎ (((refusal ≡ None) × IsTorn page (directory_place (length old.bytes) width height) e old new)
+    ⊎ IsWanting (appended_by refusal page) e old new)))

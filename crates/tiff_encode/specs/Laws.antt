@@ -1,17 +1,16 @@
 -- The laws by which what stands in a file is kept, and grows, as the file is appended to and links are patched.
-use Rattle.std.specs.Prelude.{◌≡◌, ℕ, ◌+◌, ◌*◌, ◌^◌, ◌<◌, ◌≤◌, ◌⊎◌, List, [], ◌∷◌, ◌++◌, length, take}
+use Rattle.std.specs.Prelude.{◌≡◌, ℕ, ◌+◌, ◌*◌, ◌^◌, ◌<◌, ◌≤◌, List, [], ◌∷◌, ◌++◌, length, take}
 use Rattle.std.specs.FinMap.{FinMap, len, entries}
 use Rattle.std.specs.Ordering.{nat_cmp}
 use Rattle.tiff_base.specs.declared.tags.FileKind.{FileKind}
-use Rattle.tiff_base.specs.declared.tags.FileKind.TheVariants.{Classic, Big}
+use Rattle.tiff_base.specs.declared.tags.FileKind.TheVariants.{Classic}
 use Rattle.tiff_base.specs.declared.tags.ByteOrder.TheVariants.{LittleEndian}
 use Rattle.tiff_base.specs.Field.{Field}
 use Rattle.tiff_base.specs.Told.{put}
 use Rattle.tiff_base.specs.Number.{le}
-use Rattle.tiff_base.specs.Directory.{value_of}
 use Rattle.tiff_base.specs.FieldBytes.{field_len, field_place}
 use Rattle.tiff_encode.specs.Written.{place_len, count_len, header_bytes, directory_bytes, short_field, long_field, rational_field, one_to_one, rows_per_strip, resolutions_place, strip_place, directory_place, page_map, with_page}
-use Rattle.tiff_encode.specs.Model.{In, FinishedDirectory, HandedField, Region, Model, IsLink, Stands, header_model, relinked, with_directory, with_region, with_handed, Grows}
+use Rattle.tiff_encode.specs.Model.{In, HandedField, Region, Model, IsLink, Stands, header_model, relinked, with_directory, with_region, with_handed}
 
 -- a field that fits the parts of an entry
 pub record IsWritable (kind : FileKind) (tag : ℕ) (f : Field) : Type 0 where
@@ -62,7 +61,7 @@ Finished = (kind : FileKind) (m : Model) (file : List ℕ) (fields : FinMap nat_
     → ((e : ℕ × Field) → In e (entries fields) → IsWritable kind e.0 e.1) → len fields < 256 ^ count_len kind
     → length file < 256 ^ place_len kind → IsLink kind m parent → Stands kind file m
     → Stands kind (put (file ++ directory_bytes kind fields) parent (le (place_len kind) (length file)))
-        (relinked kind (with_directory kind m (record { place = length file; fields = fields })) parent (length file))
+    (relinked kind (with_directory kind m (record { place = length file; fields = fields })) parent (length file))
 
 -- ---- the page of one gray strip
 
@@ -87,11 +86,11 @@ page_model m n link width height samples =
     relinked Classic (with_directory Classic (record m {
       handed = gray_handed width height (resolutions_place n) (strip_place n) ++ m.handed;
       regions = record { place = strip_place n; bytes = take (width * height) samples }
-        ∷ record { place = resolutions_place n + 8; bytes = one_to_one }
-        ∷ record { place = resolutions_place n; bytes = one_to_one }
-        ∷ m.regions;
+          ∷ record { place = resolutions_place n + 8; bytes = one_to_one }
+          ∷ record { place = resolutions_place n; bytes = one_to_one }
+          ∷ m.regions;
     }) (record { place = directory_place n width height; fields = page_map n width height }))
-      link (directory_place n width height)
+    link (directory_place n width height)
 
 -- sides and samples of a page of one strip that fits a classic file of length n
 pub record IsGrayPage (n width height : ℕ) (samples : List ℕ) : Type 0 where

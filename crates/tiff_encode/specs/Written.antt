@@ -6,7 +6,6 @@ use Rattle.std.specs.FinMap.{FinMap, len, entries, from_entries}
 use Rattle.std.specs.Ordering.{nat_cmp}
 use Rattle.tiff_base.specs.declared.tags.FileKind.{FileKind}
 use Rattle.tiff_base.specs.declared.tags.FileKind.TheVariants.{Classic, Big}
-use Rattle.tiff_base.specs.declared.tags.«Type».{«Type»}
 use Rattle.tiff_base.specs.declared.tags.«Type».TheVariants.{SHORT, LONG, RATIONAL}
 use Rattle.tiff_base.specs.Tags.{type_number}
 use Rattle.tiff_base.specs.Field.{Field}

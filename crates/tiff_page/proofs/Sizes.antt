@@ -1,10 +1,10 @@
-use Rattle.std.proofs.Common.{◌≡◌, ℕ, ◌+◌, ◌-◌, ◌*◌, ◌/◌, ◌%◌, ◌<◌, ◌≤◌, ◌^◌, min, refl, ⊎_elim, arith, Fits, w64, div-le_self}
+use Rattle.std.proofs.Common.{◌≡◌, ℕ, ◌+◌, ◌-◌, ◌*◌, ◌/◌, ◌%◌, ◌<◌, ◌≤◌, ◌^◌, min, ⊎_elim, arith, Fits, w64, div-le_self}
 use Rattle.std.proofs.lemmas.Bool.{cases_lt}
-use Rattle.std.proofs.lemmas.Nat.{div_below, mod_below, div-add-mod', mul-lt, mul-le}
+use Rattle.std.proofs.lemmas.Nat.{div_below, mod_below, div-add-mod', mul-lt}
 use Rattle.std.proofs.Math.Nat.{mul-le-mul_right, div-mul-le_self, mul_comm, le-mul_of_pos_right, one-le-mul}
 use Rattle.tiff_page.specs.Counts.{parts, planes_of}
-use Rattle.tiff_base.specs.declared.kinds.PlanarConfiguration.{PlanarConfiguration}
-use Rattle.tiff_base.specs.declared.kinds.PlanarConfiguration.TheVariants.{Chunky, Planar}
+use Rattle.tiff_base.specs.declared.tags.PlanarConfiguration.{PlanarConfiguration}
+use Rattle.tiff_base.specs.declared.tags.PlanarConfiguration.TheVariants.{Chunky, Planar}
 
 pub parts_cover : (w n : ℕ) → 0 < n → w ≤ parts w n * n
 parts_cover w n p = let e : parts w n * n + (w + n - 1) % n ≡ w + n - 1 = div-add-mod' (w + n - 1) n in omega (arith, mod_below (w + n - 1) n p)
@@ -67,7 +67,7 @@ row_in w h cw ch i a b c d =
     let n : ℕ = i % (parts w cw * parts h ch) in
     let l : n < parts w cw * parts h ch = mod_below i (parts w cw * parts h ch) (plane_some w h cw ch a b c d) in
     let k : n / parts w cw * ch < h =
-        parts_within h ch (n / parts w cw) d (div_below n (parts w cw) (parts h ch) (parts_some w cw c a) (rw (mul_comm (parts h ch) (parts w cw)) l)) in
+    parts_within h ch (n / parts w cw) d (div_below n (parts w cw) (parts h ch) (parts_some w cw c a) (rw (mul_comm (parts h ch) (parts w cw)) l)) in
     min_some ch (h - n / parts w cw * ch) d (omega arith)
 
 pub product_some : (w d s : ℕ) → 0 < w → 0 < d → 0 < s → 0 < (w * d * s + 7) / 8

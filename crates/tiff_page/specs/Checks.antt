@@ -1,5 +1,5 @@
 -- The checks of a page, in their order.
-use Rattle.std.specs.Prelude.{ℕ, suc, ◌+◌, ◌-◌, ◌*◌, ◌/◌, ◌^◌, Bool, true, false, List, [], ◌∷◌, map, length, Option, Some, None, Result, Ok, Err, unwrap_or, if◌then◌else◌, ◌==◌, ◌&&◌, ◌||◌, nat_lt, nat_le, not}
+use Rattle.std.specs.Prelude.{ℕ, ◌^◌, Bool, true, false, List, [], ◌∷◌, map, length, Option, Some, None, Result, Ok, Err, unwrap_or, if◌then◌else◌, ◌==◌, ◌&&◌, ◌||◌, nat_lt, nat_le, not}
 use Rattle.tiff_base.specs.declared.error.TiffError.{TiffError}
 use Rattle.tiff_base.specs.declared.error.TiffError.TheVariants.{FormatError, UnsupportedError}
 use Rattle.tiff_base.specs.declared.error.TiffFormatError.TheVariants.{InvalidDimensions, SamplesPerPixelIsZero, InconsistentSizesEncountered, InvalidTagValueType, UnknownPredictor, UnknownPlanarConfiguration, InvalidCountForTag, StripTileTagConflict}
@@ -7,9 +7,8 @@ use Rattle.tiff_base.specs.declared.error.TiffUnsupportedError.TheVariants.{Unkn
 use Rattle.tiff_base.specs.declared.tags.Tag.TheVariants as tag
 use Rattle.tiff_base.specs.declared.tags.PhotometricInterpretation.{PhotometricInterpretation}
 use Rattle.tiff_base.specs.declared.tags.CompressionMethod.{CompressionMethod}
-use Rattle.tiff_base.specs.declared.tags.CompressionMethod.TheVariants as method
 use Rattle.tiff_base.specs.declared.tags.PlanarConfiguration.{PlanarConfiguration}
-use Rattle.tiff_base.specs.declared.tags.PlanarConfiguration.TheVariants.{Chunky, Planar}
+use Rattle.tiff_base.specs.declared.tags.PlanarConfiguration.TheVariants.{Chunky}
 use Rattle.tiff_base.specs.declared.tags.Predictor.{Predictor}
 use Rattle.tiff_base.specs.declared.tags.Predictor.TheVariants as predictor
 use Rattle.tiff_base.specs.declared.tags.SampleFormat.{SampleFormat}

@@ -1,8 +1,7 @@
 -- Colours, sample types and layouts.
-use Rattle.std.specs.Prelude.{ℕ, ◌+◌, ◌-◌, ◌*◌, ◌/◌, ◌%◌, ◌^◌, Bool, true, false, List, [], ◌∷◌, length, replicate, Option, Some, None, Result, Ok, Err, if◌then◌else◌, ◌==◌, ◌&&◌, nat_lt, nat_le, not}
+use Rattle.std.specs.Prelude.{ℕ, ◌+◌, ◌-◌, ◌*◌, ◌/◌, ◌%◌, ◌^◌, Bool, true, false, List, [], ◌∷◌, length, replicate, Result, Ok, Err, if◌then◌else◌, ◌==◌, ◌&&◌, nat_lt, nat_le, not}
 use Rattle.tiff_base.specs.declared.error.TiffError.{TiffError}
-use Rattle.tiff_base.specs.declared.error.TiffError.TheVariants.{UnsupportedError, UsageError, LimitsExceeded}
-use Rattle.tiff_base.specs.declared.error.UsageError.TheVariants.{InvalidCodingUnit}
+use Rattle.tiff_base.specs.declared.error.TiffError.TheVariants.{UnsupportedError, LimitsExceeded}
 use Rattle.tiff_base.specs.declared.error.TiffUnsupportedError.TheVariants.{InterpretationWithBits, UnsupportedSampleFormat, UnsupportedSampleDepth, MisalignedTileBoundaries, ChromaSubsampling}
 use Rattle.tiff_base.specs.declared.tags.PhotometricInterpretation.{PhotometricInterpretation}
 use Rattle.tiff_base.specs.declared.tags.PhotometricInterpretation.TheVariants as meaning
@@ -14,17 +13,14 @@ use Rattle.tiff_base.specs.declared.tags.PlanarConfiguration.{PlanarConfiguratio
 use Rattle.tiff_base.specs.declared.tags.PlanarConfiguration.TheVariants.{Chunky, Planar}
 use Rattle.tiff_base.specs.declared.tags.SampleFormat.{SampleFormat}
 use Rattle.tiff_base.specs.declared.tags.SampleFormat.TheVariants.{Uint, Int, IEEEFP}
-use Rattle.tiff_page.specs.declared.image.DecodingSampleType.{DecodingSampleType}
-use Rattle.tiff_page.specs.declared.image.DecodingSampleType.TheVariants.{U8, U16, U32, U64, F16, F32, F64, I8, I16, I32, I64}
+use Rattle.tiff_page.specs.declared.layout.DecodingSampleType.{DecodingSampleType}
+use Rattle.tiff_page.specs.declared.layout.DecodingSampleType.TheVariants.{U8, U16, U32, U64, F16, F32, F64, I8, I16, I32, I64}
 use Rattle.tiff_base.specs.declared.tags.ExtraSamples.{ExtraSamples}
-use Rattle.tiff_base.specs.declared.tags.ExtraSamples.TheVariants.{Unspecified, AssociatedAlpha, UnassociatedAlpha}
+use Rattle.tiff_base.specs.declared.tags.ExtraSamples.TheVariants.{AssociatedAlpha, UnassociatedAlpha}
 use Rattle.tiff_base.specs.Color.{num_samples}
 use Rattle.tiff_base.specs.Answers.{◌>>=◌}
-use Rattle.std.specs.Int.{div_ceil}
 use Rattle.tiff_page.specs.Counts.{parts}
 use Rattle.tiff_page.specs.Page.{PageRecord}
-use Rattle.tiff_page.specs.declared.BufferLayoutPreference.{BufferLayoutPreference}
-use Rattle.tiff_page.specs.Rect.{RectRecord, rect, chunks_of_plane}
 
 -- ---- the colour
 
@@ -154,67 +150,3 @@ layout_of p width height = do
   _ ← aligned p colour width
   _ ← whole_chroma p colour
   Ok (record { colour = colour; row_bytes = row_bytes p colour width; plane_stride = plane_stride })
-
--- ---- what the calls answer
-
-abbrev pub answered : Result DecodingSampleType TiffError → Option DecodingSampleType
-answered (Ok t) = Some t
-answered (Err e) = None
-
-unfoldable pub image_layout : PageRecord → Result BufferLayoutPreference TiffError
-image_layout p = do
-  layout ← layout_of p p.width p.height
-  complete ← wide (layout.plane_stride * planes p.planar layout.colour)
-  Ok (record {
-    len = layout.plane_stride;
-    sample_format = p.format;
-    sample_type = answered (sample_type_of p);
-    row_stride = Some layout.row_bytes;
-    planes = planes p.planar layout.colour;
-    plane_stride = Some layout.plane_stride;
-    complete_len = complete;
-  })
-
--- whole samples, below 2^63 bytes
-abbrev pub rounded : ℕ → ℕ → Result ℕ TiffError
-rounded bytes size = if nat_lt (div_ceil bytes size * size) (2 ^ 63) then Ok (div_ceil bytes size * size) else Err LimitsExceeded
-
-unfoldable pub chunk_layout : PageRecord → ℕ → Result BufferLayoutPreference TiffError
-chunk_layout p i = do
-  layout ← layout_of p (rect p i).width (rect p i).height
-  type ← sample_type_of p
-  len ← rounded layout.plane_stride (size_of type)
-  Ok (record {
-    len = len;
-    sample_format = p.format;
-    sample_type = Some type;
-    row_stride = Some layout.row_bytes;
-    planes = 1;
-    plane_stride = Some layout.plane_stride;
-    complete_len = len;
-  })
-
-abbrev pub unit_within : ℕ → ℕ → Result ℕ TiffError
-unit_within unit have = if nat_lt unit have then Ok unit else Err (UsageError (InvalidCodingUnit unit have))
-
-unfoldable pub planar_unit_layout : PageRecord → ℕ → Result BufferLayoutPreference TiffError
-planar_unit_layout p unit = do
-  layout ← layout_of p (rect p unit).width (rect p unit).height
-  complete ← wide (layout.plane_stride * planes p.planar layout.colour)
-  _ ← unit_within unit (chunks_of_plane p)
-  Ok (record {
-    len = layout.plane_stride;
-    sample_format = p.format;
-    sample_type = answered (sample_type_of p);
-    row_stride = Some layout.row_bytes;
-    planes = planes p.planar layout.colour;
-    plane_stride = Some layout.plane_stride;
-    complete_len = complete;
-  })
-
-abbrev pub unit_from : PlanarConfiguration → PageRecord → ℕ → Result BufferLayoutPreference TiffError
-unit_from Chunky p unit = chunk_layout p unit
-unit_from Planar p unit = planar_unit_layout p unit
-
-unfoldable pub unit_layout : PageRecord → ℕ → Result BufferLayoutPreference TiffError
-unit_layout p unit = unit_from p.planar p unit

@@ -1,15 +1,14 @@
--- The faults of reading pixels, in their order.
-use Rattle.std.specs.Prelude.{ℕ, zero, suc, ◌+◌, ◌-◌, ◌*◌, ◌/◌, Bool, true, false, List, length, slice_index, Result, Ok, Err, if◌then◌else◌, ◌==◌, ◌&&◌, ◌||◌, nat_lt, nat_le, not}
+-- The faults of reading pixels, in their order (this project's order).
+use Rattle.std.specs.Prelude.{ℕ, zero, suc, ◌/◌, Bool, true, false, length, slice_index, Result, Ok, Err, if◌then◌else◌, ◌==◌, ◌&&◌, ◌||◌, nat_lt, nat_le, not}
 use Rattle.tiff_base.specs.declared.error.TiffError.{TiffError}
-use Rattle.tiff_base.specs.declared.error.TiffError.TheVariants.{FormatError, UnsupportedError, UsageError, IoError, LimitsExceeded}
+use Rattle.tiff_base.specs.declared.error.TiffError.TheVariants.{FormatError, UnsupportedError, IoError, LimitsExceeded}
 use Rattle.tiff_base.specs.declared.io.IoKind.TheVariants.{UnexpectedEof}
-use Rattle.tiff_base.specs.declared.error.UsageError.TheVariants.{InsufficientOutputBufferSize}
 use Rattle.tiff_base.specs.declared.error.TiffFormatError.TheVariants.{InconsistentSizesEncountered}
 use Rattle.tiff_base.specs.declared.error.TiffUnsupportedError.TheVariants.{UnsupportedColorType, HorizontalPredictor, FloatingPointPredictor, UnsupportedCompressionMethod, UnknownInterpretation}
 use Rattle.tiff_base.specs.declared.tags.PhotometricInterpretation.{PhotometricInterpretation}
 use Rattle.tiff_base.specs.declared.tags.PhotometricInterpretation.TheVariants as meaning
 use Rattle.tiff_base.specs.declared.color.ColorType.{ColorType}
-use Rattle.tiff_base.specs.declared.color.ColorType.TheVariants.{Gray, RGB, Palette, GrayA, RGBA, CMYK, CMYKA, YCbCr, Lab, Multiband}
+use Rattle.tiff_base.specs.declared.color.ColorType.TheVariants.{Gray, Palette, GrayA, Lab, Multiband}
 use Rattle.tiff_base.specs.declared.tags.CompressionMethod.{CompressionMethod}
 use Rattle.tiff_base.specs.declared.tags.CompressionMethod.TheVariants as method
 use Rattle.tiff_base.specs.declared.tags.Predictor.{Predictor}
@@ -18,13 +17,8 @@ use Rattle.tiff_base.specs.declared.tags.SampleFormat.{SampleFormat}
 use Rattle.tiff_base.specs.declared.tags.SampleFormat.TheVariants as format
 use Rattle.tiff_base.specs.Answers.{◌>>=◌}
 use Rattle.std.specs.Int.{div_ceil}
+use Rattle.tiff_ifd.specs.declared.limits.Limits.{Limits}
 use Rattle.tiff_page.specs.Page.{PageRecord}
-use Rattle.tiff_page.specs.Rect.{rect, chunks_of_plane}
-use Rattle.tiff_page.specs.Layout.{layout_of, planes, wide, sample_type_of, size_of}
-
-pub record LimitsRecord : Type 0 where
-  pub decoding : ℕ
-  pub intermediate : ℕ
 
 -- a fault where a test holds
 abbrev pub unless : Bool → TiffError → Result (Unit {0}) TiffError
@@ -90,15 +84,21 @@ white_from _ p colour = Ok tt
 unfoldable pub white_fault : PageRecord → ColorType → Result (Unit {0}) TiffError
 white_fault p colour = white_from p.interpretation p colour
 
--- a chunk's faults, where `short` says whether its data are too few
-unfoldable pub chunk_fault : PageRecord → LimitsRecord → (ℕ → Bool) → ColorType → ℕ → Result (Unit {0}) TiffError
-chunk_fault p limits short colour i = do
+-- a chunk's faults but that of too few data: an index past the list, the depth, the predictor, the limit of the file's
+-- bytes, the method, an image that can't be inverted
+unfoldable pub form_fault : PageRecord → Limits → ColorType → ℕ → Result (Unit {0}) TiffError
+form_fault p limits colour i = do
   _ ← unless (nat_le (length p.offsets) i) (FormatError InconsistentSizesEncountered)
   _ ← depth_fault p colour
   _ ← predictor_fault p colour
-  _ ← unless (nat_lt limits.intermediate (slice_index p.byte_counts i)) LimitsExceeded
+  _ ← unless (nat_lt limits.intermediate_buffer_size (slice_index p.byte_counts i)) LimitsExceeded
   _ ← method_fault p.method
-  _ ← white_fault p colour
+  white_fault p colour
+
+-- a chunk's faults, where `short` says whether its data are too few
+abbrev pub chunk_fault : PageRecord → Limits → (ℕ → Bool) → ColorType → ℕ → Result (Unit {0}) TiffError
+chunk_fault p limits short colour i = do
+  _ ← form_fault p limits colour i
   unless (short i) (IoError UnexpectedEof)
 
 -- the first fault of those below n
@@ -109,22 +109,5 @@ each_below fault (suc n) = do
   fault n
 
 -- no more samples than fit into the limit
-abbrev pub samples_fault : LimitsRecord → ℕ → ℕ → Result (Unit {0}) TiffError
-samples_fault limits size bytes = unless (nat_lt (limits.decoding / size) (div_ceil bytes size)) LimitsExceeded
-
--- the first fault of reading a whole image's first plane as numbers
-unfoldable pub image_fault : PageRecord → LimitsRecord → (ℕ → Bool) → Result (Unit {0}) TiffError
-image_fault p limits short = do
-  layout ← layout_of p p.width p.height
-  _ ← wide (layout.plane_stride * planes p.planar layout.colour)
-  type ← sample_type_of p
-  _ ← samples_fault limits (size_of type) layout.plane_stride
-  each_below (chunk_fault p limits short layout.colour) (chunks_of_plane p)
-
--- the first fault of reading a chunk into a slice of so many bytes
-unfoldable pub chunk_bytes_fault : PageRecord → LimitsRecord → (ℕ → Bool) → ℕ → ℕ → Result (Unit {0}) TiffError
-chunk_bytes_fault p limits short i provided = do
-  layout ← layout_of p (rect p i).width (rect p i).height
-  _ ← wide (layout.plane_stride * planes p.planar layout.colour)
-  _ ← unless (nat_lt provided layout.plane_stride) (UsageError (InsufficientOutputBufferSize layout.plane_stride provided))
-  chunk_fault p limits short layout.colour i
+abbrev pub samples_fault : Limits → ℕ → ℕ → Result (Unit {0}) TiffError
+samples_fault limits size bytes = unless (nat_lt (limits.decoding_buffer_size / size) (div_ceil bytes size)) LimitsExceeded

@@ -10,12 +10,19 @@ ghost use Rattle.tiff_page.specs.View as view;
 ghost use Rattle.tiff_base.specs.Answers.{Answers, AnswersHere, IsKept};
 ghost use Rattle.tiff_page.specs.Checks as checks;
 
+use crate::lists::{ExtraSampleList, NumberList};
 use crate::page::{ChunkTable, Page};
-use tiff_ifd::tags::{find_u16, find_u16_vec, find_u32, find_u64_vec, require_u32, require_u64_vec, Tags};
-use base::bits::{Bits, ExtraSampleList, SampleFormats, NumberList};
-use tiff_base::error::{TiffFormatError, TiffResult, TiffUnsupportedError};
-use base::kinds::{ChunkType, CompressionMethod, ExtraSamples, PhotometricInterpretation, PlanarConfiguration, Predictor, SampleFormat, Tag};
 use std::alloc::{AllocError, Global};
+use tiff_base::color::ChunkType;
+use tiff_base::error::{TiffFormatError, TiffResult, TiffUnsupportedError};
+use tiff_base::lists::{SampleBits, SampleFormats};
+use tiff_base::tags::{
+    CompressionMethod, ExtraSamples, PhotometricInterpretation, PlanarConfiguration, Predictor,
+    SampleFormat, Tag,
+};
+use tiff_ifd::tags::{
+    Tags, find_u16, find_u16_vec, find_u32, find_u64_vec, require_u32, require_u64_vec,
+};
 
 /// The width and the height.
 #[tactic(auto, unfolding(crate::specs::Checks::size_of))]
@@ -34,7 +41,10 @@ pub fn read_size<T: Tags>(tags: &mut T, alloc: Global) -> TiffResult<(u32, u32)>
 
 /// What the samples mean.
 #[tactic(auto, unfolding(crate::specs::Checks::interpretation_of))]
-pub fn read_interpretation<T: Tags>(tags: &mut T, alloc: Global) -> TiffResult<PhotometricInterpretation>
+pub fn read_interpretation<T: Tags>(
+    tags: &mut T,
+    alloc: Global,
+) -> TiffResult<PhotometricInterpretation>
     ensures kept { IsKept T.look T.failures tags.old tags.new }
     ensures answer { Answers (λ s. s) result (checks.interpretation_of (T.look tags.old)) (T.failures tags.old) (T.failures tags.new) }
 {
@@ -74,7 +84,10 @@ pub fn read_samples<T: Tags>(tags: &mut T, alloc: Global) -> TiffResult<u16>
 fn extras(alloc: Global, numbers: &[u16]) -> Result<Vec<ExtraSamples>, AllocError>
     ensures { IfOk result (λ v. v.items ≡ map (λ n. unwrap_or (kinds.extra_of n) extra_kind.Unspecified) numbers.now) }
 {
-    numbers.iter().map(|n| ExtraSamples::from_u16(*n).unwrap_or(ExtraSamples::Unspecified)).collect(alloc)
+    numbers
+        .iter()
+        .map(|n| ExtraSamples::from_u16(*n).unwrap_or(ExtraSamples::Unspecified))
+        .collect(alloc)
 }
 
 /// What the extra samples are.
@@ -110,7 +123,10 @@ fn are_all_u8(numbers: &[u8], number: u8) -> bool
 fn formats(alloc: Global, numbers: &[u16]) -> Result<Vec<SampleFormat>, AllocError>
     ensures { IfOk result (λ v. v.items ≡ map kinds.format_of numbers.now) }
 {
-    numbers.iter().map(|n| SampleFormat::from_u16_exhaustive(*n)).collect(alloc)
+    numbers
+        .iter()
+        .map(|n| SampleFormat::from_u16_exhaustive(*n))
+        .collect(alloc)
 }
 
 // The numbers, each below 2^16.
@@ -148,7 +164,9 @@ fn one_format(alloc: Global, numbers: &[u16]) -> TiffResult<SampleFormat>
         return Err(TiffFormatError::InvalidTagValueType(Tag::SampleFormat).into());
     };
     if !are_all_u16(numbers, *first) {
-        return Err(TiffUnsupportedError::UnsupportedSampleFormat(SampleFormats::from_vec(formats(alloc, numbers)?)).into());
+        return Err(TiffUnsupportedError::UnsupportedSampleFormat(SampleFormats::from_vec(formats(
+            alloc, numbers,
+        )?)).into());
     }
     Ok(SampleFormat::from_u16_exhaustive(*first))
 }
@@ -179,7 +197,9 @@ fn one_depth(samples: u16, bits: Vec<u8>) -> TiffResult<u8>
         return Err(TiffFormatError::InconsistentSizesEncountered.into());
     };
     if first == 0 || !are_all_u8(&bits, first) {
-        return Err(TiffUnsupportedError::InconsistentBitsPerSample(SampleBits::from_vec(bits)).into());
+        return Err(TiffUnsupportedError::InconsistentBitsPerSample(SampleBits::from_vec(
+            bits,
+        )).into());
     }
     Ok(first)
 }
@@ -269,13 +289,17 @@ pub fn chunk_type<T: Tags>(tags: &T) -> TiffResult<ChunkType>
 }
 
 // How many chunks there are, below 2^32.
-fn chunk_count(width: u32, height: u32, chunk_width: u32, chunk_height: u32, planes: u16) -> Option<u32>
+fn chunk_count(
+    width: u32,
+    height: u32,
+    chunk_width: u32,
+    chunk_height: u32,
+    planes: u16,
+) -> Option<u32>
     requires wide { 0 < chunk_width }
     requires high { 0 < chunk_height }
-    ensures {
-        let count = chunk_count width height chunk_width chunk_height planes in
-        result ≡ (if nat_lt count (2 ^ 32) then Some count else None)
-    }
+    ensures { let count = chunk_count width height chunk_width chunk_height planes in
+        result ≡ (if nat_lt count (2 ^ 32) then Some count else None) }
 {
     let across = (u64::from(width) + u64::from(chunk_width) - 1) / u64::from(chunk_width);
     let down = (u64::from(height) + u64::from(chunk_height) - 1) / u64::from(chunk_height);
@@ -294,7 +318,13 @@ fn counted(width: u32, height: u32, planes: u16, chunks: ChunkTable) -> TiffResu
     ensures count { IfOk result (λ c. length c.offsets ≡ chunk_count width height c.chunk_width c.chunk_height planes) }
     ensures few { IfOk result (λ c. length c.offsets < 2 ^ 32) }
 {
-    let count = chunk_count(width, height, chunks.chunk_width, chunks.chunk_height, planes);
+    let count = chunk_count(
+        width,
+        height,
+        chunks.chunk_width,
+        chunks.chunk_height,
+        planes,
+    );
     let Some(count) = count else {
         return Err(TiffFormatError::InconsistentSizesEncountered.into());
     };
@@ -306,7 +336,13 @@ fn counted(width: u32, height: u32, planes: u16, chunks: ChunkTable) -> TiffResu
 
 /// The strips of a page.
 #[tactic(auto, unfolding(crate::specs::Checks::strips_of))]
-pub fn read_strips<T: Tags>(tags: &mut T, alloc: Global, width: u32, height: u32, planes: u16) -> TiffResult<ChunkTable>
+pub fn read_strips<T: Tags>(
+    tags: &mut T,
+    alloc: Global,
+    width: u32,
+    height: u32,
+    planes: u16,
+) -> TiffResult<ChunkTable>
     requires wide { 0 < width }
     ensures kept { IsKept T.look T.failures tags.old tags.new }
     ensures answer { Answers view.chunks result (checks.strips_of (T.look tags.old) width height planes) (T.failures tags.old) (T.failures tags.new) }
@@ -322,12 +358,28 @@ pub fn read_strips<T: Tags>(tags: &mut T, alloc: Global, width: u32, height: u32
     if rows == 0 {
         return Err(TiffFormatError::InconsistentSizesEncountered.into());
     }
-    counted(width, height, planes, ChunkTable { chunk_width: width, chunk_height: rows, offsets, byte_counts })
+    counted(
+        width,
+        height,
+        planes,
+        ChunkTable {
+            chunk_width: width,
+            chunk_height: rows,
+            offsets,
+            byte_counts,
+        },
+    )
 }
 
 /// The tiles of a page.
 #[tactic(auto, unfolding(crate::specs::Checks::tiles_of))]
-pub fn read_tiles<T: Tags>(tags: &mut T, alloc: Global, width: u32, height: u32, planes: u16) -> TiffResult<ChunkTable>
+pub fn read_tiles<T: Tags>(
+    tags: &mut T,
+    alloc: Global,
+    width: u32,
+    height: u32,
+    planes: u16,
+) -> TiffResult<ChunkTable>
     ensures kept { IsKept T.look T.failures tags.old tags.new }
     ensures answer { Answers view.chunks result (checks.tiles_of (T.look tags.old) width height planes) (T.failures tags.old) (T.failures tags.new) }
     ensures wide { IfOk result (λ c. 0 < c.chunk_width) }
@@ -346,7 +398,17 @@ pub fn read_tiles<T: Tags>(tags: &mut T, alloc: Global, width: u32, height: u32,
     }
     let offsets = NumberList::from_vec(require_u64_vec(tags, alloc, Tag::TileOffsets)?);
     let byte_counts = NumberList::from_vec(require_u64_vec(tags, alloc, Tag::TileByteCounts)?);
-    counted(width, height, planes, ChunkTable { chunk_width, chunk_height, offsets, byte_counts })
+    counted(
+        width,
+        height,
+        planes,
+        ChunkTable {
+            chunk_width,
+            chunk_height,
+            offsets,
+            byte_counts,
+        },
+    )
 }
 
 fn planes_of(planar: PlanarConfiguration, samples: u16) -> u16
@@ -354,7 +416,7 @@ fn planes_of(planar: PlanarConfiguration, samples: u16) -> u16
 {
     match planar {
         PlanarConfiguration::Chunky => 1,
-        PlanarConfiguration::Planar => samples,
+        _ => samples,
     }
 }
 
@@ -380,7 +442,12 @@ pub fn read_page<T: Tags>(tags: &mut T, alloc: Global) -> TiffResult<Page>
         ChunkType::Strip => read_strips(tags, alloc, width, height, planes)?,
         ChunkType::Tile => read_tiles(tags, alloc, width, height, planes)?,
     };
-    let ChunkTable { chunk_width, chunk_height, offsets, byte_counts } = chunks;
+    let ChunkTable {
+        chunk_width,
+        chunk_height,
+        offsets,
+        byte_counts,
+    } = chunks;
     Ok(Page {
         width,
         height,

@@ -1,5 +1,4 @@
-//! Layouts of a page.
-#![tactic(auto)]
+//! The colour of a page, the number type of its samples, where its chunks lie, and how planes are laid out.
 
 ghost use Rattle.std.specs.Prelude.{◌≡◌, ◌+◌, ◌-◌, ◌*◌, ◌/◌, ◌%◌, ◌<◌, ◌≤◌, ◌^◌, replicate, IfOk};
 ghost use Rattle.tiff_base.specs.Answers.{AnswersHere, Gives};
@@ -9,24 +8,30 @@ ghost use Rattle.tiff_page.specs.View as view;
 ghost use Rattle.tiff_base.specs.declared.color.ColorType.{ColorType};
 ghost use Rattle.tiff_page.specs.Rect as place;
 ghost use Rattle.tiff_page.specs.Layout as spec;
-ghost use Rattle.tiff_page.specs.Count as count;
 
-use base::bits::{Bits, SampleFormats};
-use tiff_base::error::{TiffError, TiffResult, TiffUnsupportedError, UsageError};
-use base::kinds::{ChunkType, ColorType, CompressionMethod, ExtraSamples, PhotometricInterpretation, PlanarConfiguration, SampleFormat, DecodingSampleType};
-use page::page::Page;
+use crate::page::Page;
 use std::alloc::Global;
+use tiff_base::color::ColorType;
+use tiff_base::error::{TiffError, TiffResult, TiffUnsupportedError};
+use tiff_base::lists::{SampleBits, SampleFormats};
+use tiff_base::tags::{
+    CompressionMethod, ExtraSamples, PhotometricInterpretation, PlanarConfiguration, SampleFormat,
+};
 
-/// How a buffer for decoded data is laid out.
-#[derive(Clone, Copy, Debug)]
-pub struct BufferLayoutPreference {
-    pub len: usize,
-    pub sample_format: SampleFormat,
-    pub sample_type: Option<DecodingSampleType>,
-    pub row_stride: Option<usize>,
-    pub planes: usize,
-    pub plane_stride: Option<usize>,
-    pub complete_len: usize,
+/// The number type of decoded samples.
+#[derive(Clone, Copy, Debug, PartialEq, Eq, Hash)]
+pub enum DecodingSampleType {
+    U8,
+    U16,
+    U32,
+    U64,
+    F16,
+    F32,
+    F64,
+    I8,
+    I16,
+    I32,
+    I64,
 }
 
 /// A chunk's place and size in the image.
@@ -52,7 +57,8 @@ pub fn chunks_of_plane(page: &Page) -> u32
     ensures count { result ≡ place.chunks_of_plane (view.page page.now) }
     ensures some { 0 < result }
 {
-    let down = (u64::from(page.height) + u64::from(page.chunk_height) - 1) / u64::from(page.chunk_height);
+    let down = (u64::from(page.height) + u64::from(page.chunk_height) - 1)
+        / u64::from(page.chunk_height);
     (chunks_across(page) * down) as u32
 }
 
@@ -99,13 +105,19 @@ fn no_colour(page: &Page, alloc: Global) -> TiffResult<ColorType>
     ensures colour { (c : ColorType) → spec.no_colour (view.page page.now) ≡ Ok c → result ≡ Ok c }
 {
     let bits = vec![in alloc; page.depth; usize::from(page.samples)]?;
-    Err(TiffUnsupportedError::InterpretationWithBits(page.interpretation, SampleBits::from_vec(bits)).into())
+    Err(TiffUnsupportedError::InterpretationWithBits(
+        page.interpretation,
+        SampleBits::from_vec(bits),
+    ).into())
 }
 
 fn first_is_alpha(extra: &[ExtraSamples]) -> bool
     ensures { result ≡ spec.first_is_alpha extra.now }
 {
-    matches!(extra, [ExtraSamples::AssociatedAlpha, ..] | [ExtraSamples::UnassociatedAlpha, ..])
+    matches!(
+        extra,
+        [ExtraSamples::AssociatedAlpha, ..] | [ExtraSamples::UnassociatedAlpha, ..]
+    )
 }
 
 /// The colour of a page.
@@ -120,12 +132,20 @@ pub fn colour_of(page: &Page, alloc: Global) -> TiffResult<ColorType>
     let photometric = usize::from(page.samples) - page.extra.as_slice().len();
     match page.interpretation {
         PhotometricInterpretation::RGB => match photometric {
-            3 => Ok(if alpha { ColorType::RGBA(depth) } else { ColorType::RGB(depth) }),
+            3 => Ok(if alpha {
+                ColorType::RGBA(depth)
+            } else {
+                ColorType::RGB(depth)
+            }),
             4 => Ok(ColorType::RGBA(depth)),
             _ => no_colour(page, alloc),
         },
         PhotometricInterpretation::CMYK => match photometric {
-            4 => Ok(if alpha { ColorType::CMYKA(depth) } else { ColorType::CMYK(depth) }),
+            4 => Ok(if alpha {
+                ColorType::CMYKA(depth)
+            } else {
+                ColorType::CMYK(depth)
+            }),
             5 => Ok(ColorType::CMYKA(depth)),
             _ => no_colour(page, alloc),
         },
@@ -133,10 +153,14 @@ pub fn colour_of(page: &Page, alloc: Global) -> TiffResult<ColorType>
             3 => Ok(ColorType::YCbCr(depth)),
             _ => no_colour(page, alloc),
         },
-        PhotometricInterpretation::BlackIsZero | PhotometricInterpretation::WhiteIsZero => match page.samples {
-            1 => Ok(ColorType::Gray(depth)),
-            num_samples => Ok(ColorType::Multiband { bit_depth: depth, num_samples }),
-        },
+        PhotometricInterpretation::BlackIsZero | PhotometricInterpretation::WhiteIsZero =>
+            match page.samples {
+                1 => Ok(ColorType::Gray(depth)),
+                num_samples => Ok(ColorType::Multiband {
+                    bit_depth: depth,
+                    num_samples,
+                }),
+            },
         PhotometricInterpretation::IccLab => match page.format {
             SampleFormat::Uint => match photometric {
                 3 => Ok(ColorType::Lab(depth)),
@@ -219,7 +243,7 @@ fn shown(page: &Page, colour: ColorType) -> u16
 {
     match page.planar {
         PlanarConfiguration::Chunky => colour.num_samples(),
-        PlanarConfiguration::Planar => 1,
+        _ => 1,
     }
 }
 
@@ -228,7 +252,7 @@ pub fn planes(page: &Page, colour: ColorType) -> u16
 {
     match page.planar {
         PlanarConfiguration::Chunky => 1,
-        PlanarConfiguration::Planar => colour.num_samples(),
+        _ => colour.num_samples(),
     }
 }
 
@@ -287,153 +311,9 @@ pub fn layout_of(page: &Page, alloc: Global, width: u32, height: u32) -> TiffRes
     let plane_stride = wide_product(row_bytes, height as usize)?;
     is_aligned(page, colour, width)?;
     is_whole_chroma(page, colour)?;
-    Ok(PlaneLayout { colour, row_bytes, plane_stride })
-}
-
-// ---- what the calls answer
-
-/// The layout of an image.
-#[tactic(auto, unfolding(crate::specs::Layout::image_layout))]
-pub fn image_buffer_layout(page: &Page, alloc: Global) -> TiffResult<BufferLayoutPreference>
-    ensures { AnswersHere (λ l. l) result (spec.image_layout (view.page page.now)) }
-{
-    let layout = layout_of(page, alloc, page.width, page.height)?;
-    let planes = usize::from(planes(page, layout.colour));
-    let complete_len = wide_product(layout.plane_stride, planes)?;
-    let sample_type = known_sample_type(page);
-    Ok(BufferLayoutPreference {
-        len: layout.plane_stride,
-        sample_format: page.format,
-        sample_type,
-        row_stride: Some(layout.row_bytes),
-        planes,
-        plane_stride: Some(layout.plane_stride),
-        complete_len,
+    Ok(PlaneLayout {
+        colour,
+        row_bytes,
+        plane_stride,
     })
-}
-
-/// The number type of the samples of a page, where it has one.
-#[tactic(auto, unfolding(crate::specs::Layout::sample_type_of))]
-pub fn known_sample_type(page: &Page) -> Option<DecodingSampleType>
-    ensures { result ≡ spec.answered (spec.sample_type_of (view.page page.now)) }
-{
-    match (page.format, page.depth) {
-        (SampleFormat::Uint, 0..=8) => Some(DecodingSampleType::U8),
-        (SampleFormat::Uint, 9..=16) => Some(DecodingSampleType::U16),
-        (SampleFormat::Uint, 17..=32) => Some(DecodingSampleType::U32),
-        (SampleFormat::Uint, 33..=64) => Some(DecodingSampleType::U64),
-        (SampleFormat::Int, 0..=8) => Some(DecodingSampleType::I8),
-        (SampleFormat::Int, 9..=16) => Some(DecodingSampleType::I16),
-        (SampleFormat::Int, 17..=32) => Some(DecodingSampleType::I32),
-        (SampleFormat::Int, 33..=64) => Some(DecodingSampleType::I64),
-        (SampleFormat::IEEEFP, 16) => Some(DecodingSampleType::F16),
-        (SampleFormat::IEEEFP, 32) => Some(DecodingSampleType::F32),
-        (SampleFormat::IEEEFP, 64) => Some(DecodingSampleType::F64),
-        _ => None,
-    }
-}
-
-// Whole samples that hold so many bytes.
-fn rounded(bytes: usize, size: usize) -> TiffResult<usize>
-    requires some { 0 < size }
-    ensures { AnswersHere (λ n. n) result (spec.rounded bytes size) }
-{
-    let Some(len) = bytes.div_ceil(size).checked_mul(size) else {
-        return Err(TiffError::LimitsExceeded);
-    };
-    if len >= 0x8000_0000_0000_0000 {
-        return Err(TiffError::LimitsExceeded);
-    }
-    Ok(len)
-}
-
-/// The layout of a chunk.
-#[tactic(auto, unfolding(crate::specs::Layout::chunk_layout))]
-pub fn image_chunk_buffer_layout(page: &Page, alloc: Global, index: u32) -> TiffResult<BufferLayoutPreference>
-    ensures { AnswersHere (λ l. l) result (spec.chunk_layout (view.page page.now) index) }
-{
-    let (width, height) = chunk_data_dimensions(page, index);
-    let layout = layout_of(page, alloc, width, height)?;
-    let sample_type = sample_type_of(page, alloc)?;
-    let len = rounded(layout.plane_stride, size_of(sample_type))?;
-    Ok(BufferLayoutPreference {
-        len,
-        sample_format: page.format,
-        sample_type: Some(sample_type),
-        row_stride: Some(layout.row_bytes),
-        planes: 1,
-        plane_stride: Some(layout.plane_stride),
-        complete_len: len,
-    })
-}
-
-#[tactic(auto, unfolding(crate::specs::Layout::planar_unit_layout))]
-fn planar_unit_layout(page: &Page, alloc: Global, unit: u32) -> TiffResult<BufferLayoutPreference>
-    ensures { AnswersHere (λ l. l) result (spec.planar_unit_layout (view.page page.now) unit) }
-{
-    let (width, height) = chunk_data_dimensions(page, unit);
-    let layout = layout_of(page, alloc, width, height)?;
-    let planes = usize::from(planes(page, layout.colour));
-    let complete_len = wide_product(layout.plane_stride, planes)?;
-    let have = chunks_of_plane(page);
-    if unit >= have {
-        return Err(UsageError::InvalidCodingUnit(unit, have).into());
-    }
-    let sample_type = known_sample_type(page);
-    Ok(BufferLayoutPreference {
-        len: layout.plane_stride,
-        sample_format: page.format,
-        sample_type,
-        row_stride: Some(layout.row_bytes),
-        planes,
-        plane_stride: Some(layout.plane_stride),
-        complete_len,
-    })
-}
-
-/// The layout of a chunk in all planes.
-#[tactic(auto, unfolding(crate::specs::Layout::unit_layout))]
-pub fn image_coding_unit_layout(page: &Page, alloc: Global, unit: u32) -> TiffResult<BufferLayoutPreference>
-    ensures { AnswersHere (λ l. l) result (spec.unit_layout (view.page page.now) unit) }
-{
-    match page.planar {
-        PlanarConfiguration::Chunky => image_chunk_buffer_layout(page, alloc, unit),
-        PlanarConfiguration::Planar => planar_unit_layout(page, alloc, unit),
-    }
-}
-
-// ---- counts
-
-/// How many strips there are in all planes.
-#[tactic(auto, unfolding(crate::specs::Count::strip_count))]
-pub fn strip_count(page: &Page) -> TiffResult<u32>
-    ensures { Gives (λ n. n) result (count.strip_count (view.page page.now)) }
-{
-    if page.chunk_type == ChunkType::Tile {
-        return Err(UsageError::InvalidChunkType(ChunkType::Strip, ChunkType::Tile).into());
-    }
-    let height = page.height;
-    let rows = page.chunk_height;
-    if u64::from(height) + u64::from(rows) - 1 > u64::from(u32::MAX) {
-        return Err(TiffError::IntSizeError);
-    }
-    Ok(page.offsets.len() as u32)
-}
-
-/// How many tiles there are in all planes.
-#[tactic(auto, unfolding(crate::specs::Count::tile_count))]
-pub fn tile_count(page: &Page) -> TiffResult<u32>
-    ensures { Gives (λ n. n) result (count.tile_count (view.page page.now)) }
-{
-    match page.chunk_type {
-        ChunkType::Tile => Ok(page.offsets.len() as u32),
-        ChunkType::Strip => Err(UsageError::InvalidChunkType(ChunkType::Tile, ChunkType::Strip).into()),
-    }
-}
-
-/// The width and the height of a whole chunk.
-pub fn chunk_dimensions(page: &Page) -> (u32, u32)
-    ensures { result ≡ (page.now.chunk_width, page.now.chunk_height) }
-{
-    (page.chunk_width, page.chunk_height)
 }

@@ -3,8 +3,11 @@
 ghost use Rattle.std.specs.Prelude.{◌≡◌, ◌<◌, ◌≤◌, ◌^◌, length};
 ghost use Rattle.tiff_page.specs.Counts.{chunk_count, planes_of};
 
-use base::bits::{ExtraSampleList, NumberList};
-use base::kinds::{ChunkType, CompressionMethod, PhotometricInterpretation, PlanarConfiguration, Predictor, SampleFormat};
+use crate::lists::{ExtraSampleList, NumberList};
+use tiff_base::color::ChunkType;
+use tiff_base::tags::{
+    CompressionMethod, PhotometricInterpretation, PlanarConfiguration, Predictor, SampleFormat,
+};
 
 /// Where the chunks of a page stand.
 #[derive(Drop)]

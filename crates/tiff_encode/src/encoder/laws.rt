@@ -1,9 +1,53 @@
 //! The laws by which what stands in a file is kept and grows, each the contract of a function with no work.
 
-ghost use Rattle.tiff_encode.specs.Laws.{HeaderStands};
+ghost use Rattle.tiff_encode.specs.Laws.{HeaderStands, KeptByAppending, KeptByPatching, KeptByTearing, GrownByRegion, GrownByInline, GrownByPlaced, GrownByDirectory, Finished, PageStands};
 
 /// A header that was written stands.
 pub fn header_stands()
     ensures { HeaderStands }
-{
-}
+{}
+
+/// What stands in a file stands in each longer one.
+pub fn kept_by_appending()
+    ensures { KeptByAppending }
+{}
+
+/// It stands, with one link changed, after that link was patched.
+pub fn kept_by_patching()
+    ensures { KeptByPatching }
+{}
+
+/// It stands, with one link changed to some number, after a patch of that link that broke off.
+pub fn kept_by_tearing()
+    ensures { KeptByTearing }
+{}
+
+/// Bytes that are appended stand as a region.
+pub fn grown_by_region()
+    ensures { GrownByRegion }
+{}
+
+/// A field whose bytes fit its entry is handed in.
+pub fn grown_by_inline()
+    ensures { GrownByInline }
+{}
+
+/// A field whose bytes are a region is handed in.
+pub fn grown_by_placed()
+    ensures { GrownByPlaced }
+{}
+
+/// A directory that is appended stands, with no next one.
+pub fn grown_by_directory()
+    ensures { GrownByDirectory }
+{}
+
+/// A directory that is appended and linked to stands.
+pub fn finished()
+    ensures { Finished }
+{}
+
+/// The page of one gray strip, appended and linked to, stands.
+pub fn page_stands()
+    ensures { PageStands }
+{}

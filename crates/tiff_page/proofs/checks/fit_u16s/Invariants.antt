@@ -1,4 +1,4 @@
-use Rattle.std.proofs.Common.{◌≡◌, ◌++◌, ◌^◌, List, Ok}
+use Rattle.std.proofs.Common.{◌≡◌, ◌++◌, ◌^◌, Ok}
 use Rattle.std.specs.Vec.Iter.{into_iter_items}
 use Rattle.tiff_base.specs.Answers.{◌>>=◌}
 use Rattle.tiff_page.specs.Fitted.{fitted}

@@ -1,0 +1,37 @@
+-- PackBits: what a packed list unpacks to (TIFF 6.0 section 9).
+use Rattle.std.specs.Prelude.{ℕ, zero, suc, ◌+◌, ◌-◌, Bool, if◌then◌else◌, ◌==◌, nat_lt, List, [], ◌∷◌, ◌++◌, take, replicate}
+
+-- how a packed list ends: at the end of a block, or in the middle of one
+pub data End : Type 0 where
+  Plain : End
+  Broken : End
+
+-- the bytes, and how the list ends
+pub record Unpacked : Type 0 where
+  pub out : List ℕ
+  pub end : End
+
+-- some bytes, then what the rest unpacks to
+abbrev pub before : List ℕ → Unpacked → Unpacked
+before bytes rest = record { out = bytes ++ rest.out; end = rest.end }
+
+-- the next byte repeated, then the rest; with no next byte the list is broken
+abbrev pub repeated : ℕ → List ℕ → Unpacked → Unpacked
+repeated n [] rest = record { out = []; end = Broken }
+repeated n (value ∷ packed) rest = before (replicate n value) rest
+
+-- what a list unpacks to behind its first bytes, which are left out. A header 128 stands for nothing, one below it for
+-- that many bytes and one more as they follow, one above it for 257 less it of the byte that follows. `early` says that
+-- the source ended before the packed length did.
+unfoldable pub runs_after : ℕ → Bool → List ℕ → Unpacked
+runs_after (suc n) early [] = record { out = []; end = Plain }
+runs_after (suc n) early (byte ∷ packed) = runs_after n early packed
+runs_after zero early [] = record { out = []; end = if early then Broken else Plain }
+runs_after zero early (header ∷ packed) =
+    if header == 128 then runs_after zero early packed
+    else if nat_lt header 128 then before (take (header + 1) packed) (runs_after (header + 1) early packed)
+    else repeated (257 - header) packed (runs_after 1 early packed)
+
+-- what a packed list unpacks to
+abbrev pub runs : Bool → List ℕ → Unpacked
+runs early packed = runs_after zero early packed

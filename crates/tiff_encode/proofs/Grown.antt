@@ -1,0 +1,380 @@
+-- What stands in a file grows by bytes, fields and directories.
+use Rattle.std.proofs.Common.{◌≡◌, ◌≢◌, ℕ, ◌+◌, ◌*◌, ◌^◌, ◌<◌, ◌≤◌, ◌⊎◌, List, [], ◌++◌, length, take, Bool, true, false, cond, eqb, leb, Result, Ok, Err, refl, ap, sym, ◌∙◌, inl, inr, subst, arith, lit<, append_assoc, append-nil, length-append}
+use Rattle.std.proofs.lemmas.Bool.{eq-eqb, ne_eqb, le-leb, lt-leb, cases_Bool, leb-true, leb-false}
+use Rattle.std.specs.List.{flat_map}
+use Rattle.std.specs.FinMap.{FinMap, len, entries, len-entries}
+use Rattle.std.specs.Ordering.{nat_cmp}
+use Rattle.tiff_base.specs.declared.error.TiffError.{TiffError}
+use Rattle.tiff_base.specs.declared.error.TiffError.TheVariants.{LimitsExceeded}
+use Rattle.tiff_base.specs.declared.tags.FileKind.{FileKind}
+use Rattle.tiff_base.specs.declared.tags.FileKind.TheVariants.{Classic, Big}
+use Rattle.tiff_base.specs.declared.tags.ByteOrder.TheVariants.{LittleEndian}
+use Rattle.tiff_base.specs.Field.{Field}
+use Rattle.tiff_base.specs.FieldBytes.{field_len, field_place, field_bytes}
+use Rattle.tiff_base.specs.Told.{exactly_at}
+use Rattle.tiff_base.specs.Number.{number_at, le}
+use Rattle.tiff_base.specs.Directory.{count_width, place_width, entry_len, entries_from, last_of_each, link, first_entry, directory_at}
+use Rattle.tiff_encode.specs.Written.{place_len, count_len, entry_bytes, directory_bytes}
+use Rattle.tiff_encode.specs.Model.{In, FinishedDirectory, HandedField, Region, Model, header_link, own_link, IsLink, IsClear, body_len, IsApart, Stands, with_directory, with_handed}
+use Rattle.tiff_encode.specs.Laws.{GrownByRegion, GrownByInline, GrownByPlaced, GrownByDirectory, Finished}
+use Rattle.tiff_encode.proofs.Slices.{is_exact, exact_end, length-le, number_mid, is_place_width, is_count_width}
+use Rattle.tiff_encode.proofs.Kept.{directory_from, directory_within, kept_by_appending, kept_by_patching}
+use Rattle.tiff_encode.proofs.Header.{zero_fits}
+use Rattle.tiff_encode.proofs.Entries.{AllWritable, length-entries, entries_read, last_of_entries}
+
+-- ---- bytes
+
+-- bytes that are appended stand as a region
+pub grown_by_region : GrownByRegion
+grown_by_region kind m file more h =
+    let g = kept_by_appending kind m file more h in
+    let new : Region = record { place = length file; bytes = more } in
+    let behind : (r : Region) → In r m.regions → r.place + length r.bytes ≤ length file = h.within in
+    record {
+      header = g.header;
+      first = g.first;
+      directories = g.directories;
+      counts = g.counts;
+      handed = g.handed;
+      regions = λ r i. elim i [
+        | inl e ↦ (let P : Region → Type 0 = λ x. exactly_at (file ++ more) x.place (length x.bytes) ≡ Ok x.bytes in
+            subst P (sym e) (exact_end file more))
+        | inr j ↦ g.regions r j
+      ];
+      within = λ r i. elim i [
+        | inl e ↦ (let P : Region → Type 0 = λ x. x.place + length x.bytes ≤ length (file ++ more) in
+            subst P (sym e) (omega (arith, length-append file more)))
+        | inr j ↦ g.within r j
+      ];
+      disjoint = λ r s i j. elim i [
+        | inl e ↦ elim j [
+          | inl f ↦ inl (e ∙ sym f)
+          | inr b ↦ (let P : Region → Type 0 =
+              λ x. (x ≡ s) ⊎ ((x.place + length x.bytes ≤ s.place) ⊎ (s.place + length s.bytes ≤ x.place)) in
+              subst P (sym e) (inr (inr (behind s b))))
+        ]
+        | inr a ↦ elim j [
+          | inl f ↦ (let P : Region → Type 0 =
+              λ x. (r ≡ x) ⊎ ((r.place + length r.bytes ≤ x.place) ⊎ (x.place + length x.bytes ≤ r.place)) in
+              subst P (sym f) (inr (inl (behind r a))))
+          | inr b ↦ h.disjoint r s a b
+        ]
+      ];
+      apart = λ q l.
+          let a = g.apart q l in
+          let f = (h.apart q l).within in
+          record {
+            header = a.header;
+            within = a.within;
+            directories = a.directories;
+            handed = a.handed;
+            regions = λ r i. elim i [
+              | inl e ↦ (let P : Region → Type 0 = λ x. IsClear kind q x.place (length x.bytes) in
+                  subst P (sym e) (inr f))
+              | inr j ↦ a.regions r j
+            ];
+            links = a.links;
+          };
+    }
+
+-- ---- fields
+
+-- a field with its bytes is added, which are read and apart from all links
+grown_by_handed : (kind : FileKind) (m : Model) (file : List ℕ) (new : HandedField)
+    → field_bytes kind LittleEndian file new.field ≡ Ok new.bytes
+    → ((q : ℕ) → IsLink kind m q
+    → (field_len new.field ≤ place_len kind)
+    ⊎ IsClear kind q (field_place kind LittleEndian new.field) (field_len new.field))
+    → Stands kind file m → Stands kind file (with_handed m new)
+grown_by_handed kind m file new b c h = record {
+  header = h.header;
+  first = h.first;
+  directories = h.directories;
+  counts = h.counts;
+  handed = λ y i. elim i [
+    | inl e ↦ (let P : HandedField → Type 0 = λ x. field_bytes kind LittleEndian file x.field ≡ Ok x.bytes in
+        subst P (sym e) b)
+    | inr j ↦ h.handed y j
+  ];
+  regions = h.regions;
+  within = h.within;
+  disjoint = h.disjoint;
+  apart = λ q l.
+      let a = h.apart q l in
+      record {
+        header = a.header;
+        within = a.within;
+        directories = a.directories;
+        handed = λ y i. elim i [
+          | inl e ↦ (let P : HandedField → Type 0 =
+              λ x. (field_len x.field ≤ place_len kind)
+              ⊎ IsClear kind q (field_place kind LittleEndian x.field) (field_len x.field) in
+              subst P (sym e) (c q l))
+          | inr j ↦ a.handed y j
+        ];
+        regions = a.regions;
+        links = a.links;
+      };
+}
+
+-- the bytes of a field that fits its entry
+inline_bytes : (kind : FileKind) (file : List ℕ) (f : Field) → field_len f ≤ place_len kind → field_len f < 2 ^ 64
+    → field_bytes kind LittleEndian file f ≡ Ok (take (field_len f) f.value)
+unfolding field_bytes
+inline_bytes kind file f l b =
+    let n : ℕ = field_len f in
+    let x : Result (List ℕ) TiffError = Ok (take n f.value) in
+    let y : Result (List ℕ) TiffError = exactly_at file (field_place kind LittleEndian f) n in
+    let z : Result (List ℕ) TiffError = Err LimitsExceeded in
+    ap (λ t. cond t (cond (leb n (place_len kind)) x y) z) (le-leb _ _ b) ∙ ap (λ t. cond t x y) (le-leb _ _ l)
+
+-- the bytes of a field that stands at a place
+placed_bytes : (kind : FileKind) (file : List ℕ) (f : Field) → place_len kind < field_len f → field_len f < 2 ^ 64
+    → field_bytes kind LittleEndian file f ≡ exactly_at file (field_place kind LittleEndian f) (field_len f)
+unfolding field_bytes
+placed_bytes kind file f l b =
+    let n : ℕ = field_len f in
+    let x : Result (List ℕ) TiffError = Ok (take n f.value) in
+    let y : Result (List ℕ) TiffError = exactly_at file (field_place kind LittleEndian f) n in
+    let z : Result (List ℕ) TiffError = Err LimitsExceeded in
+    ap (λ t. cond t (cond (leb n (place_len kind)) x y) z) (le-leb _ _ b) ∙ ap (λ t. cond t x y) (lt-leb _ _ l)
+
+-- a value field is short
+place_short : (kind : FileKind) → place_len kind < 2 ^ 64
+place_short Classic = lit< tt
+place_short Big = lit< tt
+
+-- a field whose bytes fit its entry is handed in
+pub grown_by_inline : GrownByInline
+grown_by_inline kind m file f l h =
+    let s = place_short kind in
+    grown_by_handed kind m file (record { field = f; bytes = take (field_len f) f.value })
+    (inline_bytes kind file f l (omega (arith, s))) (λ q i. inl l) h
+
+-- a field whose bytes are a region is handed in
+pub grown_by_placed : GrownByPlaced
+grown_by_placed kind m file f r i p n l b h =
+    let e : exactly_at file (field_place kind LittleEndian f) (field_len f) ≡ Ok r.bytes =
+    ap (λ (x : ℕ). exactly_at file x (field_len f)) p ∙ ap (λ (x : ℕ). exactly_at file r.place x) n ∙ h.regions r i in
+    let c : (q : ℕ) → IsLink kind m q
+    → (field_len f ≤ place_len kind) ⊎ IsClear kind q (field_place kind LittleEndian f) (field_len f) = λ q j.
+    let P : ℕ → Type 0 = λ x. IsClear kind q x (field_len f) in
+    let Q : ℕ → Type 0 = λ x. IsClear kind q r.place x in
+    inr (subst P (sym p) (subst Q (sym n) ((h.apart q j).regions r i))) in
+    grown_by_handed kind m file (record { field = f; bytes = r.bytes }) (placed_bytes kind file f l b ∙ e) c h
+
+-- ---- directories
+
+-- the last of two tests' answers
+last_answer : {A : Type 0} (a b : Bool) (x y : Result A TiffError) (e : TiffError) (z : A) → b ≡ false
+    → cond a (cond b x y) (Err e) ≡ Ok z → y ≡ Ok z
+last_answer true true x y e z f h = absurd cc
+last_answer true false x y e z f h = h
+last_answer false b x y e z f h = absurd cc
+
+-- a field that stands at a place lies in the file
+placed_within : (kind : FileKind) (file : List ℕ) (f : Field) (b : List ℕ) → place_len kind < field_len f
+    → field_bytes kind LittleEndian file f ≡ Ok b
+    → field_place kind LittleEndian f + field_len f ≤ length file
+unfolding field_bytes
+placed_within kind file f b l e =
+    let n : ℕ = field_len f in
+    let x : Result (List ℕ) TiffError = Ok (take n f.value) in
+    let y : Result (List ℕ) TiffError = exactly_at file (field_place kind LittleEndian f) n in
+    let o = last_answer _ (leb n (place_len kind)) x y LimitsExceeded b (lt-leb _ _ l) e in
+    let w = (is_exact file (field_place kind LittleEndian f) n b o).0 in
+    omega (arith, w)
+
+-- a link has some bytes
+wide : (kind : FileKind) → 0 < place_len kind
+wide Classic = lit< tt
+wide Big = lit< tt
+
+-- a directory is appended
+module _ (kind : FileKind) (m : Model) (file : List ℕ) (fields : FinMap nat_cmp Field)
+    (w : AllWritable kind (entries fields))
+    (b : len fields < 256 ^ count_len kind) (h : Stands kind file m) where
+  -- the new directory, the place of its link, and the file with it
+  abbrev fresh : FinishedDirectory
+  fresh = record { place = length file; fields = fields }
+
+  abbrev own : ℕ
+  own = own_link kind fresh
+
+  abbrev grown_file : List ℕ
+  grown_file = file ++ directory_bytes kind fields
+
+  -- how long its entries are
+  length-body : length (flat_map (entry_bytes kind) (entries fields)) ≡ entry_len kind * len fields
+  length-body = length-entries kind (entries fields) w ∙ ap (λ (n : ℕ). entry_len kind * n) (sym (len-entries fields))
+
+  -- its count is read
+  count_at : number_at LittleEndian (count_width kind) grown_file (length file) ≡ Ok (len fields)
+  unfolding directory_bytes
+  count_at =
+      let B : List ℕ = flat_map (entry_bytes kind) (entries fields) in
+      let Z : List ℕ = le (place_len kind) 0 in
+      number_mid (count_width kind) file (B ++ Z) (length file) (len fields) (is_count_width kind) refl b
+
+  -- its fields are read
+  fields_at : last_of_each (entries_from kind LittleEndian grown_file (first_entry kind (length file)) (len fields))
+      ≡ fields
+  unfolding directory_bytes
+  fields_at =
+      let first : ℕ = first_entry kind (length file) in
+      let es : List (ℕ × Field) = entries fields in
+      let n : ℕ = len fields in
+      let C : List ℕ = le (count_len kind) n in
+      let B : List ℕ = flat_map (entry_bytes kind) es in
+      let Z : List ℕ = le (place_len kind) 0 in
+      let g : file ++ (C ++ (B ++ Z)) ≡ (file ++ C) ++ (B ++ Z) = sym (append_assoc file C (B ++ Z)) in
+      let l : length (file ++ C) ≡ first = omega (arith, length-append file C, length-le 0 (count_len kind) n) in
+      ap (λ (f : List ℕ). last_of_each (entries_from kind LittleEndian f first n)) g
+      ∙ ap (λ (k : ℕ). last_of_each (entries_from kind LittleEndian ((file ++ C) ++ (B ++ Z)) first k))
+      (len-entries fields)
+      ∙ ap last_of_each (entries_read kind es (file ++ C) Z first w l)
+      ∙ last_of_entries fields
+
+  -- its link is read
+  own_at : number_at LittleEndian (place_width kind) grown_file own ≡ Ok 0
+  unfolding directory_bytes
+  own_at =
+      let n : ℕ = len fields in
+      let C : List ℕ = le (count_len kind) n in
+      let B : List ℕ = flat_map (entry_bytes kind) (entries fields) in
+      let Z : List ℕ = le (place_len kind) 0 in
+      let x = length-body in
+      let l : length ((file ++ C) ++ B) ≡ own =
+      omega (arith, length-append (file ++ C) B, length-append file C, length-le 0 (count_len kind) n, x) in
+      let g : file ++ (C ++ (B ++ Z)) ≡ ((file ++ C) ++ B) ++ (Z ++ []) =
+      sym (append_assoc file C (B ++ Z)) ∙ sym (append_assoc (file ++ C) B Z)
+      ∙ ap (λ z. ((file ++ C) ++ B) ++ z) (sym (append-nil Z)) in
+      ap (λ (f : List ℕ). number_at LittleEndian (place_width kind) f own) g
+      ∙ number_mid (place_width kind) ((file ++ C) ++ B) [] own 0 (is_place_width kind) l (zero_fits kind)
+
+  -- its link is the last of the file
+  length-grown : length grown_file ≡ own + place_len kind
+  unfolding directory_bytes
+  length-grown =
+      let n : ℕ = len fields in
+      let C : List ℕ = le (count_len kind) n in
+      let B : List ℕ = flat_map (entry_bytes kind) (entries fields) in
+      let Z : List ℕ = le (place_len kind) 0 in
+      let x = length-body in
+      omega (
+        arith,
+        length-append file (C ++ (B ++ Z)),
+        length-append C (B ++ Z),
+        length-append B Z,
+        length-le 0 (count_len kind) n,
+        length-le 0 (place_len kind) 0,
+        x,
+      )
+
+  -- each former link lies in the former file
+  old_within : (p : ℕ) → IsLink kind m p → p + place_len kind ≤ length file
+  old_within p l = (h.apart p l).within
+
+  -- and is not the new one
+  not_own : (p : ℕ) → p + place_len kind ≤ length file → p ≢ own
+  not_own p f s = let x = wide kind in omega arith
+
+  -- the links are the former ones and the new one
+  links_of : (p : ℕ) → IsLink kind (with_directory kind m fresh) p → (IsLink kind m p) ⊎ (p ≡ own)
+  links_of p l = elim l [
+    | inl s ↦ inl (inl s)
+    | inr y ↦ elim y.1.0 [ inl t ↦ inr (y.1.1 ∙ ap (λ d. own_link kind d) t) | inr j ↦ inl (inr (y.0, (j, y.1.1))) ]
+  ]
+
+  -- a former link overlaps nothing new
+  old_apart : (q : ℕ) → IsLink kind m q → IsApart kind grown_file m q
+      → IsApart kind grown_file (with_directory kind m fresh) q
+  old_apart q k a =
+      let f = old_within q k in
+      record {
+        header = a.header;
+        within = a.within;
+        directories = λ d i. elim i [
+          | inl s ↦ (let P : FinishedDirectory → Type 0 = λ x. IsClear kind q x.place (body_len kind x) in
+              subst P (sym s) (inr f))
+          | inr j ↦ a.directories d j
+        ];
+        handed = a.handed;
+        regions = a.regions;
+        links = λ p l. elim (links_of p l) [
+          | inl o ↦ a.links p o
+          | inr s ↦ inr (inr (omega (arith, s, f)))
+        ];
+      }
+
+  -- the new link overlaps nothing
+  own_apart : IsApart kind grown_file (with_directory kind m fresh) own
+  own_apart = record {
+    header = (let x = old_within (header_link kind) (inl refl) in omega (arith, x));
+    within = (let x = length-grown in omega (arith, x));
+    directories = λ d i. elim i [
+      | inl s ↦ (let P : FinishedDirectory → Type 0 = λ x. IsClear kind own x.place (body_len kind x) in
+          subst P (sym s) (inl (omega arith)))
+      | inr j ↦ inl (let x = directory_within kind m file d j h in omega (arith, x))
+    ];
+    handed = λ y i. elim (cases_Bool (leb (field_len y.field) (place_len kind))) [
+      | inl t ↦ inl (leb-true _ _ t)
+      | inr f ↦ inr (inl (let x = placed_within kind file y.field y.bytes (leb-false _ _ f) (h.handed y i) in
+          omega (arith, x)))
+    ];
+    regions = λ r i. inl (let x = h.within r i in omega (arith, x));
+    links = λ p l. elim (links_of p l) [
+      | inl o ↦ inr (inl (let x = old_within p o in omega (arith, x)))
+      | inr s ↦ inl s
+    ];
+  }
+
+  -- so the directory stands
+  directory_stands : Stands kind grown_file (with_directory kind m fresh)
+  directory_stands =
+      let g = kept_by_appending kind m file (directory_bytes kind fields) h in
+      let links : ℕ → ℕ = λ p. cond (eqb p own) 0 (m.links p) in
+      record {
+        header = g.header;
+        first = rw (ne_eqb (header_link kind) own
+            (not_own (header_link kind) (old_within (header_link kind) (inl refl)))) g.first;
+        directories = λ d i. elim i [
+          | inl s ↦ (let P : FinishedDirectory → Type 0 = λ x.
+              directory_at kind LittleEndian grown_file x.place
+              ≡ Ok (record { entries = x.fields; next = link (links (own_link kind x)) }) in
+              subst P (sym s) (directory_from kind grown_file (length file) (len fields) fields
+              (links own) count_at fields_at
+              (own_at ∙ ap (λ t. Ok (cond t 0 (m.links own))) (sym (eq-eqb own own refl)))))
+          | inr j ↦ rw (ne_eqb (own_link kind d) own
+              (not_own (own_link kind d) (old_within (own_link kind d) (inr (d, (j, refl)))))) (g.directories d j)
+        ];
+        counts = λ d i. elim i [
+          | inl s ↦ (let P : FinishedDirectory → Type 0 =
+              λ x. number_at LittleEndian (count_width kind) grown_file x.place ≡ Ok (len x.fields) in
+              subst P (sym s) count_at)
+          | inr j ↦ g.counts d j
+        ];
+        handed = g.handed;
+        regions = g.regions;
+        within = g.within;
+        disjoint = g.disjoint;
+        apart = λ q l. elim l [
+          | inl s ↦ old_apart q (inl s) (g.apart q (inl s))
+          | inr y ↦ elim y.1.0 [
+            | inl t ↦ (let P : ℕ → Type 0 = λ x. IsApart kind grown_file (with_directory kind m fresh) x in
+                subst P (sym (y.1.1 ∙ ap (λ d. own_link kind d) t)) own_apart)
+            | inr j ↦ (let o : IsLink kind m q = inr (y.0, (j, y.1.1)) in old_apart q o (g.apart q o))
+          ]
+        ];
+      }
+
+-- a directory that is appended stands, with no next one
+pub grown_by_directory : GrownByDirectory
+grown_by_directory kind m file fields w b h = directory_stands kind m file fields w b h
+
+-- a directory that is appended and linked to stands
+pub finished : Finished
+finished kind m file fields parent w b l i h =
+    let d : FinishedDirectory = record { place = length file; fields = fields } in
+    kept_by_patching kind (with_directory kind m d) (file ++ directory_bytes kind fields) parent (length file)
+    (elim i [ inl x ↦ inl x | inr y ↦ inr (y.0, (inr y.1.0, y.1.1)) ]) l (grown_by_directory kind m file fields w b h)

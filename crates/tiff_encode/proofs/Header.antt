@@ -1,0 +1,50 @@
+-- A header that was written stands.
+use Rattle.std.proofs.Common.{◌≡◌, ℕ, ◌^◌, ◌<◌, List, [], ◌++◌, length, Ok, refl, ap, sym, ◌∙◌, inl, inr, arith, lit<, append-nil, length-append}
+use Rattle.tiff_base.specs.declared.tags.FileKind.{FileKind}
+use Rattle.tiff_base.specs.declared.tags.FileKind.TheVariants.{Classic, Big}
+use Rattle.tiff_base.specs.declared.tags.ByteOrder.TheVariants.{LittleEndian}
+use Rattle.tiff_base.specs.Number.{number_at, le}
+use Rattle.tiff_base.specs.Directory.{place_width}
+use Rattle.tiff_encode.specs.Written.{place_len, header_mark, header_bytes}
+use Rattle.tiff_encode.specs.Model.{IsLink, header_link, header_model}
+use Rattle.tiff_encode.specs.Laws.{HeaderStands}
+use Rattle.tiff_encode.proofs.Slices.{exact_mid, number_mid, is_place_width, length-le}
+
+-- 0 fits a link
+pub zero_fits : (kind : FileKind) → 0 < 256 ^ place_len kind
+zero_fits Classic = lit< tt
+zero_fits Big = lit< tt
+
+-- a header has no link but its own
+only_link : (kind : FileKind) (q : ℕ) → IsLink kind (header_model kind) q → q ≡ header_link kind
+only_link kind q l = elim l [ inl e ↦ e | inr y ↦ absurd y.1.0 ]
+
+-- a header that was written stands
+pub header_stands : HeaderStands
+header_stands kind =
+    let k : ℕ = place_len kind in
+    let mark : List ℕ = header_mark kind in
+    let file : List ℕ = header_bytes kind in
+    let first : number_at LittleEndian (place_width kind) file (header_link kind) ≡ Ok 0 =
+    ap (λ (z : List ℕ). number_at LittleEndian (place_width kind) (mark ++ z) (length mark)) (sym (append-nil (le k 0)))
+    ∙ number_mid (place_width kind) mark [] (length mark) 0 (is_place_width kind) refl (zero_fits kind) in
+    record {
+      header = exact_mid [] mark (le k 0) 0 (length mark) refl refl;
+      first = first;
+      directories = λ d i. absurd i;
+      counts = λ d i. absurd i;
+      handed = λ h i. absurd i;
+      regions = λ r i. absurd i;
+      within = λ r i. absurd i;
+      disjoint = λ r s i j. absurd i;
+      apart = λ q l.
+          let e = only_link kind q l in
+          record {
+            header = omega (arith, e);
+            within = omega (arith, e, length-append mark (le k 0), length-le 0 k 0);
+            directories = λ d i. absurd i;
+            handed = λ h i. absurd i;
+            regions = λ r i. absurd i;
+            links = λ p j. inl (only_link kind p j ∙ sym e);
+          };
+    }

@@ -1,0 +1,5 @@
+use Rattle.tiff_encode.proofs.Grown.{grown_by_inline}
+use Rattle.tiff_encode.proofs.encoder.laws.grown_by_inline.Goals as goal
+
+pub returns : goal.returns
+returns c = grown_by_inline

@@ -1,0 +1,5 @@
+use Rattle.tiff_encode.proofs.Grown.{grown_by_placed}
+use Rattle.tiff_encode.proofs.encoder.laws.grown_by_placed.Goals as goal
+
+pub returns : goal.returns
+returns c = grown_by_placed

@@ -1,0 +1,5 @@
+use Rattle.tiff_encode.proofs.Kept.{kept_by_appending}
+use Rattle.tiff_encode.proofs.encoder.laws.kept_by_appending.Goals as goal
+
+pub returns : goal.returns
+returns c = kept_by_appending

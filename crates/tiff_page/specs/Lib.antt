@@ -1,0 +1,10 @@
+pub mod Fitted
+pub mod Counts
+pub mod Page
+pub mod Checks
+pub mod View
+pub mod Rect
+pub mod Layout
+pub mod PixelFault
+pub mod Pixels
+pub mod Image

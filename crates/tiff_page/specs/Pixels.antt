@@ -1,0 +1,174 @@
+-- The samples of a page: where they stand in the file, and what they are (TIFF 6.0 sections 2, 8, 9, 14; supplement 3).
+use Rattle.std.specs.Prelude.{ℕ, ◌+◌, ◌-◌, ◌*◌, ◌/◌, ◌%◌, ◌^◌, Bool, true, false, ◌&&◌, ◌||◌, ◌==◌, if◌then◌else◌, nat_lt, List, [], map, take, drop, length, slice_index, sum_by, Option, Some, None, unwrap_or}
+use Rattle.std.specs.Int.{Width, w8, w16, w32, w64, div_ceil}
+use Rattle.std.specs.List.{range_with_len}
+use Rattle.tiff_base.specs.declared.color.ColorType.{ColorType}
+use Rattle.tiff_base.specs.declared.tags.ByteOrder.{ByteOrder}
+use Rattle.tiff_base.specs.declared.tags.ByteOrder.TheVariants.{LittleEndian, BigEndian}
+use Rattle.tiff_base.specs.declared.tags.CompressionMethod.{CompressionMethod}
+use Rattle.tiff_base.specs.declared.tags.CompressionMethod.TheVariants as method
+use Rattle.tiff_base.specs.declared.tags.PhotometricInterpretation.{PhotometricInterpretation}
+use Rattle.tiff_base.specs.declared.tags.PhotometricInterpretation.TheVariants as meaning
+use Rattle.tiff_base.specs.declared.tags.PlanarConfiguration.{PlanarConfiguration}
+use Rattle.tiff_base.specs.declared.tags.PlanarConfiguration.TheVariants.{Chunky, Planar}
+use Rattle.tiff_base.specs.declared.tags.Predictor.{Predictor}
+use Rattle.tiff_base.specs.declared.tags.Predictor.TheVariants as predictor
+use Rattle.tiff_base.specs.Number.{number}
+use Rattle.tiff_base.specs.Runs.{runs}
+use Rattle.tiff_page.specs.Page.{PageRecord}
+use Rattle.tiff_page.specs.Rect.{across, chunks_of_plane, rect}
+use Rattle.tiff_page.specs.Layout.{shown, row_bytes}
+
+-- f 0, f 1 .. below n
+abbrev pub each_to : {A : Type 0} → ℕ → (ℕ → A) → List A
+each_to n f = map f (range_with_len 0 n)
+
+-- a number of one, two, four or eight bytes
+abbrev pub width_of : ℕ → Width
+width_of size = if size == 1 then w8 else if size == 2 then w16 else if size == 4 then w32 else w64
+
+abbrev pub planar_or : {A : Type 0} → PlanarConfiguration → A → A → A
+planar_or Planar x y = x
+planar_or Chunky x y = y
+
+-- the samples of a pixel that a chunk stores: all in a chunky page, one in a planar page
+abbrev pub stored_samples : PageRecord → ℕ
+stored_samples p = planar_or p.planar 1 p.samples
+
+-- the bytes of a row of a chunk
+abbrev pub stored_row_bytes : PageRecord → ℕ
+stored_row_bytes p = (p.chunk_width * p.depth * stored_samples p + 7) / 8
+
+-- a file, its byte order, and a page of it
+module _ (file : List ℕ) (order : ByteOrder) (p : PageRecord) where
+  -- the data at a place: the file from there on, or what the bytes unpack to; other methods are not unpacked
+  abbrev pub data_by : CompressionMethod → ℕ → ℕ → List ℕ
+  data_by method.None place count = drop place file
+  data_by method.PackBits place count = (runs (nat_lt (length file - place) count) (take count (drop place file))).out
+  data_by _ place count = []
+
+  -- the data of a chunk
+  abbrev pub chunk_data : ℕ → List ℕ
+  chunk_data i = data_by p.method (slice_index p.offsets i) (slice_index p.byte_counts i)
+
+  -- a byte of a row of a chunk
+  abbrev pub stored_byte : ℕ → ℕ → ℕ → ℕ
+  stored_byte i row k = slice_index (chunk_data i) (row * stored_row_bytes p + k)
+
+  abbrev pub is_byte_plane : Predictor → Bool
+  is_byte_plane predictor.FloatingPoint = true
+  is_byte_plane _ = false
+
+  -- the bytes that are needed of a chunk: all rows of its part of the image, of the last one the shown bytes, or the
+  -- whole row with the byte-plane predictor or where samples are dropped
+  abbrev pub needed_of_last : ColorType → ℕ → ℕ
+  needed_of_last colour i =
+      if is_byte_plane p.predictor || nat_lt (shown p.planar colour) (stored_samples p)
+      then stored_row_bytes p else row_bytes p colour (rect p i).width
+
+  abbrev pub needed : ColorType → ℕ → ℕ
+  needed colour i = ((rect p i).height - 1) * stored_row_bytes p + needed_of_last colour i
+
+  -- too few data
+  abbrev pub is_short : ColorType → ℕ → Bool
+  is_short colour i = nat_lt (length (chunk_data i)) (needed colour i)
+
+  -- the bytes of a number
+  abbrev pub number_size : ℕ
+  number_size = p.depth / 8
+
+  -- which number of its row a sample of a pixel is
+  abbrev pub in_row : ℕ → ℕ → ℕ
+  in_row column sample = column * stored_samples p + sample
+
+  -- a number as it stands
+  abbrev pub raw_number : ℕ → ℕ → ℕ → ℕ → ℕ
+  raw_number i row column sample =
+      number order (width_of number_size) (each_to number_size (λ j. stored_byte i row (in_row column sample * number_size + j)))
+
+  -- a byte of a row with the byte-plane predictor: with all those before it by whole pixels
+  abbrev pub summed_byte : ℕ → ℕ → ℕ → ℕ
+  summed_byte i row k = sum_by (λ n. stored_byte i row (k - n * stored_samples p)) (range_with_len 0 (k / stored_samples p + 1)) % 256
+
+  -- a number of a row with that predictor: its most significant byte is of the row's first part, and so on
+  abbrev pub plane_number : ℕ → ℕ → ℕ → ℕ → ℕ
+  plane_number i row column sample =
+      number BigEndian (width_of number_size) (each_to number_size (λ j. summed_byte i row (j * (p.chunk_width * stored_samples p) + in_row column sample)))
+
+  -- the number of a sample: with the horizontal predictor the sum of it and those of its row before it
+  abbrev pub number_by : Predictor → ℕ → ℕ → ℕ → ℕ → ℕ
+  number_by predictor.None i row column sample = raw_number i row column sample
+  number_by predictor.Horizontal i row column sample = sum_by (λ c. raw_number i row c sample) (range_with_len 0 (column + 1)) % 2 ^ p.depth
+  number_by predictor.FloatingPoint i row column sample = plane_number i row column sample
+
+  abbrev pub stored_number : ℕ → ℕ → ℕ → ℕ → ℕ
+  stored_number i row column sample = number_by p.predictor i row column sample
+
+  -- what is shown of a number below a limit
+  abbrev pub inverted : PhotometricInterpretation → ℕ → ℕ → ℕ
+  inverted meaning.WhiteIsZero limit v = limit - 1 - v
+  inverted _ limit v = v
+
+  -- the chunk of a plane that holds a pixel
+  abbrev pub chunk_at : ℕ → ℕ → ℕ → ℕ
+  chunk_at plane x y = plane * chunks_of_plane p + (y / p.chunk_height * across p + x / p.chunk_width)
+
+  -- a sample of a pixel, at depths of whole bytes
+  unfoldable pub shown_sample : ℕ → ℕ → ℕ → ℕ
+  shown_sample x y sample =
+      inverted p.interpretation (2 ^ p.depth)
+      (stored_number (chunk_at (planar_or p.planar sample 0) x y) (y % p.chunk_height) (x % p.chunk_width) (planar_or p.planar 0 sample))
+
+  -- a part of the image that is read: a rectangle, its first plane, and the chunk where it is a chunk's
+  pub record Region : Type 0 where
+    pub x : ℕ
+    pub y : ℕ
+    pub width : ℕ
+    pub height : ℕ
+    pub plane : ℕ
+    pub chunk : Option ℕ
+
+  abbrev pub whole_image : Region
+  whole_image = record { x = 0; y = 0; width = p.width; height = p.height; plane = 0; chunk = None }
+
+  abbrev pub chunk_region : ℕ → Region
+  chunk_region i =
+      let r = rect p i in record { x = r.x; y = r.y; width = r.width; height = r.height; plane = r.plane; chunk = Some i }
+
+  -- byte k of a row of a region with depths below 8: such bytes are handed out as they stand
+  abbrev pub packed_byte : ColorType → Region → ℕ → ℕ → ℕ → ℕ
+  packed_byte colour r plane row k =
+      let c = row_bytes p colour p.chunk_width in
+      let here = unwrap_or r.chunk (plane * chunks_of_plane p + ((r.y + row) / p.chunk_height * across p + (r.x / p.chunk_width + k / c))) in
+      inverted p.interpretation 256 (stored_byte here ((r.y + row) % p.chunk_height) (k % c))
+
+  -- byte k of a row of a region at depths of whole bytes: of a number's bytes the least comes first
+  abbrev pub number_byte : ColorType → Region → ℕ → ℕ → ℕ → ℕ
+  number_byte colour r plane row k =
+      let n = k / number_size in
+      let s = shown p.planar colour in
+      shown_sample (r.x + n / s) (r.y + row) (planar_or p.planar plane (n % s)) / 256 ^ (k % number_size) % 256
+
+  abbrev pub region_byte : ColorType → Region → ℕ → ℕ → ℕ → ℕ
+  region_byte colour r plane row k =
+      if nat_lt p.depth 8 then packed_byte colour r plane row k else number_byte colour r plane row k
+
+  -- the byte at a position of a buffer that holds so many planes of a region, of rows a stride apart; none in a gap
+  unfoldable pub byte_at : ColorType → Region → ℕ → ℕ → ℕ → Option ℕ
+  byte_at colour r stride planes i =
+      let plane = i / (stride * r.height) in
+      let k = i % stride in
+      if nat_lt plane planes && nat_lt k (row_bytes p colour r.width)
+      then Some (region_byte colour r (r.plane + plane) (i % (stride * r.height) / stride) k)
+      else None
+
+  -- the bytes of the first plane of an image
+  unfoldable pub image_bytes : ColorType → List ℕ
+  image_bytes colour =
+      let stride = row_bytes p colour p.width in
+      each_to (stride * p.height) (λ i. unwrap_or (byte_at colour whole_image stride 1 i) 0)
+
+-- the little-endian numbers of so many bytes each that a list of bytes holds, the last filled up by zeros
+unfoldable pub numbers_in : ℕ → List ℕ → List ℕ
+numbers_in size bytes =
+    each_to (div_ceil (length bytes) size) (λ n. number LittleEndian (width_of size) (each_to size (λ j. slice_index bytes (n * size + j))))

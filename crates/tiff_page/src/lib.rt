@@ -1,0 +1,9 @@
+//! What the tags of a page say, how its samples are laid out, and its pixels.
+#![tactic(auto)]
+
+pub mod checks;
+pub mod faults;
+pub mod image;
+pub mod layout;
+pub mod lists;
+pub mod page;
