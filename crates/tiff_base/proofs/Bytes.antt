@@ -1,5 +1,5 @@
 -- Reads in pieces.
-use Rattle.std.proofs.Common.{◌≡◌, ℕ, ◌+◌, ◌-◌, ◌≤◌, ◌<◌, List, ◌++◌, length, take, drop, Bool, true, false, cond, leb, Ok, Err, refl, ap, sym, ◌∙◌, arith, ⊎_elim, length-append, length-drop, append_assoc}
+use Rattle.std.proofs.Common.{◌≡◌, ℕ, ◌+◌, ◌-◌, ◌≤◌, ◌<◌, List, ◌++◌, length, take, drop, Bool, true, false, cond, leb, Ok, Err, ap, sym, ◌∙◌, arith, ⊎_elim, length-append, length-drop, append_assoc}
 use Rattle.std.proofs.lemmas.Bool.{cases_Bool, lt-leb, leb-false}
 use Rattle.tiff_base.specs.declared.error.TiffError.{TiffError}
 use Rattle.tiff_base.specs.declared.error.TiffError.TheVariants.{IoError}
@@ -57,12 +57,12 @@ cut_past bytes at len past =
     ap (λ (b : Bool). cond b (Ok (bytes_at bytes at len)) (Err (IoError UnexpectedEof))) (lt-leb len (length bytes - at) past)
 
 -- where bytes are missing there are fewer than those asked for, and that is the fault
-missing : (bytes : List ℕ) (at len : ℕ) (e : TiffError) → exactly_at bytes at len ≡ Err e → (length bytes - at < len) × (IoError UnexpectedEof ≡ e)
+pub missing : (bytes : List ℕ) (at len : ℕ) (e : TiffError) → exactly_at bytes at len ≡ Err e → (length bytes - at < len) × (IoError UnexpectedEof ≡ e)
 missing bytes at len e =
     ⊎_elim
-      (λ (t : leb len (length bytes - at) ≡ true). rw t (λ h. cc))
-      (λ (f : leb len (length bytes - at) ≡ false). rw f (λ h. (leb-false len (length bytes - at) f, cc)))
-      (cases_Bool (leb len (length bytes - at)))
+    (λ (t : leb len (length bytes - at) ≡ true). rw t (λ h. cc))
+    (λ (f : leb len (length bytes - at) ≡ false). rw f (λ h. (leb-false len (length bytes - at) f, cc)))
+    (cases_Bool (leb len (length bytes - at)))
 
 -- no bytes where the last of them is missing
 pub cut_at_last : (bytes : List ℕ) (at len place : ℕ) (e : TiffError) → place ≡ at + (len - 1) → 0 < len

@@ -1,5 +1,5 @@
 -- What a source tells, and what a sink takes.
-use Rattle.std.specs.Prelude.{◌≡◌, ℕ, ◌+◌, ◌-◌, ◌≤◌, ◌<◌, List, ◌++◌, length, take, drop, if◌then◌else◌, nat_le, Result, Ok, Err}
+use Rattle.std.specs.Prelude.{◌≡◌, ℕ, ◌+◌, ◌-◌, ◌≤◌, ◌<◌, List, ◌++◌, length, take, drop, if◌then◌else◌, nat_le, slice_index, Result, Ok, Err}
 use Rattle.tiff_base.specs.declared.error.TiffError.{TiffError}
 use Rattle.tiff_base.specs.declared.error.TiffError.TheVariants.{IoError}
 use Rattle.tiff_base.specs.declared.io.IoKind.TheVariants.{UnexpectedEof}
@@ -12,6 +12,10 @@ bytes_at bytes at len = take len (drop at bytes)
 abbrev pub exactly_at : List ℕ → ℕ → ℕ → Result (List ℕ) TiffError
 exactly_at bytes at len =
     if nat_le len (length bytes - at) then Ok (bytes_at bytes at len) else Err (IoError UnexpectedEof)
+
+-- each number of a list is that of a byte
+abbrev pub AreOctets : List ℕ → Type 0
+AreOctets bytes = (k : ℕ) → slice_index bytes k < 256
 
 -- A read at a place gave n bytes into a buffer that held old and holds new.
 pub record Reads (bytes : List ℕ) (at : ℕ) (old : List ℕ) (n : ℕ) (new : List ℕ) : Type 0 where

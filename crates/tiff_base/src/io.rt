@@ -1,7 +1,7 @@
 //! Where bytes come from and go to.
 
 ghost use Rattle.std.specs.Prelude.{◌≡◌, ℕ, ◌+◌, ◌^◌, ◌≤◌, ◌<◌, List, length, IfOk, OnOk, OnErr};
-ghost use Rattle.tiff_base.specs.Told.{Reads, Appends, Overwrites};
+ghost use Rattle.tiff_base.specs.Told.{AreOctets, Reads, Appends, Overwrites};
 
 use crate::count::Count;
 use thiserror::Error;
@@ -56,6 +56,9 @@ pub trait Source {
 
     /// Every place is below 2^64.
     ghost places: { (s : Self) → length (bytes s) < 2 ^ 64 };
+
+    /// A byte is a number below 256.
+    ghost octets: { (s : Self) → AreOctets (bytes s) };
 }
 
 /// Bytes that can be added to, and written over.
@@ -96,6 +99,7 @@ pub trait Sink {
 pub struct MemorySource {
     items: Vec<u8>,
     ghost places: { length items.items < 2 ^ 64 },
+    ghost octets: { AreOctets items.items },
 }
 
 impl MemorySource {
@@ -118,6 +122,8 @@ impl Source for MemorySource {
     ghost failures = { λ _. 0 };
 
     ghost places = { λ s. s.places };
+
+    ghost octets = { λ s. s.octets };
 
     fn read_at(&mut self, at: u64, buf: &mut [u8]) -> Result<usize, DeviceFault> {
         let items = self.items.as_slice();

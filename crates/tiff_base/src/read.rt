@@ -34,7 +34,12 @@ pub fn read_exact_at<R: Source>(source: &mut R, at: u64, buf: &mut [u8]) -> Tiff
 /// The `len` bytes at a place. Fewer bytes there: `IoError(UnexpectedEof)`, told before room for them is taken: the last
 /// byte is read first.
 #[tactic(auto, using(crate::proofs::Bytes::cut_at_last, crate::proofs::Bytes::cut_past))]
-pub fn read_bytes_at<R: Source>(alloc: Global, source: &mut R, at: u64, len: usize) -> TiffResult<Vec<u8>>
+pub fn read_bytes_at<R: Source>(
+    alloc: Global,
+    source: &mut R,
+    at: u64,
+    len: usize,
+) -> TiffResult<Vec<u8>>
     ensures kept { IsKept R.bytes R.failures source.old source.new }
     ensures answer { Answers (λ v. v.items) result (exactly_at (R.bytes source.old) at len) (R.failures source.old) (R.failures source.new) }
 {

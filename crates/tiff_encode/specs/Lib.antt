@@ -2,3 +2,4 @@ pub mod Written
 pub mod Model
 pub mod Laws
 pub mod Encoder
+pub mod Shows

@@ -6,3 +6,4 @@ pub mod FieldValue
 pub mod Into
 pub mod Look
 pub mod StandIn
+pub mod Limits

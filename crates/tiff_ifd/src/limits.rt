@@ -1,6 +1,7 @@
 //! How much a decoder may take in memory.
 
 ghost use Rattle.std.specs.Prelude.{◌≡◌};
+ghost use Rattle.tiff_ifd.specs.Limits.{unlimited};
 
 /// How many bytes a decoder may take (as in the Rust crate).
 #[derive(Clone, Debug, Drop)]
@@ -17,7 +18,7 @@ pub struct Limits {
 impl Limits {
     /// No limit.
     pub fn unlimited() -> Self
-        ensures { result ≡ record { decoding_buffer_size = usize.MAX; ifd_value_size = usize.MAX; intermediate_buffer_size = usize.MAX } }
+        ensures { result ≡ unlimited }
     {
         Limits {
             decoding_buffer_size: usize::MAX,

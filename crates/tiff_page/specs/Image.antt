@@ -2,6 +2,7 @@
 use Rattle.std.specs.Prelude.{ℕ, ◌*◌, List, Result, Ok, ◌&&◌, ◌==◌, Bool, true, false, nat_le, not}
 use Rattle.tiff_base.specs.declared.color.ChunkType.{ChunkType}
 use Rattle.tiff_base.specs.declared.color.ChunkType.TheVariants.{Strip}
+use Rattle.tiff_base.specs.declared.color.ColorType.{ColorType}
 use Rattle.tiff_base.specs.declared.error.TiffError.{TiffError}
 use Rattle.tiff_base.specs.declared.tags.ByteOrder.{ByteOrder}
 use Rattle.tiff_base.specs.declared.tags.CompressionMethod.{CompressionMethod}
@@ -34,16 +35,21 @@ pub record Decoded : Type 0 where
 abbrev pub decoded : DecodingSampleType → List ℕ → Decoded
 decoded type bytes = record { sample_type = type; numbers = numbers_in (size_of type) bytes }
 
+-- the samples of the chunks of an image's first plane, or the fault of the first chunk that has one
+abbrev pub chunks_read : List ℕ → ByteOrder → PageRecord → Limits → ColorType → DecodingSampleType → Result Decoded TiffError
+chunks_read file order p limits colour type = do
+  _ ← each_below (chunk_fault p limits (is_short file order p colour) colour) (chunks_of_plane p)
+  Ok (decoded type (image_bytes file order p colour))
+
 -- the samples of a page's image, its first plane where it is planar, or the first fault: the layout's, the number type's,
--- the limit of samples, then those of the first chunk in order that has one
+-- the limit of samples, then those of the chunks
 unfoldable pub image_of : List ℕ → ByteOrder → PageRecord → Limits → Result Decoded TiffError
 image_of file order p limits = do
   layout ← layout_of p p.width p.height
   _ ← wide (layout.plane_stride * planes p.planar layout.colour)
   type ← sample_type_of p
   _ ← samples_fault limits (size_of type) layout.plane_stride
-  _ ← each_below (chunk_fault p limits (is_short file order p layout.colour) layout.colour) (chunks_of_plane p)
-  Ok (decoded type (image_bytes file order p layout.colour))
+  chunks_read file order p limits layout.colour type
 
 -- ---- the pages that this version reads
 

@@ -1,6 +1,6 @@
 //! The faults of reading pixels, but that of too few data.
 
-ghost use Rattle.std.specs.Prelude.{◌≡◌, ℕ, ◌<◌, ◌≤◌};
+ghost use Rattle.std.specs.Prelude.{◌≡◌, ◌<◌, length, OnOk};
 ghost use Rattle.tiff_base.specs.Answers.{Answers, AnswersHere, IsKept};
 ghost use Rattle.tiff_base.specs.declared.error.TiffError.TheVariants as tiff;
 ghost use Rattle.tiff_base.specs.declared.io.IoKind.TheVariants as io;
@@ -102,7 +102,8 @@ fn white_fault(page: &Page, colour: ColorType) -> TiffResult<()>
 /// `intermediate_buffer_size`: `LimitsExceeded`.
 #[tactic(auto, unfolding(crate::specs::PixelFault::form_fault))]
 pub fn form_fault(page: &Page, limits: &Limits, colour: ColorType, index: u32) -> TiffResult<()>
-    ensures { AnswersHere (λ _. tt) result (spec.form_fault (view.page page.now) limits.now colour index) }
+    ensures answer { AnswersHere (λ _. tt) result (spec.form_fault (view.page page.now) limits.now colour index) }
+    ensures within { OnOk result (index < length page.now.offsets) }
 {
     let byte_counts = page.byte_counts.as_slice();
     if index as usize >= byte_counts.len() {

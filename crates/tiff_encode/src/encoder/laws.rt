@@ -1,5 +1,6 @@
 //! The laws by which what stands in a file is kept and grows, each the contract of a function with no work.
 
+ghost use Rattle.tiff_encode.specs.Shows.{PageShows};
 ghost use Rattle.tiff_encode.specs.Laws.{HeaderStands, KeptByAppending, KeptByPatching, KeptByTearing, GrownByRegion, GrownByInline, GrownByPlaced, GrownByDirectory, Finished, PageStands};
 
 /// A header that was written stands.
@@ -50,4 +51,9 @@ pub fn finished()
 /// The page of one gray strip, appended and linked to, stands.
 pub fn page_stands()
     ensures { PageStands }
+{}
+
+/// A page of one gray strip that is appended shows its image.
+pub fn page_shows()
+    ensures { PageShows }
 {}

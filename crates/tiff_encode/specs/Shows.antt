@@ -1,0 +1,99 @@
+-- What a written file shows: an image that was handed in (this project's), by the reader's definitions.
+use Rattle.std.specs.Prelude.{◌≡◌, ℕ, ◌+◌, ◌*◌, ◌<◌, List, [], length, take, slice_index, Result, Ok}
+use Rattle.tiff_base.specs.declared.color.ColorType.{ColorType}
+use Rattle.tiff_base.specs.declared.error.TiffError.{TiffError}
+use Rattle.tiff_base.specs.declared.tags.ByteOrder.TheVariants.{LittleEndian}
+use Rattle.tiff_base.specs.declared.tags.CompressionMethod.{CompressionMethod}
+use Rattle.tiff_base.specs.declared.tags.CompressionMethod.TheVariants as method
+use Rattle.tiff_base.specs.declared.tags.ExtraSamples.{ExtraSamples}
+use Rattle.tiff_base.specs.declared.tags.FileKind.{FileKind}
+use Rattle.tiff_base.specs.declared.tags.FileKind.TheVariants.{Classic}
+use Rattle.tiff_base.specs.declared.tags.PhotometricInterpretation.{PhotometricInterpretation}
+use Rattle.tiff_base.specs.declared.tags.PhotometricInterpretation.TheVariants as meaning
+use Rattle.tiff_base.specs.declared.tags.Predictor.{Predictor}
+use Rattle.tiff_base.specs.declared.tags.Predictor.TheVariants as predictor
+use Rattle.tiff_base.specs.declared.tags.SampleFormat.{SampleFormat}
+use Rattle.tiff_base.specs.declared.tags.SampleFormat.TheVariants as format
+use Rattle.tiff_base.specs.Answers.{◌>>=◌}
+use Rattle.tiff_base.specs.Color.{num_samples}
+use Rattle.tiff_base.specs.Directory.{directory_at}
+use Rattle.tiff_ifd.specs.declared.limits.Limits.{Limits}
+use Rattle.tiff_ifd.specs.Limits.{unlimited}
+use Rattle.tiff_ifd.specs.Look.{look_in}
+use Rattle.tiff_page.specs.Page.{PageRecord}
+use Rattle.tiff_page.specs.Checks.{page_of}
+use Rattle.tiff_page.specs.Layout.{colour_of}
+use Rattle.tiff_page.specs.Pixels.{shown_sample}
+use Rattle.tiff_page.specs.Image.{Decoded, image_of}
+use Rattle.tiff_encode.specs.Written.{rows_per_strip, directory_place, with_page}
+use Rattle.tiff_encode.specs.Model.{Model, IsLink, Stands}
+use Rattle.tiff_encode.specs.Laws.{IsGrayPage}
+
+-- an image that was handed in: its sides; its colour type's interpretation, samples of a pixel, bytes and format of a
+-- sample; its extra samples, method, predictor and rows of a strip; and all samples of each pixel, as bits
+pub record Image : Type 0 where
+  pub width : ℕ
+  pub height : ℕ
+  pub interpretation : PhotometricInterpretation
+  pub bands : ℕ
+  pub size : ℕ
+  pub format : SampleFormat
+  pub extra : List ExtraSamples
+  pub method : CompressionMethod
+  pub predictor : Predictor
+  pub rows : ℕ
+  pub numbers : List ℕ
+
+-- all samples of a pixel
+abbrev pub all_samples : Image → ℕ
+all_samples i = i.bands + length i.extra
+
+-- the page that the directory at a place of a little-endian file tells
+abbrev pub page_at : FileKind → List ℕ → ℕ → Limits → Result PageRecord TiffError
+page_at kind file place limits = do
+  directory ← directory_at kind LittleEndian file place
+  page_of (look_in kind LittleEndian file limits directory.entries)
+
+-- The directory at a place is a page that shows the image: without limits the page has its sides, form and colour, its
+-- samples are read without a fault, and each sample that its colour shows is the one that was handed in.
+pub record Shows (kind : FileKind) (file : List ℕ) (place : ℕ) (i : Image) : Type 0 where
+  pub page : PageRecord
+  pub is_page : page_at kind file place unlimited ≡ Ok page
+  pub width : page.width ≡ i.width
+  pub height : page.height ≡ i.height
+  pub interpretation : page.interpretation ≡ i.interpretation
+  pub format : page.format ≡ i.format
+  pub depth : page.depth ≡ 8 * i.size
+  pub samples : page.samples ≡ all_samples i
+  pub extra : page.extra ≡ i.extra
+  pub method : page.method ≡ i.method
+  pub predictor : page.predictor ≡ i.predictor
+  pub rows : page.chunk_height ≡ i.rows
+  pub colour : ColorType
+  pub is_colour : colour_of page ≡ Ok colour
+  pub image : Decoded
+  pub is_read : image_of file LittleEndian page unlimited ≡ Ok image
+  pub shows : (x y sample : ℕ) → x < i.width → y < i.height → sample < num_samples colour
+      → shown_sample file LittleEndian page x y sample ≡ slice_index i.numbers ((y * i.width + x) * all_samples i + sample)
+
+-- the image of one gray strip
+abbrev pub gray_image : ℕ → ℕ → List ℕ → Image
+gray_image width height samples = record {
+  width = width;
+  height = height;
+  interpretation = meaning.BlackIsZero;
+  bands = 1;
+  size = 1;
+  format = format.Uint;
+  extra = [];
+  method = method.None;
+  predictor = predictor.None;
+  rows = rows_per_strip width;
+  numbers = take (width * height) samples;
+}
+
+-- a page of one gray strip that was appended to what stands shows its image
+abbrev pub PageShows : Type 0
+PageShows = (m : Model) (file : List ℕ) (link width height : ℕ) (samples : List ℕ)
+    → IsLink Classic m link → IsGrayPage (length file) width height samples → ((k : ℕ) → slice_index samples k < 256) → Stands Classic file m
+    → Shows Classic (with_page file link width height samples) (directory_place (length file) width height) (gray_image width height samples)
