@@ -4,3 +4,5 @@ pub mod Header
 pub mod Entries
 pub mod Grown
 pub mod Pages
+pub mod Fields
+pub mod Shows

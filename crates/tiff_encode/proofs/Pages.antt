@@ -218,11 +218,11 @@ handed_stand m file width height r strip i j l h =
     (resolution_stands m file (r + 8) j l h))))))))
 
 -- the rows of a strip fit 4 bytes
-rows_fit : (width : ℕ) → rows_per_strip width < 2 ^ 32
+pub rows_fit : (width : ℕ) → rows_per_strip width < 2 ^ 32
 rows_fit width = omega (arith, div-le_self 1000000 width)
 
 -- a side of a page is no greater than the page
-side_fits : (width height n : ℕ) → 0 < width → width * height < n → height < n
+pub side_fits : (width height n : ℕ) → 0 < width → width * height < n → height < n
 side_fits width height n p h = omega (arith, mul-le-mul_right height p)
 
 -- the page of one gray strip, appended and linked to, stands

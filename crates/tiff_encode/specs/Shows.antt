@@ -1,5 +1,6 @@
 -- What a written file shows: an image that was handed in (this project's), by the reader's definitions.
-use Rattle.std.specs.Prelude.{◌≡◌, ℕ, ◌+◌, ◌*◌, ◌<◌, List, [], length, take, slice_index, Result, Ok}
+use Rattle.std.specs.Prelude.{◌≡◌, ℕ, ◌+◌, ◌*◌, ◌<◌, ◌≤◌, List, [], ◌∷◌, length, take, slice_index, Result, Ok}
+use Rattle.tiff_base.specs.declared.color.ChunkType.TheVariants.{Strip}
 use Rattle.tiff_base.specs.declared.color.ColorType.{ColorType}
 use Rattle.tiff_base.specs.declared.error.TiffError.{TiffError}
 use Rattle.tiff_base.specs.declared.tags.ByteOrder.TheVariants.{LittleEndian}
@@ -10,6 +11,7 @@ use Rattle.tiff_base.specs.declared.tags.FileKind.{FileKind}
 use Rattle.tiff_base.specs.declared.tags.FileKind.TheVariants.{Classic}
 use Rattle.tiff_base.specs.declared.tags.PhotometricInterpretation.{PhotometricInterpretation}
 use Rattle.tiff_base.specs.declared.tags.PhotometricInterpretation.TheVariants as meaning
+use Rattle.tiff_base.specs.declared.tags.PlanarConfiguration.TheVariants.{Chunky}
 use Rattle.tiff_base.specs.declared.tags.Predictor.{Predictor}
 use Rattle.tiff_base.specs.declared.tags.Predictor.TheVariants as predictor
 use Rattle.tiff_base.specs.declared.tags.SampleFormat.{SampleFormat}
@@ -20,14 +22,16 @@ use Rattle.tiff_base.specs.Directory.{directory_at}
 use Rattle.tiff_ifd.specs.declared.limits.Limits.{Limits}
 use Rattle.tiff_ifd.specs.Limits.{unlimited}
 use Rattle.tiff_ifd.specs.Look.{look_in}
+use Rattle.tiff_ifd.specs.StandIn.{single_look}
+use Rattle.tiff_page.specs.declared.layout.DecodingSampleType.TheVariants.{U8}
 use Rattle.tiff_page.specs.Page.{PageRecord}
 use Rattle.tiff_page.specs.Checks.{page_of}
 use Rattle.tiff_page.specs.Layout.{colour_of}
 use Rattle.tiff_page.specs.Pixels.{shown_sample}
-use Rattle.tiff_page.specs.Image.{Decoded, image_of}
-use Rattle.tiff_encode.specs.Written.{rows_per_strip, directory_place, with_page}
+use Rattle.tiff_page.specs.Image.{Decoded, image_of, covered_page_of}
+use Rattle.tiff_encode.specs.Written.{rows_per_strip, strip_place, directory_place, page_link, with_page}
 use Rattle.tiff_encode.specs.Model.{Model, IsLink, Stands}
-use Rattle.tiff_encode.specs.Laws.{IsGrayPage}
+use Rattle.tiff_encode.specs.Laws.{IsGrayPage, page_model}
 
 -- an image that was handed in: its sides; its colour type's interpretation, samples of a pixel, bytes and format of a
 -- sample; its extra samples, method, predictor and rows of a strip; and all samples of each pixel, as bits
@@ -74,7 +78,8 @@ pub record Shows (kind : FileKind) (file : List ℕ) (place : ℕ) (i : Image) :
   pub image : Decoded
   pub is_read : image_of file LittleEndian page unlimited ≡ Ok image
   pub shows : (x y sample : ℕ) → x < i.width → y < i.height → sample < num_samples colour
-      → shown_sample file LittleEndian page x y sample ≡ slice_index i.numbers ((y * i.width + x) * all_samples i + sample)
+      → shown_sample file LittleEndian page x y sample
+      ≡ slice_index i.numbers ((y * i.width + x) * all_samples i + sample)
 
 -- the image of one gray strip
 abbrev pub gray_image : ℕ → ℕ → List ℕ → Image
@@ -95,5 +100,59 @@ gray_image width height samples = record {
 -- a page of one gray strip that was appended to what stands shows its image
 abbrev pub PageShows : Type 0
 PageShows = (m : Model) (file : List ℕ) (link width height : ℕ) (samples : List ℕ)
-    → IsLink Classic m link → IsGrayPage (length file) width height samples → ((k : ℕ) → slice_index samples k < 256) → Stands Classic file m
-    → Shows Classic (with_page file link width height samples) (directory_place (length file) width height) (gray_image width height samples)
+    → IsLink Classic m link → IsGrayPage (length file) width height samples → ((k : ℕ) → slice_index samples k < 256)
+    → Stands Classic file m
+    → Shows Classic (with_page file link width height samples) (directory_place (length file) width height)
+    (gray_image width height samples)
+
+-- the own link of a page that was appended to a file of length n is one at which a next page can be linked
+abbrev pub PageLinks : Type 0
+PageLinks = (m : Model) (n link width height : ℕ) (samples : List ℕ)
+    → IsLink Classic (page_model m n link width height samples) (page_link n width height)
+
+-- ---- the page under limits, as this version reads it
+
+-- the page of one gray strip that was appended to a file of length n
+abbrev pub strip_page : ℕ → ℕ → ℕ → PageRecord
+strip_page n width height = record {
+  width = width;
+  height = height;
+  interpretation = meaning.BlackIsZero;
+  method = method.None;
+  samples = 1;
+  extra = [];
+  format = format.Uint;
+  depth = 8;
+  predictor = predictor.None;
+  planar = Chunky;
+  subsampling = (2, 2);
+  chunk_type = Strip;
+  chunk_width = width;
+  chunk_height = rows_per_strip width;
+  offsets = strip_place n ∷ [];
+  byte_counts = width * height ∷ [];
+}
+
+-- the page that the directory at a place of a little-endian file tells, where this version reads it
+abbrev pub covered_page_at : FileKind → List ℕ → ℕ → Limits → Result PageRecord TiffError
+covered_page_at kind file place limits = do
+  directory ← directory_at kind LittleEndian file place
+  covered_page_of (single_look kind LittleEndian file limits directory.entries)
+
+-- Under these limits the directory at a place is this page, also as this version reads it, and its image has these
+-- numbers of a byte each.
+pub record ReadsAs (kind : FileKind) (file : List ℕ) (place : ℕ) (limits : Limits) (page : PageRecord)
+    (numbers : List ℕ) : Type 0 where
+  pub is_page : page_at kind file place limits ≡ Ok page
+  pub is_covered : covered_page_at kind file place limits ≡ Ok page
+  pub is_read : image_of file LittleEndian page limits ≡ Ok (record { sample_type = U8; numbers = numbers })
+
+-- a page of one gray strip that was appended to what stands is read as it was handed in, under limits that let its
+-- samples pass
+abbrev pub PageReads : Type 0
+PageReads = (m : Model) (file : List ℕ) (link width height : ℕ) (samples : List ℕ) (limits : Limits)
+    → IsLink Classic m link → IsGrayPage (length file) width height samples → ((k : ℕ) → slice_index samples k < 256)
+    → Stands Classic file m
+    → width * height ≤ limits.decoding_buffer_size → width * height ≤ limits.intermediate_buffer_size
+    → ReadsAs Classic (with_page file link width height samples) (directory_place (length file) width height) limits
+    (strip_page (length file) width height) (take (width * height) samples)

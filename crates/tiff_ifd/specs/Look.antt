@@ -20,6 +20,13 @@ pub record Look : Type 0 where
   pub has : Tag → Bool
   pub value : Tag → Result (Option Datum) TiffError
 
+-- what tags tell: the look-up, and the bytes, the kind and the byte order of the file that they are of
+pub record Told : Type 0 where
+  pub look : Look
+  pub bytes : List ℕ
+  pub kind : FileKind
+  pub order : ByteOrder
+
 -- the value of a field, where there is one
 abbrev pub value_if : (Field → Result Datum TiffError) → Option Field → Result (Option Datum) TiffError
 value_if value None = Ok None

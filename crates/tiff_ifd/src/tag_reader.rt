@@ -39,7 +39,12 @@ fn single_value(order: ByteOrder, entry: &Entry) -> TiffResult<Value>
 }
 
 impl<R: Source> Tags for TagReader<R> {
-    ghost look = { λ t. single_look t.kind t.order (R.bytes t.source) t.limits t.directory.entries };
+    ghost told = { λ t. record {
+      look = single_look t.kind t.order (R.bytes t.source) t.limits t.directory.entries;
+      bytes = R.bytes t.source;
+      kind = t.kind;
+      order = t.order;
+    } };
 
     ghost failures = { λ t. R.failures t.source };
 

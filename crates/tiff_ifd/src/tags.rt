@@ -13,29 +13,29 @@ use tiff_base::tags::Tag;
 
 /// The tags of a directory, whose values are read.
 pub trait Tags {
-    ghost use Rattle.tiff_ifd.specs.Look.{Look};
+    ghost use Rattle.tiff_ifd.specs.Look.{Told};
 
-    /// Which tags there are, and the value of each.
-    ghost look: { Self → Look };
+    /// Which tags there are, and the value of each, of which file.
+    ghost told: { Self → Told };
 
     /// How many reads failed so far.
     ghost failures: { Self → ℕ };
 
     /// Whether there is a tag.
     fn contains(&self, tag: Tag) -> bool
-        ensures { result ≡ (look self.now).has tag };
+        ensures { result ≡ (told self.now).look.has tag };
 
     /// The value of a tag.
     fn find(&mut self, alloc: Global, tag: Tag) -> TiffResult<Option<Value>>
-        ensures kept { IsKept look failures self.old self.new }
-        ensures answer { Answers (λ v. option_map datum v) result ((look self.old).value tag) (failures self.old) (failures self.new) };
+        ensures kept { IsKept told failures self.old self.new }
+        ensures answer { Answers (λ v. option_map datum v) result ((told self.old).look.value tag) (failures self.old) (failures self.new) };
 }
 
 /// A tag's number below 2^16, if there is the tag.
 #[tactic(auto, unfolding(crate::specs::Look::find))]
 pub fn find_u16<T: Tags>(tags: &mut T, alloc: Global, tag: Tag) -> TiffResult<Option<u16>>
-    ensures kept { IsKept T.look T.failures tags.old tags.new }
-    ensures answer { Answers (λ n. n) result (find into.into_u16 (T.look tags.old) tag) (T.failures tags.old) (T.failures tags.new) }
+    ensures kept { IsKept T.told T.failures tags.old tags.new }
+    ensures answer { Answers (λ n. n) result (find into.into_u16 (T.told tags.old).look tag) (T.failures tags.old) (T.failures tags.new) }
 {
     match tags.find(alloc, tag)? {
         None => Ok(None),
@@ -46,8 +46,8 @@ pub fn find_u16<T: Tags>(tags: &mut T, alloc: Global, tag: Tag) -> TiffResult<Op
 /// A tag's number below 2^32, if there is the tag.
 #[tactic(auto, unfolding(crate::specs::Look::find))]
 pub fn find_u32<T: Tags>(tags: &mut T, alloc: Global, tag: Tag) -> TiffResult<Option<u32>>
-    ensures kept { IsKept T.look T.failures tags.old tags.new }
-    ensures answer { Answers (λ n. n) result (find into.into_u32 (T.look tags.old) tag) (T.failures tags.old) (T.failures tags.new) }
+    ensures kept { IsKept T.told T.failures tags.old tags.new }
+    ensures answer { Answers (λ n. n) result (find into.into_u32 (T.told tags.old).look tag) (T.failures tags.old) (T.failures tags.new) }
 {
     match tags.find(alloc, tag)? {
         None => Ok(None),
@@ -58,8 +58,8 @@ pub fn find_u32<T: Tags>(tags: &mut T, alloc: Global, tag: Tag) -> TiffResult<Op
 /// A tag's numbers below 2^16, if there is the tag.
 #[tactic(auto, unfolding(crate::specs::Look::find))]
 pub fn find_u16_vec<T: Tags>(tags: &mut T, alloc: Global, tag: Tag) -> TiffResult<Option<Vec<u16>>>
-    ensures kept { IsKept T.look T.failures tags.old tags.new }
-    ensures answer { Answers (λ o. option_map (λ v. v.items) o) result (find into.into_u16_vec (T.look tags.old) tag) (T.failures tags.old) (T.failures tags.new) }
+    ensures kept { IsKept T.told T.failures tags.old tags.new }
+    ensures answer { Answers (λ o. option_map (λ v. v.items) o) result (find into.into_u16_vec (T.told tags.old).look tag) (T.failures tags.old) (T.failures tags.new) }
 {
     match tags.find(alloc, tag)? {
         None => Ok(None),
@@ -70,8 +70,8 @@ pub fn find_u16_vec<T: Tags>(tags: &mut T, alloc: Global, tag: Tag) -> TiffResul
 /// A tag's numbers, if there is the tag.
 #[tactic(auto, unfolding(crate::specs::Look::find))]
 pub fn find_u64_vec<T: Tags>(tags: &mut T, alloc: Global, tag: Tag) -> TiffResult<Option<Vec<u64>>>
-    ensures kept { IsKept T.look T.failures tags.old tags.new }
-    ensures answer { Answers (λ o. option_map (λ v. v.items) o) result (find into.into_u64_vec (T.look tags.old) tag) (T.failures tags.old) (T.failures tags.new) }
+    ensures kept { IsKept T.told T.failures tags.old tags.new }
+    ensures answer { Answers (λ o. option_map (λ v. v.items) o) result (find into.into_u64_vec (T.told tags.old).look tag) (T.failures tags.old) (T.failures tags.new) }
 {
     match tags.find(alloc, tag)? {
         None => Ok(None),
@@ -82,8 +82,8 @@ pub fn find_u64_vec<T: Tags>(tags: &mut T, alloc: Global, tag: Tag) -> TiffResul
 /// A required tag's number below 2^32. No such tag: `RequiredTagNotFound`.
 #[tactic(auto, unfolding(crate::specs::Look::require))]
 pub fn require_u32<T: Tags>(tags: &mut T, alloc: Global, tag: Tag) -> TiffResult<u32>
-    ensures kept { IsKept T.look T.failures tags.old tags.new }
-    ensures answer { Answers (λ n. n) result (require into.into_u32 (T.look tags.old) tag) (T.failures tags.old) (T.failures tags.new) }
+    ensures kept { IsKept T.told T.failures tags.old tags.new }
+    ensures answer { Answers (λ n. n) result (require into.into_u32 (T.told tags.old).look tag) (T.failures tags.old) (T.failures tags.new) }
 {
     match find_u32(tags, alloc, tag)? {
         None => Err(TiffFormatError::RequiredTagNotFound(tag).into()),
@@ -94,8 +94,8 @@ pub fn require_u32<T: Tags>(tags: &mut T, alloc: Global, tag: Tag) -> TiffResult
 /// A required tag's numbers. No such tag: `RequiredTagNotFound`.
 #[tactic(auto, unfolding(crate::specs::Look::require))]
 pub fn require_u64_vec<T: Tags>(tags: &mut T, alloc: Global, tag: Tag) -> TiffResult<Vec<u64>>
-    ensures kept { IsKept T.look T.failures tags.old tags.new }
-    ensures answer { Answers (λ v. v.items) result (require into.into_u64_vec (T.look tags.old) tag) (T.failures tags.old) (T.failures tags.new) }
+    ensures kept { IsKept T.told T.failures tags.old tags.new }
+    ensures answer { Answers (λ v. v.items) result (require into.into_u64_vec (T.told tags.old).look tag) (T.failures tags.old) (T.failures tags.new) }
 {
     match find_u64_vec(tags, alloc, tag)? {
         None => Err(TiffFormatError::RequiredTagNotFound(tag).into()),

@@ -110,8 +110,8 @@ pub fn read_gray_strip<R: Source>(
 /// `UnsupportedDataType`.
 #[tactic(auto, unfolding(crate::specs::Image::covered_page_of))]
 pub fn read_covered_page<T: Tags>(tags: &mut T, alloc: Global) -> TiffResult<Page>
-    ensures kept { IsKept T.look T.failures tags.old tags.new }
-    ensures answer { Answers view.page result (covered_page_of (T.look tags.old)) (T.failures tags.old) (T.failures tags.new) }
+    ensures kept { IsKept T.told T.failures tags.old tags.new }
+    ensures answer { Answers view.page result (covered_page_of (T.told tags.old).look) (T.failures tags.old) (T.failures tags.new) }
     ensures gray { IfOk result (λ p. is_gray_strip (view.page p) ≡ true) }
 {
     let page = read_page(tags, alloc)?;

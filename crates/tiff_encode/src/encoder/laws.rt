@@ -1,6 +1,6 @@
 //! The laws by which what stands in a file is kept and grows, each the contract of a function with no work.
 
-ghost use Rattle.tiff_encode.specs.Shows.{PageShows};
+ghost use Rattle.tiff_encode.specs.Shows.{PageShows, PageLinks, PageReads};
 ghost use Rattle.tiff_encode.specs.Laws.{HeaderStands, KeptByAppending, KeptByPatching, KeptByTearing, GrownByRegion, GrownByInline, GrownByPlaced, GrownByDirectory, Finished, PageStands};
 
 /// A header that was written stands.
@@ -56,4 +56,14 @@ pub fn page_stands()
 /// A page of one gray strip that is appended shows its image.
 pub fn page_shows()
     ensures { PageShows }
+{}
+
+/// The own link of a page that is appended is one at which a next page can be linked.
+pub fn page_links()
+    ensures { PageLinks }
+{}
+
+/// A page of one gray strip that is appended is read as it was handed in, under limits that let its samples pass.
+pub fn page_reads()
+    ensures { PageReads }
 {}

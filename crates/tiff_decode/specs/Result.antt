@@ -1,0 +1,20 @@
+-- A decoding result as its number type and the bits of its numbers.
+use Rattle.std.specs.Prelude.{map}
+use Rattle.std.specs.Int.{w8, w16, w32, w64, cast_unsigned}
+use Rattle.tiff_page.specs.declared.layout.DecodingSampleType.TheVariants as type
+use Rattle.tiff_page.specs.Image.{Decoded}
+use Rattle.tiff_decode.specs.declared.decoder.DecodingResult.{DecodingResult}
+use Rattle.tiff_decode.specs.declared.decoder.DecodingResult.TheVariants as result
+
+abbrev pub decoded_as : DecodingResult → Decoded
+decoded_as (result.U8 v) = record { sample_type = type.U8; numbers = v.items }
+decoded_as (result.U16 v) = record { sample_type = type.U16; numbers = v.items }
+decoded_as (result.U32 v) = record { sample_type = type.U32; numbers = v.items }
+decoded_as (result.U64 v) = record { sample_type = type.U64; numbers = v.items }
+decoded_as (result.F16 v) = record { sample_type = type.F16; numbers = map (λ b. b.0) v.items }
+decoded_as (result.F32 v) = record { sample_type = type.F32; numbers = map (λ b. b.0) v.items }
+decoded_as (result.F64 v) = record { sample_type = type.F64; numbers = map (λ b. b.0) v.items }
+decoded_as (result.I8 v) = record { sample_type = type.I8; numbers = map (cast_unsigned w8) v.items }
+decoded_as (result.I16 v) = record { sample_type = type.I16; numbers = map (cast_unsigned w16) v.items }
+decoded_as (result.I32 v) = record { sample_type = type.I32; numbers = map (cast_unsigned w32) v.items }
+decoded_as (result.I64 v) = record { sample_type = type.I64; numbers = map (cast_unsigned w64) v.items }

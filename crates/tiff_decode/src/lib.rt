@@ -1,0 +1,4 @@
+//! Files are read: the decoder of pages.
+#![tactic(auto)]
+
+pub mod decoder;
