@@ -1,0 +1,4 @@
+//! Files are written: directories, images, and what stands in the file afterwards.
+#![tactic(auto)]
+
+pub mod encoder;
