@@ -1,4 +1,6 @@
 //! What files are written by.
 
 pub mod colortype;
+#[cfg(test)]
+mod tests;
 pub mod writer;
