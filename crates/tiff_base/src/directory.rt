@@ -2,12 +2,13 @@
 
 ghost use Rattle.std.specs.Prelude.{◌≡◌, ◌++◌, ◌∷◌, [], IfOk, OnOk, OnErr, None, option_map};
 ghost use Rattle.std.specs.FinMap as map;
+ghost use Rattle.std.specs.Iterator.{YieldsFirstBy, item_count};
 ghost use Rattle.tiff_base.specs.Tags.{tag_number};
 ghost use Rattle.tiff_base.specs.Directory.{link};
 
 use crate::tags::{IfdPointer, Tag, Type};
 use std::alloc::{AllocError, Global};
-use std::collections::BTreeMap;
+use std::collections::{BTreeMap, btree_map};
 use std::marker::Model;
 
 /// A field of a directory: the type of its values, how many there are, and their bytes or their place.
@@ -143,6 +144,16 @@ impl Directory {
         }
     }
 
+    /// The fields, in ascending tag number.
+    #[tactic(auto, using(crate::proofs::Maps::entries_of_tree))]
+    pub fn iter(&self) -> Iter<'_>
+        ensures { result ≡ map.entries self.now.entries }
+    {
+        Iter {
+            inner: self.entries.iter(),
+        }
+    }
+
     /// Sets the field of a tag number.
     #[tactic(auto, using(crate::proofs::Maps::insert_of_tree))]
     pub fn insert(&mut self, tag: u16, entry: Entry) -> Result<(), AllocError>
@@ -158,5 +169,33 @@ impl Directory {
         ensures { self.new ≡ record self.old { next = link place } }
     {
         self.next = place;
+    }
+}
+
+/// The fields of a directory, in ascending tag number.
+#[derive(Drop)]
+pub struct Iter<'a> {
+    inner: btree_map::Iter<'a, u16, Entry>,
+}
+
+impl<'a> Model for Iter<'a> {
+    ghost use Rattle.std.specs.Prelude.{List, ℕ};
+    ghost use Rattle.tiff_base.specs.Field.{Field};
+
+    ghost Value = { List (ℕ × Field) };
+
+    ghost view = { λ i. i.inner };
+}
+
+impl<'a> Iterator for Iter<'a> {
+    type Item = (u16, &'a Entry);
+
+    ghost next_gives = { YieldsFirstBy (λ x. (x.0, x.1.now)) (λ s. s) };
+
+    ghost remaining = { item_count (λ s. s) };
+
+    fn next(&mut self) -> Option<(u16, &'a Entry)> {
+        let (tag, entry) = self.inner.next()?;
+        Some((*tag, entry))
     }
 }

@@ -6,3 +6,9 @@ pub mod Grown
 pub mod Pages
 pub mod Fields
 pub mod Shows
+pub mod Growth
+pub mod Refusals
+pub mod GrayFields
+pub mod Places
+pub mod Page
+pub mod Leaves

@@ -280,7 +280,7 @@ module _ (m : Model) (file : List ℕ) (link width height : ℕ) (samples : List
 
 -- a page of one gray strip that was appended to what stands shows its image
 pub page_shows : PageShows
-page_shows m file link width height samples is_link g small s =
+page_shows m file link width height samples is_link g s =
     image_shows m file link width height samples is_link g s
 
 -- the link of a page that was appended is one to which a next page can be linked

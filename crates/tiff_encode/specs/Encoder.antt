@@ -6,9 +6,10 @@ use Rattle.tiff_base.specs.declared.error.TiffFormatError.TheVariants.{InvalidDi
 use Rattle.tiff_base.specs.declared.error.TiffUnsupportedError.TheVariants.{UnsupportedDataType}
 use Rattle.tiff_base.specs.declared.error.UsageError.TheVariants.{WriterFailed}
 use Rattle.tiff_base.specs.declared.io.IoKind.TheVariants.{InvalidData, Device}
+use Rattle.tiff_base.specs.declared.tags.FileKind.TheVariants.{Classic}
 use Rattle.tiff_base.specs.Number.{le}
 use Rattle.tiff_base.specs.Told.{put}
-use Rattle.tiff_encode.specs.Written.{rows_per_strip, resolutions_place, strip_place, directory_place, page_head, page_bytes, with_page, page_link}
+use Rattle.tiff_encode.specs.Written.{header_bytes, rows_per_strip, resolutions_place, strip_place, directory_place, page_head, page_bytes, with_page, page_link}
 
 -- the file of an encoder: its bytes, how many writes of its sink failed, whether a write of the encoder did, where the
 -- last link of the chain stands, and whether a page is finished
@@ -18,6 +19,11 @@ pub record Encoded : Type 0 where
   pub failed : Bool
   pub chain : ℕ
   pub finished : Bool
+
+-- a new encoder over a sink that held these bytes
+abbrev pub IsBegun : List ℕ → ℕ → Encoded → Type 0
+IsBegun told failures e =
+    e ≡ record { bytes = told ++ header_bytes Classic; failures = failures; failed = false; chain = length told + 4; finished = false }
 
 -- why a page is refused, and what was appended before that was met
 pub record Refusal : Type 0 where

@@ -30,7 +30,7 @@ use Rattle.tiff_page.specs.Layout.{colour_of}
 use Rattle.tiff_page.specs.Pixels.{shown_sample}
 use Rattle.tiff_page.specs.Image.{Decoded, image_of, covered_page_of}
 use Rattle.tiff_encode.specs.Written.{rows_per_strip, strip_place, directory_place, page_link, with_page}
-use Rattle.tiff_encode.specs.Model.{Model, IsLink, Stands}
+use Rattle.tiff_encode.specs.Model.{Model, IsLink, Stands, header_model}
 use Rattle.tiff_encode.specs.Laws.{IsGrayPage, page_model}
 
 -- an image that was handed in: its sides; its colour type's interpretation, samples of a pixel, bytes and format of a
@@ -100,8 +100,7 @@ gray_image width height samples = record {
 -- a page of one gray strip that was appended to what stands shows its image
 abbrev pub PageShows : Type 0
 PageShows = (m : Model) (file : List ℕ) (link width height : ℕ) (samples : List ℕ)
-    → IsLink Classic m link → IsGrayPage (length file) width height samples → ((k : ℕ) → slice_index samples k < 256)
-    → Stands Classic file m
+    → IsLink Classic m link → IsGrayPage (length file) width height samples → Stands Classic file m
     → Shows Classic (with_page file link width height samples) (directory_place (length file) width height)
     (gray_image width height samples)
 
@@ -156,3 +155,17 @@ PageReads = (m : Model) (file : List ℕ) (link width height : ℕ) (samples : L
     → width * height ≤ limits.decoding_buffer_size → width * height ≤ limits.intermediate_buffer_size
     → ReadsAs Classic (with_page file link width height samples) (directory_place (length file) width height) limits
     (strip_page (length file) width height) (take (width * height) samples)
+
+-- ---- what the writer's calls leave
+
+-- A header that was written on an empty sink: it stands, and the chain's last link is its own.
+pub record LeavesHeader (bytes : List ℕ) (chain : ℕ) : Type 0 where
+  pub stands : Stands Classic bytes (header_model Classic)
+  pub link : IsLink Classic (header_model Classic) chain
+
+-- A page that was appended to a file in which a model stands: all that stood stands, and the page's fields and strip; the
+-- page shows the samples handed in; and a next page can be linked.
+pub record LeavesPage (m : Model) (old : List ℕ) (link width height : ℕ) (samples : List ℕ) (new : List ℕ) (chain : ℕ) : Type 0 where
+  pub stands : Stands Classic new (page_model m (length old) link width height samples)
+  pub next : IsLink Classic (page_model m (length old) link width height samples) chain
+  pub shows : Shows Classic new (directory_place (length old) width height) (gray_image width height samples)

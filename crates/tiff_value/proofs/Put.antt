@@ -1,0 +1,55 @@
+-- Bytes written one piece after another.
+use Rattle.std.proofs.Common.{◌≡◌, ℕ, ◌+◌, ◌<◌, ◌≤◌, List, [], ◌++◌, length, take, drop, refl, false, true, ap, sym, ◌∙◌, subst, arith, append-nil, length-append, replicate, ◌∷◌}
+use Rattle.std.proofs.lemmas.List.{take_all, drop_all, drop-take, take-take, length-take-le, take-append-drop, take-replicate}
+use Rattle.std.proofs.lemmas.List.Edits.{paste_all, paste-paste}
+use lib.Seq.{paste}
+use Rattle.tiff_base.specs.Told.{put}
+use Rattle.tiff_base.specs.declared.error.TiffError.{TiffError}
+use Rattle.tiff_value.specs.Written.{Written, moved, Fails, IsCut}
+
+-- a second piece right behind the first
+pub put-put : (file : List ℕ) (at : ℕ) (xs ys : List ℕ) → at ≤ length file → put (put file at xs) (at + length xs) ys ≡ put file at (xs ++ ys)
+put-put file at xs ys h =
+    ap (λ d. put d (at + length xs) ys) (sym (paste_all file at xs (length xs) refl))
+    ∙ sym (paste_all _ (at + length xs) ys (length ys) refl)
+    ∙ paste-paste file at xs ys (length xs) (length ys) refl refl h
+    ∙ ap (λ n. paste file at (xs ++ ys) n) (sym (length-append xs ys))
+    ∙ paste_all file at (xs ++ ys) (length (xs ++ ys)) refl
+
+-- a piece at the end
+pub put_end : (file xs : List ℕ) (at : ℕ) → at ≡ length file → put file at xs ≡ file ++ xs
+put_end file xs at e =
+    let t : take at file ≡ file = take_all at file (omega arith) in
+    let d : drop (at + length xs) file ≡ [] = drop_all _ file (omega arith) in
+    ap (λ p. p ++ (xs ++ drop (at + length xs) file)) t ∙ ap (λ q. file ++ (xs ++ q)) d ∙ ap (λ q. file ++ q) (append-nil xs)
+
+pub take_split : (xs : List ℕ) (d n : ℕ) → take d xs ++ take n (drop d xs) ≡ take (d + n) xs
+take_split xs d n =
+    ap (λ q. take d xs ++ q) (sym (drop-take d n xs))
+    ∙ ap (λ p. p ++ drop d (take (d + n) xs)) (sym (take-take d (d + n) xs (omega arith)))
+    ∙ take-append-drop d (take (d + n) xs)
+
+pub moved-moved : (w : Written) (xs ys : List ℕ) → w.at ≤ length w.bytes → moved (moved w xs) ys ≡ moved w (xs ++ ys)
+moved-moved w xs ys h =
+    let e1 : put (put w.bytes w.at xs) (w.at + length xs) ys ≡ put w.bytes w.at (xs ++ ys) = put-put w.bytes w.at xs ys h in
+    let e2 : w.at + length xs + length ys ≡ w.at + length (xs ++ ys) = omega (arith, length-append xs ys) in
+    λ i. record w { bytes = e1 i; at = e2 i }
+
+-- what was written so far, and n more of the rest
+pub moved_more : (w : Written) (xs : List ℕ) (d n : ℕ) → w.at ≤ length w.bytes → moved (moved w (take d xs)) (take n (drop d xs)) ≡ moved w (take (d + n) xs)
+moved_more w xs d n h = moved-moved w (take d xs) (take n (drop d xs)) h ∙ ap (moved w) (take_split xs d n)
+
+-- a fault of the sink after a beginning of the bytes
+pub cut_from : (w v new : Written) (xs : List ℕ) (d : ℕ) (e : TiffError) → w.failed ≡ false → d ≤ length xs → v ≡ moved w (take d xs) → Fails e v new → IsCut xs e w new
+cut_from w v new xs d y a h e f = record {
+  fresh = a;
+  fault = f.fault;
+  grew = let P : ℕ → Type 0 = λ n. n < new.failures in subst P (ap (λ u. u.failures) e) f.grew;
+  count = d;
+  within = h;
+  state = f.state ∙ (λ i. record (e i) { failed = true; failures = new.failures })
+      ∙ (λ i. record w { bytes = put w.bytes w.at (take d xs); at = w.at + length-take-le d xs h i; failed = true; failures = new.failures });
+}
+
+pub zeros : (n : ℕ) → n ≤ 3 → let z : List ℕ = 0 ∷ 0 ∷ 0 ∷ [] in take n z ≡ replicate n 0
+zeros n h = take-replicate n 3 0 h

@@ -1,0 +1,25 @@
+use Rattle.std.proofs.Common.{◌≤◌, length, take, drop, inr, ap, ◌∙◌, arith, length-drop}
+use Rattle.std.proofs.lemmas.List.{take_rest}
+use Rattle.tiff_value.specs.Written.{moved}
+use Rattle.tiff_value.proofs.Put.{moved_more, cut_from}
+use Rattle.tiff_value.proofs.encoder.writer.TiffWriter.write_raw.Goals as goal
+
+pub returns-in-Err : goal.returns-in-Err
+returns-in-Err g c =
+    let i = c.loop-done.invariant in
+    inr (cut_from _ _ _ c.args.bytes.now c.loop-done.done _ i.fresh i.within i.same c.in-Err.ensures.err)
+
+pub loop-done-preserved : goal.loop-done-preserved
+loop-done-preserved g c =
+    let bytes = c.args.bytes.now in
+    let done = c.loop-done.done in
+    let rest = take_rest bytes done in
+    let e = c.in-Ok.ensures.ok in
+    let n = c.in-Ok.n in
+    let i = c.loop-done.invariant in
+    record {
+      within = let l : n ≤ length (drop done bytes) = rw rest at e.1 in omega (arith, length-drop done bytes);
+      place = i.place;
+      same = rw rest at e.2 ∙ ap (λ w. moved w (take n (drop done bytes))) i.same ∙ moved_more c.args.self.now bytes done n i.place;
+      fresh = i.fresh;
+    }

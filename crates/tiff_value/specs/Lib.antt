@@ -1,0 +1,2 @@
+pub mod ColorType
+pub mod Written

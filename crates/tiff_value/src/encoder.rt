@@ -1,0 +1,4 @@
+//! What files are written by.
+
+pub mod colortype;
+pub mod writer;

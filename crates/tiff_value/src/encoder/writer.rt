@@ -1,0 +1,191 @@
+//! Numbers and bytes are written at a place of a sink.
+
+ghost use Rattle.std.specs.Prelude.{◌≡◌, ℕ, ◌+◌, ◌-◌, ◌%◌, ◌<◌, ◌≤◌, List, length, replicate, take, IfOk, IfErr, MatchResult, false};
+ghost use Rattle.tiff_base.specs.Number.{le};
+ghost use Rattle.tiff_value.specs.Written.{moved, Fails, Writes, WritesRaw};
+
+use std::marker::Model;
+use tiff_base::error::{TiffError, TiffResult, UsageError};
+use tiff_base::io::{IoKind, Sink, SinkFault};
+
+/// Writes bytes at a place of a sink. After a fault of the sink each write answers `UsageError(WriterFailed)`.
+#[derive(Drop)]
+pub struct TiffWriter<W: Sink> {
+    sink: W,
+    at: u64,
+    last: u64,
+    failed: bool,
+}
+
+impl<W: Sink> Model for TiffWriter<W> {
+    ghost use Rattle.std.specs.Prelude.{◌≤◌, length};
+    ghost use Rattle.tiff_value.specs.Written.{Written};
+
+    ghost Value = { Written };
+
+    ghost view = { λ w. record { bytes = W.told w.sink; at = w.at; failed = w.failed; failures = W.failures w.sink; last = w.last } };
+
+    ghost invariant = { λ w. w.at ≤ length (W.told w.sink) };
+}
+
+impl<W: Sink> TiffWriter<W> {
+    /// A writer that stands at the sink's end.
+    pub fn new(sink: W) -> Self
+        ensures { result ≡ record { bytes = W.told sink; at = length (W.told sink); failed = false; failures = W.failures sink; last = 0 } }
+    {
+        let at = sink.len();
+        TiffWriter {
+            sink,
+            at,
+            last: 0,
+            failed: false,
+        }
+    }
+
+    /// The place that is written next, at most the count of bytes.
+    pub fn offset(&self) -> u64
+        ensures place { result ≡ self.now.at }
+        ensures within { result ≤ length self.now.bytes }
+    {
+        self.at
+    }
+
+    /// How many bytes the last whole write had.
+    pub fn last_written(&self) -> u64
+        ensures { result ≡ self.now.last }
+    {
+        self.last
+    }
+
+    /// Whether a write failed earlier.
+    pub fn has_failed(&self) -> bool
+        ensures { result ≡ self.now.failed }
+    {
+        self.failed
+    }
+
+    /// Goes to a place, from where bytes are written over and then added. A place past the bytes:
+    /// `IoError(InvalidInput)`, and nothing is done.
+    pub fn goto_offset(&mut self, offset: u64) -> TiffResult<()>
+        ensures { MatchResult result
+            (λ _. (offset ≤ length self.old.bytes) × (self.new ≡ record self.old { at = offset }))
+            (λ e. (length self.old.bytes < offset) × (e ≡ TiffError.IoError IoKind.InvalidInput) × (self.new ≡ self.old)) }
+    {
+        if self.sink.len() < offset {
+            return Err(TiffError::IoError(IoKind::InvalidInput));
+        }
+        self.at = offset;
+        Ok(())
+    }
+
+    // One call of the sink.
+    fn write_some(&mut self, bytes: &[u8]) -> TiffResult<usize>
+        requires { 0 < length bytes.now }
+        ensures ok { IfOk result (λ n. (0 < n) × (n ≤ length bytes.now) × (self.new ≡ moved self.old (take n bytes.now))) }
+        ensures err { IfErr result (λ e. Fails e self.old self.new) }
+    {
+        let room = self.sink.len() - self.at;
+        let told = if room == 0 {
+            self.sink.append(bytes)
+        } else if (bytes.len() as u64) <= room {
+            self.sink.overwrite(self.at, bytes)
+        } else {
+            self.sink.overwrite(self.at, &bytes[..room as usize])
+        };
+        match told {
+            Ok(n) => {
+                self.at += n as u64;
+                Ok(n)
+            }
+            Err(fault) => {
+                self.failed = true;
+                Err(match fault {
+                    SinkFault::Device => TiffError::IoError(IoKind::Device),
+                    SinkFault::OutOfMemory => TiffError::OutOfMemory,
+                })
+            }
+        }
+    }
+
+    // All of the bytes, with no count for `last_written`.
+    fn write_raw(&mut self, bytes: &[u8]) -> TiffResult<()>
+        ensures { WritesRaw bytes.now self.old self.new result }
+    {
+        if self.failed {
+            return Err(TiffError::UsageError(UsageError::WriterFailed));
+        }
+        let mut done = 0;
+        while done < bytes.len() {
+            match self.write_some(&bytes[done..]) {
+                Ok(n) => done += n,
+                Err(fault) => return Err(fault),
+            }
+        }
+        Ok(())
+    }
+
+    /// Writes bytes. After an earlier fault: `UsageError(WriterFailed)`, and nothing is done. A fault of the sink:
+    /// `IoError(Device)` or `OutOfMemory`, and a beginning of the bytes is written.
+    pub fn write_bytes(&mut self, bytes: &[u8]) -> TiffResult<()>
+        ensures { Writes bytes.now self.old self.new result }
+    {
+        match self.write_raw(bytes) {
+            Ok(()) => {
+                self.last = bytes.len() as u64;
+                Ok(())
+            }
+            Err(fault) => Err(fault),
+        }
+    }
+
+    /// Writes a byte. Errors are those of `write_bytes`.
+    pub fn write_u8(&mut self, n: u8) -> TiffResult<()>
+        ensures { Writes (le 1 n) self.old self.new result }
+    {
+        self.write_bytes(&n.to_le_bytes())
+    }
+
+    /// Writes 2 bytes, the least first. Errors are those of `write_bytes`.
+    pub fn write_u16(&mut self, n: u16) -> TiffResult<()>
+        ensures { Writes (le 2 n) self.old self.new result }
+    {
+        self.write_bytes(&n.to_le_bytes())
+    }
+
+    /// Writes 4 bytes, the least first. Errors are those of `write_bytes`.
+    pub fn write_u32(&mut self, n: u32) -> TiffResult<()>
+        ensures { Writes (le 4 n) self.old self.new result }
+    {
+        self.write_bytes(&n.to_le_bytes())
+    }
+
+    /// Writes 8 bytes, the least first. Errors are those of `write_bytes`.
+    pub fn write_u64(&mut self, n: u64) -> TiffResult<()>
+        ensures { Writes (le 8 n) self.old self.new result }
+    {
+        self.write_bytes(&n.to_le_bytes())
+    }
+
+    /// Writes zeros up to the next place that is a multiple of 4; `last_written` doesn't count them. Errors are those
+    /// of `write_bytes`.
+    pub fn pad_word_boundary(&mut self) -> TiffResult<()>
+        ensures { WritesRaw (replicate ((4 - self.old.at % 4) % 4) 0) self.old self.new result }
+    {
+        let count = (4 - self.at % 4) % 4;
+        self.write_raw(&[0, 0, 0][..count as usize])
+    }
+
+    /// The sink.
+    pub fn into_inner(self) -> W
+        ensures bytes { W.told result ≡ self.bytes }
+        ensures failures { W.failures result ≡ self.failures }
+    {
+        let TiffWriter {
+            sink,
+            at: _,
+            last: _,
+            failed: _,
+        } = self;
+        sink
+    }
+}

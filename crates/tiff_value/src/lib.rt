@@ -1,0 +1,4 @@
+//! Colour types, and the writer of numbers and bytes that files are written by.
+#![tactic(auto)]
+
+pub mod encoder;
