@@ -1,0 +1,5 @@
+//! Files are read.
+
+pub use tiff_base::color::ChunkType;
+pub use tiff_decode::decoder::{Decoder, DecodingResult};
+pub use tiff_ifd::limits::Limits;

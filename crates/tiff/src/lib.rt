@@ -1,0 +1,14 @@
+//! TIFF files are read and written: the names of the Rust crate `tiff`, proved. The decoder answers what a file's
+//! definition gives, or the first fault; the encoder leaves a file whose definition gives what was handed in.
+#![tactic(auto)]
+
+pub mod decoder;
+pub mod encoder;
+
+pub use tiff_base::color::ColorType;
+pub use tiff_base::error;
+pub use tiff_base::error::{
+    TiffError, TiffFormatError, TiffResult, TiffUnsupportedError, UsageError,
+};
+pub use tiff_base::io;
+pub use tiff_base::tags;

@@ -1,0 +1,38 @@
+//! The command line.
+
+/// What the words of a command line ask for.
+#[derive(Clone, Copy, Debug)]
+pub enum Command<'a> {
+    /// The bytes of a file as one gray page.
+    Gray {
+        output: &'a str,
+        width: u32,
+        height: u32,
+        input: &'a str,
+    },
+    /// The samples of a page as bytes.
+    Raw {
+        input: &'a str,
+        page: u32,
+        output: &'a str,
+    },
+}
+
+/// The command that the words are, if they are one.
+pub fn parse(words: &[String]) -> Option<Command<'_>> {
+    let (name, rest) = words.split_first()?;
+    match (name.as_str(), rest) {
+        ("gray", [output, width, height, input]) => Some(Command::Gray {
+            output: output.as_str(),
+            width: width.as_str().parse::<u32>().ok()?,
+            height: height.as_str().parse::<u32>().ok()?,
+            input: input.as_str(),
+        }),
+        ("raw", [input, page, output]) => Some(Command::Raw {
+            input: input.as_str(),
+            page: page.as_str().parse::<u32>().ok()?,
+            output: output.as_str(),
+        }),
+        _ => None,
+    }
+}

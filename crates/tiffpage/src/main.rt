@@ -1,0 +1,24 @@
+//! Writes the bytes of a file as a gray TIFF page, and the samples of a page into a file.
+#![tactic(auto)]
+
+mod command;
+mod files;
+mod program;
+#[cfg(test)]
+mod tests;
+
+use files::MachineFiles;
+use std::process::ExitCode;
+use std::{env, io};
+
+fn main(rt: HostRuntime) -> io::Result<ExitCode> {
+    let mut words = Vec::new(rt.alloc());
+    for word in env::args(&rt)?.skip(1) {
+        words.push(word)?;
+    }
+    let mut files = MachineFiles::new(&rt);
+    let mut out = rt.stdout();
+    let mut err = rt.stderr();
+    let status = program::run(rt.alloc(), words.as_slice(), &mut files, &mut out, &mut err);
+    Ok(ExitCode::from(status))
+}

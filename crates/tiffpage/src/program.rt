@@ -1,0 +1,139 @@
+//! What the program does.
+
+ghost use Rattle.std.specs.Prelude.{◌≤◌};
+
+use crate::command::{Command, parse};
+use crate::files::Files;
+use std::alloc::Global;
+use std::fmt;
+use std::io::Write;
+use tiff::decoder::{Decoder, DecodingResult};
+use tiff::encoder::TiffEncoder;
+use tiff::encoder::colortype::Gray8;
+use tiff::io::{MemorySink, MemorySource};
+use tiff::{TiffError, TiffFormatError, TiffResult, TiffUnsupportedError};
+
+/// Why a command was not done.
+#[derive(Drop)]
+enum Failure<'a> {
+    Read(&'a str),
+    Write(&'a str),
+    Tiff(TiffError),
+}
+
+impl fmt::Display for Failure<'_> {
+    fn fmt<W: fmt::Write>(&self, f: &mut fmt::Formatter<W>) -> fmt::Result {
+        match self {
+            Failure::Read(name) => write!(f, "cannot read {name}"),
+            Failure::Write(name) => write!(f, "cannot write {name}"),
+            Failure::Tiff(fault) => write!(f, "{fault}"),
+        }
+    }
+}
+
+impl<'a> From<TiffError> for Failure<'a> {
+    fn from(fault: TiffError) -> Failure<'a> {
+        Failure::Tiff(fault)
+    }
+}
+
+fn read<'a, F: Files>(files: &mut F, name: &'a str) -> Result<Vec<u8>, Failure<'a>> {
+    match files.read(name) {
+        Ok(bytes) => Ok(bytes),
+        Err(TiffError::OutOfMemory) => Err(Failure::Tiff(TiffError::OutOfMemory)),
+        Err(_) => Err(Failure::Read(name)),
+    }
+}
+
+fn write<'a, F: Files>(files: &mut F, name: &'a str, bytes: &[u8]) -> Result<(), Failure<'a>> {
+    match files.write(name, bytes) {
+        Ok(()) => Ok(()),
+        Err(TiffError::OutOfMemory) => Err(Failure::Tiff(TiffError::OutOfMemory)),
+        Err(_) => Err(Failure::Write(name)),
+    }
+}
+
+// A file of one gray page.
+fn gray_file(alloc: Global, width: u32, height: u32, samples: &[u8]) -> TiffResult<Vec<u8>> {
+    let mut encoder = TiffEncoder::new(alloc, MemorySink::new(Vec::new(alloc)))?;
+    encoder.write_image::<Gray8>(width, height, samples)?;
+    Ok(encoder.into_inner().into_vec())
+}
+
+// The samples of a page. This version reads the first page alone, and samples of 8 bits.
+fn page_samples(alloc: Global, file: Vec<u8>, page: u32) -> TiffResult<Vec<u8>> {
+    let mut decoder = Decoder::new(alloc, MemorySource::new(file))?;
+    if page > 0 {
+        return Err(TiffFormatError::ImageFileDirectoryNotFound.into());
+    }
+    match decoder.read_image()? {
+        DecodingResult::U8(samples) => Ok(samples),
+        _ => Err(TiffUnsupportedError::UnsupportedDataType.into()),
+    }
+}
+
+fn execute<'a, F: Files>(
+    alloc: Global,
+    command: Command<'a>,
+    files: &mut F,
+) -> Result<(), Failure<'a>> {
+    match command {
+        Command::Gray {
+            output,
+            width,
+            height,
+            input,
+        } => {
+            let samples = read(files, input)?;
+            let file = gray_file(alloc, width, height, samples.as_slice())?;
+            write(files, output, file.as_slice())
+        }
+        Command::Raw {
+            input,
+            page,
+            output,
+        } => {
+            let file = read(files, input)?;
+            let samples = page_samples(alloc, file, page)?;
+            write(files, output, samples.as_slice())
+        }
+    }
+}
+
+const USAGE: &str = "usage: tiffpage gray|raw|tags ..";
+
+/// Does what the words ask for, and answers the status: 0; 1 for a fault, with a line `error: ..` on `err`, and where a
+/// write to `out` or `err` fails; 2 for a wrong command line, with the usage on `err`. No words give the usage on `out`.
+/// Faults are found in this order: the command line, reading the input, the decoder's or the encoder's, writing the
+/// output.
+pub fn run<F: Files, O: Write, E: Write>(
+    alloc: Global,
+    words: &[String],
+    files: &mut F,
+    out: &mut O,
+    err: &mut E,
+) -> u8
+    ensures { result ≤ 2 }
+{
+    if words.is_empty() {
+        return if writeln!(out, "{USAGE}").is_ok() {
+            0
+        } else {
+            1
+        };
+    }
+    let Some(command) = parse(words) else {
+        return if writeln!(err, "{USAGE}").is_ok() {
+            2
+        } else {
+            1
+        };
+    };
+    match execute(alloc, command, files) {
+        Ok(()) => 0,
+        Err(failure) => {
+            let _ = writeln!(err, "error: {failure}");
+            1
+        }
+    }
+}

@@ -1,0 +1,208 @@
+//! The program over files in memory.
+
+use crate::files::Files;
+use crate::program::run;
+use std::alloc::Global;
+use std::test::Fail;
+use tiff::io::IoKind;
+use tiff::{TiffError, TiffResult};
+
+// A file in memory.
+#[derive(Drop)]
+struct File {
+    name: String,
+    bytes: Vec<u8>,
+}
+
+// Files in memory. One name can't be written.
+#[derive(Drop)]
+struct MemoryFiles {
+    alloc: Global,
+    files: Vec<File>,
+}
+
+const UNWRITABLE: &str = "FULL";
+
+impl MemoryFiles {
+    fn with(alloc: Global, name: &str, bytes: &[u8]) -> TiffResult<Self> {
+        let mut files = MemoryFiles {
+            alloc,
+            files: Vec::new(alloc),
+        };
+        files.write(name, bytes)?;
+        Ok(files)
+    }
+}
+
+impl Files for MemoryFiles {
+    fn read(&mut self, name: &str) -> TiffResult<Vec<u8>> {
+        for file in self.files.iter() {
+            if file.name.as_str() == name {
+                return Ok(Vec::from_slice(self.alloc, file.bytes.as_slice())?);
+            }
+        }
+        Err(TiffError::IoError(IoKind::Device))
+    }
+
+    fn write(&mut self, name: &str, bytes: &[u8]) -> TiffResult<()> {
+        if name == UNWRITABLE {
+            return Err(TiffError::IoError(IoKind::Device));
+        }
+        let name = String::from_str(self.alloc, name)?;
+        let bytes = Vec::from_slice(self.alloc, bytes)?;
+        self.files.insert(0, File { name, bytes })?;
+        Ok(())
+    }
+}
+
+// What a run answers: its status, and what it writes.
+#[derive(Drop)]
+struct Run {
+    status: u8,
+    out: Vec<u8>,
+    err: Vec<u8>,
+}
+
+fn run_words(alloc: Global, files: &mut MemoryFiles, words: &[&str]) -> TiffResult<Run> {
+    let mut all = Vec::new(alloc);
+    for word in words {
+        all.push(String::from_str(alloc, word)?)?;
+    }
+    let mut out = Vec::new(alloc);
+    let mut err = Vec::new(alloc);
+    let status = run(alloc, all.as_slice(), files, &mut out, &mut err);
+    Ok(Run { status, out, err })
+}
+
+const USAGE: &[u8] = b"usage: tiffpage gray|raw|tags ..\n";
+
+/// The file of one gray sample 7, byte by byte.
+const ONE: [u8; 199] = [
+    0x49, 0x49, 0x2a, 0x00, 0x19, 0x00, 0x00, 0x00, // header
+    0x01, 0x00, 0x00, 0x00, 0x01, 0x00, 0x00, 0x00, // resolutions
+    0x01, 0x00, 0x00, 0x00, 0x01, 0x00, 0x00, 0x00, //
+    0x07, // strip
+    0x0e, 0x00, // directory
+    0x00, 0x01, 0x04, 0x00, 0x01, 0x00, 0x00, 0x00, 0x01, 0x00, 0x00, 0x00, //
+    0x01, 0x01, 0x04, 0x00, 0x01, 0x00, 0x00, 0x00, 0x01, 0x00, 0x00, 0x00, //
+    0x02, 0x01, 0x03, 0x00, 0x01, 0x00, 0x00, 0x00, 0x08, 0x00, 0x00, 0x00, //
+    0x03, 0x01, 0x03, 0x00, 0x01, 0x00, 0x00, 0x00, 0x01, 0x00, 0x00, 0x00, //
+    0x06, 0x01, 0x03, 0x00, 0x01, 0x00, 0x00, 0x00, 0x01, 0x00, 0x00, 0x00, //
+    0x11, 0x01, 0x04, 0x00, 0x01, 0x00, 0x00, 0x00, 0x18, 0x00, 0x00, 0x00, //
+    0x15, 0x01, 0x03, 0x00, 0x01, 0x00, 0x00, 0x00, 0x01, 0x00, 0x00, 0x00, //
+    0x16, 0x01, 0x04, 0x00, 0x01, 0x00, 0x00, 0x00, 0x40, 0x42, 0x0f, 0x00, //
+    0x17, 0x01, 0x04, 0x00, 0x01, 0x00, 0x00, 0x00, 0x01, 0x00, 0x00, 0x00, //
+    0x1a, 0x01, 0x05, 0x00, 0x01, 0x00, 0x00, 0x00, 0x08, 0x00, 0x00, 0x00, //
+    0x1b, 0x01, 0x05, 0x00, 0x01, 0x00, 0x00, 0x00, 0x10, 0x00, 0x00, 0x00, //
+    0x28, 0x01, 0x03, 0x00, 0x01, 0x00, 0x00, 0x00, 0x01, 0x00, 0x00, 0x00, //
+    0x3d, 0x01, 0x03, 0x00, 0x01, 0x00, 0x00, 0x00, 0x01, 0x00, 0x00, 0x00, //
+    0x53, 0x01, 0x03, 0x00, 0x01, 0x00, 0x00, 0x00, 0x01, 0x00, 0x00, 0x00, //
+    0x00, 0x00, 0x00, 0x00, // link
+];
+
+#[test]
+fn a_byte_to_a_page_and_back(rt: HostRuntime) -> Result<(), Fail> {
+    let mut files = MemoryFiles::with(rt.alloc(), "IN", &[7])?;
+    let gray = run_words(rt.alloc(), &mut files, &["gray", "OUT", "1", "1", "IN"])?;
+    assert_eq!(rt; gray.status, 0);
+    assert_eq!(rt; gray.out.len() + gray.err.len(), 0);
+    assert_eq!(rt; files.read("OUT")?.as_slice(), ONE.as_slice());
+    let raw = run_words(rt.alloc(), &mut files, &["raw", "OUT", "0", "BACK"])?;
+    assert_eq!(rt; raw.status, 0);
+    assert_eq!(rt; files.read("BACK")?.as_slice(), [7].as_slice());
+    Ok(())
+}
+
+// A command line, its status and its line on the error stream; IN has three bytes, ONE the file of one sample.
+const FAULTS: [(&[&str], u8, &[u8]); 17] = [
+    (
+        &["gray", "OUT", "0", "5", "IN"],
+        1,
+        b"error: format error: invalid dimensions: 0x5\n",
+    ),
+    (
+        &["gray", "OUT", "2", "2", "IN"],
+        1,
+        b"error: invalid data\n",
+    ),
+    (
+        &["gray", "OUT", "1", "1000001", "IN"],
+        1,
+        b"error: invalid data\n",
+    ),
+    (
+        &["gray", "OUT", "1", "1", "NONE"],
+        1,
+        b"error: cannot read NONE\n",
+    ),
+    (
+        &["gray", "OUT", "0", "5", "NONE"],
+        1,
+        b"error: cannot read NONE\n",
+    ),
+    (
+        &["gray", "FULL", "1", "1", "IN"],
+        1,
+        b"error: cannot write FULL\n",
+    ),
+    (
+        &["gray", "FULL", "0", "5", "IN"],
+        1,
+        b"error: format error: invalid dimensions: 0x5\n",
+    ),
+    (
+        &["raw", "ONE", "1", "OUT"],
+        1,
+        b"error: format error: image file directory not found\n",
+    ),
+    (
+        &["raw", "IN", "0", "OUT"],
+        1,
+        b"error: format error: TIFF signature not found\n",
+    ),
+    (
+        &["raw", "IN", "1", "OUT"],
+        1,
+        b"error: format error: TIFF signature not found\n",
+    ),
+    (
+        &["raw", "CUT", "0", "OUT"],
+        1,
+        b"error: unexpected end of file\n",
+    ),
+    (
+        &["raw", "ONE", "0", "FULL"],
+        1,
+        b"error: cannot write FULL\n",
+    ),
+    (&["gray", "OUT", "1", "1"], 2, USAGE),
+    (&["gray", "OUT", "1", "-1", "IN"], 2, USAGE),
+    (&["gray", "OUT", "1", "4294967296", "NONE"], 2, USAGE),
+    (&["raw", "NONE", "x", "OUT"], 2, USAGE),
+    (&["tags", "ONE", "0"], 2, USAGE),
+];
+
+#[test]
+fn faults_are_told_in_their_order(rt: HostRuntime) -> Result<(), Fail> {
+    let mut files = MemoryFiles::with(rt.alloc(), "IN", &[1, 2, 3])?;
+    files.write("ONE", ONE.as_slice())?;
+    files.write("CUT", &ONE.as_slice()[..198])?;
+    for (words, status, line) in FAULTS {
+        let run = run_words(rt.alloc(), &mut files, words)?;
+        assert_eq!(rt; run.status, status, "{line:?}");
+        assert_eq!(rt; run.out.len(), 0);
+        assert_eq!(rt; run.err.as_slice(), line);
+        assert!(rt; files.read("OUT").is_err());
+    }
+    Ok(())
+}
+
+#[test]
+fn no_words_give_the_usage(rt: HostRuntime) -> Result<(), Fail> {
+    let mut files = MemoryFiles::with(rt.alloc(), "IN", &[7])?;
+    let run = run_words(rt.alloc(), &mut files, &[])?;
+    assert_eq!(rt; run.status, 0);
+    assert_eq!(rt; run.out.as_slice(), USAGE);
+    assert_eq!(rt; run.err.len(), 0);
+    Ok(())
+}
