@@ -169,3 +169,11 @@ pub record LeavesPage (m : Model) (old : List ℕ) (link width height : ℕ) (sa
   pub stands : Stands Classic new (page_model m (length old) link width height samples)
   pub next : IsLink Classic (page_model m (length old) link width height samples) chain
   pub shows : Shows Classic new (directory_place (length old) width height) (gray_image width height samples)
+
+-- A page of one gray strip that was appended to a file of this length shows its samples.
+abbrev pub ShowsPage : ℕ → List ℕ → ℕ → ℕ → List ℕ → Type 0
+ShowsPage n file width height samples = Shows Classic file (directory_place n width height) (gray_image width height samples)
+
+-- A file of one gray page alone, behind its header, which shows the samples.
+abbrev pub ShowsOnePage : List ℕ → ℕ → ℕ → List ℕ → Type 0
+ShowsOnePage file width height samples = ShowsPage 8 file width height samples

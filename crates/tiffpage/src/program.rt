@@ -1,6 +1,7 @@
 //! What the program does.
 
-ghost use Rattle.std.specs.Prelude.{◌≤◌};
+ghost use Rattle.std.specs.Prelude.{◌≤◌, IfOk};
+ghost use Rattle.tiff.specs.Shows.{ShowsOnePage};
 
 use crate::command::{Command, parse};
 use crate::files::Files;
@@ -53,8 +54,10 @@ fn write<'a, F: Files>(files: &mut F, name: &'a str, bytes: &[u8]) -> Result<(),
     }
 }
 
-// A file of one gray page.
-fn gray_file(alloc: Global, width: u32, height: u32, samples: &[u8]) -> TiffResult<Vec<u8>> {
+// A file of one gray page, which shows the samples.
+fn gray_file(alloc: Global, width: u32, height: u32, samples: &[u8]) -> TiffResult<Vec<u8>>
+    ensures { IfOk result (λ file. ShowsOnePage file.items width height samples.now) }
+{
     let mut encoder = TiffEncoder::new(alloc, MemorySink::new(Vec::new(alloc)))?;
     encoder.write_image::<Gray8>(width, height, samples)?;
     Ok(encoder.into_inner().into_vec())

@@ -1,0 +1,10 @@
+pub use Rattle.tiff_base.specs.Answers
+pub use Rattle.tiff_base.specs.Memory
+pub use Rattle.tiff_page.specs.Image
+pub use Rattle.tiff_decode.specs.Opened
+pub use Rattle.tiff_decode.specs.State
+pub use Rattle.tiff_decode.specs.Result
+pub use Rattle.tiff_encode.specs.Written
+pub use Rattle.tiff_encode.specs.Model
+pub use Rattle.tiff_encode.specs.Shows
+pub use Rattle.tiff_encode.specs.Encoder
