@@ -1,13 +1,8 @@
-// A library with one function.
+//! Sources and sinks that answer in pieces or fail, and tests that cross the crates.
 #![tactic(auto)]
 
-ghost use Rattle.std.specs.Prelude.{◌≡◌};
-ghost use Rattle.tiff_vectors.specs.Echo.{echo_of};
-
-// The `ensures` clause is the contract: what `echo` returns is `echo_of` of its argument, a definition
-// in `specs/Echo.antt`, which a caller's clause can cite too.
-pub fn echo(x: usize) -> usize
-    ensures { result ≡ echo_of x }
-{
-    x
-}
+pub mod doubles;
+#[cfg(test)]
+mod reading;
+#[cfg(test)]
+mod writing;

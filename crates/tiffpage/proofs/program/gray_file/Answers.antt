@@ -1,4 +1,4 @@
-use Rattle.std.proofs.Common.{◌≡◌, ℕ, List, ◌++◌, length, ap, sym, subst, refl, ◌∙◌}
+use Rattle.std.proofs.Common.{◌≡◌, ℕ, List, length, ap, sym, subst, refl, ◌∙◌}
 use Rattle.tiff.specs.Shows.{ShowsPage}
 use Rattle.tiffpage.proofs.program.gray_file.Goals as goal
 
@@ -9,6 +9,6 @@ returns c =
     let page = c.in_ok-write_image.ensures.leaves _ header.stands header.link in
     let file = c.into_vec.ensures ∙ c.into_inner.ensures.bytes in
     let long : length c.in_ok-encoder.encoder.bytes ≡ 8 =
-        ap (λ e. length e.bytes) c.in_ok-encoder.ensures.answer ∙ rw empty refl in
+    ap (λ e. length e.bytes) c.in_ok-encoder.ensures.answer ∙ rw empty refl in
     subst (λ (n : ℕ). ShowsPage n c.into_vec.result.items c.args.width c.args.height c.args.samples.now) long
-      (subst (λ (l : List ℕ). ShowsPage (length c.in_ok-encoder.encoder.bytes) l c.args.width c.args.height c.args.samples.now) (sym file) page.shows)
+    (subst (λ (l : List ℕ). ShowsPage (length c.in_ok-encoder.encoder.bytes) l c.args.width c.args.height c.args.samples.now) (sym file) page.shows)

@@ -1,0 +1,146 @@
+//! Sources and sinks that answer a byte at a time, and that fail.
+
+ghost use Rattle.std.specs.Prelude.{◌≡◌, ◌+◌};
+
+use std::marker::Model;
+use std::snapshot::Snapshot;
+use tiff_base::io::{DeviceFault, MemorySink, MemorySource, Sink, SinkFault, Source};
+
+// What a count remembers: itself, before it was last added to.
+#[derive(Drop)]
+struct Steps {
+    last: Option<Snapshot<Steps>>,
+}
+
+// A whole number that only contracts see.
+#[derive(Drop)]
+struct Failures {
+    steps: Steps,
+}
+
+impl Model for Failures {
+    ghost use Rattle.std.specs.Prelude.{ℕ};
+
+    ghost Value = { ℕ };
+
+    ghost use Rattle.tiff_vectors.specs.Depth.{depth};
+
+    ghost view = { λ c. depth c.steps };
+}
+
+impl Failures {
+    fn none() -> Failures
+        ensures { result ≡ 0 }
+    {
+        Failures {
+            steps: Steps { last: None },
+        }
+    }
+
+    fn add(&mut self)
+        ensures { self.new ≡ self.old + 1 }
+    {
+        let last = Snapshot::of(&self.steps);
+        self.steps = Steps { last: Some(last) };
+    }
+}
+
+/// A source in memory that gives one byte at a time, and fails from its `left`th read on.
+#[derive(Drop)]
+pub struct FailingSource {
+    inner: MemorySource,
+    left: u64,
+    failed: Failures,
+}
+
+impl FailingSource {
+    /// The bytes of a source; so many reads are answered.
+    pub fn new(inner: MemorySource, left: u64) -> Self {
+        FailingSource {
+            inner,
+            left,
+            failed: Failures::none(),
+        }
+    }
+}
+
+impl Source for FailingSource {
+    ghost bytes = { λ s. ⟦<MemorySource as Source>⟧.bytes s.inner };
+
+    ghost failures = { λ s. s.failed };
+
+    ghost places = { λ s. s.inner.places };
+
+    ghost octets = { λ s. s.inner.octets };
+
+    fn read_at(&mut self, at: u64, buf: &mut [u8]) -> Result<usize, DeviceFault> {
+        if self.left == 0 {
+            self.failed.add();
+            return Err(DeviceFault);
+        }
+        self.left -= 1;
+        let n = buf.len().min(1);
+        self.inner.read_at(at, &mut buf[..n])
+    }
+}
+
+/// A sink in memory that takes one byte at a time, and fails from its `left`th write on.
+#[derive(Drop)]
+pub struct FailingSink {
+    inner: MemorySink,
+    left: u64,
+    failed: Failures,
+}
+
+impl FailingSink {
+    /// The bytes of a sink; so many writes are taken.
+    pub fn new(inner: MemorySink, left: u64) -> Self {
+        FailingSink {
+            inner,
+            left,
+            failed: Failures::none(),
+        }
+    }
+
+    /// The bytes.
+    pub fn into_vec(self) -> Vec<u8> {
+        let FailingSink {
+            inner,
+            left: _,
+            failed: _,
+        } = self;
+        inner.into_vec()
+    }
+}
+
+impl Sink for FailingSink {
+    ghost use Rattle.std.proofs.Common.{arith};
+
+    ghost told = { λ s. ⟦<MemorySink as Sink>⟧.told s.inner };
+
+    ghost failures = { λ s. ⟦<MemorySink as Sink>⟧.failures s.inner + s.failed };
+
+    ghost short = { λ s. Prim.omega (arith, s.inner.items.ok, s.inner.items.small) };
+
+    fn len(&self) -> u64 {
+        self.inner.len()
+    }
+
+    fn append(&mut self, bytes: &[u8]) -> Result<usize, SinkFault> {
+        if self.left == 0 {
+            self.failed.add();
+            return Err(SinkFault::Device);
+        }
+        self.left -= 1;
+        self.inner.append(&bytes[..bytes.len().min(1)])
+    }
+
+    fn overwrite(&mut self, at: u64, bytes: &[u8]) -> Result<usize, SinkFault> {
+        if self.left == 0 {
+            self.failed.add();
+            return Err(SinkFault::Device);
+        }
+        self.left -= 1;
+        self.inner.overwrite(at, &bytes[..bytes.len().min(1)])
+    }
+}

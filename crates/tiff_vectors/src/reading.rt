@@ -1,0 +1,162 @@
+//! Files that are read.
+
+use crate::doubles::FailingSource;
+use std::alloc::Global;
+use std::test::Fail;
+use tiff_base::color::ColorType;
+use tiff_base::error::{TiffError, TiffResult};
+use tiff_base::io::{IoKind, MemorySource};
+use tiff_base::tags::ByteOrder;
+use tiff_decode::decoder::{Decoder, DecodingResult};
+
+/// A page of 3 by 2 samples, laid out by another program.
+const PAGE: [u8; 204] = [
+    73, 73, 42, 0, 30, 0, 0, 0, 1, 0, 0, 0, 1, 0, 0, 0, 1, 0, 0, 0, 1, 0, 0, 0, 1, 2, 3, 4, 5, 6,
+    14, 0, 0, 1, 4, 0, 1, 0, 0, 0, 3, 0, 0, 0, 1, 1, 4, 0, 1, 0, 0, 0, 2, 0, 0, 0, 2, 1, 3, 0, 1,
+    0, 0, 0, 8, 0, 0, 0, 3, 1, 3, 0, 1, 0, 0, 0, 1, 0, 0, 0, 6, 1, 3, 0, 1, 0, 0, 0, 1, 0, 0, 0,
+    17, 1, 4, 0, 1, 0, 0, 0, 24, 0, 0, 0, 21, 1, 3, 0, 1, 0, 0, 0, 1, 0, 0, 0, 22, 1, 4, 0, 1, 0,
+    0, 0, 22, 22, 5, 0, 23, 1, 4, 0, 1, 0, 0, 0, 6, 0, 0, 0, 26, 1, 5, 0, 1, 0, 0, 0, 8, 0, 0, 0,
+    27, 1, 5, 0, 1, 0, 0, 0, 16, 0, 0, 0, 40, 1, 3, 0, 1, 0, 0, 0, 1, 0, 0, 0, 61, 1, 3, 0, 1, 0,
+    0, 0, 1, 0, 0, 0, 83, 1, 3, 0, 1, 0, 0, 0, 1, 0, 0, 0, 0, 0, 0, 0,
+];
+
+fn source(alloc: Global, bytes: &[u8]) -> TiffResult<MemorySource> {
+    Ok(MemorySource::new(Vec::from_slice(alloc, bytes)?))
+}
+
+// The text of the fault that opening a file, or reading its image, answers; `read` where there is none.
+fn text(alloc: Global, bytes: &[u8]) -> TiffResult<String> {
+    let fault = match Decoder::new(alloc, source(alloc, bytes)?) {
+        Ok(mut decoder) => match decoder.read_image() {
+            Ok(_) => return Ok(String::from_str(alloc, "read")?),
+            Err(fault) => fault,
+        },
+        Err(fault) => fault,
+    };
+    Ok(format!(in alloc; "{fault}")?)
+}
+
+#[test]
+fn a_page_is_read(rt: HostRuntime) -> Result<(), Fail> {
+    let mut decoder = Decoder::new(rt.alloc(), source(rt.alloc(), &PAGE)?)?;
+    assert_eq!(rt; decoder.dimensions()?, (3, 2));
+    assert_eq!(rt; decoder.colortype()?, ColorType::Gray(8));
+    assert_eq!(rt; decoder.byte_order(), ByteOrder::LittleEndian);
+    match decoder.read_image()? {
+        DecodingResult::U8(samples) => {
+            assert_eq!(rt; samples.as_slice(), [1, 2, 3, 4, 5, 6].as_slice());
+        }
+        _ => assert!(rt; false),
+    }
+    Ok(())
+}
+
+const HEADERS: [(&[u8], &str); 8] = [
+    (&[0x58, 0x58], "format error: TIFF signature not found"),
+    (&[], "format error: TIFF signature not found"),
+    (&[0x49, 0x49], "unexpected end of file"),
+    (
+        &[0x49, 0x49, 0x2c, 0],
+        "format error: TIFF signature invalid",
+    ),
+    (
+        &[0x49, 0x49, 0x2b, 0, 4, 0],
+        "format error: TIFF signature not found",
+    ),
+    (
+        &[0x49, 0x49, 0x2a, 0, 0, 0, 0, 0],
+        "format error: image file directory not found",
+    ),
+    (
+        &[0x4d, 0x4d, 0, 0x2a, 0, 0, 0, 8],
+        "unsupported error: unsupported data type",
+    ),
+    (
+        &[0x49, 0x49, 0x2b, 0, 8, 0, 0, 0, 16, 0, 0, 0, 0, 0, 0, 0],
+        "unsupported error: unsupported data type",
+    ),
+];
+
+#[test]
+fn headers_are_refused_by_their_first_fault(rt: HostRuntime) -> Result<(), Fail> {
+    for (bytes, fault) in HEADERS {
+        assert_eq!(rt; text(rt.alloc(), bytes)?.as_str(), fault, "{bytes:?}");
+    }
+    Ok(())
+}
+
+// A byte of the page, what it is set to, and what is answered then.
+const CHANGES: [(usize, u8, &str); 14] = [
+    (40, 0, "format error: invalid dimensions: 0x2"),
+    (52, 0, "format error: invalid dimensions: 3x0"),
+    (
+        64,
+        0,
+        "unsupported error: inconsistent bits per sample: [0]",
+    ),
+    (64, 12, "unsupported error: unsupported data type"),
+    (76, 5, "unsupported error: unsupported data type"),
+    (
+        88,
+        7,
+        "unsupported error: unknown photometric interpretation",
+    ),
+    (88, 2, "unsupported error: unsupported data type"),
+    (112, 0, "format error: samples per pixel is zero"),
+    (
+        128,
+        69,
+        "format error: file should contain either (StripByteCounts and StripOffsets) or (TileByteCounts and TileOffsets), other combination was found",
+    ),
+    (136, 0, "read"),
+    (100, 199, "unexpected end of file"),
+    (184, 4, "format error: unknown predictor “4” encountered"),
+    (196, 3, "unsupported error: unsupported data type"),
+    (200, 8, "unsupported error: unsupported data type"),
+];
+
+#[test]
+fn a_changed_byte_is_told(rt: HostRuntime) -> Result<(), Fail> {
+    for (at, value, answer) in CHANGES {
+        let mut bytes = PAGE;
+        assert!(rt; at < bytes.len());
+        bytes[at] = value;
+        assert_eq!(rt; text(rt.alloc(), &bytes)?.as_str(), answer, "byte {at}");
+    }
+    Ok(())
+}
+
+#[test]
+fn every_cut_is_told(rt: HostRuntime) -> Result<(), Fail> {
+    for len in 8..PAGE.len() {
+        assert_eq!(rt;
+            text(rt.alloc(), &PAGE[..len])?.as_str(),
+            "unexpected end of file",
+            "{len}"
+        );
+    }
+    Ok(())
+}
+
+// Whether a decoder of a source that fails after so many reads has read the page by then.
+fn is_read(rt: &impl std::process::Abort, alloc: Global, left: u64) -> TiffResult<bool> {
+    let source = FailingSource::new(source(alloc, &PAGE)?, left);
+    let fault = match Decoder::new(alloc, source) {
+        Ok(mut decoder) => match decoder.read_image() {
+            Ok(_) => return Ok(true),
+            Err(fault) => fault,
+        },
+        Err(fault) => fault,
+    };
+    assert!(rt; matches!(fault, TiffError::IoError(IoKind::Device)));
+    Ok(false)
+}
+
+#[test]
+fn each_failing_read_is_told(rt: HostRuntime) -> Result<(), Fail> {
+    for left in 0..189 {
+        assert!(rt; !is_read(&rt, rt.alloc(), left)?, "{left}");
+    }
+    assert!(rt; is_read(&rt, rt.alloc(), 189)?);
+    Ok(())
+}
