@@ -1,0 +1,13 @@
+pub mod Maps
+pub mod Numbers
+pub mod Headers
+pub mod Enums
+pub mod Packed
+pub mod Directories
+pub mod Fields
+pub mod Values
+pub mod Conversions
+pub mod Pages
+pub mod Shown
+pub mod Openings
+pub mod Written

@@ -1,0 +1,227 @@
+-- The worked examples of Shown compute.
+use Rattle.std.specs.Prelude.{refl}
+use Rattle.tiff_base.specs.Tags as tags
+use Rattle.tiff_ifd.specs.Look as look
+use Rattle.tiff_ifd.specs.Look.{require}
+use Rattle.tiff_page.specs.Checks.{page_of, size_of, interpretation_of, method_of, samples_of, extra_of, format_of, depth_of, predictor_of, planar_of, subsampling_of, chunk_type_of, strips_of, counted}
+use Rattle.tiff_page.specs.Rect.{rect}
+use Rattle.tiff_page.specs.Layout.{colour_of, sample_type_of, layout_of, row_bits}
+use Rattle.tiff_base.specs.Runs.{runs_after}
+use Rattle.tiff_base.specs.Number.{number}
+use Rattle.tiff_page.specs.Pixels.{shown_sample, byte_at, image_bytes, numbers_in}
+use Rattle.tiff_page.specs.PixelFault.{depth_fault, predictor_fault, white_fault, form_fault}
+use Rattle.tiff_page.specs.Image.{image_of, is_gray_strip, covered_page_of}
+use Rattle.tiff_examples.specs.Shown as s
+
+pub pixel_shown : s.pixel_shown
+unfolding shown_sample number
+pixel_shown = refl
+
+pub pixel_inverted : s.pixel_inverted
+unfolding shown_sample number
+pixel_inverted = refl
+
+pub rgb_bytes : s.rgb_bytes
+unfolding image_bytes row_bits byte_at shown_sample number
+rgb_bytes = refl
+
+pub rgb_sample : s.rgb_sample
+unfolding shown_sample number
+rgb_sample = refl
+
+pub rgb_horizontal : s.rgb_horizontal
+unfolding image_bytes row_bits byte_at shown_sample number
+rgb_horizontal = refl
+
+pub rgb_dropped : s.rgb_dropped
+unfolding image_bytes row_bits byte_at shown_sample number
+rgb_dropped = refl
+
+pub byte_planes : s.byte_planes
+unfolding image_bytes row_bits byte_at shown_sample number
+byte_planes = refl
+
+pub big_endian_bytes : s.big_endian_bytes
+unfolding image_bytes row_bits byte_at shown_sample number
+big_endian_bytes = refl
+
+pub big_endian_horizontal : s.big_endian_horizontal
+unfolding image_bytes row_bits byte_at shown_sample number
+big_endian_horizontal = refl
+
+pub inverted_4_bits : s.inverted_4_bits
+unfolding image_bytes row_bits byte_at
+inverted_4_bits = refl
+
+pub tiles_4_bits : s.tiles_4_bits
+unfolding image_bytes row_bits byte_at
+tiles_4_bits = refl
+
+pub packed_bytes : s.packed_bytes
+unfolding image_bytes row_bits byte_at shown_sample number runs_after
+packed_bytes = refl
+
+pub tiled_bytes : s.tiled_bytes
+unfolding image_bytes row_bits byte_at shown_sample number
+tiled_bytes = refl
+
+pub second_row : s.second_row
+unfolding byte_at row_bits shown_sample number
+second_row = refl
+
+pub in_gap : s.in_gap
+unfolding byte_at row_bits
+in_gap = refl
+
+pub past_plane : s.past_plane
+unfolding byte_at
+past_plane = refl
+
+pub corner : s.corner
+unfolding byte_at rect row_bits shown_sample number
+corner = refl
+
+pub corner_gap : s.corner_gap
+unfolding byte_at rect row_bits
+corner_gap = refl
+
+pub first_plane : s.first_plane
+unfolding image_bytes row_bits byte_at shown_sample number
+first_plane = refl
+
+pub third_plane : s.third_plane
+unfolding byte_at row_bits shown_sample number
+third_plane = refl
+
+pub two_numbers : s.two_numbers
+unfolding numbers_in number
+two_numbers = refl
+
+pub filled_up : s.filled_up
+unfolding numbers_in number
+filled_up = refl
+
+pub no_numbers : s.no_numbers
+unfolding numbers_in
+no_numbers = refl
+
+pub pixel_read : s.pixel_read
+unfolding image_of layout_of colour_of row_bits sample_type_of form_fault depth_fault predictor_fault
+    white_fault rect numbers_in image_bytes number byte_at shown_sample
+pixel_read = refl
+
+pub no_samples : s.no_samples
+unfolding image_of layout_of colour_of row_bits sample_type_of
+no_samples = refl
+
+pub no_chunk_bytes : s.no_chunk_bytes
+unfolding image_of layout_of colour_of row_bits sample_type_of form_fault depth_fault predictor_fault
+no_chunk_bytes = refl
+
+pub count_0 : s.count_0
+unfolding image_of layout_of colour_of row_bits sample_type_of form_fault depth_fault predictor_fault
+    white_fault rect numbers_in image_bytes number byte_at shown_sample
+count_0 = refl
+
+pub pixel_cut : s.pixel_cut
+unfolding image_of layout_of colour_of row_bits sample_type_of form_fault depth_fault predictor_fault
+    white_fault rect
+pixel_cut = refl
+
+pub just_enough : s.just_enough
+unfolding image_of layout_of colour_of row_bits sample_type_of form_fault depth_fault predictor_fault
+    white_fault rect numbers_in image_bytes number byte_at shown_sample
+just_enough = refl
+
+pub one_missing : s.one_missing
+unfolding image_of layout_of colour_of row_bits sample_type_of form_fault depth_fault predictor_fault
+    white_fault rect
+one_missing = refl
+
+pub tile_padding : s.tile_padding
+unfolding image_of layout_of colour_of row_bits sample_type_of form_fault depth_fault predictor_fault
+    white_fault rect numbers_in image_bytes number byte_at shown_sample
+tile_padding = refl
+
+pub tile_pixel : s.tile_pixel
+unfolding image_of layout_of colour_of row_bits sample_type_of form_fault depth_fault predictor_fault
+    white_fault rect
+tile_pixel = refl
+
+pub packed_cut : s.packed_cut
+unfolding image_of layout_of colour_of row_bits sample_type_of form_fault depth_fault predictor_fault
+    white_fault runs_after rect
+packed_cut = refl
+
+pub wide_read : s.wide_read
+unfolding image_of layout_of colour_of row_bits sample_type_of form_fault depth_fault predictor_fault
+    white_fault rect numbers_in image_bytes number byte_at shown_sample
+wide_read = refl
+
+pub wide_limit : s.wide_limit
+unfolding image_of layout_of colour_of row_bits sample_type_of
+wide_limit = refl
+
+pub type_first : s.type_first
+unfolding image_of layout_of colour_of row_bits sample_type_of
+type_first = refl
+
+pub limit_first : s.limit_first
+unfolding image_of layout_of colour_of row_bits sample_type_of
+limit_first = refl
+
+pub lzw : s.lzw
+unfolding image_of layout_of colour_of row_bits sample_type_of form_fault depth_fault predictor_fault
+lzw = refl
+
+pub past_list : s.past_list
+unfolding form_fault
+past_list = refl
+
+pub no_fault : s.no_fault
+unfolding form_fault depth_fault predictor_fault white_fault
+no_fault = refl
+
+pub depth_12 : s.depth_12
+unfolding form_fault depth_fault
+depth_12 = refl
+
+pub rgb_4 : s.rgb_4
+unfolding form_fault depth_fault
+rgb_4 = refl
+
+pub horizontal_4 : s.horizontal_4
+unfolding form_fault depth_fault
+horizontal_4 = refl
+
+pub planes_of_uint : s.planes_of_uint
+unfolding form_fault depth_fault predictor_fault
+planes_of_uint = refl
+
+pub planes_of_byte : s.planes_of_byte
+unfolding form_fault depth_fault predictor_fault
+planes_of_byte = refl
+
+pub white_float : s.white_float
+unfolding form_fault depth_fault predictor_fault white_fault
+white_float = refl
+
+pub white_3_bits : s.white_3_bits
+unfolding form_fault depth_fault predictor_fault white_fault
+white_3_bits = refl
+
+pub covered : s.covered
+unfolding covered_page_of is_gray_strip page_of size_of require look.find interpretation_of
+    tags.interpretation_of method_of tags.method_of samples_of extra_of format_of depth_of predictor_of
+    planar_of subsampling_of chunk_type_of strips_of counted
+covered = refl
+
+pub not_covered : s.not_covered
+unfolding covered_page_of is_gray_strip page_of size_of require look.find interpretation_of
+    tags.interpretation_of method_of tags.method_of samples_of extra_of format_of depth_of predictor_of
+    planar_of subsampling_of chunk_type_of strips_of counted
+not_covered = refl
+
+pub fault_first : s.fault_first
+unfolding covered_page_of page_of size_of require look.find
+fault_first = refl

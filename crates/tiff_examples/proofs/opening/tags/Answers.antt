@@ -1,0 +1,6 @@
+-- Each example is proved in proofs/Openings.antt.
+use Rattle.tiff_examples.proofs.Openings as p
+use Rattle.tiff_examples.proofs.opening.tags.Goals as goal
+
+pub returns : goal.returns
+returns c = (p.no_tags, p.gray_opens, p.width_0, p.lzw, p.count_0)

@@ -1,0 +1,18 @@
+-- Each example is proved in proofs/Shown.antt.
+use Rattle.tiff_examples.proofs.Shown as p
+use Rattle.tiff_examples.proofs.pixels.buffers.Goals as goal
+
+pub returns : goal.returns
+returns c = (
+  p.tiled_bytes,
+  p.second_row,
+  p.in_gap,
+  p.past_plane,
+  p.corner,
+  p.corner_gap,
+  p.first_plane,
+  p.third_plane,
+  p.two_numbers,
+  p.filled_up,
+  p.no_numbers,
+)

@@ -1,0 +1,22 @@
+-- Each example is proved in proofs/Shown.antt.
+use Rattle.tiff_examples.proofs.Shown as p
+use Rattle.tiff_examples.proofs.pixels.images.Goals as goal
+
+pub returns : goal.returns
+returns c = (
+  p.pixel_read,
+  p.no_samples,
+  p.no_chunk_bytes,
+  p.count_0,
+  p.pixel_cut,
+  p.just_enough,
+  p.one_missing,
+  p.tile_padding,
+  p.tile_pixel,
+  p.packed_cut,
+  p.wide_read,
+  p.wide_limit,
+  p.type_first,
+  p.limit_first,
+  p.lzw,
+)

@@ -1,0 +1,19 @@
+-- Each example is proved in proofs/Shown.antt.
+use Rattle.tiff_examples.proofs.Shown as p
+use Rattle.tiff_examples.proofs.pixels.samples.Goals as goal
+
+pub returns : goal.returns
+returns c = (
+  p.pixel_shown,
+  p.pixel_inverted,
+  p.rgb_bytes,
+  p.rgb_sample,
+  p.rgb_horizontal,
+  p.rgb_dropped,
+  p.byte_planes,
+  p.big_endian_bytes,
+  p.big_endian_horizontal,
+  p.inverted_4_bits,
+  p.tiles_4_bits,
+  p.packed_bytes,
+)

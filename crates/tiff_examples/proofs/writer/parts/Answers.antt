@@ -1,0 +1,20 @@
+-- Each example is proved in proofs/Written.antt.
+use Rattle.tiff_examples.proofs.Written as p
+use Rattle.tiff_examples.proofs.writer.parts.Goals as goal
+
+pub returns : goal.returns
+returns c = (
+  p.classic_header,
+  p.big_header,
+  p.classic_entry,
+  p.big_entry,
+  p.padding_8,
+  p.padding_199,
+  p.padding_201,
+  p.rows_3,
+  p.rows_300,
+  p.rows_long,
+  p.first_places,
+  p.second_places,
+  p.head_199,
+)
