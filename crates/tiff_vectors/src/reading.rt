@@ -9,8 +9,8 @@ use tiff_base::io::{IoKind, MemorySource};
 use tiff_base::tags::ByteOrder;
 use tiff_decode::decoder::{Decoder, DecodingResult};
 
-/// A page of 3 by 2 samples, laid out by another program.
-const PAGE: [u8; 204] = [
+/// A page of 3 by 2 samples, laid out by hand.
+pub const PAGE: [u8; 204] = [
     73, 73, 42, 0, 30, 0, 0, 0, 1, 0, 0, 0, 1, 0, 0, 0, 1, 0, 0, 0, 1, 0, 0, 0, 1, 2, 3, 4, 5, 6,
     14, 0, 0, 1, 4, 0, 1, 0, 0, 0, 3, 0, 0, 0, 1, 1, 4, 0, 1, 0, 0, 0, 2, 0, 0, 0, 2, 1, 3, 0, 1,
     0, 0, 0, 8, 0, 0, 0, 3, 1, 3, 0, 1, 0, 0, 0, 1, 0, 0, 0, 6, 1, 3, 0, 1, 0, 0, 0, 1, 0, 0, 0,

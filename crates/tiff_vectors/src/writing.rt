@@ -1,6 +1,7 @@
 //! Files that are written.
 
 use crate::doubles::FailingSink;
+use crate::reading::PAGE;
 use std::alloc::Global;
 use std::test::Fail;
 use tiff_base::error::{TiffError, TiffFormatError, TiffUnsupportedError, UsageError};
@@ -12,6 +13,14 @@ use tiff_value::encoder::writer::TiffWriter;
 
 fn empty_sink(alloc: Global) -> MemorySink {
     MemorySink::new(Vec::new(alloc))
+}
+
+#[test]
+fn a_page_is_written(rt: HostRuntime) -> Result<(), Fail> {
+    let mut encoder = TiffEncoder::new(rt.alloc(), empty_sink(rt.alloc()))?;
+    encoder.write_image::<Gray8>(3, 2, &[1, 2, 3, 4, 5, 6])?;
+    assert_eq!(rt; encoder.into_inner().into_vec().as_slice(), PAGE.as_slice());
+    Ok(())
 }
 
 #[test]
