@@ -6,9 +6,7 @@ pub mod decoder;
 pub mod encoder;
 
 pub use tiff_base::color::ColorType;
-pub use tiff_base::error;
 pub use tiff_base::error::{
     TiffError, TiffFormatError, TiffResult, TiffUnsupportedError, UsageError,
 };
-pub use tiff_base::io;
-pub use tiff_base::tags;
+pub use tiff_base::{error, io, tags};
