@@ -7,3 +7,4 @@ pub mod Into
 pub mod Look
 pub mod StandIn
 pub mod Limits
+pub mod Chain
