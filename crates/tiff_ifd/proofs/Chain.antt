@@ -1,5 +1,5 @@
 -- There is one chain from each place of each file, it is the longest, and its places differ.
-use Rattle.std.proofs.Common.{◌≡◌, ℕ, zero, suc, ◌+◌, ◌-◌, ◌<◌, ◌≤◌, List, [], ◌∷◌, ◌++◌, length, Option, None, Some, Bool, true, false, cond, Result, Ok, Err, refl, ap, sym, ◌∙◌, subst, arith, nat_eq, ◌||◌, lit<}
+use Rattle.std.proofs.Common.{◌≡◌, ℕ, zero, suc, ◌+◌, ◌<◌, ◌≤◌, List, [], ◌∷◌, ◌++◌, length, Option, None, Some, Bool, true, false, cond, Result, Ok, Err, refl, ap, sym, ◌∙◌, subst, arith, nat_eq, ◌||◌, lit<}
 use Rattle.std.specs.Prelude.{nat_lt}
 use Rattle.std.specs.Int.{byte_len}
 use Rattle.std.specs.List.{list_any, IsDistinct, AllByRecursion}
@@ -18,7 +18,7 @@ use Rattle.tiff_base.specs.Number.{number_at}
 use Rattle.tiff_base.specs.Field.{DirectoryRecord}
 use Rattle.tiff_base.specs.Directory.{directory_at, count_width, place_width, link_place, first_entry, entries_from, last_of_each, link}
 use Rattle.tiff_ifd.proofs.Entries.{number_past}
-use Rattle.tiff_ifd.specs.Chain.{link_from, unless_met, entered, AreEntered, IsChain, Chain, onto, walk, chain, IsTheChain, IsOneChain, IsLongest, IsLongestChain, AreApart, IsChainApart}
+use Rattle.tiff_ifd.specs.Chain.{link_from, unless_met, entered, AreEntered, IsChain, Chain, onto, walk, chain, IsTheChain, IsOneChain, IsLongestChain, IsChainApart}
 
 abbrev Link : Type 0
 Link = Result (Option ℕ) TiffError

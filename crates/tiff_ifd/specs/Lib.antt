@@ -8,3 +8,5 @@ pub mod Look
 pub mod StandIn
 pub mod Limits
 pub mod Chain
+pub mod Fitted
+pub mod Ask

@@ -1,2 +1,4 @@
 pub mod ColorType
 pub mod Written
+pub mod Data
+pub mod Buffer
