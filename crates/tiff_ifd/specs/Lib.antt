@@ -8,5 +8,6 @@ pub mod Look
 pub mod StandIn
 pub mod Limits
 pub mod Chain
+pub mod Links
 pub mod Fitted
 pub mod Ask
