@@ -11,3 +11,5 @@ pub mod Pages
 pub mod Shown
 pub mod Openings
 pub mod Written
+pub mod Buffers
+pub mod Calls

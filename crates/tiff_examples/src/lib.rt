@@ -1,6 +1,8 @@
 //! Worked examples of the definitions that the contracts of the other crates cite.
 #![tactic(auto)]
 
+pub mod buffer;
+pub mod call;
 pub mod conversion;
 pub mod directory;
 pub mod field;

@@ -7,3 +7,5 @@ pub mod Layout
 pub mod PixelFault
 pub mod Pixels
 pub mod Image
+pub mod Buffers
+pub mod PixelCalls

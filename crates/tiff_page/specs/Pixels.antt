@@ -119,7 +119,7 @@ module _ (file : List ℕ) (order : ByteOrder) (p : PageRecord) where
       inverted p.interpretation (2 ^ p.depth)
       (stored_number (chunk_at (planar_or p.planar sample 0) x y) (y % p.chunk_height) (x % p.chunk_width) (planar_or p.planar 0 sample))
 
-  -- a part of the image that is read: a rectangle, its first plane, and the chunk where it is a chunk's
+  -- a part of the image that is read: a rectangle, its first plane, and where it is a chunk's, which of a plane
   pub record Region : Type 0 where
     pub x : ℕ
     pub y : ℕ
@@ -133,13 +133,13 @@ module _ (file : List ℕ) (order : ByteOrder) (p : PageRecord) where
 
   abbrev pub chunk_region : ℕ → Region
   chunk_region i =
-      let r = rect p i in record { x = r.x; y = r.y; width = r.width; height = r.height; plane = r.plane; chunk = Some i }
+      let r = rect p i in record { x = r.x; y = r.y; width = r.width; height = r.height; plane = r.plane; chunk = Some (i % chunks_of_plane p) }
 
   -- byte k of a row of a region with depths below 8: such bytes are handed out as they stand
   abbrev pub packed_byte : ColorType → Region → ℕ → ℕ → ℕ → ℕ
   packed_byte colour r plane row k =
       let c = row_bytes p colour p.chunk_width in
-      let here = unwrap_or r.chunk (plane * chunks_of_plane p + ((r.y + row) / p.chunk_height * across p + (r.x / p.chunk_width + k / c))) in
+      let here = plane * chunks_of_plane p + unwrap_or r.chunk ((r.y + row) / p.chunk_height * across p + (r.x / p.chunk_width + k / c)) in
       inverted p.interpretation 256 (stored_byte here ((r.y + row) % p.chunk_height) (k % c))
 
   -- byte k of a row of a region at depths of whole bytes: of a number's bytes the least comes first

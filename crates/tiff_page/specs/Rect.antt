@@ -31,3 +31,7 @@ rect_at p plane j =
 -- an index past the planes is reduced
 unfoldable pub rect : PageRecord → ℕ → RectRecord
 rect p i = rect_at p (i / chunks_of_plane p) (i % chunks_of_plane p)
+
+-- the width and the height of a chunk in the image
+abbrev pub chunk_data_dimensions : PageRecord → ℕ → ℕ × ℕ
+chunk_data_dimensions p i = ((rect p i).width, (rect p i).height)

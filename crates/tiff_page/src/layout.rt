@@ -34,6 +34,29 @@ pub enum DecodingSampleType {
     I64,
 }
 
+/// A chunk of the first plane and those of the other planes that lie upon it, by its index.
+#[derive(Clone, Copy, Debug, PartialEq, Eq, Hash)]
+pub struct TiffCodingUnit(pub u32);
+
+/// How the bytes of a buffer that takes an image or a part of one are laid out (as in the Rust crate).
+#[derive(Clone, Debug, PartialEq, Drop)]
+#[non_exhaustive]
+pub struct BufferLayoutPreference {
+    /// The bytes of one plane.
+    pub len: usize,
+    /// What the bits of a sample are.
+    pub sample_format: SampleFormat,
+    /// The number type of a sample, where there is one.
+    pub sample_type: Option<DecodingSampleType>,
+    /// The bytes from a row to the next, at least 1.
+    pub row_stride: Option<usize>,
+    pub planes: usize,
+    /// The bytes from a plane to the next, at least 1.
+    pub plane_stride: Option<usize>,
+    /// The bytes of all planes.
+    pub complete_len: usize,
+}
+
 /// A chunk's place and size in the image.
 #[derive(Clone, Copy, Debug, PartialEq, Eq)]
 pub struct ChunkRect {
