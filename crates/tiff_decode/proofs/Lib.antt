@@ -1,1 +1,2 @@
 pub mod Opening
+mod Once

@@ -2,3 +2,5 @@
 #![tactic(auto)]
 
 pub mod decoder;
+pub mod laws;
+pub mod script;

@@ -1,0 +1,102 @@
+-- A decoder as a machine (this project's): where it stands, and what a call leaves of it.
+use Rattle.std.specs.Prelude.{◌≡◌, ℕ, ◌<◌, ◌≤◌, List, Option, Bool, Result, Ok, Err}
+use Rattle.tiff_base.specs.declared.error.TiffError.{TiffError}
+use Rattle.tiff_base.specs.declared.error.TiffError.TheVariants.{IoError, OutOfMemory}
+use Rattle.tiff_base.specs.declared.io.IoKind.TheVariants.{Device}
+use Rattle.tiff_base.specs.declared.tags.ByteOrder.{ByteOrder}
+use Rattle.tiff_base.specs.declared.tags.FileKind.{FileKind}
+use Rattle.tiff_base.specs.declared.tags.IfdPointer.{IfdPointer}
+use Rattle.tiff_base.specs.Answers.{AnswersBut}
+use Rattle.tiff_base.specs.Field.{DirectoryRecord}
+use Rattle.tiff_ifd.specs.declared.limits.Limits.{Limits}
+use Rattle.tiff_page.specs.Page.{PageRecord}
+
+-- Where a decoder stands: the place of the directory that was entered last, whether another follows it, the page that was
+-- read last with its directory, the place of the low-level reads, and the limits.
+pub record State : Type 0 where
+  pub pointer : Option IfdPointer
+  pub more : Bool
+  pub page : PageRecord
+  pub directory : DirectoryRecord
+  pub place : ℕ
+  pub limits : Limits
+
+-- A decoder: the bytes of its source, the file's kind, byte order and first place, how many reads failed so far, and where
+-- it stands.
+pub record Decoding : Type 0 where
+  pub bytes : List ℕ
+  pub kind : FileKind
+  pub order : ByteOrder
+  pub first : ℕ
+  pub failures : ℕ
+  pub state : State
+
+-- What a call gives: its answer, and where the decoder stands after it. The answer is never want of memory or a fault of
+-- the device.
+pub record Outcome (Y : Type 0) : Type 0 where
+  pub answer : Result Y TiffError
+  pub next : State
+
+-- an answer that moves nothing
+abbrev pub stays : {Y : Type 0} → Decoding → Result Y TiffError → Outcome Y
+stays d answer = record { answer = answer; next = d.state }
+
+-- The file is the same, no failure is forgotten, and the decoder stands here.
+pub record StandsAt (state : State) (old new : Decoding) : Type 0 where
+  pub stands : new ≡ record old { failures = new.failures; state = state }
+  pub failures : old.failures ≤ new.failures
+
+-- The answer that the file gives, with the state that it leaves.
+pub record Gives {Y : Type 0} (result : Result Y TiffError) (outcome : Outcome Y) (old new : Decoding) : Type 0 where
+  pub answer : outcome.answer ≡ result
+  pub at : StandsAt outcome.next old new
+
+-- A read failed, and the decoder stands where it stood.
+pub record ReadFailed (old new : Decoding) : Type 0 where
+  pub grew : old.failures < new.failures
+  pub at : StandsAt old.state old new
+
+-- what a refused call leaves: want of memory, where that may be, and a fault of the device leave the decoder as it stood
+abbrev pub Refused : {Y : Type 0} → Type 0 → TiffError → Outcome Y → Decoding → Decoding → Type 0
+Refused wanting OutOfMemory outcome old new = wanting × StandsAt old.state old new
+Refused wanting (IoError Device) outcome old new = ReadFailed old new
+Refused wanting e outcome old new = Gives (Err e) outcome old new
+
+-- the result of a call that reads the source, seen by view, and the decoder before and after it
+abbrev pub FollowsBut : {X Y : Type 0} → Type 0 → (X → Y) → Outcome Y → Result X TiffError → Decoding → Decoding → Type 0
+FollowsBut wanting view outcome (Ok x) old new = Gives (Ok (view x)) outcome old new
+FollowsBut wanting view outcome (Err e) old new = Refused wanting e outcome old new
+
+-- of a call that takes memory
+abbrev pub Follows : {X Y : Type 0} → (X → Y) → Outcome Y → Result X TiffError → Decoding → Decoding → Type 0
+Follows view outcome result old new = FollowsBut (Unit {0}) view outcome result old new
+
+-- of one that takes none
+abbrev pub FollowsExactly : {X Y : Type 0} → (X → Y) → Outcome Y → Result X TiffError → Decoding → Decoding → Type 0
+FollowsExactly view outcome result old new = FollowsBut ⊥ view outcome result old new
+
+-- of a call that reads nothing: no read fails
+abbrev pub FollowsHereBut : {X Y : Type 0} → Type 0 → (X → Y) → Outcome Y → Result X TiffError → Decoding → Decoding → Type 0
+FollowsHereBut wanting view outcome result old new =
+    AnswersBut wanting ⊥ view result outcome.answer × (new ≡ record old { state = outcome.next })
+
+-- of one that takes memory
+abbrev pub FollowsHere : {X Y : Type 0} → (X → Y) → Outcome Y → Result X TiffError → Decoding → Decoding → Type 0
+FollowsHere view outcome result old new = FollowsHereBut (Unit {0}) view outcome result old new
+
+-- of one that takes none
+abbrev pub FollowsPlainly : {X Y : Type 0} → (X → Y) → Outcome Y → Result X TiffError → Decoding → Decoding → Type 0
+FollowsPlainly view outcome result old new = FollowsHereBut ⊥ view outcome result old new
+
+-- it is a fault that is given
+abbrev pub IsFault : {Y : Type 0} → Result Y TiffError → Type 0
+IsFault (Ok y) = ⊥
+IsFault (Err e) = Unit {0}
+
+-- of one that takes memory for a fault alone, which may carry a list
+abbrev pub FollowsOrFaults : {X Y : Type 0} → (X → Y) → Outcome Y → Result X TiffError → Decoding → Decoding → Type 0
+FollowsOrFaults view outcome result old new = FollowsHereBut (IsFault outcome.answer) view outcome result old new
+
+-- a call that is never refused and moves nothing
+abbrev pub Tells : {Y : Type 0} → Y → Y → Decoding → Decoding → Type 0
+Tells given result old new = (result ≡ given) × (new ≡ old)

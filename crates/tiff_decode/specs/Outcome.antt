@@ -1,0 +1,381 @@
+-- What each call of a decoder gives, and where it leaves the decoder (TIFF 6.0 section 2; as in the Rust crate).
+use Rattle.std.specs.Prelude.{ℕ, ℤ, ◌+◌, ◌^◌, List, [], ◌∷◌, ◌++◌, Option, None, Some, Bool, false, Result, Ok, Err, if◌then◌else◌, ◌==◌, length, drop, is_some, option_map}
+use Rattle.std.specs.Int.{Width, w8, w16, w32, w64, byte_len, cast_signed}
+use Rattle.std.specs.List.{slice_get, last_or}
+use Rattle.std.specs.FinMap.{FinMap, get}
+use Rattle.std.specs.Ordering.{nat_cmp}
+use Rattle.tiff_base.specs.declared.color.ColorType.{ColorType}
+use Rattle.tiff_base.specs.declared.color.ChunkType.{ChunkType}
+use Rattle.tiff_base.specs.declared.error.TiffError.{TiffError}
+use Rattle.tiff_base.specs.declared.error.TiffError.TheVariants.{FormatError}
+use Rattle.tiff_base.specs.declared.error.TiffFormatError.TheVariants.{ImageFileDirectoryNotFound, InconsistentSizesEncountered}
+use Rattle.tiff_base.specs.declared.tags.ByteOrder.{ByteOrder}
+use Rattle.tiff_base.specs.declared.tags.FileKind.{FileKind}
+use Rattle.tiff_base.specs.declared.tags.FileKind.TheVariants.{Classic, Big}
+use Rattle.tiff_base.specs.declared.tags.IfdPointer.{IfdPointer}
+use Rattle.tiff_base.specs.declared.tags.Tag.{Tag}
+use Rattle.tiff_base.specs.Answers.{◌>>=◌}
+use Rattle.tiff_base.specs.Directory.{directory_at, place_width}
+use Rattle.tiff_base.specs.Field.{Field, DirectoryRecord}
+use Rattle.tiff_base.specs.Header.{Header, header_at}
+use Rattle.tiff_base.specs.Number.{number_at}
+use Rattle.tiff_base.specs.Tags.{tag_number}
+use Rattle.tiff_base.specs.Told.{exactly_at}
+use Rattle.tiff_value.specs.Buffer.{BufferRecord}
+use Rattle.tiff_ifd.specs.declared.limits.Limits.{Limits}
+use Rattle.tiff_ifd.specs.Chain.{Chain, chain}
+use Rattle.tiff_ifd.specs.Datum.{Datum}
+use Rattle.tiff_ifd.specs.FieldValue.{placed_text}
+use Rattle.tiff_ifd.specs.Into as into
+use Rattle.tiff_ifd.specs.Look.{Look, look_in, require, known}
+use Rattle.tiff_ifd.specs.Ask.{find_unsigned, find_unsigned_vec, get_unsigned, tag_items, buffer_of, part_of_field}
+use Rattle.tiff_page.specs.declared.layout.BufferLayoutPreference.{BufferLayoutPreference}
+use Rattle.tiff_page.specs.Page.{PageRecord}
+use Rattle.tiff_page.specs.Checks.{page_of}
+use Rattle.tiff_page.specs.Layout.{colour_of}
+use Rattle.tiff_page.specs.Counts as counts
+use Rattle.tiff_page.specs.Rect as rects
+use Rattle.tiff_page.specs.Buffers as layouts
+use Rattle.tiff_page.specs.Image.{Decoded, image_of}
+use Rattle.tiff_page.specs.PixelCalls as pixels
+use Rattle.tiff_decode.specs.State.{default_limits}
+use Rattle.tiff_decode.specs.Machine.{State, Decoding, Outcome, stays}
+
+-- ---- entering pages
+
+-- there is no such directory
+abbrev pub not_found : TiffError
+not_found = FormatError ImageFileDirectoryNotFound
+
+-- why a chain ends where it does
+abbrev pub past : Option TiffError → TiffError
+past None = not_found
+past (Some e) = e
+
+-- the chain of directories from a header on
+abbrev pub chain_from : Header → List ℕ → Chain
+chain_from header bytes = chain header.kind header.order bytes header.first
+
+abbrev pub chain_of : Decoding → Chain
+chain_of d = chain d.kind d.order d.bytes d.first
+
+-- the page of a directory
+abbrev pub page_in : FileKind → ByteOrder → List ℕ → Limits → DirectoryRecord → Result PageRecord TiffError
+page_in kind order bytes limits directory = page_of (look_in kind order bytes limits directory.entries)
+
+-- where the low-level reads begin: behind the header
+abbrev pub header_end : FileKind → ℕ
+header_end Classic = 8
+header_end Big = 16
+
+-- the decoder of a file, at its first page under the limits by default, where so many reads failed; or the first fault: of the
+-- header, of the chain, where no directory is in it, of the page
+unfoldable pub begun : List ℕ → ℕ → Result Decoding TiffError
+begun bytes failures = do
+  header ← header_at bytes
+  place ← known (slice_get (chain_from header bytes).places 0) (past (chain_from header bytes).end)
+  directory ← directory_at header.kind header.order bytes place
+  page ← page_in header.kind header.order bytes default_limits directory
+  Ok (record {
+    bytes = bytes;
+    kind = header.kind;
+    order = header.order;
+    first = header.first;
+    failures = failures;
+    state = record {
+      pointer = Some (record { 0 = place });
+      more = is_some directory.next;
+      page = page;
+      directory = directory;
+      place = header_end header.kind;
+      limits = default_limits;
+    };
+  })
+
+-- the page of a directory that was entered, or its fault, which leaves the former page
+abbrev pub with_page : State → DirectoryRecord → Result PageRecord TiffError → Outcome (Unit {0})
+with_page s directory (Ok page) = record { answer = Ok tt; next = record s { page = page; directory = directory } }
+with_page s directory (Err e) = record { answer = Err e; next = s }
+
+abbrev pub entered : Decoding → ℕ → Result DirectoryRecord TiffError → Outcome (Unit {0})
+entered d place (Ok directory) =
+    with_page (record d.state { pointer = Some (record { 0 = place }); more = is_some directory.next }) directory
+    (page_in d.kind d.order d.bytes d.state.limits directory)
+entered d place (Err e) = stays d (Err e)
+
+-- To enter the directory at a place of the chain: it is the pointer, openness is whether a next one follows it, and its page
+-- is read under the limits.
+unfoldable pub enter : Decoding → ℕ → Outcome (Unit {0})
+enter d place = entered d place (directory_at d.kind d.order d.bytes place)
+
+-- the place behind this one
+abbrev pub place_after : ℕ → List ℕ → Option ℕ
+place_after place [] = None
+place_after place (p ∷ ps) = if p == place then slice_get ps 0 else place_after place ps
+
+-- the next place of the chain behind a pointer
+abbrev pub next_place : Option IfdPointer → List ℕ → Option ℕ
+next_place None places = None
+next_place (Some pointer) places = place_after pointer.0 places
+
+-- none is entered: why the chain ends, and that it does
+abbrev pub closed : Decoding → Outcome (Unit {0})
+closed d = record { answer = Err (past (chain_of d).end); next = record d.state { more = false } }
+
+abbrev pub next_entered : Decoding → Option ℕ → Outcome (Unit {0})
+next_entered d None = closed d
+next_entered d (Some place) = enter d place
+
+-- the next page of the chain; at its end its fault, or that there is no such directory
+unfoldable pub next_image : Decoding → Outcome (Unit {0})
+next_image d =
+    if d.state.more then next_entered d (next_place d.state.pointer (chain_of d).places) else stays d (Err not_found)
+
+-- the last place of the chain
+abbrev pub last_place : Decoding → Option IfdPointer
+last_place d = option_map (λ place. record { 0 = place }) (last_or None (chain_of d).places)
+
+-- past the chain: an open decoder goes to its last directory and tells why it ends, another has no pointer
+abbrev pub sought_past : Decoding → Outcome (Unit {0})
+sought_past d =
+    if d.state.more
+    then record { answer = Err (past (chain_of d).end); next = record d.state { pointer = last_place d; more = false } }
+    else record { answer = Err not_found; next = record d.state { pointer = None } }
+
+abbrev pub sought : Decoding → Option ℕ → Outcome (Unit {0})
+sought d None = sought_past d
+sought d (Some place) = enter d place
+
+-- the page of this number in the chain, from wherever the decoder stands
+unfoldable pub seek_to_image : Decoding → ℕ → Outcome (Unit {0})
+seek_to_image d k = sought d (slice_get (chain_of d).places k)
+
+-- ---- what a decoder says of itself
+
+unfoldable pub set_limits : Decoding → Limits → Outcome (Unit {0})
+set_limits d limits = record { answer = Ok tt; next = record d.state { limits = limits } }
+
+unfoldable pub dimensions : Decoding → Outcome (ℕ × ℕ)
+dimensions d = stays d (Ok (d.state.page.width, d.state.page.height))
+
+unfoldable pub colortype : Decoding → Outcome ColorType
+colortype d = stays d (colour_of d.state.page)
+
+abbrev pub ifd_pointer : Decoding → Option IfdPointer
+ifd_pointer d = d.state.pointer
+
+abbrev pub more_images : Decoding → Bool
+more_images d = d.state.more
+
+abbrev pub byte_order : Decoding → ByteOrder
+byte_order d = d.order
+
+-- the directory at any place; pages are untouched
+unfoldable pub read_directory : Decoding → IfdPointer → Outcome DirectoryRecord
+read_directory d pointer = stays d (directory_at d.kind d.order d.bytes pointer.0)
+
+-- ---- reads at the place
+
+unfoldable pub goto_offset : Decoding → ℕ → Outcome (Unit {0})
+goto_offset d place = record { answer = Ok tt; next = record d.state { place = place } }
+
+-- a read of so many bytes: the place goes behind them, and a refused one leaves it
+abbrev pub moved : {Y : Type 0} → Decoding → ℕ → Result Y TiffError → Outcome Y
+moved d len (Ok y) = record { answer = Ok y; next = record d.state { place = d.state.place + len } }
+moved d len (Err e) = stays d (Err e)
+
+-- the number at the place, as this
+abbrev pub number_here : {Y : Type 0} → Decoding → Width → (ℕ → Y) → Outcome Y
+number_here d w view = moved d (byte_len w) (number_at d.order w d.bytes d.state.place >>= λ n. Ok (view n))
+
+-- a place of 4 or 8 bytes
+unfoldable pub read_ifd_offset : Decoding → Outcome ℕ
+read_ifd_offset d = number_here d (place_width d.kind) (λ n. n)
+
+unfoldable pub read_byte : Decoding → Outcome ℕ
+read_byte d = number_here d w8 (λ n. n)
+
+unfoldable pub read_short : Decoding → Outcome ℕ
+read_short d = number_here d w16 (λ n. n)
+
+unfoldable pub read_sshort : Decoding → Outcome ℤ
+read_sshort d = number_here d w16 (cast_signed w16)
+
+unfoldable pub read_long : Decoding → Outcome ℕ
+read_long d = number_here d w32 (λ n. n)
+
+unfoldable pub read_slong : Decoding → Outcome ℤ
+read_slong d = number_here d w32 (cast_signed w32)
+
+unfoldable pub read_long8 : Decoding → Outcome ℕ
+read_long8 d = number_here d w64 (λ n. n)
+
+unfoldable pub read_slong8 : Decoding → Outcome ℤ
+read_slong8 d = number_here d w64 (cast_signed w64)
+
+-- the bits of a floating number
+unfoldable pub read_float : Decoding → Outcome ℕ
+read_float d = number_here d w32 (λ n. n)
+
+unfoldable pub read_double : Decoding → Outcome ℕ
+read_double d = number_here d w64 (λ n. n)
+
+-- a text of so many bytes, cut at its first zero, which has to be UTF-8
+unfoldable pub read_string : Decoding → ℕ → Outcome (List ℕ)
+read_string d len = moved d len (exactly_at d.bytes d.state.place len >>= placed_text >>= into.into_string)
+
+-- the bytes of a place as they stand; one of 4 bytes is none of BigTIFF
+abbrev pub offset_bytes : FileKind → Decoding → Result (List ℕ) TiffError
+offset_bytes Classic d = exactly_at d.bytes d.state.place 4
+offset_bytes Big d = Err (FormatError InconsistentSizesEncountered)
+
+unfoldable pub read_offset : Decoding → Outcome (List ℕ)
+read_offset d = moved d 4 (offset_bytes d.kind d)
+
+unfoldable pub read_offset_u64 : Decoding → Outcome (List ℕ)
+read_offset_u64 d = moved d 8 (exactly_at d.bytes d.state.place 8)
+
+-- ---- chunks and layouts of the page
+
+abbrev pub get_chunk_type : Decoding → ChunkType
+get_chunk_type d = d.state.page.chunk_type
+
+unfoldable pub strip_count : Decoding → Outcome ℕ
+strip_count d = stays d (counts.strip_count d.state.page)
+
+unfoldable pub tile_count : Decoding → Outcome ℕ
+tile_count d = stays d (counts.tile_count d.state.page)
+
+abbrev pub chunk_dimensions : Decoding → ℕ × ℕ
+chunk_dimensions d = counts.chunk_dimensions d.state.page
+
+abbrev pub chunk_data_dimensions : Decoding → ℕ → ℕ × ℕ
+chunk_data_dimensions d chunk = rects.chunk_data_dimensions d.state.page chunk
+
+unfoldable pub image_buffer_layout : Decoding → Outcome BufferLayoutPreference
+image_buffer_layout d = stays d (layouts.image_buffer_layout d.state.page)
+
+unfoldable pub image_chunk_buffer_layout : Decoding → ℕ → Outcome BufferLayoutPreference
+image_chunk_buffer_layout d chunk = stays d (layouts.image_chunk_buffer_layout d.state.page chunk)
+
+unfoldable pub image_coding_unit_layout : Decoding → ℕ → Outcome BufferLayoutPreference
+image_coding_unit_layout d unit = stays d (layouts.image_coding_unit_layout d.state.page unit)
+
+-- ---- pixels of the page
+
+unfoldable pub read_image : Decoding → Outcome Decoded
+read_image d = stays d (image_of d.bytes d.order d.state.page d.state.limits)
+
+unfoldable pub read_image_to_buffer : Decoding → Outcome (BufferLayoutPreference × Decoded)
+read_image_to_buffer d = stays d (pixels.read_image_to_buffer d.bytes d.order d.state.page d.state.limits)
+
+-- the slice, after the call
+unfoldable pub read_image_bytes : Decoding → List ℕ → Outcome (List ℕ)
+read_image_bytes d buf = stays d (pixels.read_image_bytes d.bytes d.order d.state.page d.state.limits buf)
+
+unfoldable pub read_chunk : Decoding → ℕ → Outcome Decoded
+read_chunk d chunk = stays d (pixels.read_chunk d.bytes d.order d.state.page d.state.limits chunk)
+
+unfoldable pub read_chunk_bytes : Decoding → ℕ → List ℕ → Outcome (List ℕ)
+read_chunk_bytes d chunk buf = stays d (pixels.read_chunk_bytes d.bytes d.order d.state.page d.state.limits chunk buf)
+
+unfoldable pub read_chunk_to_buffer : Decoding → ℕ → ℕ → Outcome Decoded
+read_chunk_to_buffer d chunk stride =
+    stays d (pixels.read_chunk_to_buffer d.bytes d.order d.state.page d.state.limits chunk stride)
+
+unfoldable pub read_coding_unit_bytes : Decoding → ℕ → List ℕ → Outcome (List ℕ)
+read_coding_unit_bytes d unit buf =
+    stays d (pixels.read_coding_unit_bytes d.bytes d.order d.state.page d.state.limits unit buf)
+
+-- ---- tags of the page's directory
+
+abbrev pub page_fields : Decoding → FinMap nat_cmp Field
+page_fields d = d.state.directory.entries
+
+abbrev pub page_tags : Decoding → Look
+page_tags d = look_in d.kind d.order d.bytes d.state.limits (page_fields d)
+
+-- the value of a tag, if there is the tag
+unfoldable pub find_tag : Decoding → Tag → Outcome (Option Datum)
+find_tag d tag = stays d ((page_tags d).value tag)
+
+-- numbers of 64 bits
+unfoldable pub find_tag_unsigned : Decoding → Tag → Outcome (Option ℕ)
+find_tag_unsigned d tag = stays d (find_unsigned (2 ^ 64) (page_tags d) tag)
+
+unfoldable pub find_tag_unsigned_vec : Decoding → Tag → Outcome (Option (List ℕ))
+find_tag_unsigned_vec d tag = stays d (find_unsigned_vec (2 ^ 64) (page_tags d) tag)
+
+-- a required tag's value by a conversion
+abbrev pub gotten : {Y : Type 0} → Decoding → (Datum → Result Y TiffError) → Tag → Outcome Y
+gotten d into tag = stays d (require into (page_tags d) tag)
+
+unfoldable pub get_tag : Decoding → Tag → Outcome Datum
+get_tag d tag = gotten d (λ value. Ok value) tag
+
+unfoldable pub get_tag_unsigned : Decoding → Tag → Outcome ℕ
+get_tag_unsigned d tag = stays d (get_unsigned (2 ^ 64) (page_tags d) tag)
+
+unfoldable pub get_tag_u32 : Decoding → Tag → Outcome ℕ
+get_tag_u32 d tag = gotten d into.into_u32 tag
+
+unfoldable pub get_tag_u64 : Decoding → Tag → Outcome ℕ
+get_tag_u64 d tag = gotten d into.into_u64 tag
+
+unfoldable pub get_tag_f32 : Decoding → Tag → Outcome ℕ
+get_tag_f32 d tag = gotten d into.into_f32 tag
+
+unfoldable pub get_tag_f64 : Decoding → Tag → Outcome ℕ
+get_tag_f64 d tag = gotten d into.into_f64 tag
+
+unfoldable pub get_tag_u32_vec : Decoding → Tag → Outcome (List ℕ)
+get_tag_u32_vec d tag = gotten d into.into_u32_vec tag
+
+unfoldable pub get_tag_u16_vec : Decoding → Tag → Outcome (List ℕ)
+get_tag_u16_vec d tag = gotten d into.into_u16_vec tag
+
+unfoldable pub get_tag_u64_vec : Decoding → Tag → Outcome (List ℕ)
+get_tag_u64_vec d tag = gotten d into.into_u64_vec tag
+
+unfoldable pub get_tag_f32_vec : Decoding → Tag → Outcome (List ℕ)
+get_tag_f32_vec d tag = gotten d into.into_f32_vec tag
+
+unfoldable pub get_tag_f64_vec : Decoding → Tag → Outcome (List ℕ)
+get_tag_f64_vec d tag = gotten d into.into_f64_vec tag
+
+unfoldable pub get_tag_u8_vec : Decoding → Tag → Outcome (List ℕ)
+get_tag_u8_vec d tag = gotten d into.into_u8_vec tag
+
+unfoldable pub get_tag_ascii_string : Decoding → Tag → Outcome (List ℕ)
+get_tag_ascii_string d tag = gotten d into.into_string tag
+
+-- each tag with its value or its fault, in ascending number
+unfoldable pub tag_iter : Decoding → List (Result (Tag × Datum) TiffError)
+tag_iter d = tag_items d.kind d.order d.bytes d.state.limits (page_fields d)
+
+abbrev pub find_entry : Decoding → Tag → Option Field
+find_entry d tag = get (page_fields d) (tag_number tag)
+
+-- ---- values as they stand
+
+-- a field with its bytes, where there is one; the buffer stays where there is none
+abbrev pub field_in_buffer : Decoding → BufferRecord → Option Field → Result (Option Field × BufferRecord) TiffError
+field_in_buffer d buf None = Ok (None, buf)
+field_in_buffer d buf (Some f) = do
+  found ← buffer_of d.kind d.order d.bytes d.state.limits f
+  Ok (Some f, found)
+
+-- a tag's field, and the buffer after the call
+unfoldable pub find_tag_buf : Decoding → Tag → BufferRecord → Outcome (Option Field × BufferRecord)
+find_tag_buf d tag buf = stays d (field_in_buffer d buf (find_entry d tag))
+
+-- the bytes of a field from one on, as many as fit
+abbrev pub bytes_in_slice : Decoding → List ℕ → ℕ → Option Field → Result (Option ℕ × List ℕ) TiffError
+bytes_in_slice d buf at None = Ok (None, buf)
+bytes_in_slice d buf at (Some f) = do
+  found ← part_of_field d.kind d.order d.bytes f (length buf) at
+  Ok (Some (length found), found ++ drop (length found) buf)
+
+-- how many bytes of a tag's value were copied, and the slice after the call
+unfoldable pub find_tag_bytes : Decoding → Tag → List ℕ → ℕ → Outcome (Option ℕ × List ℕ)
+find_tag_bytes d tag buf at = stays d (bytes_in_slice d buf at (find_entry d tag))

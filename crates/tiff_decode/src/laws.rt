@@ -1,0 +1,14 @@
+//! The laws of a decoder's calls, each the contract of a function with no work.
+
+ghost use Rattle.tiff_decode.specs.Once.{IsEachAlong, IsOneAnswer};
+
+/// A call leaves the file, counts its failed reads, and goes to its next state, or with want of memory and a fault of the
+/// device stays.
+pub fn each_along()
+    ensures { IsEachAlong }
+{}
+
+/// A call's answer is one, but for want of memory and faults of the device.
+pub fn one_answer()
+    ensures { IsOneAnswer }
+{}
