@@ -31,7 +31,7 @@ use Rattle.tiff_examples.specs.Shown.{limits}
 use Rattle.tiff_examples.specs.Openings as s
 
 -- the look-up in fields, by the list that they are made of
-looked_by : (value : Field → Result Datum TiffError) (fields : List (ℕ × Field))
+pub looked_by : (value : Field → Result Datum TiffError) (fields : List (ℕ × Field))
     → looked value (from_entries {R = nat_cmp} fields)
     ≡ record {
       has = λ tag. is_some (find nat_cmp (tag_number tag) fields);

@@ -13,3 +13,5 @@ pub mod Openings
 pub mod Written
 pub mod Buffers
 pub mod Calls
+pub mod Decoders
+pub mod Moves

@@ -8,6 +8,7 @@ pub mod directory;
 pub mod field;
 pub mod header;
 pub mod kind;
+pub mod machine;
 pub mod number;
 pub mod opening;
 pub mod page;
