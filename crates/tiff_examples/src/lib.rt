@@ -1,10 +1,13 @@
 //! Worked examples of the definitions that the contracts of the other crates cite.
 #![tactic(auto)]
 
+pub mod ask;
 pub mod chain;
 pub mod conversion;
+pub mod convert;
 pub mod directory;
 pub mod field;
+pub mod give;
 pub mod header;
 pub mod kind;
 pub mod number;
@@ -12,5 +15,6 @@ pub mod opening;
 pub mod page;
 pub mod pixels;
 pub mod runs;
+pub mod sample;
 pub mod value;
 pub mod writer;
