@@ -14,3 +14,8 @@ pub mod Written
 pub mod Buffers
 pub mod Calls
 pub mod Moves
+pub mod Chains
+pub mod Converted
+pub mod Asked
+pub mod Given
+pub mod Samples

@@ -15,3 +15,8 @@ pub mod Buffers
 pub mod Calls
 pub mod Decoders
 pub mod Moves
+pub mod Chains
+pub mod Converted
+pub mod Asked
+pub mod Given
+pub mod Samples

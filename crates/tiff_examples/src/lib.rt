@@ -3,9 +3,13 @@
 
 pub mod buffer;
 pub mod call;
+pub mod ask;
+pub mod chain;
 pub mod conversion;
+pub mod convert;
 pub mod directory;
 pub mod field;
+pub mod give;
 pub mod header;
 pub mod kind;
 pub mod machine;
@@ -14,5 +18,6 @@ pub mod opening;
 pub mod page;
 pub mod pixels;
 pub mod runs;
+pub mod sample;
 pub mod value;
 pub mod writer;
