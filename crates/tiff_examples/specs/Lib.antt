@@ -13,3 +13,4 @@ pub mod Openings
 pub mod Written
 pub mod Buffers
 pub mod Calls
+pub mod Checks

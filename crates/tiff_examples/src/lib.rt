@@ -3,6 +3,7 @@
 
 pub mod buffer;
 pub mod call;
+pub mod check;
 pub mod conversion;
 pub mod directory;
 pub mod field;
