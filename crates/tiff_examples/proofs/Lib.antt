@@ -19,3 +19,4 @@ pub mod Converted
 pub mod Asked
 pub mod Given
 pub mod Samples
+pub mod Checks

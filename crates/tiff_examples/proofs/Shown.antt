@@ -225,3 +225,103 @@ not_covered = refl
 pub fault_first : s.fault_first
 unfolding covered_page_of page_of size_of require look.find
 fault_first = refl
+
+pub rows_of_differences : s.rows_of_differences
+unfolding image_bytes row_bits byte_at shown_sample number
+rows_of_differences = refl
+
+pub byte_planes_of_two : s.byte_planes_of_two
+unfolding image_bytes row_bits byte_at shown_sample number
+byte_planes_of_two = refl
+
+pub inverted_16_bits : s.inverted_16_bits
+unfolding image_bytes row_bits byte_at shown_sample number
+inverted_16_bits = refl
+
+pub tile_4_bits : s.tile_4_bits
+unfolding byte_at rect row_bits
+tile_4_bits = refl
+
+pub planar_4_bits : s.planar_4_bits
+unfolding byte_at rect row_bits
+planar_4_bits = refl
+
+pub packed_within : s.packed_within
+unfolding image_of layout_of colour_of row_bits sample_type_of form_fault depth_fault predictor_fault
+    white_fault runs_after rect
+packed_within = refl
+
+pub eight_bytes : s.eight_bytes
+unfolding numbers_in number
+eight_bytes = refl
+
+pub list_first : s.list_first
+unfolding form_fault depth_fault predictor_fault white_fault
+list_first = refl
+
+pub depth_first : s.depth_first
+unfolding form_fault depth_fault predictor_fault white_fault
+depth_first = refl
+
+pub lab_8 : s.lab_8
+unfolding form_fault depth_fault predictor_fault white_fault
+lab_8 = refl
+
+pub multiband_4 : s.multiband_4
+unfolding form_fault depth_fault predictor_fault white_fault
+multiband_4 = refl
+
+pub planes_of_4 : s.planes_of_4
+unfolding form_fault depth_fault predictor_fault white_fault
+planes_of_4 = refl
+
+pub horizontal_int : s.horizontal_int
+unfolding form_fault depth_fault predictor_fault white_fault
+horizontal_int = refl
+
+pub horizontal_void : s.horizontal_void
+unfolding form_fault depth_fault predictor_fault white_fault
+horizontal_void = refl
+
+pub planes_of_float : s.planes_of_float
+unfolding form_fault depth_fault predictor_fault white_fault
+planes_of_float = refl
+
+pub bytes_within : s.bytes_within
+unfolding form_fault depth_fault predictor_fault white_fault
+bytes_within = refl
+
+pub bytes_past : s.bytes_past
+unfolding form_fault depth_fault predictor_fault white_fault
+bytes_past = refl
+
+pub packed_form : s.packed_form
+unfolding form_fault depth_fault predictor_fault white_fault
+packed_form = refl
+
+pub method_first : s.method_first
+unfolding form_fault depth_fault predictor_fault white_fault
+method_first = refl
+
+pub white_several : s.white_several
+unfolding form_fault depth_fault predictor_fault white_fault
+white_several = refl
+
+pub white_4_bits : s.white_4_bits
+unfolding form_fault depth_fault predictor_fault white_fault
+white_4_bits = refl
+
+pub white_first : s.white_first
+unfolding image_of layout_of colour_of row_bits sample_type_of form_fault depth_fault predictor_fault
+    white_fault runs_after rect
+white_first = refl
+
+pub first_chunk : s.first_chunk
+unfolding image_of layout_of colour_of row_bits sample_type_of form_fault depth_fault predictor_fault
+    white_fault runs_after rect
+first_chunk = refl
+
+pub second_chunk : s.second_chunk
+unfolding image_of layout_of colour_of row_bits sample_type_of form_fault depth_fault predictor_fault
+    white_fault runs_after rect
+second_chunk = refl

@@ -126,17 +126,18 @@ inverted_4_bits =
     ≡ (0xed ∷ 0xc0 ∷ [])
 
 -- six samples of 4 bits in two tiles of four: of the second tile one byte is shown
+abbrev pub tiles_page : PageRecord
+tiles_page = record (row_page 6) {
+  depth = 4;
+  chunk_type = Tile;
+  chunk_width = 4;
+  offsets = 0 ∷ 2 ∷ [];
+  byte_counts = 2 ∷ 2 ∷ [];
+}
+
 abbrev pub tiles_4_bits : Type 0
 tiles_4_bits =
-    image_bytes (0x12 ∷ 0x34 ∷ 0x56 ∷ 0x78 ∷ []) LittleEndian
-    (record (row_page 6) {
-      depth = 4;
-      chunk_type = Tile;
-      chunk_width = 4;
-      offsets = 0 ∷ 2 ∷ [];
-      byte_counts = 2 ∷ 2 ∷ [];
-    })
-    (colour.Gray 4) ≡ (0x12 ∷ 0x34 ∷ 0x56 ∷ [])
+    image_bytes (0x12 ∷ 0x34 ∷ 0x56 ∷ 0x78 ∷ []) LittleEndian tiles_page (colour.Gray 4) ≡ (0x12 ∷ 0x34 ∷ 0x56 ∷ [])
 
 -- three packed samples
 abbrev pub packed_bytes : Type 0
@@ -371,3 +372,166 @@ not_covered = covered_page_of (told ((258, short 16) ∷ gray_tags ++ strip_tags
 abbrev pub fault_first : Type 0
 fault_first =
     covered_page_of (told ((256, short 0) ∷ gray_tags ++ strip_tags)) ≡ Err (FormatError (InvalidDimensions 0 3))
+
+-- differences begin anew in each row
+abbrev pub rows_of_differences : Type 0
+rows_of_differences =
+    image_bytes (1 ∷ 1 ∷ 1 ∷ 1 ∷ []) LittleEndian (record (row_page 2) {
+      height = 2;
+      chunk_height = 2;
+      predictor = predictor.Horizontal;
+    }) (colour.Gray 8)
+    ≡ (1 ∷ 2 ∷ 1 ∷ 2 ∷ [])
+
+-- byte planes of two samples: each byte is added to the one two before it, whatever the byte order is
+abbrev pub byte_planes_of_two : Type 0
+byte_planes_of_two =
+    image_bytes (0x3c ∷ 0x40 ∷ 0xc4 ∷ 0xc1 ∷ []) BigEndian
+    (record (row_page 1) { samples = 2; format = format.IEEEFP; depth = 16; predictor = predictor.FloatingPoint })
+    (colour.Multiband 16 2) ≡ (0x00 ∷ 0x3c ∷ 0x01 ∷ 0x40 ∷ [])
+
+-- white as 0 in two bytes
+abbrev pub inverted_16_bits : Type 0
+inverted_16_bits =
+    image_bytes (0x01 ∷ 0x02 ∷ []) LittleEndian (record (row_page 1) {
+      depth = 16;
+      interpretation = meaning.WhiteIsZero;
+    }) (colour.Gray 16)
+    ≡ (0xfe ∷ 0xfd ∷ [])
+
+-- the second tile of 4 bits by itself, and the second plane
+abbrev pub tile_4_bits : Type 0
+tile_4_bits =
+    byte_at (0x12 ∷ 0x34 ∷ 0x56 ∷ 0x78 ∷ []) LittleEndian tiles_page (colour.Gray 4)
+    (chunk_region (0x12 ∷ 0x34 ∷ 0x56 ∷ 0x78 ∷ []) LittleEndian tiles_page 1) 1 1 0
+    ≡ Some 0x56
+
+abbrev pub planar_4_page : PageRecord
+planar_4_page = record (row_page 2) {
+  depth = 4;
+  samples = 2;
+  planar = Planar;
+  offsets = 0 ∷ 1 ∷ [];
+  byte_counts = 1 ∷ 1 ∷ [];
+}
+
+abbrev pub planar_4_bits : Type 0
+planar_4_bits =
+    byte_at (0x12 ∷ 0x34 ∷ []) LittleEndian planar_4_page (colour.Multiband 4 2)
+    (whole_image (0x12 ∷ 0x34 ∷ []) LittleEndian planar_4_page) 1 2 1
+    ≡ Some 0x34
+
+-- a packed strip is cut at its byte count
+abbrev pub packed_within : Type 0
+packed_within =
+    image_of (0xfe ∷ 0x07 ∷ []) LittleEndian (record (row_page 3) {
+      method = method.PackBits;
+      byte_counts = 1 ∷ [];
+    }) unlimited ≡ Err (IoError UnexpectedEof)
+
+-- a number of eight bytes
+abbrev pub eight_bytes : Type 0
+eight_bytes = numbers_in 8 (0x01 ∷ 0x00 ∷ 0x00 ∷ 0x00 ∷ 0x00 ∷ 0x00 ∷ 0x00 ∷ 0x80 ∷ []) ≡ 0x8000_0000_0000_0001 ∷ []
+
+-- an index past the list comes before the depth, and the depth before the predictor
+abbrev pub list_first : Type 0
+list_first =
+    form_fault (record pixel_page { depth = 12 }) unlimited (colour.Gray 12) 1
+    ≡ Err (FormatError InconsistentSizesEncountered)
+
+abbrev pub depth_first : Type 0
+depth_first =
+    form_fault (record pixel_page { depth = 12; predictor = predictor.FloatingPoint }) unlimited (colour.Gray 12) 0
+    ≡ Err (UnsupportedError (UnsupportedColorType (colour.Gray 12)))
+
+-- Lab is a colour that isn't read
+abbrev pub lab_8 : Type 0
+lab_8 =
+    form_fault (record rgb_row { interpretation = meaning.IccLab }) unlimited (colour.Lab 8) 0
+    ≡ Err (UnsupportedError (UnsupportedColorType (colour.Lab 8)))
+
+-- several samples of 4 bits are read, but not with byte planes
+abbrev pub multiband_4 : Type 0
+multiband_4 =
+    form_fault (record pixel_page { depth = 4; samples = 2 }) unlimited (colour.Multiband 4 2) 0 ≡ Ok tt
+
+abbrev pub planes_of_4 : Type 0
+planes_of_4 =
+    form_fault (record pixel_page { depth = 4; predictor = predictor.FloatingPoint }) unlimited (colour.Gray 4) 0
+    ≡ Err (UnsupportedError (FloatingPointPredictor (colour.Gray 4)))
+
+-- differences of signed numbers, and of samples that are none; the predictor comes before the limit
+abbrev pub horizontal_int : Type 0
+horizontal_int =
+    form_fault (record pixel_page { format = format.Int; predictor = predictor.Horizontal }) unlimited (colour.Gray 8) 0
+    ≡ Ok tt
+
+abbrev pub horizontal_void : Type 0
+horizontal_void =
+    form_fault (record pixel_page { format = format.Void; predictor = predictor.Horizontal }) (limits 0 0) (colour.Gray 8) 0
+    ≡ Err (UnsupportedError (HorizontalPredictor (colour.Gray 8)))
+
+-- byte planes of two bytes
+abbrev pub planes_of_float : Type 0
+planes_of_float =
+    form_fault (record pixel_page {
+      depth = 16;
+      format = format.IEEEFP;
+      predictor = predictor.FloatingPoint;
+    }) unlimited (colour.Gray 16) 0
+    ≡ Ok tt
+
+-- a chunk of as many bytes as the limit, and of one more
+abbrev pub bytes_within : Type 0
+bytes_within = form_fault pixel_page (limits 0 1) (colour.Gray 8) 0 ≡ Ok tt
+
+abbrev pub bytes_past : Type 0
+bytes_past = form_fault pixel_page (limits 0 0) (colour.Gray 8) 0 ≡ Err LimitsExceeded
+
+-- a packed chunk has no fault of its form, a facsimile one has, before white as 0 is looked at
+abbrev pub packed_form : Type 0
+packed_form = form_fault (record pixel_page { method = method.PackBits }) unlimited (colour.Gray 8) 0 ≡ Ok tt
+
+abbrev pub method_first : Type 0
+method_first =
+    form_fault (record pixel_page {
+      method = method.Fax4;
+      samples = 2;
+      interpretation = meaning.WhiteIsZero;
+    }) unlimited (colour.Multiband 8 2) 0
+    ≡ Err (UnsupportedError (UnsupportedCompressionMethod method.Fax4))
+
+-- several samples can't be inverted, four bits of one can; that is told before too few data
+abbrev pub white_several : Type 0
+white_several =
+    form_fault (record pixel_page { samples = 2; interpretation = meaning.WhiteIsZero }) unlimited (colour.Multiband 8 2) 0
+    ≡ Err (UnsupportedError UnknownInterpretation)
+
+abbrev pub white_4_bits : Type 0
+white_4_bits =
+    form_fault (record pixel_page { depth = 4; interpretation = meaning.WhiteIsZero }) unlimited (colour.Gray 4) 0
+    ≡ Ok tt
+
+abbrev pub white_first : Type 0
+white_first =
+    image_of [] LittleEndian (record pixel_page { format = format.Int; interpretation = meaning.WhiteIsZero }) unlimited
+    ≡ Err (UnsupportedError UnknownInterpretation)
+
+-- the first chunk's fault: the second has another
+abbrev pub first_chunk : Type 0
+first_chunk =
+    image_of (replicate 11 1) LittleEndian (record gray_page {
+      chunk_height = 2;
+      offsets = 4 ∷ 0 ∷ [];
+      byte_counts = 0 ∷ 9 ∷ [];
+    }) (limits 99 8)
+    ≡ Err (IoError UnexpectedEof)
+
+abbrev pub second_chunk : Type 0
+second_chunk =
+    image_of (replicate 12 1) LittleEndian (record gray_page {
+      chunk_height = 2;
+      offsets = 4 ∷ 0 ∷ [];
+      byte_counts = 0 ∷ 9 ∷ [];
+    }) (limits 99 8)
+    ≡ Err LimitsExceeded

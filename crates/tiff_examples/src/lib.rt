@@ -5,6 +5,7 @@ pub mod buffer;
 pub mod call;
 pub mod ask;
 pub mod chain;
+pub mod check;
 pub mod conversion;
 pub mod convert;
 pub mod directory;

@@ -1,3 +1,4 @@
 pub mod Sizes
 pub mod Strip
 pub mod Gray
+pub mod Placing

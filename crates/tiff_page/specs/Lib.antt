@@ -9,3 +9,4 @@ pub mod Pixels
 pub mod Image
 pub mod Buffers
 pub mod PixelCalls
+pub mod Laws

@@ -4,6 +4,7 @@
 pub mod checks;
 pub mod faults;
 pub mod image;
+pub mod laws;
 pub mod layout;
 pub mod lists;
 pub mod page;

@@ -12,7 +12,10 @@ returns c = (
   p.corner_gap,
   p.first_plane,
   p.third_plane,
+  p.tile_4_bits,
+  p.planar_4_bits,
   p.two_numbers,
   p.filled_up,
+  p.eight_bytes,
   p.no_numbers,
 )

@@ -3,4 +3,8 @@ use Rattle.tiff_examples.proofs.Shown as p
 use Rattle.tiff_examples.proofs.pixels.covered.Goals as goal
 
 pub returns : goal.returns
-returns c = (p.covered, p.not_covered, p.fault_first)
+returns c = (
+  p.covered,
+  p.not_covered,
+  p.fault_first,
+)

@@ -14,9 +14,13 @@ returns c = (
   p.tile_padding,
   p.tile_pixel,
   p.packed_cut,
+  p.packed_within,
   p.wide_read,
   p.wide_limit,
   p.type_first,
   p.limit_first,
   p.lzw,
+  p.white_first,
+  p.first_chunk,
+  p.second_chunk,
 )

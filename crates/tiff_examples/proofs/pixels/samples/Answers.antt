@@ -10,10 +10,13 @@ returns c = (
   p.rgb_sample,
   p.rgb_horizontal,
   p.rgb_dropped,
+  p.rows_of_differences,
   p.byte_planes,
+  p.byte_planes_of_two,
   p.big_endian_bytes,
   p.big_endian_horizontal,
   p.inverted_4_bits,
+  p.inverted_16_bits,
   p.tiles_4_bits,
   p.packed_bytes,
 )

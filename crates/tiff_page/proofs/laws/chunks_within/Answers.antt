@@ -1,0 +1,5 @@
+use Rattle.tiff_page.proofs.Placing.{chunks_within}
+use Rattle.tiff_page.proofs.laws.chunks_within.Goals as goal
+
+pub returns : goal.returns
+returns c = chunks_within

@@ -1,0 +1,5 @@
+use Rattle.tiff_page.proofs.Placing.{first_fault}
+use Rattle.tiff_page.proofs.laws.first_fault.Goals as goal
+
+pub returns : goal.returns
+returns c = first_fault

@@ -1,0 +1,5 @@
+use Rattle.tiff_page.proofs.Placing.{no_fault}
+use Rattle.tiff_page.proofs.laws.no_fault.Goals as goal
+
+pub returns : goal.returns
+returns c = no_fault

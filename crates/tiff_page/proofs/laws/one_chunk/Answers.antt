@@ -1,0 +1,5 @@
+use Rattle.tiff_page.proofs.Placing.{one_chunk}
+use Rattle.tiff_page.proofs.laws.one_chunk.Goals as goal
+
+pub returns : goal.returns
+returns c = one_chunk

@@ -1,0 +1,5 @@
+use Rattle.tiff_page.proofs.Placing.{placed_each}
+use Rattle.tiff_page.proofs.laws.placed_each.Goals as goal
+
+pub returns : goal.returns
+returns c = placed_each

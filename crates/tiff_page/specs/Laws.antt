@@ -1,0 +1,67 @@
+-- Laws of these definitions: each pixel is of one chunk of a plane, a call's fault is the first that there is, and a
+-- buffer is placed position by position.
+use Rattle.std.specs.Prelude.{◌≡◌, ℕ, ◌+◌, ◌<◌, ◌≤◌, List, length, slice_index, unwrap_or, Result, Ok, Err}
+use Rattle.tiff_base.specs.declared.color.ColorType.{ColorType}
+use Rattle.tiff_base.specs.declared.error.TiffError.{TiffError}
+use Rattle.tiff_base.specs.declared.tags.ByteOrder.{ByteOrder}
+use Rattle.tiff_page.specs.Page.{PageRecord}
+use Rattle.tiff_page.specs.Rect.{rect}
+use Rattle.tiff_page.specs.PixelFault.{each_below}
+use Rattle.tiff_page.specs.Pixels.{Region, byte_at, chunk_at}
+use Rattle.tiff_page.specs.PixelCalls.{placed}
+
+-- an image and its chunks have a width and a height
+pub record HasSides (p : PageRecord) : Type 0 where
+  pub wide : 0 < p.width
+  pub high : 0 < p.height
+  pub chunk_wide : 0 < p.chunk_width
+  pub chunk_high : 0 < p.chunk_height
+
+-- a chunk of a plane has a pixel in its rectangle
+pub record HasPixel (p : PageRecord) (i plane x y : ℕ) : Type 0 where
+  pub of_plane : (rect p i).plane ≡ plane
+  pub left : (rect p i).x ≤ x
+  pub right : x < (rect p i).x + (rect p i).width
+  pub top : (rect p i).y ≤ y
+  pub bottom : y < (rect p i).y + (rect p i).height
+
+-- each pixel of the image is of one chunk of a plane and of no other
+abbrev pub OneChunk : Type 0
+OneChunk = (file : List ℕ) (order : ByteOrder) (p : PageRecord) (plane x y : ℕ) → HasSides p → x < p.width → y < p.height
+    → HasPixel p (chunk_at file order p plane x y) plane x y
+    × ((i : ℕ) → HasPixel p i plane x y → i ≡ chunk_at file order p plane x y)
+
+-- a chunk's rectangle has a pixel, and lies within the image
+pub record IsWithin (p : PageRecord) (i : ℕ) : Type 0 where
+  pub some_column : 0 < (rect p i).width
+  pub some_row : 0 < (rect p i).height
+  pub columns : (rect p i).x + (rect p i).width ≤ p.width
+  pub rows : (rect p i).y + (rect p i).height ≤ p.height
+
+abbrev pub ChunksWithin : Type 0
+ChunksWithin = (p : PageRecord) (i : ℕ) → HasSides p → IsWithin p i
+
+-- a fault at a number, and none at those before it
+pub record IsFirst (fault : ℕ → Result (Unit {0}) TiffError) (n : ℕ) (e : TiffError) : Type 0 where
+  pub found : fault n ≡ Err e
+  pub none : (k : ℕ) → k < n → fault k ≡ Ok tt
+
+-- what is answered of those below a number is the first fault
+abbrev pub FirstFault : Type 0
+FirstFault = (fault : ℕ → Result (Unit {0}) TiffError) (n : ℕ) (e : TiffError)
+    → (each_below fault n ≡ Err e → (m : ℕ) × ((m < n) × IsFirst fault m e))
+    × ((m : ℕ) → m < n → IsFirst fault m e → each_below fault n ≡ Err e)
+
+-- and none where there is none
+abbrev pub NoFault : Type 0
+NoFault = (fault : ℕ → Result (Unit {0}) TiffError) (n : ℕ)
+    → (each_below fault n ≡ Ok tt → (k : ℕ) → k < n → fault k ≡ Ok tt)
+    × (((k : ℕ) → k < n → fault k ≡ Ok tt) → each_below fault n ≡ Ok tt)
+
+-- a buffer in which a region is placed is as long as before, and has at each position the region's byte or what it had
+abbrev pub PlacedEach : Type 0
+PlacedEach = (file : List ℕ) (order : ByteOrder) (p : PageRecord) (colour : ColorType) (region : Region file order p) (stride planes : ℕ) (buf : List ℕ)
+    → (length (placed file order p colour region stride planes buf) ≡ length buf)
+    × ((i : ℕ) → i < length buf
+    → slice_index (placed file order p colour region stride planes buf) i
+    ≡ unwrap_or (byte_at file order p colour region stride planes i) (slice_index buf i))

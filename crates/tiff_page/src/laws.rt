@@ -1,0 +1,28 @@
+//! Laws of the definitions, each the contract of a function with no work.
+
+ghost use Rattle.tiff_page.specs.Laws.{OneChunk, ChunksWithin, FirstFault, NoFault, PlacedEach};
+
+/// Each pixel of the image is of one chunk of a plane and of no other.
+pub fn one_chunk()
+    ensures { OneChunk }
+{}
+
+/// A chunk's rectangle has a pixel, and lies within the image.
+pub fn chunks_within()
+    ensures { ChunksWithin }
+{}
+
+/// What is answered of several chunks is the first fault.
+pub fn first_fault()
+    ensures { FirstFault }
+{}
+
+/// There is no fault where none has one, and nowhere else.
+pub fn no_fault()
+    ensures { NoFault }
+{}
+
+/// A buffer in which a region is placed has at each position the region's byte or what it had.
+pub fn placed_each()
+    ensures { PlacedEach }
+{}
