@@ -1,10 +1,9 @@
 -- The worked examples of Moves compute.
-use Rattle.std.specs.Prelude.{◌≡◌, refl, ℕ, List, [], ◌∷◌, reverse, Some, None, true, false, Result, Ok, Err}
+use Rattle.std.specs.Prelude.{refl, [], ◌∷◌, reverse, Some, None, true, false, Ok}
 use Rattle.std.proofs.Common.{ap}
 use Rattle.std.specs.Str.{is_utf8, chars}
 use lib.Utf8.{encode}
 use Rattle.std.specs.FinMap.{from_entries}
-use Rattle.tiff_base.specs.declared.error.TiffError.{TiffError}
 use Rattle.tiff_base.specs.declared.tags.ByteOrder.TheVariants.{LittleEndian}
 use Rattle.tiff_base.specs.declared.tags.FileKind.TheVariants.{Classic}
 use Rattle.tiff_base.specs.Answers.{◌>>=◌}
@@ -18,8 +17,6 @@ use Rattle.tiff_ifd.specs.FieldValue.{field_value}
 use Rattle.tiff_ifd.specs.Look as look
 use Rattle.tiff_ifd.specs.Look.{Look, look_in, require}
 use Rattle.tiff_page.specs.Checks.{page_of, size_of, interpretation_of, method_of, samples_of, extra_of, format_of, depth_of, predictor_of, planar_of, subsampling_of, chunk_type_of, strips_of, counted}
-use Rattle.tiff_page.specs.Page.{PageRecord}
-use Rattle.tiff_decode.specs.Machine.{State, Decoding, Outcome}
 use Rattle.tiff_decode.specs.Outcome as outcome
 use Rattle.tiff_decode.specs.Outcome.{begun, with_page}
 use Rattle.tiff_decode.specs.State.{default_limits}
@@ -207,4 +204,3 @@ string_none = refl
 pub limits_set : s.limits_set
 unfolding outcome.set_limits
 limits_set = refl
-

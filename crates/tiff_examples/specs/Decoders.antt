@@ -1,15 +1,14 @@
 -- Decoders for worked examples.
 use Rattle.std.specs.Prelude.{ℕ, List, [], ◌∷◌, ◌++◌, Some, None, true, false, reverse}
 use Rattle.std.specs.FinMap.{from_entries}
-use Rattle.tiff_base.specs.declared.tags.ByteOrder.TheVariants.{LittleEndian, BigEndian}
-use Rattle.tiff_base.specs.declared.tags.FileKind.TheVariants.{Classic, Big}
+use Rattle.tiff_base.specs.declared.tags.ByteOrder.TheVariants.{LittleEndian}
+use Rattle.tiff_base.specs.declared.tags.FileKind.TheVariants.{Classic}
 use Rattle.tiff_base.specs.declared.tags.IfdPointer.{IfdPointer}
-use Rattle.tiff_base.specs.declared.tags.«Type».TheVariants.{BYTE, ASCII, SHORT, LONG, LONG8, FLOAT, DOUBLE, RATIONAL}
 use Rattle.tiff_base.specs.Field.{Field, DirectoryRecord}
 use Rattle.tiff_base.specs.Told.{put}
 use Rattle.tiff_decode.specs.State.{default_limits}
 use Rattle.tiff_decode.specs.Machine.{State, Decoding}
-use Rattle.tiff_examples.specs.Files.{gray_file, gray_entries, one_short}
+use Rattle.tiff_examples.specs.Files.{gray_file, gray_entries}
 use Rattle.tiff_examples.specs.Shown.{pixel_page}
 
 abbrev pub at : ℕ → IfdPointer

@@ -21,3 +21,5 @@ pub mod Asked
 pub mod Given
 pub mod Samples
 pub mod Checks
+pub mod Queries
+pub mod Lists

@@ -7,7 +7,6 @@ use Rattle.tiff_base.specs.declared.tags.ByteOrder.TheVariants.{BigEndian}
 use Rattle.tiff_base.specs.declared.tags.FileKind.TheVariants.{Big}
 use Rattle.tiff_base.specs.declared.tags.Tag.TheVariants as tag
 use Rattle.tiff_ifd.specs.Limits.{unlimited}
-use Rattle.tiff_decode.specs.Machine.{State, Decoding}
 use Rattle.tiff_decode.specs.Outcome as outcome
 use Rattle.tiff_decode.specs.Outcome.{begun}
 use Rattle.tiff_examples.specs.Files.{gray_file}

@@ -1,9 +1,9 @@
 //! Worked examples of the definitions that the contracts of the other crates cite.
 #![tactic(auto)]
 
+pub mod ask;
 pub mod buffer;
 pub mod call;
-pub mod ask;
 pub mod chain;
 pub mod check;
 pub mod conversion;
@@ -18,7 +18,9 @@ pub mod number;
 pub mod opening;
 pub mod page;
 pub mod pixels;
+pub mod query;
 pub mod runs;
 pub mod sample;
+pub mod steps;
 pub mod value;
 pub mod writer;

@@ -1,0 +1,21 @@
+-- Each example is proved in proofs/Queries.antt.
+use Rattle.tiff_examples.proofs.Queries as p
+use Rattle.tiff_examples.proofs.query.pixels.Goals as goal
+
+pub returns : goal.returns
+returns c = (
+  p.image_read,
+  p.image_cut,
+  p.buffer_read,
+  p.buffer_cut,
+  p.slice_read,
+  p.slice_short,
+  p.chunk_read,
+  p.chunk_past,
+  p.chunk_slice,
+  p.chunk_slice_short,
+  p.chunk_apart,
+  p.chunk_stride,
+  p.unit_read,
+  p.unit_absent,
+)

@@ -1,0 +1,19 @@
+-- Each example is proved in proofs/Lists.antt.
+use Rattle.tiff_examples.proofs.Lists as p
+use Rattle.tiff_examples.proofs.steps.one_call.Goals as goal
+
+pub returns : goal.returns
+returns c = (
+  p.sides_told,
+  p.sides_wrong,
+  p.other_call,
+  p.left_elsewhere,
+  p.failed_read,
+  p.no_failed_read,
+  p.no_read,
+  p.moved_by_failure,
+  p.wanting,
+  p.not_wanting,
+  p.colour_told,
+  p.colour_wanting,
+)

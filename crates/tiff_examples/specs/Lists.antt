@@ -1,0 +1,173 @@
+-- Worked lists of calls of decoders, with their replies.
+use Rattle.std.specs.Prelude.{◌≡◌, List, [], ◌∷◌, Some, None, true, false, Ok, Err}
+use Rattle.tiff_base.specs.declared.color.ChunkType.TheVariants.{Strip}
+use Rattle.tiff_base.specs.declared.color.ColorType.TheVariants.{Gray}
+use Rattle.tiff_base.specs.declared.error.TiffError.TheVariants.{FormatError, IoError, OutOfMemory}
+use Rattle.tiff_base.specs.declared.error.TiffFormatError.TheVariants.{ImageFileDirectoryNotFound, CycleInOffsets}
+use Rattle.tiff_base.specs.declared.io.IoKind.TheVariants.{UnexpectedEof, Device}
+use Rattle.tiff_base.specs.declared.tags.ByteOrder.TheVariants.{LittleEndian}
+use Rattle.tiff_decode.specs.declared.script.Call.{Call}
+use Rattle.tiff_decode.specs.declared.script.Call.TheVariants as call
+use Rattle.tiff_decode.specs.declared.script.Reply.{Reply}
+use Rattle.tiff_decode.specs.declared.script.Reply.TheVariants as reply
+use Rattle.tiff_decode.specs.Outcome as outcome
+use Rattle.tiff_decode.specs.Failures.{all_failures, fault_in}
+use Rattle.tiff_decode.specs.Once.{next_state, IsNamed, SameAnswer}
+use Rattle.tiff_decode.specs.Step.{Step}
+use Rattle.tiff_decode.specs.Steps.{Steps, Ran}
+use Rattle.tiff_examples.specs.Decoders.{at, gray_state, gray_fields, gray_decoder, two_decoder}
+
+-- no such thing
+abbrev pub Never : Type 0 → Type 0
+Never A = A → ⊥
+
+-- ---- one call
+
+-- the sides of the page, and other ones
+abbrev pub sides_told : Type 0
+sides_told = Step gray_decoder call.Dimensions (reply.Dimensions (Ok (1, 1))) gray_decoder
+
+abbrev pub sides_wrong : Type 0
+sides_wrong = Never (Step gray_decoder call.Dimensions (reply.Dimensions (Ok (1, 2))) gray_decoder)
+
+-- the answer of another call
+abbrev pub other_call : Type 0
+other_call = Never (Step gray_decoder call.StripCount (reply.TileCount (Ok 1)) gray_decoder)
+
+-- a call that is told, but leaves the decoder elsewhere
+abbrev pub left_elsewhere : Type 0
+left_elsewhere =
+    Never (Step gray_decoder call.MoreImages (reply.MoreImages false) (record gray_decoder { state = record gray_state { place = 9 } }))
+
+-- a fault of the device is a failed read, and the decoder stays
+abbrev pub failed_read : Type 0
+failed_read = Step gray_decoder call.ReadByte (reply.ReadByte (Err (IoError Device))) (record gray_decoder { failures = 1 })
+
+-- without a failed read there is none
+abbrev pub no_failed_read : Type 0
+no_failed_read = Never (Step gray_decoder call.ReadByte (reply.ReadByte (Err (IoError Device))) gray_decoder)
+
+-- a call that reads nothing has none at all
+abbrev pub no_read : Type 0
+no_read = Never (Step gray_decoder call.Dimensions (reply.Dimensions (Err (IoError Device))) (record gray_decoder { failures = 1 }))
+
+-- a failed read that moved the place
+abbrev pub moved_by_failure : Type 0
+moved_by_failure =
+    Never (Step gray_decoder call.ReadByte (reply.ReadByte (Err (IoError Device)))
+    (record gray_decoder { failures = 1; state = record gray_state { place = 9 } }))
+
+-- want of memory of a call that takes memory, and of one that takes none
+abbrev pub wanting : Type 0
+wanting = Step gray_decoder call.NextImage (reply.NextImage (Err OutOfMemory)) gray_decoder
+
+abbrev pub not_wanting : Type 0
+not_wanting = Never (Step gray_decoder call.ReadByte (reply.ReadByte (Err OutOfMemory)) gray_decoder)
+
+-- a colour is told without memory
+abbrev pub colour_told : Type 0
+colour_told = Step gray_decoder call.Colortype (reply.Colortype (Ok (Gray 8))) gray_decoder
+
+abbrev pub colour_wanting : Type 0
+colour_wanting = Never (Step gray_decoder call.Colortype (reply.Colortype (Err OutOfMemory)) gray_decoder)
+
+-- ---- several calls
+
+-- the calls of a reader of the file of one gray pixel
+abbrev pub gray_calls : List Call
+gray_calls = call.Dimensions ∷ call.NextImage ∷ call.MoreImages ∷ call.GotoOffset 24 ∷ call.ReadByte ∷ call.IfdPointer ∷ []
+
+abbrev pub gray_replies : List Reply
+gray_replies = reply.Dimensions (Ok (1, 1)) ∷ reply.NextImage (Err (FormatError ImageFileDirectoryNotFound)) ∷ reply.MoreImages false
+    ∷ reply.GotoOffset (Ok tt) ∷ reply.ReadByte (Ok 7) ∷ reply.IfdPointer (Some (at 25)) ∷ []
+
+abbrev pub gray_read : Type 0
+gray_read = Steps gray_decoder gray_calls gray_replies (record gray_decoder { state = record gray_state { place = 25 } })
+
+-- no calls leave the decoder as it is
+abbrev pub none_called : Type 0
+none_called = Steps gray_decoder [] [] gray_decoder
+
+-- each call has a reply
+abbrev pub one_unanswered : Type 0
+one_unanswered = Never (Steps gray_decoder (call.MoreImages ∷ []) [] gray_decoder)
+
+abbrev pub one_unasked : Type 0
+one_unasked = Never (Steps gray_decoder [] (reply.MoreImages false ∷ []) gray_decoder)
+
+-- after a cycle there are no more images
+abbrev pub cycle_steps : Type 0
+cycle_steps =
+    let d = two_decoder (0x19 ∷ 0x00 ∷ 0x00 ∷ 0x00 ∷ []) in
+    Steps d (call.MoreImages ∷ call.NextImage ∷ call.MoreImages ∷ [])
+    (reply.MoreImages true ∷ reply.NextImage (Err (FormatError CycleInOffsets)) ∷ reply.MoreImages false ∷ [])
+    (record d { state = record d.state { more = false } })
+
+-- two failed reads among three replies, behind an earlier one
+abbrev pub failing_replies : List Reply
+failing_replies = reply.ReadByte (Err (IoError Device)) ∷ reply.MoreImages false ∷ reply.ReadLong (Err (IoError Device)) ∷ []
+
+abbrev pub two_failures : Type 0
+two_failures = all_failures failing_replies ≡ 2
+
+abbrev pub no_failures : Type 0
+no_failures = all_failures (reply.ReadByte (Err (IoError UnexpectedEof)) ∷ reply.NextImage (Err OutOfMemory) ∷ []) ≡ 0
+
+abbrev pub failing_ran : Type 0
+failing_ran =
+    Ran gray_decoder (call.ReadByte ∷ call.MoreImages ∷ call.ReadLong ∷ []) (reply.MoreImages true ∷ [])
+    (reply.MoreImages true ∷ failing_replies) (record gray_decoder { failures = 2 })
+
+-- ---- the state after a call
+
+abbrev pub next_of_long : Type 0
+next_of_long = next_state gray_decoder call.ReadLong ≡ record gray_state { place = 12 }
+
+abbrev pub next_of_sides : Type 0
+next_of_sides = next_state gray_decoder call.Dimensions ≡ gray_state
+
+abbrev pub fault_told : Type 0
+fault_told = fault_in (reply.NextImage (Err (FormatError CycleInOffsets))) ≡ Some (FormatError CycleInOffsets)
+
+abbrev pub no_fault_told : Type 0
+no_fault_told = fault_in (reply.MoreImages false) ≡ None
+
+-- what is no escape, and what is one
+abbrev pub named : Type 0
+named = IsNamed (reply.NextImage (Err (FormatError CycleInOffsets)))
+
+abbrev pub not_named : Type 0
+not_named = Never (IsNamed (reply.NextImage (Err OutOfMemory)))
+
+-- two replies that tell the same, and two that don't
+abbrev pub same : Type 0
+same = SameAnswer (reply.ReadByte (Ok 7)) (reply.ReadByte (Ok 7))
+
+abbrev pub not_same : Type 0
+not_same = Never (SameAnswer (reply.ReadByte (Ok 7)) (reply.ReadByte (Ok 8)))
+
+abbrev pub not_same_call : Type 0
+not_same_call = Never (SameAnswer (reply.StripCount (Ok 7)) (reply.TileCount (Ok 7)))
+
+-- ---- directories
+
+-- the directory of the file of one gray pixel, from any place of the decoder
+abbrev pub directory_read : Type 0
+directory_read = outcome.read_directory (record gray_decoder { state = record gray_state { pointer = None } }) (at 25) ≡ record { answer = Ok gray_fields; next = record gray_state { pointer = None } }
+
+-- at 0 and past the end
+abbrev pub directory_past : Type 0
+directory_past = outcome.read_directory gray_decoder (at 199) ≡ record { answer = Err (IoError UnexpectedEof); next = gray_state }
+
+-- what a decoder says of itself
+abbrev pub told_of : Type 0
+told_of =
+    (outcome.ifd_pointer gray_decoder ≡ Some (at 25)) × (outcome.more_images gray_decoder ≡ false)
+    × (outcome.byte_order gray_decoder ≡ LittleEndian) × (outcome.get_chunk_type gray_decoder ≡ Strip)
+
+abbrev pub told_of_two : Type 0
+told_of_two = outcome.more_images (two_decoder []) ≡ true
+
+abbrev pub chunk_sides : Type 0
+chunk_sides =
+    (outcome.chunk_dimensions gray_decoder ≡ (1, 1000000)) × (outcome.chunk_data_dimensions gray_decoder 5 ≡ (1, 1))

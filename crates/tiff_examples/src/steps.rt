@@ -1,0 +1,21 @@
+//! Worked lists of calls of decoders.
+
+ghost use Rattle.tiff_examples.specs.Lists as s;
+
+/// One call with its reply.
+pub fn one_call()
+    ensures { s.sides_told × s.sides_wrong × s.other_call × s.left_elsewhere × s.failed_read × s.no_failed_read × s.no_read ×
+        s.moved_by_failure × s.wanting × s.not_wanting × s.colour_told × s.colour_wanting }
+{}
+
+/// Several calls with their replies.
+pub fn several_calls()
+    ensures { s.gray_read × s.none_called × s.one_unanswered × s.one_unasked × s.cycle_steps × s.two_failures × s.no_failures ×
+        s.failing_ran }
+{}
+
+/// What replies tell.
+pub fn replies()
+    ensures { s.next_of_long × s.next_of_sides × s.fault_told × s.no_fault_told × s.named × s.not_named × s.same × s.not_same ×
+        s.not_same_call × s.directory_read × s.directory_past × s.told_of × s.told_of_two × s.chunk_sides }
+{}
