@@ -12,7 +12,7 @@ pub mod Shown
 pub mod Openings
 pub mod Written
 pub mod Buffers
-pub mod Calls
+pub mod Slices
 pub mod Decoders
 pub mod Moves
 pub mod Chains

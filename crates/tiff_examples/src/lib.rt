@@ -3,7 +3,7 @@
 
 pub mod ask;
 pub mod buffer;
-pub mod call;
+pub mod slice;
 pub mod chain;
 pub mod check;
 pub mod conversion;

@@ -1,6 +1,6 @@
 //! Worked calls that read pixels.
 
-ghost use Rattle.tiff_examples.specs.Calls as s;
+ghost use Rattle.tiff_examples.specs.Slices as s;
 
 /// Images, into a slice too.
 pub fn images()

@@ -1,6 +1,6 @@
--- Each example is proved in proofs/Calls.antt.
-use Rattle.tiff_examples.proofs.Calls as p
-use Rattle.tiff_examples.proofs.call.planes.Goals as goal
+-- Each example is proved in proofs/Slices.antt.
+use Rattle.tiff_examples.proofs.Slices as p
+use Rattle.tiff_examples.proofs.slice.planes.Goals as goal
 
 pub returns : goal.returns
 returns c = (

@@ -1,4 +1,4 @@
--- The worked examples of Calls compute.
+-- The worked examples of Slices compute.
 use Rattle.std.specs.Prelude.{refl}
 use Rattle.tiff_base.specs.Number.{number}
 use Rattle.tiff_page.specs.Rect.{rect}
@@ -8,7 +8,7 @@ use Rattle.tiff_page.specs.Pixels.{shown_sample, byte_at, image_bytes, numbers_i
 use Rattle.tiff_page.specs.PixelFault.{depth_fault, predictor_fault, white_fault, form_fault}
 use Rattle.tiff_page.specs.Image.{image_of}
 use Rattle.tiff_page.specs.PixelCalls.{placed, filled, samples, read_image_bytes, read_image_to_buffer, read_chunk, read_chunk_bytes, read_chunk_to_buffer, read_coding_unit_bytes}
-use Rattle.tiff_examples.specs.Calls as s
+use Rattle.tiff_examples.specs.Slices as s
 
 pub plane_read : s.plane_read
 unfolding image_of numbers_in image_bytes planes_layout layout_of colour_of row_bits sample_type_of rect form_fault depth_fault predictor_fault white_fault number byte_at shown_sample
