@@ -1,8 +1,19 @@
 //! Laws of the definitions, each the contract of a function with no work.
 
+ghost use Rattle.tiff_base.specs.Blocks.{IsUnpacked, IsOneUnpacked};
 ghost use Rattle.tiff_base.specs.Turned.{TurnsBack};
 
 /// Bytes that are turned from one order into another and back are as they were; a ragged end stays.
 pub fn turns_back()
     ensures { TurnsBack }
+{}
+
+/// A list of bytes unpacks, by its blocks, to what `runs` says.
+pub fn unpacked()
+    ensures { IsUnpacked }
+{}
+
+/// It unpacks to nothing else.
+pub fn one_unpacked()
+    ensures { IsOneUnpacked }
 {}

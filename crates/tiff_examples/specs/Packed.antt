@@ -1,5 +1,6 @@
 -- Worked packed lists.
 use Rattle.std.specs.Prelude.{◌≡◌, true, false, [], ◌∷◌, replicate}
+use Rattle.tiff_base.specs.Blocks.{IsBlock, Literal, Repeated, Unpacks}
 use Rattle.tiff_base.specs.Runs.{Plain, Broken, runs}
 
 -- three runs and two literals (TIFF 6.0 section 9)
@@ -51,3 +52,36 @@ shortest_run = runs false (0xff ∷ 0xaa ∷ []) ≡ record { out = (0xaa ∷ 0x
 
 abbrev pub longest_run : Type 0
 longest_run = runs false (0x81 ∷ 0x41 ∷ []) ≡ record { out = replicate 128 0x41; end = Plain }
+
+-- ---- by blocks
+
+-- three blocks: a byte three times, nothing, three bytes as they stand
+abbrev pub three_blocks : Type 0
+three_blocks =
+    Unpacks (0xfe ∷ 0xaa ∷ 0x80 ∷ 0x02 ∷ 0x80 ∷ 0x00 ∷ 0x2a ∷ []) false (0xaa ∷ 0xaa ∷ 0xaa ∷ 0x80 ∷ 0x00 ∷ 0x2a ∷ []) Plain
+
+-- a literal of four bytes of which two are there ends plainly, whether the source ended early or not
+abbrev pub short_block : Type 0
+short_block = Unpacks (0x03 ∷ 0x01 ∷ 0x02 ∷ []) true (0x01 ∷ 0x02 ∷ []) Plain
+
+-- one of one byte of which none is there
+abbrev pub bare_block : Type 0
+bare_block = Unpacks (0x00 ∷ []) false [] Plain
+
+-- a byte 128 times and a byte twice, each missing its byte
+abbrev pub headless_128 : Type 0
+headless_128 = Unpacks (0x81 ∷ []) false [] Broken
+
+abbrev pub headless_2 : Type 0
+headless_2 = Unpacks (0xff ∷ []) true [] Broken
+
+-- no bytes, at the end of the source and before
+abbrev pub empty_early : Type 0
+empty_early = Unpacks [] true [] Broken
+
+abbrev pub empty_whole : Type 0
+empty_whole = Unpacks [] false [] Plain
+
+-- a block that nothing stands for is none of one byte, nor of 129
+abbrev pub no_block : Type 0
+no_block = (IsBlock (Repeated 1 7) → ⊥) × (IsBlock (Repeated 129 7) → ⊥) × (IsBlock (Literal []) → ⊥)

@@ -1,0 +1,5 @@
+use Rattle.tiff_base.proofs.Blocks.{unpacked}
+use Rattle.tiff_base.proofs.laws.unpacked.Goals as goal
+
+pub returns : goal.returns
+returns c = unpacked
