@@ -16,3 +16,4 @@ pub mod Converted
 pub mod Asked
 pub mod Given
 pub mod Samples
+pub mod ShortAnswers

@@ -16,5 +16,6 @@ pub mod page;
 pub mod pixels;
 pub mod runs;
 pub mod sample;
+pub mod told;
 pub mod value;
 pub mod writer;
