@@ -96,6 +96,9 @@ u32s_rational = refl
 pub u32s_rational_big : s.u32s_rational_big
 u32s_rational_big = refl
 
+pub u32s_big_fits : s.u32s_big_fits
+u32s_big_fits = refl
+
 pub u32s_text : s.u32s_text
 unfolding chars
 u32s_text = refl
@@ -141,6 +144,9 @@ i32s_rational = refl
 
 pub i32s_too_great : s.i32s_too_great
 i32s_too_great = refl
+
+pub i32s_big_fits : s.i32s_big_fits
+i32s_big_fits = refl
 
 pub i32s_first_fault : s.i32s_first_fault
 i32s_first_fault = refl

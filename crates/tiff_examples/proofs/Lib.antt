@@ -22,3 +22,4 @@ pub mod Samples
 pub mod Checks
 pub mod Queries
 pub mod Lists
+pub mod ShortAnswers

@@ -141,6 +141,10 @@ abbrev pub u32s_rational_big : Type 0
 u32s_rational_big =
     into_u32_vec (rational_big 72 4294967296) ≡ Err IntSizeError
 
+abbrev pub u32s_big_fits : Type 0
+u32s_big_fits =
+    into_u32_vec (rational_big 72 1) ≡ Ok (72 ∷ 1 ∷ [])
+
 -- the numbers of a text's characters
 abbrev pub u32s_text : Type 0
 u32s_text =
@@ -205,6 +209,10 @@ i32s_rational =
 abbrev pub i32s_too_great : Type 0
 i32s_too_great =
     into_i32_vec (srational_big (pos 1) (pos 2147483648)) ≡ Err IntSizeError
+
+abbrev pub i32s_big_fits : Type 0
+i32s_big_fits =
+    into_i32_vec (srational_big (pos 1) (negsuc 2)) ≡ Ok (pos 1 ∷ negsuc 2 ∷ [])
 
 -- the first item that fails is told
 abbrev pub i32s_first_fault : Type 0

@@ -23,3 +23,4 @@ pub mod Samples
 pub mod Checks
 pub mod Queries
 pub mod Lists
+pub mod ShortAnswers

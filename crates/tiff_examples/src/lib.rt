@@ -22,5 +22,6 @@ pub mod query;
 pub mod runs;
 pub mod sample;
 pub mod steps;
+pub mod told;
 pub mod value;
 pub mod writer;

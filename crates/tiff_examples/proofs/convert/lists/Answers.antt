@@ -11,6 +11,7 @@ returns c = (
   p.u32s_too_great,
   p.u32s_rational,
   p.u32s_rational_big,
+  p.u32s_big_fits,
   p.u32s_text,
   p.u32s_rational_item,
   p.f32s_list,

@@ -9,6 +9,7 @@ returns c = (
   p.i32s_one,
   p.i32s_rational,
   p.i32s_too_great,
+  p.i32s_big_fits,
   p.i32s_first_fault,
   p.i32s_first_kind,
   p.i32s_nested,
