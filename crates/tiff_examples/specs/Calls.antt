@@ -95,6 +95,11 @@ too_many_bytes =
     read_image_bytes [] LittleEndian (record largest_page { samples = 2; planar = Planar }) unlimited []
     ≡ Err LimitsExceeded
 
+abbrev pub image_planes : Type 0
+image_planes =
+    image_of [] LittleEndian (record largest_page { samples = 2; planar = Planar; format = format.Void }) unlimited
+    ≡ Err LimitsExceeded
+
 -- a pixel of two samples of which one is past the strip's byte count
 abbrev pub past_count : Type 0
 past_count =
@@ -272,6 +277,11 @@ void_in_slice =
 abbrev pub tile_strided : Type 0
 tile_strided =
     read_chunk_to_buffer tiled_file LittleEndian tiled_page unlimited 1 2 ≡ Ok (bytes (3 ∷ 0 ∷ 6 ∷ 0 ∷ []))
+
+-- rows that touch each other
+abbrev pub no_gaps : Type 0
+no_gaps =
+    read_chunk_to_buffer tiled_file LittleEndian tiled_page unlimited 0 2 ≡ Ok (bytes (1 ∷ 2 ∷ 4 ∷ 5 ∷ []))
 
 -- rows of no byte, told before too many bytes, which are told before the number type
 abbrev pub short_stride : Type 0

@@ -9,6 +9,7 @@ returns c = (
   p.chunk_no_room,
   p.void_in_slice,
   p.tile_strided,
+  p.no_gaps,
   p.short_stride,
   p.long_stride,
   p.long_stride_of_last,
