@@ -25,8 +25,9 @@ pub fn chunks()
 /// Chunks in slices and in rows apart.
 pub fn slices()
     ensures { s.chunk_in_slice × s.chunk_of_second × s.chunk_no_room × s.void_in_slice ×
-        s.tile_strided × s.no_gaps × s.short_stride × s.long_stride × s.long_stride_of_last ×
-        s.gaps_count × s.planes_before_stride × s.odd_stride }
+        s.tile_strided × s.wide_tile_rows × s.wide_tile_short × s.no_gaps × s.short_stride ×
+        s.long_stride × s.long_stride_of_last × s.gaps_count × s.planes_before_stride ×
+        s.odd_stride }
 {}
 
 /// Coding units.

@@ -9,6 +9,8 @@ returns c = (
   p.chunk_no_room,
   p.void_in_slice,
   p.tile_strided,
+  p.wide_tile_rows,
+  p.wide_tile_short,
   p.no_gaps,
   p.short_stride,
   p.long_stride,
