@@ -72,6 +72,10 @@ pub void_image : s.void_image
 unfolding image_buffer_layout image_chunk_buffer_layout image_coding_unit_layout planes_layout layout_of colour_of row_bits no_colour sample_type_of rect
 void_image = refl
 
+pub float_image : s.float_image
+unfolding image_buffer_layout image_chunk_buffer_layout image_coding_unit_layout planes_layout layout_of colour_of row_bits no_colour sample_type_of rect
+float_image = refl
+
 pub void_chunk : s.void_chunk
 unfolding image_buffer_layout image_chunk_buffer_layout image_coding_unit_layout planes_layout layout_of colour_of row_bits no_colour sample_type_of rect
 void_chunk = refl

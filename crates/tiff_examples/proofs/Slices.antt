@@ -49,6 +49,10 @@ unfolding read_image_bytes read_image_to_buffer read_chunk read_chunk_bytes read
     filled samples placed numbers_in planes_layout layout_of colour_of row_bits sample_type_of rect form_fault depth_fault predictor_fault white_fault number byte_at shown_sample
 too_many_bytes = refl
 
+pub image_planes : s.image_planes
+unfolding image_of numbers_in image_bytes planes_layout layout_of colour_of row_bits sample_type_of rect form_fault depth_fault predictor_fault white_fault number byte_at shown_sample
+image_planes = refl
+
 pub past_count : s.past_count
 unfolding image_of numbers_in image_bytes planes_layout layout_of colour_of row_bits sample_type_of rect form_fault depth_fault predictor_fault white_fault number byte_at shown_sample
 past_count = refl
@@ -192,6 +196,21 @@ pub tile_strided : s.tile_strided
 unfolding read_image_bytes read_image_to_buffer read_chunk read_chunk_bytes read_chunk_to_buffer read_coding_unit_bytes
     filled samples placed numbers_in planes_layout layout_of colour_of row_bits sample_type_of rect form_fault depth_fault predictor_fault white_fault number byte_at shown_sample
 tile_strided = refl
+
+pub wide_tile_rows : s.wide_tile_rows
+unfolding read_image_bytes read_image_to_buffer read_chunk read_chunk_bytes read_chunk_to_buffer read_coding_unit_bytes
+    filled samples placed numbers_in planes_layout layout_of colour_of row_bits sample_type_of rect form_fault depth_fault predictor_fault white_fault number byte_at shown_sample
+wide_tile_rows = refl
+
+pub wide_tile_short : s.wide_tile_short
+unfolding read_image_bytes read_image_to_buffer read_chunk read_chunk_bytes read_chunk_to_buffer read_coding_unit_bytes
+    filled samples placed numbers_in planes_layout layout_of colour_of row_bits sample_type_of rect form_fault depth_fault predictor_fault white_fault number byte_at shown_sample
+wide_tile_short = refl
+
+pub no_gaps : s.no_gaps
+unfolding read_image_bytes read_image_to_buffer read_chunk read_chunk_bytes read_chunk_to_buffer read_coding_unit_bytes
+    filled samples placed numbers_in planes_layout layout_of colour_of row_bits sample_type_of rect form_fault depth_fault predictor_fault white_fault number byte_at shown_sample
+no_gaps = refl
 
 pub short_stride : s.short_stride
 unfolding read_image_bytes read_image_to_buffer read_chunk read_chunk_bytes read_chunk_to_buffer read_coding_unit_bytes

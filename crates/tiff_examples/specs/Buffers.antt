@@ -107,6 +107,11 @@ void_image =
     image_buffer_layout void_page
     ≡ Ok (record (of_bytes 12 4 1 12) { sample_format = format.Void; sample_type = None })
 
+abbrev pub float_image : Type 0
+float_image =
+    image_buffer_layout (record gray_page { format = format.IEEEFP })
+    ≡ Ok (record (of_bytes 12 4 1 12) { sample_format = format.IEEEFP; sample_type = None })
+
 abbrev pub void_chunk : Type 0
 void_chunk =
     image_chunk_buffer_layout void_page 0 ≡ Err (UnsupportedError (UnsupportedSampleFormat (format.Void ∷ [])))

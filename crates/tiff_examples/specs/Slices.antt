@@ -1,7 +1,9 @@
 -- Worked calls that read pixels.
-use Rattle.std.specs.Prelude.{◌≡◌, ℕ, List, [], ◌∷◌, ◌++◌, ◌^◌, Ok, Err, take, replicate}
+use Rattle.std.specs.Prelude.{◌≡◌, ℕ, List, [], ◌∷◌, ◌++◌, ◌^◌, Result, Ok, Err, take, drop, replicate}
+use Rattle.std.specs.List.{range_with_len}
 use Rattle.tiff_base.specs.declared.color.ChunkType.TheVariants.{Tile}
 use Rattle.tiff_base.specs.declared.color.ColorType.TheVariants as colour
+use Rattle.tiff_base.specs.declared.error.TiffError.{TiffError}
 use Rattle.tiff_base.specs.declared.error.TiffError.TheVariants.{FormatError, UnsupportedError, UsageError, IoError, LimitsExceeded}
 use Rattle.tiff_base.specs.declared.error.TiffFormatError.TheVariants.{InconsistentSizesEncountered}
 use Rattle.tiff_base.specs.declared.error.TiffUnsupportedError.TheVariants.{UnsupportedCompressionMethod, UnsupportedSampleFormat, UnsupportedSampleDepth}
@@ -26,6 +28,11 @@ use Rattle.tiff_examples.specs.Buffers.{of_bytes, largest_page}
 -- numbers of one byte
 abbrev pub bytes : List ℕ → Decoded
 bytes numbers = record { sample_type = type.U8; numbers = numbers }
+
+-- the first 16 numbers of 256, and the last
+abbrev pub rows_of : Result Decoded TiffError → List ℕ × List ℕ
+rows_of (Ok d) = (take 16 d.numbers, drop 240 d.numbers)
+rows_of (Err e) = ([], [])
 
 -- two planes of 3 by 3 samples in tiles of 2 by 2: each byte of chunk c is c + 1
 abbrev pub two_planes : PageRecord
@@ -93,6 +100,11 @@ plane_not_read =
 abbrev pub too_many_bytes : Type 0
 too_many_bytes =
     read_image_bytes [] LittleEndian (record largest_page { samples = 2; planar = Planar }) unlimited []
+    ≡ Err LimitsExceeded
+
+abbrev pub image_planes : Type 0
+image_planes =
+    image_of [] LittleEndian (record largest_page { samples = 2; planar = Planar; format = format.Void }) unlimited
     ≡ Err LimitsExceeded
 
 -- a pixel of two samples of which one is past the strip's byte count
@@ -272,6 +284,37 @@ void_in_slice =
 abbrev pub tile_strided : Type 0
 tile_strided =
     read_chunk_to_buffer tiled_file LittleEndian tiled_page unlimited 1 2 ≡ Ok (bytes (3 ∷ 0 ∷ 6 ∷ 0 ∷ []))
+
+-- the first row of a tile of 16 by 16, of which the image has four columns, and its last
+abbrev pub wide_tiles : PageRecord
+wide_tiles = record tiled_page {
+  width = 20;
+  height = 20;
+  chunk_width = 16;
+  chunk_height = 16;
+  offsets = 0 ∷ 0 ∷ 0 ∷ 0 ∷ [];
+  byte_counts = replicate 4 256;
+}
+
+abbrev pub first_16 : List ℕ
+first_16 = 0 ∷ 1 ∷ 2 ∷ 3 ∷ replicate 12 0
+
+abbrev pub last_16 : List ℕ
+last_16 = 0xf0 ∷ 0xf1 ∷ 0xf2 ∷ 0xf3 ∷ replicate 12 0
+
+abbrev pub wide_tile_rows : Type 0
+wide_tile_rows =
+    rows_of (read_chunk_to_buffer (range_with_len 0 256) LittleEndian wide_tiles unlimited 1 16) ≡ (first_16, last_16)
+
+abbrev pub wide_tile_short : Type 0
+wide_tile_short =
+    read_chunk_to_buffer (range_with_len 0 256) LittleEndian wide_tiles unlimited 1 3
+    ≡ Err (UsageError (InsufficientOutputRowStride 4 3))
+
+-- rows that touch each other
+abbrev pub no_gaps : Type 0
+no_gaps =
+    read_chunk_to_buffer tiled_file LittleEndian tiled_page unlimited 0 2 ≡ Ok (bytes (1 ∷ 2 ∷ 4 ∷ 5 ∷ []))
 
 -- rows of no byte, told before too many bytes, which are told before the number type
 abbrev pub short_stride : Type 0

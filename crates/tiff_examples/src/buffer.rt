@@ -12,8 +12,8 @@ pub fn counts()
 /// Buffers for images, and those for chunks.
 pub fn images()
     ensures { s.two_planes × s.three_planes × s.one_plane × s.of_12_bits × s.void_image ×
-        s.void_chunk × s.largest_image × s.largest_planes × s.largest_chunk × s.largest_void ×
-        s.half_image × s.half_tile × s.rounded_up × s.planar_chunk }
+        s.float_image × s.void_chunk × s.largest_image × s.largest_planes × s.largest_chunk ×
+        s.largest_void × s.half_image × s.half_tile × s.rounded_up × s.planar_chunk }
 {}
 
 /// Buffers for coding units, and zeros for a buffer.

@@ -5,8 +5,8 @@ ghost use Rattle.tiff_examples.specs.Slices as s;
 /// Images, into a slice too.
 pub fn images()
     ensures { s.plane_read × s.both_planes × s.only_plane × s.no_third_plane × s.no_room ×
-        s.first_chunk_first × s.plane_not_read × s.too_many_bytes × s.past_count × s.past_end ×
-        s.float_8 × s.void × s.tile_placed × s.image_placed }
+        s.first_chunk_first × s.plane_not_read × s.too_many_bytes × s.image_planes × s.past_count ×
+        s.past_end × s.float_8 × s.void × s.tile_placed × s.image_placed }
 {}
 
 /// All planes of an image, or the first.
@@ -25,8 +25,9 @@ pub fn chunks()
 /// Chunks in slices and in rows apart.
 pub fn slices()
     ensures { s.chunk_in_slice × s.chunk_of_second × s.chunk_no_room × s.void_in_slice ×
-        s.tile_strided × s.short_stride × s.long_stride × s.long_stride_of_last × s.gaps_count ×
-        s.planes_before_stride × s.odd_stride }
+        s.tile_strided × s.wide_tile_rows × s.wide_tile_short × s.no_gaps × s.short_stride ×
+        s.long_stride × s.long_stride_of_last × s.gaps_count × s.planes_before_stride ×
+        s.odd_stride }
 {}
 
 /// Coding units.

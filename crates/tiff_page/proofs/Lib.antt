@@ -2,3 +2,4 @@ pub mod Sizes
 pub mod Strip
 pub mod Gray
 pub mod Placing
+pub mod Planes

@@ -1,14 +1,19 @@
--- Laws of these definitions: each pixel is of one chunk of a plane, a call's fault is the first that there is, and a
--- buffer is placed position by position.
+-- Laws of these definitions: each pixel is of one chunk of a plane, a call's fault is the first that there is, a buffer
+-- is placed position by position, an image is read as its first plane, and no row is empty.
 use Rattle.std.specs.Prelude.{◌≡◌, ℕ, ◌+◌, ◌<◌, ◌≤◌, List, length, slice_index, unwrap_or, Result, Ok, Err}
 use Rattle.tiff_base.specs.declared.color.ColorType.{ColorType}
 use Rattle.tiff_base.specs.declared.error.TiffError.{TiffError}
 use Rattle.tiff_base.specs.declared.tags.ByteOrder.{ByteOrder}
+use Rattle.tiff_base.specs.Answers.{◌>>=◌}
+use Rattle.tiff_ifd.specs.declared.limits.Limits.{Limits}
 use Rattle.tiff_page.specs.Page.{PageRecord}
 use Rattle.tiff_page.specs.Rect.{rect}
+use Rattle.tiff_page.specs.Layout.{LayoutRecord, layout_of}
 use Rattle.tiff_page.specs.PixelFault.{each_below}
 use Rattle.tiff_page.specs.Pixels.{Region, byte_at, chunk_at}
-use Rattle.tiff_page.specs.PixelCalls.{placed}
+use Rattle.tiff_page.specs.Image.{Decoded, image_of}
+use Rattle.tiff_page.specs.Buffers.{planes_layout}
+use Rattle.tiff_page.specs.PixelCalls.{placed, image_part, samples}
 
 -- an image and its chunks have a width and a height
 pub record HasSides (p : PageRecord) : Type 0 where
@@ -65,3 +70,18 @@ PlacedEach = (file : List ℕ) (order : ByteOrder) (p : PageRecord) (colour : Co
     × ((i : ℕ) → i < length buf
     → slice_index (placed file order p colour region stride planes buf) i
     ≡ unwrap_or (byte_at file order p colour region stride planes i) (slice_index buf i))
+
+-- reading an image is reading all its chunks in one plane, as the other calls read them
+abbrev pub first_plane : List ℕ → ByteOrder → PageRecord → Limits → Result Decoded TiffError
+first_plane file order p limits = do
+  layout ← planes_layout p p.width p.height
+  samples file order p limits layout.colour (image_part file order p 1 layout.row_bytes) layout.plane_stride
+
+abbrev pub ImageIsFirstPlane : Type 0
+ImageIsFirstPlane = (file : List ℕ) (order : ByteOrder) (p : PageRecord) (limits : Limits)
+    → image_of file order p limits ≡ first_plane file order p limits
+
+-- the rows and the planes of a layout of a page are of some bytes
+abbrev pub SomeBytes : Type 0
+SomeBytes = (p : PageRecord) (width height : ℕ) (layout : LayoutRecord) → 0 < width → 0 < height → 0 < p.depth → 0 < p.samples
+    → layout_of p width height ≡ Ok layout → (0 < layout.row_bytes) × (0 < layout.plane_stride)

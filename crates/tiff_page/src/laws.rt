@@ -1,6 +1,6 @@
 //! Laws of the definitions, each the contract of a function with no work.
 
-ghost use Rattle.tiff_page.specs.Laws.{OneChunk, ChunksWithin, FirstFault, NoFault, PlacedEach};
+ghost use Rattle.tiff_page.specs.Laws.{OneChunk, ChunksWithin, FirstFault, NoFault, PlacedEach, ImageIsFirstPlane, SomeBytes};
 
 /// Each pixel of the image is of one chunk of a plane and of no other.
 pub fn one_chunk()
@@ -25,4 +25,14 @@ pub fn no_fault()
 /// A buffer in which a region is placed has at each position the region's byte or what it had.
 pub fn placed_each()
     ensures { PlacedEach }
+{}
+
+/// Reading an image is reading all its chunks in one plane.
+pub fn image_is_first_plane()
+    ensures { ImageIsFirstPlane }
+{}
+
+/// The rows and the planes of a layout are of some bytes.
+pub fn some_bytes()
+    ensures { SomeBytes }
 {}

@@ -9,6 +9,7 @@ returns c = (
   p.one_plane,
   p.of_12_bits,
   p.void_image,
+  p.float_image,
   p.void_chunk,
   p.largest_image,
   p.largest_planes,

@@ -12,6 +12,7 @@ returns c = (
   p.first_chunk_first,
   p.plane_not_read,
   p.too_many_bytes,
+  p.image_planes,
   p.past_count,
   p.past_end,
   p.float_8,

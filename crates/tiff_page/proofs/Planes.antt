@@ -1,0 +1,227 @@
+-- What a layout gives; the image as its first plane.
+use Rattle.std.proofs.Common.{◌≡◌, ℕ, ◌+◌, ◌*◌, ◌^◌, ◌<◌, ◌≤◌, zero, suc, Bool, true, false, List, length, Ok, Err, refl, ap, sym, subst, ◌∙◌, ◌⊎◌, inl, inr, ⊎_elim, arith}
+use Rattle.std.specs.Prelude.{Result, replicate, slice_index, unwrap_or, if◌then◌else◌, nat_lt, ◌==◌}
+use Rattle.std.proofs.lemmas.List.{ext_get_or, get_or-replicate, length-replicate}
+use Rattle.std.proofs.lemmas.List.FromFn.{length-map-range_with_len, get_or-map-range_with_len}
+use Rattle.std.proofs.Math.Nat.{one-le-mul}
+use Rattle.tiff_base.specs.declared.color.ColorType.{ColorType}
+use Rattle.tiff_base.specs.declared.color.ColorType.TheVariants.{Gray, RGB, RGBA, CMYK, CMYKA, YCbCr, Lab, Multiband}
+use Rattle.tiff_base.specs.declared.error.TiffError.{TiffError}
+use Rattle.tiff_base.specs.declared.error.TiffError.TheVariants.{LimitsExceeded}
+use Rattle.tiff_base.specs.declared.tags.ByteOrder.{ByteOrder}
+use Rattle.tiff_base.specs.declared.tags.PhotometricInterpretation.{PhotometricInterpretation}
+use Rattle.tiff_base.specs.declared.tags.PhotometricInterpretation.TheVariants as meaning
+use Rattle.tiff_base.specs.declared.tags.PlanarConfiguration.{PlanarConfiguration}
+use Rattle.tiff_base.specs.declared.tags.PlanarConfiguration.TheVariants.{Chunky, Planar}
+use Rattle.tiff_base.specs.declared.tags.SampleFormat.{SampleFormat}
+use Rattle.tiff_base.specs.declared.tags.SampleFormat.TheVariants.{Uint, Int, IEEEFP, Void, Unknown}
+use Rattle.tiff_base.specs.Answers.{◌>>=◌}
+use Rattle.tiff_base.specs.Color.{num_samples}
+use Rattle.tiff_ifd.specs.declared.limits.Limits.{Limits}
+use Rattle.tiff_page.specs.declared.layout.DecodingSampleType.{DecodingSampleType}
+use Rattle.tiff_page.specs.Page.{PageRecord}
+use Rattle.tiff_page.specs.Rect.{chunks_of_plane}
+use Rattle.tiff_page.specs.Layout.{LayoutRecord, layout_of, colour_of, colour_from, no_colour, gray, lab, photometric, first_is_alpha, row_bits, row_bytes, shown, planes, wide, aligned, whole_chroma, sample_type_of, size_of}
+use Rattle.tiff_page.specs.PixelFault.{each_below, chunk_fault, samples_fault}
+use Rattle.tiff_page.specs.Pixels.{is_short, byte_at, image_bytes, whole_image}
+use Rattle.tiff_page.specs.Image.{decoded, chunks_read, image_of}
+use Rattle.tiff_page.specs.Buffers.{planes_layout}
+use Rattle.tiff_page.specs.PixelCalls.{placed, filled, samples, image_part, part_fault}
+use Rattle.tiff_page.specs.Laws as law
+use Rattle.tiff_page.proofs.Sizes.{product_some}
+
+pub cases_of : {A : Type 0} (r : Result A TiffError) → ((x : A) × (r ≡ Ok x)) ⊎ ((e : TiffError) × (r ≡ Err e))
+cases_of (Ok x) = inl (x, refl)
+cases_of (Err e) = inr (e, refl)
+
+-- what a chain of steps gives
+pub given_bind : {A B : Type 0} (P : Result B TiffError → Type 0) (r : Result A TiffError) (f : A → Result B TiffError)
+    → ((e : TiffError) → P (Err e)) → ((x : A) → r ≡ Ok x → P (f x)) → P (r >>= f)
+given_bind P (Ok x) f a b = b x refl
+given_bind P (Err e) f a b = a e
+
+pub given_if : {A : Type 0} (P : A → Type 0) (b : Bool) (x y : A) → P x → P y → P (if b then x else y)
+given_if P true x y a b = a
+given_if P false x y a b = b
+
+abbrev pub value : Result ℕ TiffError → ℕ → ℕ
+value (Ok n) d = n
+value (Err e) d = d
+
+pub wide_value : (n : ℕ) → value (wide n) n ≡ n
+wide_value n = given_if (λ r. value r n ≡ n) (nat_lt n (2 ^ 64)) (Ok n) (Err LimitsExceeded) refl refl
+
+pub wide_is : (n m : ℕ) → wide n ≡ Ok m → m ≡ n
+wide_is n m h = sym (ap (λ r. value r n) h) ∙ wide_value n
+
+-- ---- the layout
+
+module _ (p : PageRecord) (w h : ℕ) where
+  abbrev pub Given : Result LayoutRecord TiffError → Type 0
+  Given (Ok l) = ((l.row_bytes ≡ row_bytes p l.colour w) × (l.plane_stride ≡ row_bytes p l.colour w * h)) × (colour_of p ≡ Ok l.colour)
+  Given (Err e) = Unit {0}
+
+  abbrev pub last : ColorType → ℕ → Result LayoutRecord TiffError
+  last colour s = Ok (record { colour = colour; row_bytes = row_bytes p colour w; plane_stride = s })
+
+  abbrev pub chroma : ColorType → ℕ → Result LayoutRecord TiffError
+  chroma colour s = whole_chroma p colour >>= (λ _. last colour s)
+
+  abbrev pub line : ColorType → ℕ → Result LayoutRecord TiffError
+  line colour s = aligned p colour w >>= (λ _. chroma colour s)
+
+  abbrev pub plane : ColorType → Result LayoutRecord TiffError
+  plane colour = wide (row_bytes p colour w * h) >>= (λ s. line colour s)
+
+  abbrev pub stored : ColorType → Result LayoutRecord TiffError
+  stored colour = wide (row_bytes p colour w * p.chunk_height) >>= (λ _. plane colour)
+
+  pub layout_given : Given (layout_of p w h)
+  unfolding layout_of
+  layout_given =
+      given_bind Given (colour_of p) stored (λ e. tt) (λ colour ec.
+      given_bind Given (wide (row_bytes p colour w * p.chunk_height)) (λ _. plane colour) (λ e. tt) (λ n en.
+      given_bind Given (wide (row_bytes p colour w * h)) (line colour) (λ e. tt) (λ s es.
+      given_bind Given (aligned p colour w) (λ _. chroma colour s) (λ e. tt) (λ a ea.
+      given_bind Given (whole_chroma p colour) (λ _. last colour s) (λ e. tt) (λ b eb.
+      ((refl, wide_is (row_bytes p colour w * h) s es), ec))))))
+
+  pub layout_gives : (l : LayoutRecord) → layout_of p w h ≡ Ok l → Given (Ok l)
+  layout_gives l e = subst Given e layout_given
+
+-- ---- a row is of some bytes
+
+abbrev pub Shows : Result ColorType TiffError → Type 0
+Shows (Ok c) = 0 < num_samples c
+Shows (Err e) = Unit {0}
+
+pub no_colour_shows : (p : PageRecord) → Shows (no_colour p)
+unfolding no_colour
+no_colour_shows p = tt
+
+pub lab_shows : (f : SampleFormat) (p : PageRecord) → Shows (lab f p)
+lab_shows Uint p = given_if Shows (photometric p == 3) (Ok (Lab p.depth)) (no_colour p) (omega arith) (no_colour_shows p)
+lab_shows Int p = no_colour_shows p
+lab_shows IEEEFP p = no_colour_shows p
+lab_shows Void p = no_colour_shows p
+lab_shows (Unknown n) p = no_colour_shows p
+
+pub gray_shows : (p : PageRecord) → 0 < p.samples → Shows (gray p)
+gray_shows p h = given_if Shows (p.samples == 1) (Ok (Gray p.depth)) (Ok (Multiband p.depth p.samples)) (omega arith) h
+
+pub from_shows : (i : PhotometricInterpretation) (p : PageRecord) → 0 < p.samples → Shows (colour_from i p)
+from_shows meaning.RGB p h =
+    given_if Shows (photometric p == 3) (Ok (if first_is_alpha p.extra then RGBA p.depth else RGB p.depth))
+    (if photometric p == 4 then Ok (RGBA p.depth) else no_colour p)
+    (given_if (λ c. Shows (Ok c)) (first_is_alpha p.extra) (RGBA p.depth) (RGB p.depth) (omega arith) (omega arith))
+    (given_if Shows (photometric p == 4) (Ok (RGBA p.depth)) (no_colour p) (omega arith) (no_colour_shows p))
+from_shows meaning.CMYK p h =
+    given_if Shows (photometric p == 4) (Ok (if first_is_alpha p.extra then CMYKA p.depth else CMYK p.depth))
+    (if photometric p == 5 then Ok (CMYKA p.depth) else no_colour p)
+    (given_if (λ c. Shows (Ok c)) (first_is_alpha p.extra) (CMYKA p.depth) (CMYK p.depth) (omega arith) (omega arith))
+    (given_if Shows (photometric p == 5) (Ok (CMYKA p.depth)) (no_colour p) (omega arith) (no_colour_shows p))
+from_shows meaning.YCbCr p h = given_if Shows (photometric p == 3) (Ok (YCbCr p.depth)) (no_colour p) (omega arith) (no_colour_shows p)
+from_shows meaning.BlackIsZero p h = gray_shows p h
+from_shows meaning.WhiteIsZero p h = gray_shows p h
+from_shows meaning.IccLab p h = lab_shows p.format p
+from_shows meaning.RGBPalette p h = no_colour_shows p
+from_shows meaning.TransparencyMask p h = no_colour_shows p
+from_shows meaning.CIELab p h = no_colour_shows p
+from_shows meaning.ItuLab p h = no_colour_shows p
+
+pub shown_some : (planar : PlanarConfiguration) (c : ColorType) → 0 < num_samples c → 0 < shown planar c
+shown_some Chunky c h = h
+shown_some Planar c h = omega arith
+
+pub colour_shows : (p : PageRecord) → 0 < p.samples → Shows (colour_of p)
+unfolding colour_of
+colour_shows p h = from_shows p.interpretation p h
+
+pub row_some : (p : PageRecord) (c : ColorType) (w : ℕ) → 0 < w → 0 < p.depth → 0 < num_samples c → 0 < row_bytes p c w
+unfolding row_bits
+row_some p c w a b s = product_some w p.depth (shown p.planar c) a b (shown_some p.planar c s)
+
+pub some_bytes : law.SomeBytes
+some_bytes p w h l wp hp d s e =
+    let g : ((l.row_bytes ≡ row_bytes p l.colour w) × (l.plane_stride ≡ row_bytes p l.colour w * h)) × (colour_of p ≡ Ok l.colour) = layout_gives p w h l e in
+    let c : 0 < num_samples l.colour = subst Shows g.1 (colour_shows p s) in
+    let r : 0 < row_bytes p l.colour w = row_some p l.colour w wp d c in
+    let q : 1 ≤ row_bytes p l.colour w * h = one-le-mul r hp in
+    (omega (arith, r, g.0.0), omega (arith, q, g.0.1))
+
+-- ---- the image as its first plane
+
+pub each_same : (f g : ℕ → Result (Unit {0}) TiffError) (n : ℕ) → ((k : ℕ) → f k ≡ g k) → each_below f n ≡ each_below g n
+each_same f g zero h = refl
+each_same f g (suc n) h = rw (each_same f g n h, h n) refl
+
+pub one_plane : (f : ℕ → Result (Unit {0}) TiffError) (c j : ℕ) → f j ≡ each_below (λ plane. f (plane * c + (0 + j))) 1
+one_plane f c j = let e : 0 * c + (0 + j) ≡ j = omega arith in ap f (sym e)
+
+pub from_0 : (i : ℕ) → 0 + i ≡ i
+from_0 i = omega arith
+
+pub bytes_placed : (file : List ℕ) (order : ByteOrder) (p : PageRecord) (colour : ColorType) (s n : ℕ) → s ≡ row_bytes p colour p.width → n ≡ s * p.height
+    → image_bytes file order p colour ≡ placed file order p colour (whole_image file order p) s 1 (replicate n 0)
+unfolding image_bytes placed
+bytes_placed file order p colour s n es en =
+    let l : length (replicate n 0) ≡ n = length-replicate n 0 in
+    let r : ℕ = row_bytes p colour p.width in
+    let at : ℕ → ℕ = λ i. unwrap_or (byte_at file order p colour (whole_image file order p) r 1 i) 0 in
+    let to : ℕ → ℕ = λ i. unwrap_or (byte_at file order p colour (whole_image file order p) s 1 i) (slice_index (replicate n 0) i) in
+    ext_get_or 0 (image_bytes file order p colour) (placed file order p colour (whole_image file order p) s 1 (replicate n 0))
+    (length-map-range_with_len at 0 (r * p.height) ∙ rw (sym es, sym en) (sym l) ∙ sym (length-map-range_with_len to 0 (length (replicate n 0))))
+    (λ i k.
+    let b : i < n = rw (length-map-range_with_len at 0 (r * p.height), sym es, sym en) at k in
+    get_or-map-range_with_len at 0 (r * p.height) i i 0 (rw (sym es, sym en) b) (from_0 i)
+    ∙ (rw (sym es, get_or-replicate {A = ℕ} n i 0 0 b) refl)
+    ∙ sym (get_or-map-range_with_len to 0 (length (replicate n 0)) i i 0 (rw l b) (from_0 i)))
+
+pub finish_same : (a : Result (Unit {0}) TiffError) (x : List ℕ) (type : DecodingSampleType)
+    → (a >>= (λ _. Ok (decoded type x))) ≡ ((a >>= (λ _. Ok x)) >>= (λ bytes. Ok (decoded type bytes)))
+finish_same (Ok u) x type = refl
+finish_same (Err e) x type = refl
+
+pub finish : (a b : Result (Unit {0}) TiffError) (x y : List ℕ) (type : DecodingSampleType) → a ≡ b → x ≡ y
+    → (a >>= (λ _. Ok (decoded type x))) ≡ ((b >>= (λ _. Ok y)) >>= (λ bytes. Ok (decoded type bytes)))
+finish a b x y type e q =
+    finish_same a x type
+    ∙ ap (λ (r : Result (Unit {0}) TiffError). (r >>= (λ _. Ok x)) >>= (λ bytes. Ok (decoded type bytes))) e
+    ∙ ap (λ (z : List ℕ). (b >>= (λ _. Ok z)) >>= (λ bytes. Ok (decoded type bytes))) q
+
+module _ (file : List ℕ) (order : ByteOrder) (p : PageRecord) (limits : Limits) (l : LayoutRecord) (given : layout_of p p.width p.height ≡ Ok l) where
+  pub of_chunks : (type : DecodingSampleType)
+      → chunks_read file order p limits l.colour type
+      ≡ (filled file order p limits l.colour (image_part file order p 1 l.row_bytes) (replicate l.plane_stride 0) >>= (λ bytes. Ok (decoded type bytes)))
+  unfolding filled
+  of_chunks type =
+      let g : ((l.row_bytes ≡ row_bytes p l.colour p.width) × (l.plane_stride ≡ row_bytes p l.colour p.width * p.height)) × (colour_of p ≡ Ok l.colour) = layout_gives p p.width p.height l given in
+      let n : l.plane_stride ≡ l.row_bytes * p.height = g.0.1 ∙ ap (λ z. z * p.height) (sym g.0.0) in
+      let f : ℕ → Result (Unit {0}) TiffError = chunk_fault p limits (is_short file order p l.colour) l.colour in
+      finish (each_below f (chunks_of_plane p)) (part_fault file order p limits l.colour (image_part file order p 1 l.row_bytes))
+      (image_bytes file order p l.colour) (placed file order p l.colour (whole_image file order p) l.row_bytes 1 (replicate l.plane_stride 0)) type
+      (each_same f (λ j. each_below (λ plane. f (plane * chunks_of_plane p + (0 + j))) 1) (chunks_of_plane p) (one_plane f (chunks_of_plane p)))
+      (bytes_placed file order p l.colour l.row_bytes l.plane_stride g.0.0 n)
+
+  pub of_limit : (type : DecodingSampleType)
+      → (samples_fault limits (size_of type) l.plane_stride >>= (λ _. chunks_read file order p limits l.colour type))
+      ≡ (samples_fault limits (size_of type) l.plane_stride
+      >>= (λ _. filled file order p limits l.colour (image_part file order p 1 l.row_bytes) (replicate l.plane_stride 0) >>= (λ bytes. Ok (decoded type bytes))))
+  of_limit type =
+      ⊎_elim (λ ok. rw (ok.1) (of_chunks type)) (λ er. rw (er.1) refl) (cases_of (samples_fault limits (size_of type) l.plane_stride))
+
+  pub of_type : (sample_type_of p >>= (λ type. samples_fault limits (size_of type) l.plane_stride >>= (λ _. chunks_read file order p limits l.colour type)))
+      ≡ samples file order p limits l.colour (image_part file order p 1 l.row_bytes) l.plane_stride
+  unfolding samples
+  of_type = ⊎_elim (λ ok. rw (ok.1) (of_limit ok.0)) (λ er. rw (er.1) refl) (cases_of (sample_type_of p))
+
+  pub of_planes : (wide (l.plane_stride * planes p.planar l.colour) >>= (λ _. sample_type_of p
+      >>= (λ type. samples_fault limits (size_of type) l.plane_stride >>= (λ _. chunks_read file order p limits l.colour type))))
+      ≡ ((wide (l.plane_stride * planes p.planar l.colour) >>= (λ _. Ok l))
+      >>= (λ layout. samples file order p limits layout.colour (image_part file order p 1 layout.row_bytes) layout.plane_stride))
+  of_planes = ⊎_elim (λ ok. rw (ok.1) of_type) (λ er. rw (er.1) refl) (cases_of (wide (l.plane_stride * planes p.planar l.colour)))
+
+pub image_is_first_plane : law.ImageIsFirstPlane
+unfolding image_of planes_layout
+image_is_first_plane file order p limits =
+    ⊎_elim (λ ok. rw (ok.1) (of_planes file order p limits ok.0 ok.1)) (λ er. rw (er.1) refl) (cases_of (layout_of p p.width p.height))
