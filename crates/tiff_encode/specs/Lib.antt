@@ -4,3 +4,7 @@ pub mod Laws
 pub mod Encoder
 pub mod Steps
 pub mod Shows
+pub mod Value
+pub mod Machine
+pub mod Causes
+pub mod Calls

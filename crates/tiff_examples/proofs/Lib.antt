@@ -11,3 +11,4 @@ pub mod Pages
 pub mod Shown
 pub mod Openings
 pub mod Written
+pub mod Causes

@@ -1,6 +1,7 @@
 //! Worked examples of the definitions that the contracts of the other crates cite.
 #![tactic(auto)]
 
+pub mod cause;
 pub mod conversion;
 pub mod directory;
 pub mod field;
