@@ -8,3 +8,5 @@ pub mod Value
 pub mod Machine
 pub mod Causes
 pub mod Calls
+pub mod Ends
+pub mod Stored
