@@ -1,3 +1,4 @@
 pub mod Bytes
 pub mod Causes
 pub mod Maps
+pub mod Turned

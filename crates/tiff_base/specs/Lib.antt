@@ -11,3 +11,4 @@ pub mod Directory
 pub mod Header
 pub mod FieldBytes
 pub mod Runs
+pub mod Turned

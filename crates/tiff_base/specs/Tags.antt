@@ -82,6 +82,37 @@ tag_number t.ExifVersion = 36864
 tag_number t.GdalNodata = 42113
 tag_number (t.Unknown n) = n
 
+-- the one that a number names
+unfoldable pub tag_of : ℕ → Tag
+tag_of n =
+    if n == 254 then t.NewSubfileType else if n == 255 then t.SubfileType else
+    if n == 256 then t.ImageWidth else if n == 257 then t.ImageLength else if n == 258 then t.BitsPerSample else
+    if n == 259 then t.Compression else if n == 262 then t.PhotometricInterpretation else
+    if n == 263 then t.Threshholding else if n == 264 then t.CellWidth else if n == 265 then t.CellLength else
+    if n == 266 then t.FillOrder else if n == 270 then t.ImageDescription else if n == 271 then t.Make else
+    if n == 272 then t.Model else if n == 273 then t.StripOffsets else if n == 274 then t.Orientation else
+    if n == 277 then t.SamplesPerPixel else if n == 278 then t.RowsPerStrip else
+    if n == 279 then t.StripByteCounts else if n == 280 then t.MinSampleValue else
+    if n == 281 then t.MaxSampleValue else if n == 282 then t.XResolution else
+    if n == 283 then t.YResolution else if n == 284 then t.PlanarConfiguration else
+    if n == 288 then t.FreeOffsets else if n == 289 then t.FreeByteCounts else
+    if n == 290 then t.GrayResponseUnit else if n == 291 then t.GrayResponseCurve else
+    if n == 296 then t.ResolutionUnit else if n == 305 then t.Software else if n == 306 then t.DateTime else
+    if n == 315 then t.Artist else if n == 316 then t.HostComputer else if n == 317 then t.Predictor else
+    if n == 320 then t.ColorMap else if n == 322 then t.TileWidth else if n == 323 then t.TileLength else
+    if n == 324 then t.TileOffsets else if n == 325 then t.TileByteCounts else if n == 330 then t.SubIfd else
+    if n == 338 then t.ExtraSamples else if n == 339 then t.SampleFormat else
+    if n == 340 then t.SMinSampleValue else if n == 341 then t.SMaxSampleValue else
+    if n == 347 then t.JPEGTables else if n == 530 then t.ChromaSubsampling else
+    if n == 531 then t.ChromaPositioning else if n == 33432 then t.Copyright else
+    if n == 33550 then t.ModelPixelScaleTag else if n == 33922 then t.ModelTiepointTag else
+    if n == 34264 then t.ModelTransformationTag else if n == 34665 then t.ExifDirectory else
+    if n == 34675 then t.IccProfile else if n == 34735 then t.GeoKeyDirectoryTag else
+    if n == 34736 then t.GeoDoubleParamsTag else if n == 34737 then t.GeoAsciiParamsTag else
+    if n == 34853 then t.GpsDirectory else if n == 36864 then t.ExifVersion else
+    if n == 42113 then t.GdalNodata else
+    t.Unknown n
+
 -- The type of a field's values (TIFF 6.0 section 2; BigTIFF).
 abbrev pub type_number : «Type» → ℕ
 type_number y.BYTE = 1

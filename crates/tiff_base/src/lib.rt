@@ -7,6 +7,7 @@ mod count;
 pub mod directory;
 pub mod error;
 pub mod io;
+pub mod laws;
 pub mod lists;
 pub mod read;
 pub mod tags;

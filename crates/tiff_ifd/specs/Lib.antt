@@ -7,3 +7,7 @@ pub mod Into
 pub mod Look
 pub mod StandIn
 pub mod Limits
+pub mod Chain
+pub mod Links
+pub mod Fitted
+pub mod Ask

@@ -3,6 +3,7 @@
 
 pub mod decode;
 pub mod header;
+pub mod laws;
 pub mod limits;
 pub mod tag_reader;
 pub mod tags;

@@ -21,7 +21,7 @@ use Rattle.tiff_base.specs.Tags as kinds
 use Rattle.tiff_base.specs.Answers.{◌>>=◌}
 use Rattle.tiff_ifd.specs.Into.{into_u16, into_u32, into_u16_vec, into_u64_vec}
 use Rattle.tiff_ifd.specs.Look.{Look, find, find_or, known, require}
-use Rattle.tiff_page.specs.Fitted.{fitted}
+use Rattle.tiff_ifd.specs.Fitted.{fitted}
 use Rattle.std.specs.List.{list_all}
 use Rattle.tiff_page.specs.Counts.{chunk_count, planes_of}
 use Rattle.tiff_page.specs.Page.{PageRecord, Chunks}

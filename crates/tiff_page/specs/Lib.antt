@@ -1,4 +1,3 @@
-pub mod Fitted
 pub mod Counts
 pub mod Page
 pub mod Checks

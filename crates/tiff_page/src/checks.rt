@@ -4,7 +4,7 @@ ghost use Rattle.std.specs.Prelude.{◌≡◌, ◌+◌, ◌-◌, ◌*◌, ◌/�
 ghost use Rattle.std.specs.List.{list_all};
 ghost use Rattle.tiff_base.specs.Tags as kinds;
 ghost use Rattle.tiff_base.specs.declared.tags.ExtraSamples.TheVariants as extra_kind;
-ghost use Rattle.tiff_page.specs.Fitted.{fitted};
+ghost use Rattle.tiff_ifd.specs.Fitted.{fitted};
 ghost use Rattle.tiff_page.specs.Counts.{chunk_count, planes_of};
 ghost use Rattle.tiff_page.specs.View as view;
 ghost use Rattle.tiff_base.specs.Answers.{Answers, AnswersHere, IsKept};

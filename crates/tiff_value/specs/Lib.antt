@@ -1,2 +1,7 @@
 pub mod ColorType
 pub mod Written
+pub mod Data
+pub mod Buffer
+pub mod ColorTypes
+pub mod Differences
+pub mod Packed

@@ -1,4 +1,5 @@
 //! What files are written by.
 
 pub mod colortype;
+pub mod tiff_value;
 pub mod writer;

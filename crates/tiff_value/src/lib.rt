@@ -1,4 +1,6 @@
-//! Colour types, and the writer of numbers and bytes that files are written by.
+//! Colour types, values as bytes, and the writer of numbers and bytes that files are written by.
 #![tactic(auto)]
 
+pub mod buffer;
 pub mod encoder;
+pub mod laws;

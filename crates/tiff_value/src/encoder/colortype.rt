@@ -59,3 +59,38 @@ impl ColorType for Gray8 {
 
     ghost interpreted = { refl };
 }
+
+/// The name of each colour type of a page that is written.
+#[derive(Clone, Copy, Debug, PartialEq, Eq)]
+pub enum ColorTypeName {
+    Gray8,
+    Gray16,
+    Gray32,
+    Gray64,
+    GrayI8,
+    GrayI16,
+    GrayI32,
+    GrayI64,
+    Gray32Float,
+    Gray64Float,
+    RGB8,
+    RGB16,
+    RGB32,
+    RGB64,
+    RGB32Float,
+    RGB64Float,
+    RGBA8,
+    RGBA16,
+    RGBA32,
+    RGBA64,
+    RGBA32Float,
+    RGBA64Float,
+    CMYK8,
+    CMYK16,
+    CMYK32,
+    CMYK64,
+    CMYK32Float,
+    CMYK64Float,
+    YCbCr8,
+    CMYKA8,
+}

@@ -1,7 +1,7 @@
 use Rattle.std.proofs.Common.{◌≡◌, ◌++◌, ◌^◌, Ok}
 use Rattle.std.specs.Vec.Iter.{into_iter_items}
 use Rattle.tiff_base.specs.Answers.{◌>>=◌}
-use Rattle.tiff_page.specs.Fitted.{fitted}
+use Rattle.tiff_ifd.specs.Fitted.{fitted}
 use Rattle.tiff_page.proofs.checks.fit_u16s.Given as goal
 
 abbrev pub invariant-loop-n : goal.invariant-loop-n

@@ -1,0 +1,5 @@
+use Rattle.tiff_ifd.proofs.Chain.{longest}
+use Rattle.tiff_ifd.proofs.laws.longest_chain.Goals as goal
+
+pub returns : goal.returns
+returns c = longest

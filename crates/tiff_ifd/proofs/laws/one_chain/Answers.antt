@@ -1,0 +1,5 @@
+use Rattle.tiff_ifd.proofs.Chain.{one_chain}
+use Rattle.tiff_ifd.proofs.laws.one_chain.Goals as goal
+
+pub returns : goal.returns
+returns c = one_chain

@@ -1,0 +1,23 @@
+//! The laws of chains, each the contract of a function with no work.
+
+ghost use Rattle.tiff_ifd.specs.Chain.{IsTheChain, IsOneChain, IsLongestChain, IsChainApart};
+
+/// There is a chain from each first place of each file, and `chain` is it.
+pub fn the_chain()
+    ensures { IsTheChain }
+{}
+
+/// There is one chain at most.
+pub fn one_chain()
+    ensures { IsOneChain }
+{}
+
+/// The chain is the longest list of places that are entered one after another.
+pub fn longest_chain()
+    ensures { IsLongestChain }
+{}
+
+/// The places of a chain differ, and lie within the file.
+pub fn apart_chain()
+    ensures { IsChainApart }
+{}

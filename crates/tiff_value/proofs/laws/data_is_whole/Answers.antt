@@ -1,0 +1,5 @@
+use Rattle.tiff_value.proofs.Data.{data_is_whole}
+use Rattle.tiff_value.proofs.laws.data_is_whole.Goals as goal
+
+pub returns : goal.returns
+returns c = data_is_whole

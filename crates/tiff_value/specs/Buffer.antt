@@ -1,0 +1,30 @@
+-- Values as bytes, in a byte order (as in the Rust crate).
+use Rattle.std.specs.Prelude.{ℕ, ◌/◌, List, [], length}
+use Rattle.tiff_base.specs.declared.tags.ByteOrder.{ByteOrder}
+use Rattle.tiff_base.specs.declared.tags.ByteOrder.TheVariants.{LittleEndian}
+use Rattle.tiff_base.specs.declared.tags.«Type».{«Type»}
+use Rattle.tiff_base.specs.Types.{type_size}
+use Rattle.tiff_base.specs.Turned.{convert}
+use Rattle.tiff_value.specs.Data.{FieldData}
+
+-- a byte order, the type of the values, and their bytes
+pub record BufferRecord : Type 0 where
+  pub order : ByteOrder
+  pub data_type : «Type»
+  pub bytes : List ℕ
+
+-- how many values there are; a ragged end is none
+abbrev pub buffer_count : BufferRecord → ℕ
+buffer_count b = length b.bytes / type_size b.data_type
+
+-- no values, in the machine's order, which is little-endian
+abbrev pub empty_buffer : «Type» → BufferRecord
+empty_buffer type = record { order = LittleEndian; data_type = type; bytes = [] }
+
+-- the values that are written
+abbrev pub buffer_from : FieldData → BufferRecord
+buffer_from d = record { order = LittleEndian; data_type = d.field_type; bytes = d.bytes }
+
+-- the same values in this order
+abbrev pub ordered : BufferRecord → ByteOrder → BufferRecord
+ordered b order = record { order = order; data_type = b.data_type; bytes = convert b.data_type b.order b.bytes order }

@@ -1,0 +1,50 @@
+-- Samples as differences along their row (TIFF 6.0 section 14).
+use Rattle.std.specs.Prelude.{◌≡◌, ℕ, ◌+◌, ◌-◌, ◌*◌, ◌/◌, ◌%◌, ◌^◌, ◌<◌, ◌≤◌, Bool, true, false, if◌then◌else◌, ◌==◌, nat_lt, List, [], map, get_or, length, sum_by, Result, Ok, Err}
+use Rattle.std.specs.List.{range_with_len}
+use Rattle.tiff_base.specs.declared.error.TiffError.{TiffError}
+use Rattle.tiff_base.specs.declared.error.TiffError.TheVariants.{UsageError}
+use Rattle.tiff_base.specs.declared.error.UsageError.TheVariants.{PredictorIncompatible}
+use Rattle.tiff_base.specs.declared.tags.Predictor.{Predictor}
+use Rattle.tiff_base.specs.declared.tags.Predictor.TheVariants.{Horizontal}
+use Rattle.tiff_base.specs.declared.tags.«Type».{«Type»}
+use Rattle.tiff_base.specs.declared.tags.«Type».TheVariants.{FLOAT, DOUBLE}
+use Rattle.tiff_value.specs.declared.encoder.colortype.ColorTypeName.{ColorTypeName}
+use Rattle.tiff_value.specs.ColorTypes.{inner_type, inner_size}
+
+-- what is written in place of number k of rows of l numbers below m, a pixel having s: those of a row's first pixel as
+-- they are, each other less the one s before it, modulo m; without the horizontal predictor each as it is
+abbrev pub kept : Predictor → ℕ → ℕ → ℕ → List ℕ → ℕ → ℕ
+kept Horizontal m l s numbers k =
+    if nat_lt (k % l) s then get_or numbers k 0 else (get_or numbers k 0 + m - get_or numbers (k - s) 0) % m
+kept predictor m l s numbers k = get_or numbers k 0
+
+-- the same of all numbers of some rows
+unfoldable pub differences : Predictor → ℕ → ℕ → ℕ → List ℕ → List ℕ
+differences predictor m l s numbers = map (kept predictor m l s numbers) (range_with_len 0 (length numbers))
+
+-- a row as differences; nothing where a pixel has no numbers, or where the row is shorter than a pixel
+abbrev pub predicted_row : ℕ → ℕ → List ℕ → List ℕ
+predicted_row m stride row =
+    if stride == 0 then [] else if nat_lt (length row) stride then [] else differences Horizontal m (length row) stride row
+
+abbrev pub is_floating : «Type» → Bool
+is_floating FLOAT = true
+is_floating DOUBLE = true
+is_floating type = false
+
+-- what is appended for a row of a colour type's numbers: their differences modulo their width, signed numbers by their
+-- bits; floating numbers have none
+unfoldable pub horizontal_row : ColorTypeName → ℕ → List ℕ → Result (List ℕ) TiffError
+horizontal_row name stride row =
+    if is_floating (inner_type name) then Err (UsageError PredictorIncompatible) else Ok (predicted_row (256 ^ inner_size name) stride row)
+
+-- ---- its law
+
+-- number k of a row of differences, undone: the sum of it and of those a multiple of the stride before it
+abbrev pub restored : ℕ → ℕ → List ℕ → ℕ → ℕ
+restored m stride row k = sum_by (λ j. get_or row (k % stride + j * stride) 0) (range_with_len 0 (k / stride + 1)) % m
+
+-- Undoing gives each number of the row back.
+abbrev pub IsUndone : Type 0
+IsUndone = (m stride : ℕ) (row : List ℕ) → 0 < stride → stride ≤ length row → ((k : ℕ) → get_or row k 0 < m)
+    → (k : ℕ) → k < length row → restored m stride (predicted_row m stride row) k ≡ get_or row k 0
