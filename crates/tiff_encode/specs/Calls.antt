@@ -4,33 +4,43 @@ use Rattle.std.specs.FinMap.{empty, insert, len}
 use Rattle.std.specs.List.{fold}
 use Rattle.tiff_base.specs.declared.error.TiffError.{TiffError}
 use Rattle.tiff_base.specs.declared.tags.ByteOrder.{ByteOrder}
+use Rattle.tiff_base.specs.declared.tags.CompressionMethod.{CompressionMethod}
+use Rattle.tiff_base.specs.declared.tags.CompressionMethod.TheVariants as method
 use Rattle.tiff_base.specs.declared.tags.ExtraSamples.{ExtraSamples}
 use Rattle.tiff_base.specs.declared.tags.FileKind.{FileKind}
 use Rattle.tiff_base.specs.declared.tags.PhotometricInterpretation.{PhotometricInterpretation}
 use Rattle.tiff_base.specs.declared.tags.PhotometricInterpretation.TheVariants.{YCbCr}
 use Rattle.tiff_base.specs.declared.tags.Predictor.{Predictor}
 use Rattle.tiff_base.specs.declared.tags.ResolutionUnit.{ResolutionUnit}
+use Rattle.tiff_base.specs.declared.tags.ResolutionUnit.TheVariants as unit
 use Rattle.tiff_base.specs.declared.tags.Tag.{Tag}
 use Rattle.tiff_base.specs.declared.tags.Tag.TheVariants as tag
 use Rattle.tiff_base.specs.declared.tags.«Type».{«Type»}
 use Rattle.tiff_base.specs.Directory.{link_place}
 use Rattle.tiff_base.specs.Field.{Field}
-use Rattle.tiff_base.specs.Tags.{tag_number, interpretation_number, predictor_number, format_number, unit_number}
+use Rattle.tiff_base.specs.Tags.{tag_number}
 use Rattle.tiff_value.specs.ColorType.{ColorTypeRecord}
 use Rattle.tiff_encode.specs.declared.encoder.settings.Compression.{Compression}
 use Rattle.tiff_encode.specs.declared.encoder.settings.Compression.TheVariants.{Uncompressed, Packbits}
 use Rattle.tiff_encode.specs.Written.{padding, rows_per_strip}
-use Rattle.tiff_encode.specs.Value.{FieldData, shorts, longs, rational, places, data_in, is_long, field_at}
+use Rattle.tiff_value.specs.Buffer.{BufferRecord}
+use Rattle.tiff_value.specs.Data.{FieldData, Scalars, u16s, u32s, methods, interpretations, predictors, units, formats, extras, rationals, data_of}
+use Rattle.tiff_encode.specs.Value.{places, data_in, buffer_data, is_long, field_at}
 use Rattle.tiff_encode.specs.Machine.{FileState, OpenDirectory, OpenImage, Deed, Appended, Handed, Listed, Linked, Writing, answers, gives, does, by_cause, ◌>>=◌}
-use Rattle.tiff_encode.specs.Causes.{begin_cause, write_tag_cause, write_buf_cause, write_entry_bytes_cause, write_data_cause, write_data_buf_cause, finish_cause, new_image_cause, all_samples, next_sample_count, extra_data, extra_samples_cause, rows_per_strip_cause, resolution_cause, one_resolution_cause, resolution_unit_cause, write_strip_cause, write_image_data_cause, end_of}
+use Rattle.tiff_encode.specs.Causes.{begin_cause, write_tag_cause, write_buf_cause, write_entry_bytes_cause, write_data_cause, write_data_buf_cause, finish_cause, new_image_cause, all_samples, next_sample_count, extra_samples_cause, rows_per_strip_cause, resolution_cause, one_resolution_cause, resolution_unit_cause, write_strip_cause, write_image_data_cause, end_of}
 
 -- ---- settings
 
 abbrev pub with_predictor : Predictor → FileState → FileState
 with_predictor predictor file = record file { predictor = predictor }
 
+-- the method by which strips are packed
+abbrev pub method_of : Compression → CompressionMethod
+method_of Uncompressed = method.None
+method_of Packbits = method.PackBits
+
 abbrev pub with_compression : Compression → FileState → FileState
-with_compression compression file = record file { compression = compression }
+with_compression compression file = record file { method = method_of compression }
 
 -- ---- directories
 
@@ -73,8 +83,8 @@ write_entry value file = by_cause (write_tag_cause file value) (do
   known ← answers value
   placed known) file
 
-unfoldable pub write_entry_buf : ByteOrder → FieldData → Writing Field
-write_entry_buf order value file = by_cause (write_buf_cause file order value) (placed value) file
+unfoldable pub write_entry_buf : BufferRecord → Writing Field
+write_entry_buf b file = by_cause (write_buf_cause file b) (placed (buffer_data b)) file
 
 unfoldable pub write_entry_bytes : «Type» → List ℕ → Writing Field
 write_entry_bytes type bytes file =
@@ -86,9 +96,9 @@ write_tag d t value = do
   field ← write_entry value
   gives (with_field d t field)
 
-unfoldable pub write_tag_buf : OpenDirectory → Tag → ByteOrder → FieldData → Writing OpenDirectory
-write_tag_buf d t order value = do
-  field ← write_entry_buf order value
+unfoldable pub write_tag_buf : OpenDirectory → Tag → BufferRecord → Writing OpenDirectory
+write_tag_buf d t b = do
+  field ← write_entry_buf b
   gives (with_field d t field)
 
 -- bytes are appended, and their place is answered
@@ -103,8 +113,8 @@ write_data value file = by_cause (write_data_cause file value) (do
   known ← answers value
   appends known.bytes) file
 
-unfoldable pub write_data_buf : ByteOrder → FieldData → Writing ℕ
-write_data_buf order value file = by_cause (write_data_buf_cause file order) (appends value.bytes) file
+unfoldable pub write_data_buf : BufferRecord → Writing ℕ
+write_data_buf b file = by_cause (write_data_buf_cause file b) (appends b.bytes) file
 
 -- `extend_from`: the fields given stand in place of those that the directory had for their tags
 unfoldable pub extend_from : OpenDirectory → List (ℕ × Field) → OpenDirectory
@@ -147,41 +157,36 @@ finish d file = by_cause (finish_cause file d) (do
 -- ---- images
 
 -- the rows of a strip by default: one where each is packed, else as many as make a million bytes
-abbrev pub default_rows : Compression → ℕ → ℕ
-default_rows Uncompressed row_bytes = rows_per_strip row_bytes
-default_rows Packbits row_bytes = 1
-
--- the number of a method
-abbrev pub compression_number : Compression → ℕ
-compression_number Uncompressed = 1
-compression_number Packbits = 32773
+abbrev pub default_rows : CompressionMethod → ℕ → ℕ
+default_rows method.PackBits row_bytes = 1
+default_rows _ row_bytes = rows_per_strip row_bytes
 
 -- several tags one after another
-abbrev pub write_tags : OpenDirectory → List (Tag × FieldData) → Writing OpenDirectory
+abbrev pub write_tags : OpenDirectory → List (Tag × Scalars) → Writing OpenDirectory
 write_tags d [] = gives d
 write_tags d (value ∷ values) = do
-  next ← write_tag d value.0 (Ok value.1)
+  next ← write_tag d value.0 (Ok (data_of value.1))
   write_tags next values
 
 -- samples of YCbCr are not subsampled
-abbrev pub chroma_tags : PhotometricInterpretation → List (Tag × FieldData)
-chroma_tags YCbCr = (tag.ChromaSubsampling, shorts (1 ∷ 1 ∷ [])) ∷ []
+abbrev pub chroma_tags : PhotometricInterpretation → List (Tag × Scalars)
+chroma_tags YCbCr = (tag.ChromaSubsampling, u16s (1 ∷ 1 ∷ [])) ∷ []
 chroma_tags _ = []
 
 -- the tags that a new image writes, in their order
-unfoldable pub first_tags : OpenImage → List (Tag × FieldData)
+unfoldable pub first_tags : OpenImage → List (Tag × Scalars)
 first_tags i =
-    (tag.ImageWidth, longs (i.width ∷ []))
-    ∷ (tag.ImageLength, longs (i.height ∷ []))
-    ∷ (tag.Compression, shorts (compression_number i.compression ∷ []))
-    ∷ (tag.Predictor, shorts (predictor_number i.predictor ∷ []))
-    ∷ (tag.PhotometricInterpretation, shorts (interpretation_number i.colour.interpretation ∷ []))
+    (tag.ImageWidth, u32s (i.width ∷ []))
+    ∷ (tag.ImageLength, u32s (i.height ∷ []))
+    ∷ (tag.Compression, methods (i.method ∷ []))
+    ∷ (tag.Predictor, predictors (i.predictor ∷ []))
+    ∷ (tag.PhotometricInterpretation, interpretations (i.colour.interpretation ∷ []))
     ∷ chroma_tags i.colour.interpretation
-    ++ ((tag.RowsPerStrip, longs (i.rows ∷ []))
-    ∷ (tag.SamplesPerPixel, shorts (length i.colour.bits ∷ []))
-    ∷ (tag.XResolution, rational 1 1)
-    ∷ (tag.YResolution, rational 1 1)
-    ∷ (tag.ResolutionUnit, shorts (1 ∷ []))
+    ++ ((tag.RowsPerStrip, u32s (i.rows ∷ []))
+    ∷ (tag.SamplesPerPixel, u16s (length i.colour.bits ∷ []))
+    ∷ (tag.XResolution, rationals ((1, 1) ∷ []))
+    ∷ (tag.YResolution, rationals ((1, 1) ∷ []))
+    ∷ (tag.ResolutionUnit, units (unit.None ∷ []))
     ∷ [])
 
 -- an image of these sides with no strip yet, in a directory; `size` is that of a sample in bytes
@@ -194,8 +199,8 @@ image_in file d colour size width height = record {
   size = size;
   extra = [];
   predictor = file.predictor;
-  compression = file.compression;
-  rows = default_rows file.compression (width * (length colour.bits * size));
+  method = file.method;
+  rows = default_rows file.method (width * (length colour.bits * size));
   chunks = [];
 }
 
@@ -213,37 +218,40 @@ new_image colour size width height file = by_cause (new_image_cause file colour 
 -- `extra_samples`: the list takes the place of an earlier one
 unfoldable pub extra_samples : OpenImage → List ExtraSamples → Writing OpenImage
 extra_samples i extra file = by_cause (extra_samples_cause file i extra) (do
-  d ← write_tag i.directory tag.ExtraSamples (Ok (extra_data extra))
+  d ← write_tag i.directory tag.ExtraSamples (Ok (data_of (extras extra)))
   gives (record i { directory = d; extra = extra })) file
 
 -- `rows_per_strip`
 unfoldable pub set_rows_per_strip : OpenImage → ℕ → Writing OpenImage
 set_rows_per_strip i rows file = by_cause (rows_per_strip_cause file i rows) (do
-  d ← write_tag i.directory tag.RowsPerStrip (Ok (longs (rows ∷ [])))
+  d ← write_tag i.directory tag.RowsPerStrip (Ok (data_of (u32s (rows ∷ []))))
   gives (record i { directory = d; rows = rows })) file
+
+-- an image with some tags more
+abbrev pub with_tags : OpenImage → List (Tag × Scalars) → Writing OpenImage
+with_tags i values = do
+  d ← write_tags i.directory values
+  gives (with_directory_of i d)
+
+-- the tags of both resolutions and their unit, in their order
+abbrev pub resolution_tags : ResolutionUnit → ℕ × ℕ → List (Tag × Scalars)
+resolution_tags u value =
+    (tag.ResolutionUnit, units (u ∷ [])) ∷ (tag.XResolution, rationals (value ∷ []))
+    ∷ (tag.YResolution, rationals (value ∷ [])) ∷ []
 
 -- `resolution`, of a unit and a rational number
 unfoldable pub resolution : OpenImage → ResolutionUnit → ℕ × ℕ → Writing OpenImage
-resolution i unit value file = by_cause (resolution_cause file) (do
-  d ← write_tags i.directory ((tag.ResolutionUnit, shorts (unit_number unit ∷ []))
-      ∷ (tag.XResolution, rational value.0 value.1) ∷ (tag.YResolution, rational value.0 value.1) ∷ [])
-  gives (with_directory_of i d)) file
+resolution i u value file = by_cause (resolution_cause file) (with_tags i (resolution_tags u value)) file
 
 -- `x_resolution`, `y_resolution`, `resolution_unit`
 unfoldable pub x_resolution : OpenImage → ℕ × ℕ → Writing OpenImage
-x_resolution i value file = by_cause (one_resolution_cause file) (do
-  d ← write_tag i.directory tag.XResolution (Ok (rational value.0 value.1))
-  gives (with_directory_of i d)) file
+x_resolution i value file = by_cause (one_resolution_cause file) (with_tags i ((tag.XResolution, rationals (value ∷ [])) ∷ [])) file
 
 unfoldable pub y_resolution : OpenImage → ℕ × ℕ → Writing OpenImage
-y_resolution i value file = by_cause (one_resolution_cause file) (do
-  d ← write_tag i.directory tag.YResolution (Ok (rational value.0 value.1))
-  gives (with_directory_of i d)) file
+y_resolution i value file = by_cause (one_resolution_cause file) (with_tags i ((tag.YResolution, rationals (value ∷ [])) ∷ [])) file
 
 unfoldable pub resolution_unit : OpenImage → ResolutionUnit → Writing OpenImage
-resolution_unit i unit file = by_cause (resolution_unit_cause file) (do
-  d ← write_tag i.directory tag.ResolutionUnit (Ok (shorts (unit_number unit ∷ [])))
-  gives (with_directory_of i d)) file
+resolution_unit i u file = by_cause (resolution_unit_cause file) (with_tags i ((tag.ResolutionUnit, units (u ∷ [])) ∷ [])) file
 
 -- the image with one more strip
 abbrev pub with_chunk : OpenImage → ℕ → ℕ → List ℕ → OpenImage
@@ -262,15 +270,15 @@ repeated [] count = []
 repeated (x ∷ xs) count = (x ∷ xs) ++ replicate count x
 
 -- the number of samples is written again where there are extra ones
-abbrev pub sample_tags : OpenImage → List (Tag × FieldData)
-sample_tags i = if length i.extra == 0 then [] else (tag.SamplesPerPixel, shorts (all_samples i ∷ [])) ∷ []
+abbrev pub sample_tags : OpenImage → List (Tag × Scalars)
+sample_tags i = if length i.extra == 0 then [] else (tag.SamplesPerPixel, u16s (all_samples i ∷ [])) ∷ []
 
 -- the tags that the end of an image writes, in their order
-unfoldable pub last_tags : FileKind → OpenImage → List (Tag × FieldData)
+unfoldable pub last_tags : FileKind → OpenImage → List (Tag × Scalars)
 last_tags kind i =
-    (tag.BitsPerSample, shorts (repeated i.colour.bits (length i.extra)))
+    (tag.BitsPerSample, u16s (repeated i.colour.bits (length i.extra)))
     ∷ sample_tags i
-    ++ ((tag.SampleFormat, shorts (map format_number (repeated i.colour.formats (length i.extra))))
+    ++ ((tag.SampleFormat, formats (repeated i.colour.formats (length i.extra)))
     ∷ (tag.StripOffsets, places kind (map (λ chunk. chunk.place) i.chunks))
     ∷ (tag.StripByteCounts, places kind (map (λ chunk. chunk.stored) i.chunks))
     ∷ [])

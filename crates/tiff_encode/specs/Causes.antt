@@ -19,12 +19,13 @@ use Rattle.tiff_base.specs.declared.tags.SampleFormat.{SampleFormat}
 use Rattle.tiff_base.specs.declared.tags.SampleFormat.TheVariants.{IEEEFP, Void}
 use Rattle.tiff_base.specs.declared.tags.«Type».{«Type»}
 use Rattle.tiff_base.specs.Directory.{link_place}
-use Rattle.tiff_base.specs.Tags.{extra_number}
 use Rattle.tiff_base.specs.Types.{type_size}
 use Rattle.tiff_value.specs.ColorType.{ColorTypeRecord}
 use Rattle.tiff_encode.specs.Encoder.{is_too_far}
 use Rattle.tiff_encode.specs.Written.{place_len, resolutions_place}
-use Rattle.tiff_encode.specs.Value.{FieldData, shorts, rational, data_in, is_long}
+use Rattle.tiff_value.specs.Buffer.{BufferRecord}
+use Rattle.tiff_value.specs.Data.{FieldData, extras, rationals, data_of}
+use Rattle.tiff_encode.specs.Value.{data_in, buffer_data, is_long}
 use Rattle.tiff_encode.specs.Machine.{FileState, OpenDirectory, OpenImage}
 
 -- the causes of a call that writes: before all others an earlier write that failed
@@ -73,8 +74,8 @@ unfoldable pub write_tag_cause : FileState → Result FieldData TiffError → Op
 write_tag_cause file value = unless_failed file (data_cause value (field_cause file))
 
 -- `write_tag_buf`, `write_entry_buf`
-unfoldable pub write_buf_cause : FileState → ByteOrder → FieldData → Option TiffError
-write_buf_cause file order value = unless_failed file (order_cause order (field_cause file value))
+unfoldable pub write_buf_cause : FileState → BufferRecord → Option TiffError
+write_buf_cause file b = unless_failed file (order_cause b.order (field_cause file (buffer_data b)))
 
 -- `write_entry_bytes`
 unfoldable pub write_entry_bytes_cause : FileState → «Type» → List ℕ → Option TiffError
@@ -88,8 +89,8 @@ unfoldable pub write_data_cause : FileState → Result FieldData TiffError → O
 write_data_cause file value = unless_failed file (data_cause value (λ _. None))
 
 -- `write_data_buf`
-unfoldable pub write_data_buf_cause : FileState → ByteOrder → Option TiffError
-write_data_buf_cause file order = unless_failed file (order_cause order None)
+unfoldable pub write_data_buf_cause : FileState → BufferRecord → Option TiffError
+write_data_buf_cause file b = unless_failed file (order_cause b.order None)
 
 -- ---- the end of a directory
 
@@ -158,17 +159,13 @@ next_rows i = min i.rows (i.height - length i.chunks * i.rows)
 unfoldable pub next_sample_count : OpenImage → ℕ
 next_sample_count i = min (next_rows i * (i.width * all_samples i)) (2 ^ 64 - 1)
 
--- the numbers of extra samples, as the field that names them
-abbrev pub extra_data : List ExtraSamples → FieldData
-extra_data extra = shorts (map extra_number extra)
-
 -- `extra_samples`
 unfoldable pub extra_samples_cause : FileState → OpenImage → List ExtraSamples → Option TiffError
 extra_samples_cause file i extra =
     unless_failed file
     (if is_begun i then Some (UsageError ReconfiguredAfterImageWrite)
     else if nat_lt 65535 (length i.colour.bits + length extra) then Some IntSizeError
-    else field_cause file (extra_data extra))
+    else field_cause file (data_of (extras extra)))
 
 -- `rows_per_strip`
 unfoldable pub rows_per_strip_cause : FileState → OpenImage → ℕ → Option TiffError
@@ -178,9 +175,9 @@ rows_per_strip_cause file i rows = unless_failed file (if rows == 0 || is_begun 
 unfoldable pub resolution_cause : FileState → Option TiffError
 resolution_cause file = unless_failed file (if is_past file.kind (end_of file + 8) then Some IntSizeError else None)
 
--- `x_resolution`, `y_resolution`
+-- `x_resolution`, `y_resolution`: any rational number takes as many bytes
 unfoldable pub one_resolution_cause : FileState → Option TiffError
-one_resolution_cause file = unless_failed file (field_cause file (rational 1 1))
+one_resolution_cause file = unless_failed file (field_cause file (data_of (rationals ((1, 1) ∷ []))))
 
 -- `resolution_unit`
 unfoldable pub resolution_unit_cause : FileState → Option TiffError

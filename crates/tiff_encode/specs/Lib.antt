@@ -10,3 +10,5 @@ pub mod Causes
 pub mod Calls
 pub mod Ends
 pub mod Stored
+pub mod JobValues
+pub mod Jobs

@@ -3,6 +3,8 @@ use Rattle.std.specs.Prelude.{ℕ, ◌+◌, Bool, false, List, [], ◌∷◌, �
 use Rattle.std.specs.FinMap.{FinMap}
 use Rattle.std.specs.Ordering.{nat_cmp}
 use Rattle.tiff_base.specs.declared.error.TiffError.{TiffError}
+use Rattle.tiff_base.specs.declared.tags.CompressionMethod.{CompressionMethod}
+use Rattle.tiff_base.specs.declared.tags.CompressionMethod.TheVariants as method
 use Rattle.tiff_base.specs.declared.tags.ExtraSamples.{ExtraSamples}
 use Rattle.tiff_base.specs.declared.tags.FileKind.{FileKind}
 use Rattle.tiff_base.specs.declared.tags.Predictor.{Predictor}
@@ -11,8 +13,6 @@ use Rattle.tiff_base.specs.Field.{Field}
 use Rattle.tiff_base.specs.Number.{le}
 use Rattle.tiff_base.specs.Told.{put}
 use Rattle.tiff_value.specs.ColorType.{ColorTypeRecord}
-use Rattle.tiff_encode.specs.declared.encoder.settings.Compression.{Compression}
-use Rattle.tiff_encode.specs.declared.encoder.settings.Compression.TheVariants as compression
 use Rattle.tiff_encode.specs.Written.{place_len, header_mark, header_bytes, directory_bytes}
 use Rattle.tiff_encode.specs.Model.{HandedField, Model, with_region, with_handed, with_directory, relinked}
 
@@ -25,7 +25,7 @@ pub record FileState : Type 0 where
   pub failed : Bool
   pub chain : ℕ
   pub predictor : Predictor
-  pub compression : Compression
+  pub method : CompressionMethod
 
 -- an open directory: its fields by their tag numbers, where the link stands that is to point to it, and whether its own
 -- link becomes the chain's last
@@ -50,7 +50,7 @@ pub record OpenImage : Type 0 where
   pub size : ℕ
   pub extra : List ExtraSamples
   pub predictor : Predictor
-  pub compression : Compression
+  pub method : CompressionMethod
   pub rows : ℕ
   pub chunks : List Chunk
 
@@ -63,7 +63,7 @@ begun kind told failures = record {
   failed = false;
   chain = length told + length (header_mark kind);
   predictor = predictor.None;
-  compression = compression.Uncompressed;
+  method = method.None;
 }
 
 -- what is done to a file: bytes are appended; bytes are handed in for a field, which stand in it or were appended

@@ -3,6 +3,7 @@
 mod directory;
 pub mod laws;
 mod page;
+pub mod script;
 mod settings;
 
 ghost use Rattle.std.specs.Prelude.{◌≡◌, ℕ, ◌+◌, ◌*◌, ◌^◌, ◌<◌, ◌≤◌, ◌⊎◌, List, [], ◌++◌, length, IfOk, OnOk, MatchResult, false};

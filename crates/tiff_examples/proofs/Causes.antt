@@ -9,11 +9,12 @@ use Rattle.tiff_base.specs.declared.error.TiffError.{TiffError}
 use Rattle.tiff_base.specs.declared.error.TiffError.TheVariants.{IntSizeError}
 use Rattle.tiff_base.specs.declared.tags.FileKind.TheVariants.{Classic, Big}
 use Rattle.tiff_base.specs.Field.{Field}
+use Rattle.tiff_value.specs.Data.{extras, data_of}
 use Rattle.tiff_encode.specs.Encoder.{is_too_far}
 use Rattle.tiff_encode.specs.Written.{resolutions_place}
 use Rattle.tiff_encode.specs.Machine.{FileState, OpenDirectory}
 use Rattle.tiff_encode.specs.Calls.{opened}
-use Rattle.tiff_encode.specs.Causes.{begin_cause, end_of, extra_data, extra_samples_cause, field_cause, finish_cause, is_past, is_past_count, new_image_cause, next_sample_count, offset_cause, one_resolution_cause, parent_cause, resolution_cause, resolution_unit_cause, rows_per_strip_cause, unless_failed, write_buf_cause, write_data_buf_cause, write_data_cause, write_entry_bytes_cause, write_image_data_cause, write_strip_cause, write_tag_cause}
+use Rattle.tiff_encode.specs.Causes.{begin_cause, end_of, extra_samples_cause, field_cause, finish_cause, is_past, is_past_count, new_image_cause, next_sample_count, offset_cause, one_resolution_cause, parent_cause, resolution_cause, resolution_unit_cause, rows_per_strip_cause, unless_failed, write_buf_cause, write_data_buf_cause, write_data_cause, write_entry_bytes_cause, write_image_data_cause, write_strip_cause, write_tag_cause}
 use Rattle.tiff_examples.proofs.Maps.{entries_puts}
 use Rattle.tiff_examples.specs.Causes as s
 use Rattle.tiff_examples.specs.Causes.{new_file, file_with}
@@ -61,7 +62,7 @@ unfolding new_image_cause
 failed_image = refl
 
 pub failed_extra : s.failed_extra
-unfolding extra_samples_cause
+unfolding extra_samples_cause data_of
 failed_extra = refl
 
 pub failed_rows : s.failed_rows
@@ -101,24 +102,28 @@ unfolding write_tag_cause
 tag_count_last = refl
 
 pub tag_far : s.tag_far
-unfolding write_tag_cause
+unfolding write_tag_cause data_of
 tag_far = λ bytes h. ap (λ n. if is_too_far n then Some IntSizeError else None) h
 
 pub tag_last : s.tag_last
-unfolding write_tag_cause
+unfolding write_tag_cause data_of
 tag_last = λ bytes h. ap (λ n. if is_too_far n then Some IntSizeError else None) h
 
 pub tag_inline : s.tag_inline
-unfolding write_tag_cause
+unfolding write_tag_cause data_of
 tag_inline = λ bytes. refl
 
 pub buf_order : s.buf_order
 unfolding write_buf_cause
-buf_order = refl
+buf_order = λ bytes. refl
 
-pub buf_count : s.buf_count
+pub buf_far : s.buf_far
 unfolding write_buf_cause
-buf_count = refl
+buf_far = λ bytes h. ap (λ n. if is_too_far n then Some IntSizeError else None) h
+
+pub buf_little : s.buf_little
+unfolding write_buf_cause
+buf_little = refl
 
 pub bytes_ragged : s.bytes_ragged
 unfolding write_entry_bytes_cause
@@ -226,10 +231,10 @@ extra_late = λ extra. refl
 
 pub extra_many : s.extra_many
 unfolding extra_samples_cause
-extra_many = λ extra h. ap (λ n. if nat_lt 65535 (1 + n) then Some IntSizeError else field_cause (new_file Big) (extra_data extra)) h
+extra_many = λ extra h. ap (λ n. if nat_lt 65535 (1 + n) then Some IntSizeError else field_cause (new_file Big) (data_of (extras extra))) h
 
 pub extra_one : s.extra_one
-unfolding extra_samples_cause
+unfolding extra_samples_cause data_of
 extra_one = refl
 
 pub rows_zero : s.rows_zero
@@ -249,11 +254,11 @@ unfolding resolution_cause
 resolutions_far = λ bytes h. ap (λ n. if is_too_far (n + 8) then Some IntSizeError else None) h
 
 pub resolution_last : s.resolution_last
-unfolding one_resolution_cause
+unfolding one_resolution_cause data_of
 resolution_last = λ bytes h. ap (λ n. if is_too_far n then Some IntSizeError else None) h
 
 pub resolution_far : s.resolution_far
-unfolding one_resolution_cause
+unfolding one_resolution_cause data_of
 resolution_far = λ bytes h. ap (λ n. if is_too_far n then Some IntSizeError else None) h
 
 pub unit_far : s.unit_far

@@ -6,6 +6,7 @@ use Rattle.tiff_base.specs.declared.error.TiffError.TheVariants.{FormatError, Io
 use Rattle.tiff_base.specs.declared.error.TiffFormatError.TheVariants.{InvalidDimensions, InvalidTag}
 use Rattle.tiff_base.specs.declared.error.UsageError.TheVariants.{PredictorIncompatible, PredictorUnavailable, ZeroIfdPointer, ReconfiguredAfterImageWrite, ByteOrderMismatch, MismatchedEntryLength, ParentNotWritten, WriterFailed}
 use Rattle.tiff_base.specs.declared.io.IoKind.TheVariants.{InvalidData, InvalidInput}
+use Rattle.tiff_base.specs.declared.tags.ByteOrder.{ByteOrder}
 use Rattle.tiff_base.specs.declared.tags.ByteOrder.TheVariants.{LittleEndian, BigEndian}
 use Rattle.tiff_base.specs.declared.tags.ExtraSamples.{ExtraSamples}
 use Rattle.tiff_base.specs.declared.tags.ExtraSamples.TheVariants.{Unspecified}
@@ -17,7 +18,8 @@ use Rattle.tiff_base.specs.declared.tags.SampleFormat.TheVariants.{Uint, IEEEFP}
 use Rattle.tiff_base.specs.declared.tags.«Type».TheVariants.{BYTE, SHORT}
 use Rattle.tiff_base.specs.Field.{Field}
 use Rattle.tiff_value.specs.ColorType.{ColorTypeRecord}
-use Rattle.tiff_encode.specs.Value.{FieldData, shorts}
+use Rattle.tiff_value.specs.Buffer.{BufferRecord}
+use Rattle.tiff_value.specs.Data.{FieldData, u16s, data_of}
 use Rattle.tiff_encode.specs.Machine.{FileState, OpenDirectory, OpenImage, begun}
 use Rattle.tiff_encode.specs.Calls.{opened, image_in, with_chunk}
 use Rattle.tiff_encode.specs.Causes as causes
@@ -46,6 +48,10 @@ gray_float = record { interpretation = BlackIsZero; bits = 32 ∷ []; formats = 
 abbrev pub no_text : Result FieldData TiffError
 no_text = Err (FormatError InvalidTag)
 
+-- SHORT numbers as bytes in an order
+abbrev pub buffer : ByteOrder → List ℕ → BufferRecord
+buffer order bytes = record { order = order; data_type = SHORT; bytes = bytes }
+
 -- 2^32 bytes of value, which are left out here
 abbrev pub long_list : FieldData
 long_list = record { field_type = BYTE; count = 4294967296; bytes = [] }
@@ -73,7 +79,7 @@ abbrev pub failed_tag : Type 0
 failed_tag = causes.write_tag_cause failed_file no_text ≡ Some (UsageError WriterFailed)
 
 abbrev pub failed_buf : Type 0
-failed_buf = causes.write_buf_cause failed_file BigEndian (shorts []) ≡ Some (UsageError WriterFailed)
+failed_buf = causes.write_buf_cause failed_file (buffer BigEndian []) ≡ Some (UsageError WriterFailed)
 
 abbrev pub failed_bytes : Type 0
 failed_bytes = causes.write_entry_bytes_cause failed_file SHORT (1 ∷ []) ≡ Some (UsageError WriterFailed)
@@ -125,21 +131,25 @@ tag_count_last = causes.write_tag_cause (new_file Classic) (Ok (record long_list
 -- a value of six bytes at a place past four; one of four bytes needs no place
 abbrev pub tag_far : Type 0
 tag_far = (bytes : List ℕ) → length bytes ≡ 4294967296
-    → causes.write_tag_cause (file_with Classic bytes) (Ok (shorts (1 ∷ 2 ∷ 3 ∷ []))) ≡ Some IntSizeError
+    → causes.write_tag_cause (file_with Classic bytes) (Ok (data_of (u16s (1 ∷ 2 ∷ 3 ∷ [])))) ≡ Some IntSizeError
 
 abbrev pub tag_last : Type 0
 tag_last = (bytes : List ℕ) → length bytes ≡ 4294967295
-    → causes.write_tag_cause (file_with Classic bytes) (Ok (shorts (1 ∷ 2 ∷ 3 ∷ []))) ≡ None
+    → causes.write_tag_cause (file_with Classic bytes) (Ok (data_of (u16s (1 ∷ 2 ∷ 3 ∷ [])))) ≡ None
 
 abbrev pub tag_inline : Type 0
-tag_inline = (bytes : List ℕ) → causes.write_tag_cause (file_with Classic bytes) (Ok (shorts (1 ∷ 2 ∷ []))) ≡ None
+tag_inline = (bytes : List ℕ) → causes.write_tag_cause (file_with Classic bytes) (Ok (data_of (u16s (1 ∷ 2 ∷ [])))) ≡ None
 
--- big-endian bytes, told before their number
+-- big-endian bytes, told before their place; little-endian ones
 abbrev pub buf_order : Type 0
-buf_order = causes.write_buf_cause (new_file Classic) BigEndian long_list ≡ Some (UsageError ByteOrderMismatch)
+buf_order = (bytes : List ℕ) → causes.write_buf_cause (file_with Classic bytes) (buffer BigEndian (1 ∷ 2 ∷ 3 ∷ 4 ∷ 5 ∷ 6 ∷ [])) ≡ Some (UsageError ByteOrderMismatch)
 
-abbrev pub buf_count : Type 0
-buf_count = causes.write_buf_cause (new_file Classic) LittleEndian long_list ≡ Some IntSizeError
+abbrev pub buf_far : Type 0
+buf_far = (bytes : List ℕ) → length bytes ≡ 4294967296
+    → causes.write_buf_cause (file_with Classic bytes) (buffer LittleEndian (1 ∷ 2 ∷ 3 ∷ 4 ∷ 5 ∷ 6 ∷ [])) ≡ Some IntSizeError
+
+abbrev pub buf_little : Type 0
+buf_little = causes.write_buf_cause (new_file Classic) (buffer LittleEndian (1 ∷ 2 ∷ [])) ≡ None
 
 -- three bytes are no SHORT numbers; six are
 abbrev pub bytes_ragged : Type 0
@@ -160,10 +170,10 @@ abbrev pub data_long : Type 0
 data_long = causes.write_data_cause (new_file Classic) (Ok long_list) ≡ None
 
 abbrev pub data_order : Type 0
-data_order = causes.write_data_buf_cause (new_file Classic) BigEndian ≡ Some (UsageError ByteOrderMismatch)
+data_order = causes.write_data_buf_cause (new_file Classic) (buffer BigEndian []) ≡ Some (UsageError ByteOrderMismatch)
 
 abbrev pub data_little : Type 0
-data_little = causes.write_data_buf_cause (new_file Classic) LittleEndian ≡ None
+data_little = causes.write_data_buf_cause (new_file Classic) (buffer LittleEndian (1 ∷ [])) ≡ None
 
 -- ---- the ends of directories
 

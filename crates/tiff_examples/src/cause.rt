@@ -9,7 +9,7 @@ pub fn failed()
 
 /// Values that are written into fields.
 pub fn fields()
-    ensures { s.begins × s.tag_text × s.tag_count × s.tag_count_big × s.tag_count_last × s.tag_far × s.tag_last × s.tag_inline × s.buf_order × s.buf_count × s.bytes_ragged × s.bytes_whole × s.bytes_far × s.data_text × s.data_long × s.data_order × s.data_little }
+    ensures { s.begins × s.tag_text × s.tag_count × s.tag_count_big × s.tag_count_last × s.tag_far × s.tag_last × s.tag_inline × s.buf_order × s.buf_far × s.buf_little × s.bytes_ragged × s.bytes_whole × s.bytes_far × s.data_text × s.data_long × s.data_order × s.data_little }
 {}
 
 /// Ends of directories.
