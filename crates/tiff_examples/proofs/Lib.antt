@@ -12,3 +12,8 @@ pub mod Shown
 pub mod Openings
 pub mod Written
 pub mod Causes
+pub mod Chains
+pub mod Converted
+pub mod Asked
+pub mod Given
+pub mod Samples

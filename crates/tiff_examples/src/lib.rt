@@ -2,9 +2,13 @@
 #![tactic(auto)]
 
 pub mod cause;
+pub mod ask;
+pub mod chain;
 pub mod conversion;
+pub mod convert;
 pub mod directory;
 pub mod field;
+pub mod give;
 pub mod header;
 pub mod kind;
 pub mod number;
@@ -12,5 +16,6 @@ pub mod opening;
 pub mod page;
 pub mod pixels;
 pub mod runs;
+pub mod sample;
 pub mod value;
 pub mod writer;

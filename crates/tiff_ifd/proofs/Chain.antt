@@ -110,7 +110,7 @@ was_read : (met : List ℕ) (r : Link) (after : Option ℕ) → (r >>= unless_me
 was_read met (Ok n) after h = (n, refl)
 was_read met (Err e) after h = absurd (subst IsOkLink (sym h) tt)
 
-abbrev IsFalseBit : Bool → Type 0
+abbrev pub IsFalseBit : Bool → Type 0
 IsFalseBit true = ⊥
 IsFalseBit false = Unit {0}
 
@@ -128,13 +128,13 @@ abbrev IsNew : List ℕ → Option ℕ → Type 0
 IsNew met None = Unit {0}
 IsNew met (Some p) = list_any (nat_eq p) met ≡ false
 
-abbrev AreBelow : ℕ → List ℕ → Type 0
+abbrev pub AreBelow : ℕ → List ℕ → Type 0
 AreBelow len met = (q : ℕ) → list_any (nat_eq q) met ≡ true → q < len
 
 abbrev Within : ℕ → (ℕ → Link) → Type 0
 Within len link = (place : ℕ) (next : Option ℕ) → link place ≡ Ok next → place < len
 
-equal_numbers : (q p : ℕ) → nat_eq q p ≡ true → q ≡ p
+pub equal_numbers : (q p : ℕ) → nat_eq q p ≡ true → q ≡ p
 equal_numbers q p h = grind (arith, nat_tests)
 
 below_by : (b : Bool) (len p : ℕ) (met : List ℕ) (q : ℕ) → nat_eq q p ≡ b → p < len → AreBelow len met → (b || list_any (nat_eq q) met) ≡ true → q < len
@@ -149,18 +149,18 @@ is_new met r None h = tt
 is_new met r (Some q) h = free met r q h
 
 -- what is known of the places that were entered
-record Known (len : ℕ) (met : List ℕ) : Type 0 where
-  distinct : IsDistinct nat_eq met
-  below : AreBelow len met
+pub record Known (len : ℕ) (met : List ℕ) : Type 0 where
+  pub distinct : IsDistinct nat_eq met
+  pub below : AreBelow len met
 
-known_more : (len p : ℕ) (met : List ℕ) → p < len → list_any (nat_eq p) met ≡ false → Known len met → Known len (p ∷ met)
+pub known_more : (len p : ℕ) (met : List ℕ) → p < len → list_any (nat_eq p) met ≡ false → Known len met → Known len (p ∷ met)
 known_more len p met l n k = record {
   distinct = IsDistinct-cons nat_eq p met (apart p met n) k.distinct;
   below = below_more len p met l k.below;
 }
 
 -- with no steps left each place has been met
-full : (len p : ℕ) (met : List ℕ) → p < len → list_any (nat_eq p) met ≡ false → Known len met → len ≤ length met → ⊥
+pub full : (len p : ℕ) (met : List ℕ) → p < len → list_any (nat_eq p) met ≡ false → Known len met → len ≤ length met → ⊥
 full len p met l n k f =
     let more = known_more len p met l n k in
     let most : length (p ∷ met) ≤ len = length-le_from_distinct_below (p ∷ met) len more.distinct more.below in
@@ -173,7 +173,7 @@ none_distinct : IsDistinct nat_eq []
 unfolding IsDistinct
 none_distinct = tt
 
-none_known : (len : ℕ) → Known len []
+pub none_known : (len : ℕ) → Known len []
 none_known len = record { distinct = none_distinct; below = λ q h. absurd (subst IsFalseBit h tt) }
 
 -- the walk is the chain

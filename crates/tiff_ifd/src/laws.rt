@@ -1,6 +1,7 @@
-//! The laws of chains, each the contract of a function with no work.
+//! The laws of chains and of accepted links, each the contract of a function with no work.
 
 ghost use Rattle.tiff_ifd.specs.Chain.{IsTheChain, IsOneChain, IsLongestChain, IsChainApart};
+ghost use Rattle.tiff_ifd.specs.Links.{IsAnswered, IsOneAnswer};
 
 /// There is a chain from each first place of each file, and `chain` is it.
 pub fn the_chain()
@@ -20,4 +21,14 @@ pub fn longest_chain()
 /// The places of a chain differ, and lie within the file.
 pub fn apart_chain()
     ensures { IsChainApart }
+{}
+
+/// Each link that is handed in has an answer, whatever links are accepted.
+pub fn some_answer()
+    ensures { IsAnswered }
+{}
+
+/// It has one at most, with one set of links after it.
+pub fn one_answer()
+    ensures { IsOneAnswer }
 {}

@@ -1,3 +1,4 @@
 pub mod Put
 pub mod Data
 pub mod ColorTypes
+pub mod Differences

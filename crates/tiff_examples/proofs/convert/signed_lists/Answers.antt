@@ -1,0 +1,18 @@
+-- Each example is proved in proofs/Converted.antt.
+use Rattle.tiff_examples.proofs.Converted as p
+use Rattle.tiff_examples.proofs.convert.signed_lists.Goals as goal
+
+pub returns : goal.returns
+returns c = (
+  p.i32s_list,
+  p.i32s_empty,
+  p.i32s_one,
+  p.i32s_rational,
+  p.i32s_too_great,
+  p.i32s_first_fault,
+  p.i32s_first_kind,
+  p.i32s_nested,
+  p.i64s_rational,
+  p.i64s_list,
+  p.i64s_long,
+)

@@ -1,0 +1,18 @@
+-- Each example is proved in proofs/Samples.antt.
+use Rattle.tiff_examples.proofs.Samples as p
+use Rattle.tiff_examples.proofs.sample.stored.Goals as goal
+
+pub returns : goal.returns
+returns c = (
+  p.stored_plain,
+  p.stored_packed,
+  p.stored_else,
+  p.fault_of_none,
+  p.plain_of_none,
+  p.no_fault,
+  p.plain_literal,
+  p.three_literal,
+  p.sparing_literal,
+  p.two_headers,
+  p.two_literals,
+)

@@ -1,0 +1,5 @@
+use Rattle.tiff_ifd.proofs.Links.{one_answer}
+use Rattle.tiff_ifd.proofs.laws.one_answer.Goals as goal
+
+pub returns : goal.returns
+returns c = one_answer
