@@ -1,5 +1,5 @@
 -- What each call of the writer answers and does, and where the encoder stands then (this project's).
-use Rattle.std.specs.Prelude.{ℕ, ◌*◌, ◌==◌, Bool, true, false, List, [], ◌∷◌, ◌++◌, length, take, drop, map, replicate, Option, Some, None, Result, Ok, if◌then◌else◌}
+use Rattle.std.specs.Prelude.{ℕ, ◌*◌, ◌==◌, Bool, true, false, List, [], ◌∷◌, ◌++◌, length, take, drop, map, replicate, Option, Some, None, Result, Ok, Err, if◌then◌else◌}
 use Rattle.std.specs.FinMap.{empty, insert, len}
 use Rattle.std.specs.List.{fold}
 use Rattle.tiff_base.specs.declared.error.TiffError.{TiffError}
@@ -27,7 +27,7 @@ use Rattle.tiff_value.specs.Buffer.{BufferRecord}
 use Rattle.tiff_value.specs.Data.{FieldData, Scalars, u16s, u32s, methods, interpretations, predictors, units, formats, extras, rationals, data_of}
 use Rattle.tiff_encode.specs.Value.{places, data_in, buffer_data, is_long, field_at}
 use Rattle.tiff_encode.specs.Machine.{FileState, OpenDirectory, OpenImage, Deed, Appended, Handed, Listed, Linked, Writing, answers, gives, does, by_cause, ◌>>=◌}
-use Rattle.tiff_encode.specs.Causes.{begin_cause, write_tag_cause, write_buf_cause, write_entry_bytes_cause, write_data_cause, write_data_buf_cause, finish_cause, new_image_cause, all_samples, next_sample_count, extra_samples_cause, rows_per_strip_cause, resolution_cause, one_resolution_cause, resolution_unit_cause, write_strip_cause, write_image_data_cause, end_of}
+use Rattle.tiff_encode.specs.Causes.{begin_cause, write_tag_cause, write_buf_cause, write_entry_bytes_cause, write_data_cause, write_data_buf_cause, finish_cause, offset_cause, new_image_cause, all_samples, next_sample_count, extra_samples_cause, rows_per_strip_cause, resolution_cause, one_resolution_cause, resolution_unit_cause, write_strip_cause, write_image_data_cause, end_of}
 
 -- ---- settings
 
@@ -128,6 +128,15 @@ pub record Offsets : Type 0 where
 -- those of a directory at a place of so many entries
 abbrev pub offsets_of : FileKind → ℕ → ℕ → Offsets
 offsets_of kind place count = record { pointer = place; link = link_place kind place count }
+
+-- what has no cause to be refused
+abbrev pub result_by : {A : Type 0} → Option TiffError → A → Result A TiffError
+result_by None x = Ok x
+result_by (Some e) x = Err e
+
+-- `DirectoryOffset::new`, of a directory of so many entries
+unfoldable pub new_offset : FileKind → ℕ → ℕ → Result Offsets TiffError
+new_offset kind pointer count = result_by (offset_cause kind pointer count) (offsets_of kind pointer count)
 
 -- `set_parent`: the link that is to point to the directory is that of another
 unfoldable pub set_parent : OpenDirectory → Offsets → OpenDirectory

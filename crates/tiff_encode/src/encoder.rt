@@ -1,6 +1,7 @@
 //! Files are written.
 
 mod directory;
+mod kind;
 pub mod laws;
 mod page;
 pub mod script;
@@ -17,6 +18,7 @@ ghost use Rattle.tiff_encode.specs.Model.{Model, IsLink, Stands};
 ghost use Rattle.tiff_encode.specs.Shows.{LeavesHeader, LeavesPage};
 ghost use Rattle.tiff_encode.specs.Steps.{Appends, Finishes, Links};
 
+pub use self::kind::{DirectoryOffset, TiffKind, TiffKindBig, TiffKindStandard};
 pub use self::settings::Compression;
 use crate::encoder::directory::encode_gray;
 use crate::encoder::page::{describes_gray, narrow, place_resolutions, strip_len};

@@ -20,7 +20,7 @@ use Rattle.tiff_examples.specs.Causes as s
 use Rattle.tiff_examples.specs.Causes.{new_file, file_with}
 
 -- why a directory can't be finished, by how many entries it has and what they are
-abbrev finish_cause_by : FileState → OpenDirectory → ℕ → List (ℕ × Field) → Option TiffError
+abbrev pub finish_cause_by : FileState → OpenDirectory → ℕ → List (ℕ × Field) → Option TiffError
 finish_cause_by file d count fields =
     unless_failed file
     (if is_past_count file.kind count

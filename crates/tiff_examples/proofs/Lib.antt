@@ -12,6 +12,7 @@ pub mod Shown
 pub mod Openings
 pub mod Written
 pub mod Causes
+pub mod Calls
 pub mod Chains
 pub mod Converted
 pub mod Asked

@@ -1,8 +1,9 @@
 //! Worked examples of the definitions that the contracts of the other crates cite.
 #![tactic(auto)]
 
-pub mod cause;
 pub mod ask;
+pub mod call;
+pub mod cause;
 pub mod chain;
 pub mod conversion;
 pub mod convert;
