@@ -18,3 +18,4 @@ pub mod Converted
 pub mod Asked
 pub mod Given
 pub mod Samples
+pub mod Images

@@ -11,6 +11,7 @@ pub mod directory;
 pub mod field;
 pub mod give;
 pub mod header;
+pub mod image;
 pub mod kind;
 pub mod number;
 pub mod opening;
