@@ -3,6 +3,7 @@ pub mod Kept
 pub mod Header
 pub mod Entries
 pub mod Grown
+pub mod Agree
 pub mod Pages
 pub mod Fields
 pub mod Shows

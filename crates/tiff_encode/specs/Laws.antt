@@ -10,7 +10,7 @@ use Rattle.tiff_base.specs.Told.{put}
 use Rattle.tiff_base.specs.Number.{le}
 use Rattle.tiff_base.specs.FieldBytes.{field_len, field_place}
 use Rattle.tiff_encode.specs.Written.{place_len, count_len, header_bytes, directory_bytes, short_field, long_field, rational_field, one_to_one, rows_per_strip, resolutions_place, strip_place, directory_place, page_map, with_page}
-use Rattle.tiff_encode.specs.Model.{In, HandedField, Region, Model, IsLink, Stands, header_model, relinked, with_directory, with_region, with_handed}
+use Rattle.tiff_encode.specs.Model.{In, FinishedDirectory, HandedField, Region, Model, header_link, own_link, IsLink, Stands, header_model, relinked, with_directory, with_region, with_handed}
 
 -- a field that fits the parts of an entry
 pub record IsWritable (kind : FileKind) (tag : ℕ) (f : Field) : Type 0 where
@@ -62,6 +62,14 @@ Finished = (kind : FileKind) (m : Model) (file : List ℕ) (fields : FinMap nat_
     → length file < 256 ^ place_len kind → IsLink kind m parent → Stands kind file m
     → Stands kind (put (file ++ directory_bytes kind fields) parent (le (place_len kind) (length file)))
     (relinked kind (with_directory kind m (record { place = length file; fields = fields })) parent (length file))
+
+-- two models that stand in one file agree on the header's link, and on the fields and the link of each place at which
+-- both have a finished directory
+abbrev pub ModelsAgree : Type 0
+ModelsAgree = (kind : FileKind) (m n : Model) (file : List ℕ) → Stands kind file m → Stands kind file n
+    → (m.links (header_link kind) ≡ n.links (header_link kind))
+    × ((d e : FinishedDirectory) → In d m.directories → In e n.directories → d.place ≡ e.place
+    → (d.fields ≡ e.fields) × (m.links (own_link kind d) ≡ n.links (own_link kind e)))
 
 -- ---- the page of one gray strip
 

@@ -4,3 +4,11 @@ pub mod Laws
 pub mod Encoder
 pub mod Steps
 pub mod Shows
+pub mod Value
+pub mod Machine
+pub mod Causes
+pub mod Calls
+pub mod Ends
+pub mod Stored
+pub mod JobValues
+pub mod Jobs

@@ -1,8 +1,11 @@
 //! Files are written.
 
 mod directory;
+mod kind;
 pub mod laws;
 mod page;
+pub mod script;
+mod settings;
 
 ghost use Rattle.std.specs.Prelude.{◌≡◌, ℕ, ◌+◌, ◌*◌, ◌^◌, ◌<◌, ◌≤◌, ◌⊎◌, List, [], ◌++◌, length, IfOk, OnOk, MatchResult, false};
 ghost use Rattle.tiff_base.specs.declared.tags.FileKind.TheVariants.{Classic};
@@ -15,12 +18,15 @@ ghost use Rattle.tiff_encode.specs.Model.{Model, IsLink, Stands};
 ghost use Rattle.tiff_encode.specs.Shows.{LeavesHeader, LeavesPage};
 ghost use Rattle.tiff_encode.specs.Steps.{Appends, Finishes, Links};
 
+pub use self::kind::{DirectoryOffset, TiffKind, TiffKindBig, TiffKindStandard};
+pub use self::settings::Compression;
 use crate::encoder::directory::encode_gray;
 use crate::encoder::page::{describes_gray, narrow, place_resolutions, strip_len};
 use std::alloc::Global;
 use std::marker::Model;
 use tiff_base::error::{TiffError, TiffResult, UsageError};
 use tiff_base::io::Sink;
+pub use tiff_base::tags::Predictor;
 use tiff_value::encoder::colortype::ColorType;
 use tiff_value::encoder::writer::TiffWriter;
 

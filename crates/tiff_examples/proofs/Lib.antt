@@ -14,6 +14,8 @@ pub mod Written
 pub mod Buffers
 pub mod Slices
 pub mod Moves
+pub mod Causes
+pub mod Calls
 pub mod Chains
 pub mod Converted
 pub mod Asked
@@ -23,3 +25,4 @@ pub mod Checks
 pub mod Queries
 pub mod Lists
 pub mod ShortAnswers
+pub mod Images

@@ -20,7 +20,7 @@ use Rattle.tiff_examples.proofs.Maps.{puts, entries_puts, len_puts}
 use Rattle.tiff_examples.specs.Written as s
 
 -- the bytes of a directory, by the list that its fields are made of
-abbrev bytes_by : FileKind → ℕ → List (ℕ × Field) → List ℕ
+abbrev pub bytes_by : FileKind → ℕ → List (ℕ × Field) → List ℕ
 bytes_by kind count fields = le (count_len kind) count ++ (flat_map (entry_bytes kind) fields ++ le (place_len kind) 0)
 
 directory_by : (kind : FileKind) (fields : List (ℕ × Field))

@@ -15,6 +15,8 @@ pub mod Buffers
 pub mod Slices
 pub mod Decoders
 pub mod Moves
+pub mod Causes
+pub mod Calls
 pub mod Chains
 pub mod Converted
 pub mod Asked
@@ -24,3 +26,4 @@ pub mod Checks
 pub mod Queries
 pub mod Lists
 pub mod ShortAnswers
+pub mod Images

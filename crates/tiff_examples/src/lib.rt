@@ -4,6 +4,8 @@
 pub mod ask;
 pub mod buffer;
 pub mod slice;
+pub mod call;
+pub mod cause;
 pub mod chain;
 pub mod check;
 pub mod conversion;
@@ -12,6 +14,7 @@ pub mod directory;
 pub mod field;
 pub mod give;
 pub mod header;
+pub mod image;
 pub mod kind;
 pub mod machine;
 pub mod number;

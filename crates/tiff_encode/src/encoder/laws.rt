@@ -1,7 +1,7 @@
 //! The laws by which what stands in a file is kept and grows, each the contract of a function with no work.
 
 ghost use Rattle.tiff_encode.specs.Shows.{PageShows, PageLinks, PageReads};
-ghost use Rattle.tiff_encode.specs.Laws.{HeaderStands, KeptByAppending, KeptByPatching, KeptByTearing, GrownByRegion, GrownByInline, GrownByPlaced, GrownByDirectory, Finished, PageStands};
+ghost use Rattle.tiff_encode.specs.Laws.{HeaderStands, KeptByAppending, KeptByPatching, KeptByTearing, GrownByRegion, GrownByInline, GrownByPlaced, GrownByDirectory, Finished, ModelsAgree, PageStands};
 
 /// A header that was written stands.
 pub fn header_stands()
@@ -46,6 +46,11 @@ pub fn grown_by_directory()
 /// A directory that is appended and linked to stands.
 pub fn finished()
     ensures { Finished }
+{}
+
+/// Models that stand in one file agree on what is finished in both.
+pub fn models_agree()
+    ensures { ModelsAgree }
 {}
 
 /// The page of one gray strip, appended and linked to, stands.

@@ -1,0 +1,41 @@
+-- Models that stand in one file agree on what is finished in both.
+use Rattle.std.proofs.Common.{zero, suc, ◌≡◌, ℕ, List, Option, Some, None, cond, refl, ap, sym, ◌∙◌, arith}
+use Rattle.std.proofs.lemmas.Bool.{ne_eqb}
+use Rattle.tiff_base.specs.declared.tags.FileKind.{FileKind}
+use Rattle.tiff_base.specs.declared.tags.ByteOrder.TheVariants.{LittleEndian}
+use Rattle.tiff_base.specs.Field.{DirectoryRecord}
+use Rattle.tiff_base.specs.Directory.{link, directory_at}
+use Rattle.tiff_encode.specs.Model.{In, FinishedDirectory, Model, header_link, own_link, Stands}
+use Rattle.tiff_encode.specs.Laws.{ModelsAgree}
+use Rattle.tiff_encode.proofs.Slices.{ok_inj}
+
+-- the target that a next directory is
+abbrev target : Option ℕ → ℕ
+target None = 0
+target (Some place) = place
+
+target_link : (t : ℕ) → target (link t) ≡ t
+target_link zero = refl
+target_link (suc t) = ap (λ b. target (cond b None (Some (suc t)))) (ne_eqb (suc t) 0 (λ e. omega arith))
+
+-- what a model says of the directory at a place
+abbrev told_of : FileKind → Model → FinishedDirectory → DirectoryRecord
+told_of kind m d = record { entries = d.fields; next = link (m.links (own_link kind d)) }
+
+-- it is the same by two models
+same : (kind : FileKind) (m n : Model) (file : List ℕ) → Stands kind file m → Stands kind file n
+    → (d e : FinishedDirectory) → In d m.directories → In e n.directories → d.place ≡ e.place
+    → told_of kind m d ≡ told_of kind n e
+same kind m n file s t d e in_m in_n p =
+    ok_inj (told_of kind m d) (told_of kind n e)
+    (sym (s.directories d in_m) ∙ ap (directory_at kind LittleEndian file) p ∙ t.directories e in_n)
+
+pub models_agree : ModelsAgree
+models_agree kind m n file s t = (
+  ok_inj (m.links (header_link kind)) (n.links (header_link kind)) (sym s.first ∙ t.first),
+  λ d e in_m in_n p.
+      let q = same kind m n file s t d e in_m in_n p in (
+        ap (λ r. r.entries) q,
+        sym (target_link (m.links (own_link kind d))) ∙ ap (λ r. target r.next) q ∙ target_link (n.links (own_link kind e)),
+      ),
+)

@@ -1,0 +1,318 @@
+-- What each call of the writer answers and does, and where the encoder stands then (this project's).
+use Rattle.std.specs.Prelude.{ℕ, ◌*◌, ◌==◌, Bool, true, false, List, [], ◌∷◌, ◌++◌, length, take, drop, map, replicate, Option, Some, None, Result, Ok, Err, if◌then◌else◌}
+use Rattle.std.specs.FinMap.{empty, insert, len}
+use Rattle.std.specs.List.{fold}
+use Rattle.tiff_base.specs.declared.error.TiffError.{TiffError}
+use Rattle.tiff_base.specs.declared.tags.ByteOrder.{ByteOrder}
+use Rattle.tiff_base.specs.declared.tags.CompressionMethod.{CompressionMethod}
+use Rattle.tiff_base.specs.declared.tags.CompressionMethod.TheVariants as method
+use Rattle.tiff_base.specs.declared.tags.ExtraSamples.{ExtraSamples}
+use Rattle.tiff_base.specs.declared.tags.FileKind.{FileKind}
+use Rattle.tiff_base.specs.declared.tags.PhotometricInterpretation.{PhotometricInterpretation}
+use Rattle.tiff_base.specs.declared.tags.PhotometricInterpretation.TheVariants.{YCbCr}
+use Rattle.tiff_base.specs.declared.tags.Predictor.{Predictor}
+use Rattle.tiff_base.specs.declared.tags.ResolutionUnit.{ResolutionUnit}
+use Rattle.tiff_base.specs.declared.tags.ResolutionUnit.TheVariants as unit
+use Rattle.tiff_base.specs.declared.tags.Tag.{Tag}
+use Rattle.tiff_base.specs.declared.tags.Tag.TheVariants as tag
+use Rattle.tiff_base.specs.declared.tags.«Type».{«Type»}
+use Rattle.tiff_base.specs.Directory.{link_place}
+use Rattle.tiff_base.specs.Field.{Field}
+use Rattle.tiff_base.specs.Tags.{tag_number}
+use Rattle.tiff_value.specs.ColorType.{ColorTypeRecord}
+use Rattle.tiff_encode.specs.declared.encoder.settings.Compression.{Compression}
+use Rattle.tiff_encode.specs.declared.encoder.settings.Compression.TheVariants.{Uncompressed, Packbits}
+use Rattle.tiff_encode.specs.Written.{padding, rows_per_strip}
+use Rattle.tiff_value.specs.Buffer.{BufferRecord}
+use Rattle.tiff_value.specs.Data.{FieldData, Scalars, u16s, u32s, methods, interpretations, predictors, units, formats, extras, rationals, data_of}
+use Rattle.tiff_encode.specs.Value.{places, data_in, buffer_data, is_long, field_at}
+use Rattle.tiff_encode.specs.Machine.{FileState, OpenDirectory, OpenImage, Deed, Appended, Handed, Listed, Linked, Writing, answers, gives, does, by_cause, ◌>>=◌}
+use Rattle.tiff_encode.specs.Causes.{begin_cause, write_tag_cause, write_buf_cause, write_entry_bytes_cause, write_data_cause, write_data_buf_cause, finish_cause, offset_cause, new_image_cause, all_samples, next_sample_count, extra_samples_cause, rows_per_strip_cause, resolution_cause, one_resolution_cause, resolution_unit_cause, write_strip_cause, write_image_data_cause, end_of}
+
+-- ---- settings
+
+abbrev pub with_predictor : Predictor → FileState → FileState
+with_predictor predictor file = record file { predictor = predictor }
+
+-- the method by which strips are packed
+abbrev pub method_of : Compression → CompressionMethod
+method_of Uncompressed = method.None
+method_of Packbits = method.PackBits
+
+abbrev pub with_compression : Compression → FileState → FileState
+with_compression compression file = record file { method = method_of compression }
+
+-- ---- directories
+
+-- an open directory with no field
+abbrev pub opened : Option ℕ → Bool → OpenDirectory
+opened parent chained = record { fields = empty; parent = parent; chained = chained }
+
+-- to append zeros up to a multiple of 4
+abbrev pub pad : Writing (Unit {0})
+pad file = does (Appended (padding (end_of file)) ∷ []) file
+
+-- `image_directory`: to be linked from the chain's last link, and its next one
+unfoldable pub image_directory : Writing OpenDirectory
+image_directory file = by_cause (begin_cause file) (do
+  _ ← pad
+  gives (opened (Some file.chain) true)) file
+
+-- `extra_directory`: linked from nowhere yet
+unfoldable pub extra_directory : Writing OpenDirectory
+extra_directory file = by_cause (begin_cause file) (do
+  _ ← pad
+  gives (opened None false)) file
+
+-- the directory with a field for a tag, in place of one that it had
+abbrev pub with_field : OpenDirectory → Tag → Field → OpenDirectory
+with_field d t field = record d { fields = insert d.fields (tag_number t) field }
+
+-- a value is handed in for a field: its bytes are appended, where they don't fit into the entry
+abbrev pub placed : FieldData → Writing Field
+placed value file =
+    let field = field_at file.kind (end_of file) value in
+    let handed = Handed (record { field = field; bytes = value.bytes }) in
+    (do
+      _ ← does (if is_long file.kind value then Appended value.bytes ∷ handed ∷ [] else handed ∷ [])
+      gives field) file
+
+-- `write_entry`, `write_entry_buf`, `write_entry_bytes`: they answer the field; the directory stays
+unfoldable pub write_entry : Result FieldData TiffError → Writing Field
+write_entry value file = by_cause (write_tag_cause file value) (do
+  known ← answers value
+  placed known) file
+
+unfoldable pub write_entry_buf : BufferRecord → Writing Field
+write_entry_buf b file = by_cause (write_buf_cause file b) (placed (buffer_data b)) file
+
+unfoldable pub write_entry_bytes : «Type» → List ℕ → Writing Field
+write_entry_bytes type bytes file =
+    by_cause (write_entry_bytes_cause file type bytes) (placed (data_in type bytes)) file
+
+-- `write_tag`, `write_tag_buf`: the same, and the directory has the field
+unfoldable pub write_tag : OpenDirectory → Tag → Result FieldData TiffError → Writing OpenDirectory
+write_tag d t value = do
+  field ← write_entry value
+  gives (with_field d t field)
+
+unfoldable pub write_tag_buf : OpenDirectory → Tag → BufferRecord → Writing OpenDirectory
+write_tag_buf d t b = do
+  field ← write_entry_buf b
+  gives (with_field d t field)
+
+-- bytes are appended, and their place is answered
+abbrev pub appends : List ℕ → Writing ℕ
+appends bytes file = (do
+  _ ← does (Appended bytes ∷ [])
+  gives (end_of file)) file
+
+-- `write_data` of a directory, `write_data_buf`: they answer the place
+unfoldable pub write_data : Result FieldData TiffError → Writing ℕ
+write_data value file = by_cause (write_data_cause file value) (do
+  known ← answers value
+  appends known.bytes) file
+
+unfoldable pub write_data_buf : BufferRecord → Writing ℕ
+write_data_buf b file = by_cause (write_data_buf_cause file b) (appends b.bytes) file
+
+-- `extend_from`: the fields given stand in place of those that the directory had for their tags
+unfoldable pub extend_from : OpenDirectory → List (ℕ × Field) → OpenDirectory
+extend_from d given = record d { fields = fold (λ fields entry. insert fields entry.0 entry.1) d.fields given }
+
+-- where a directory stands, and where its own link does
+pub record Offsets : Type 0 where
+  pub pointer : ℕ
+  pub link : ℕ
+
+-- those of a directory at a place of so many entries
+abbrev pub offsets_of : FileKind → ℕ → ℕ → Offsets
+offsets_of kind place count = record { pointer = place; link = link_place kind place count }
+
+-- what has no cause to be refused
+abbrev pub result_by : {A : Type 0} → Option TiffError → A → Result A TiffError
+result_by None x = Ok x
+result_by (Some e) x = Err e
+
+-- `DirectoryOffset::new`, of a directory of so many entries
+unfoldable pub new_offset : FileKind → ℕ → ℕ → Result Offsets TiffError
+new_offset kind pointer count = result_by (offset_cause kind pointer count) (offsets_of kind pointer count)
+
+-- `set_parent`: the link that is to point to the directory is that of another
+unfoldable pub set_parent : OpenDirectory → Offsets → OpenDirectory
+set_parent d parent = record d { parent = Some parent.link }
+
+-- a link is pointed to a place, where there is one
+abbrev pub links_to : Option ℕ → ℕ → List Deed
+links_to None place = []
+links_to (Some parent) place = Linked parent place ∷ []
+
+-- where the chain's last link stands, after a directory
+abbrev pub chain_after : FileState → Bool → Offsets → FileState
+chain_after file true offsets = record file { chain = offsets.link }
+chain_after file false offsets = file
+
+-- the chain goes on with a directory that is chained
+abbrev pub chains : Bool → Offsets → Writing Offsets
+chains chained offsets file = record { answer = Ok offsets; deeds = []; next = chain_after file chained offsets }
+
+-- `finish_with_offsets`, and `finish` and `discard` but for their answer: the directory is appended, then the parent's
+-- link is pointed to it
+unfoldable pub finish : OpenDirectory → Writing Offsets
+finish d file = by_cause (finish_cause file d) (do
+  _ ← does (Listed d.fields ∷ links_to d.parent (end_of file))
+  chains d.chained (offsets_of file.kind (end_of file) (len d.fields))) file
+
+-- ---- images
+
+-- the rows of a strip by default: one where each is packed, else as many as make a million bytes
+abbrev pub default_rows : CompressionMethod → ℕ → ℕ
+default_rows method.PackBits row_bytes = 1
+default_rows _ row_bytes = rows_per_strip row_bytes
+
+-- several tags one after another
+abbrev pub write_tags : OpenDirectory → List (Tag × Scalars) → Writing OpenDirectory
+write_tags d [] = gives d
+write_tags d (value ∷ values) = do
+  next ← write_tag d value.0 (Ok (data_of value.1))
+  write_tags next values
+
+-- samples of YCbCr are not subsampled
+abbrev pub chroma_tags : PhotometricInterpretation → List (Tag × Scalars)
+chroma_tags YCbCr = (tag.ChromaSubsampling, u16s (1 ∷ 1 ∷ [])) ∷ []
+chroma_tags _ = []
+
+-- the tags that a new image writes, in their order
+unfoldable pub first_tags : OpenImage → List (Tag × Scalars)
+first_tags i =
+    (tag.ImageWidth, u32s (i.width ∷ []))
+    ∷ (tag.ImageLength, u32s (i.height ∷ []))
+    ∷ (tag.Compression, methods (i.method ∷ []))
+    ∷ (tag.Predictor, predictors (i.predictor ∷ []))
+    ∷ (tag.PhotometricInterpretation, interpretations (i.colour.interpretation ∷ []))
+    ∷ chroma_tags i.colour.interpretation
+    ++ ((tag.RowsPerStrip, u32s (i.rows ∷ []))
+    ∷ (tag.SamplesPerPixel, u16s (length i.colour.bits ∷ []))
+    ∷ (tag.XResolution, rationals ((1, 1) ∷ []))
+    ∷ (tag.YResolution, rationals ((1, 1) ∷ []))
+    ∷ (tag.ResolutionUnit, units (unit.None ∷ []))
+    ∷ [])
+
+-- an image of these sides with no strip yet, in a directory; `size` is that of a sample in bytes
+abbrev pub image_in : FileState → OpenDirectory → ColorTypeRecord → ℕ → ℕ → ℕ → OpenImage
+image_in file d colour size width height = record {
+  directory = d;
+  width = width;
+  height = height;
+  colour = colour;
+  size = size;
+  extra = [];
+  predictor = file.predictor;
+  method = file.method;
+  rows = default_rows file.method (width * (length colour.bits * size));
+  chunks = [];
+}
+
+-- the image with another directory
+abbrev pub with_directory_of : OpenImage → OpenDirectory → OpenImage
+with_directory_of i d = record i { directory = d }
+
+-- `new_image`
+unfoldable pub new_image : ColorTypeRecord → ℕ → ℕ → ℕ → Writing OpenImage
+new_image colour size width height file = by_cause (new_image_cause file colour width height) (do
+  d ← image_directory
+  last ← write_tags d (first_tags (image_in file d colour size width height))
+  gives (image_in file last colour size width height)) file
+
+-- `extra_samples`: the list takes the place of an earlier one
+unfoldable pub extra_samples : OpenImage → List ExtraSamples → Writing OpenImage
+extra_samples i extra file = by_cause (extra_samples_cause file i extra) (do
+  d ← write_tag i.directory tag.ExtraSamples (Ok (data_of (extras extra)))
+  gives (record i { directory = d; extra = extra })) file
+
+-- `rows_per_strip`
+unfoldable pub set_rows_per_strip : OpenImage → ℕ → Writing OpenImage
+set_rows_per_strip i rows file = by_cause (rows_per_strip_cause file i rows) (do
+  d ← write_tag i.directory tag.RowsPerStrip (Ok (data_of (u32s (rows ∷ []))))
+  gives (record i { directory = d; rows = rows })) file
+
+-- an image with some tags more
+abbrev pub with_tags : OpenImage → List (Tag × Scalars) → Writing OpenImage
+with_tags i values = do
+  d ← write_tags i.directory values
+  gives (with_directory_of i d)
+
+-- the tags of both resolutions and their unit, in their order
+abbrev pub resolution_tags : ResolutionUnit → ℕ × ℕ → List (Tag × Scalars)
+resolution_tags u value =
+    (tag.ResolutionUnit, units (u ∷ [])) ∷ (tag.XResolution, rationals (value ∷ []))
+    ∷ (tag.YResolution, rationals (value ∷ [])) ∷ []
+
+-- `resolution`, of a unit and a rational number
+unfoldable pub resolution : OpenImage → ResolutionUnit → ℕ × ℕ → Writing OpenImage
+resolution i u value file = by_cause (resolution_cause file) (with_tags i (resolution_tags u value)) file
+
+-- `x_resolution`, `y_resolution`, `resolution_unit`
+unfoldable pub x_resolution : OpenImage → ℕ × ℕ → Writing OpenImage
+x_resolution i value file = by_cause (one_resolution_cause file) (with_tags i ((tag.XResolution, rationals (value ∷ [])) ∷ [])) file
+
+unfoldable pub y_resolution : OpenImage → ℕ × ℕ → Writing OpenImage
+y_resolution i value file = by_cause (one_resolution_cause file) (with_tags i ((tag.YResolution, rationals (value ∷ [])) ∷ [])) file
+
+unfoldable pub resolution_unit : OpenImage → ResolutionUnit → Writing OpenImage
+resolution_unit i u file = by_cause (resolution_unit_cause file) (with_tags i ((tag.ResolutionUnit, units (u ∷ [])) ∷ [])) file
+
+-- the image with one more strip
+abbrev pub with_chunk : OpenImage → ℕ → ℕ → List ℕ → OpenImage
+with_chunk i place stored samples =
+    record i { chunks = i.chunks ++ (record { place = place; stored = stored; samples = samples }) ∷ [] }
+
+-- `write_strip` of these samples, which are stored as these bytes
+unfoldable pub write_strip : OpenImage → List ℕ → List ℕ → Writing OpenImage
+write_strip i samples stored file = by_cause (write_strip_cause file i (length samples) (length stored)) (do
+  place ← appends stored
+  gives (with_chunk i place (length stored) samples)) file
+
+-- one more for each extra sample, as the first is
+abbrev pub repeated : {A : Type 0} → List A → ℕ → List A
+repeated [] count = []
+repeated (x ∷ xs) count = (x ∷ xs) ++ replicate count x
+
+-- the number of samples is written again where there are extra ones
+abbrev pub sample_tags : OpenImage → List (Tag × Scalars)
+sample_tags i = if length i.extra == 0 then [] else (tag.SamplesPerPixel, u16s (all_samples i ∷ [])) ∷ []
+
+-- the tags that the end of an image writes, in their order
+unfoldable pub last_tags : FileKind → OpenImage → List (Tag × Scalars)
+last_tags kind i =
+    (tag.BitsPerSample, u16s (repeated i.colour.bits (length i.extra)))
+    ∷ sample_tags i
+    ++ ((tag.SampleFormat, formats (repeated i.colour.formats (length i.extra)))
+    ∷ (tag.StripOffsets, places kind (map (λ chunk. chunk.place) i.chunks))
+    ∷ (tag.StripByteCounts, places kind (map (λ chunk. chunk.stored) i.chunks))
+    ∷ [])
+
+-- `finish` and `discard` of an image, with strips missing too: tag by tag, then as of its directory
+unfoldable pub finish_image : OpenImage → Writing Offsets
+finish_image i file = (do
+  d ← write_tags i.directory (last_tags file.kind i)
+  finish d) file
+
+-- the strips that are left, from the front of these samples; each is stored as the bytes given
+abbrev pub write_strips : OpenImage → List ℕ → List (List ℕ) → Writing OpenImage
+write_strips i samples [] = gives i
+write_strips i samples (stored ∷ more) = do
+  next ← write_strip i (take (next_sample_count i) samples) stored
+  write_strips next (drop (next_sample_count i) samples) more
+
+-- `write_data` of an image: the strips that are left, then its end
+unfoldable pub write_image_data : OpenImage → List ℕ → List (List ℕ) → Writing Offsets
+write_image_data i samples stored file = by_cause (write_image_data_cause file i (length samples)) (do
+  last ← write_strips i samples stored
+  finish_image last) file
+
+-- `write_image`
+unfoldable pub write_image : ColorTypeRecord → ℕ → ℕ → ℕ → List ℕ → List (List ℕ) → Writing Offsets
+write_image colour size width height samples stored = do
+  i ← new_image colour size width height
+  write_image_data i samples stored

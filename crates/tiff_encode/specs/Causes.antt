@@ -1,0 +1,200 @@
+-- Why a call of the writer is refused: for each call its causes, the first that holds (this project's order).
+use Rattle.std.specs.Prelude.{ℕ, ◌+◌, ◌-◌, ◌*◌, ◌%◌, ◌^◌, ◌&&◌, ◌||◌, ◌==◌, Bool, true, false, not, List, [], ◌∷◌, length, map, min, nat_lt, nat_le, Option, Some, None, Result, Ok, Err, if◌then◌else◌}
+use Rattle.std.specs.FinMap.{len, entries}
+use Rattle.std.specs.Int.{div_ceil}
+use Rattle.std.specs.List.{list_any}
+use Rattle.tiff_base.specs.declared.error.TiffError.{TiffError}
+use Rattle.tiff_base.specs.declared.error.TiffError.TheVariants.{FormatError, IoError, IntSizeError, UsageError}
+use Rattle.tiff_base.specs.declared.error.TiffFormatError.TheVariants.{InvalidDimensions}
+use Rattle.tiff_base.specs.declared.error.UsageError.TheVariants.{PredictorIncompatible, PredictorUnavailable, ZeroIfdPointer, ReconfiguredAfterImageWrite, ByteOrderMismatch, MismatchedEntryLength, ParentNotWritten, WriterFailed}
+use Rattle.tiff_base.specs.declared.io.IoKind.TheVariants.{InvalidData, InvalidInput}
+use Rattle.tiff_base.specs.declared.tags.ByteOrder.{ByteOrder}
+use Rattle.tiff_base.specs.declared.tags.ByteOrder.TheVariants.{LittleEndian, BigEndian}
+use Rattle.tiff_base.specs.declared.tags.ExtraSamples.{ExtraSamples}
+use Rattle.tiff_base.specs.declared.tags.FileKind.{FileKind}
+use Rattle.tiff_base.specs.declared.tags.FileKind.TheVariants.{Classic, Big}
+use Rattle.tiff_base.specs.declared.tags.Predictor.{Predictor}
+use Rattle.tiff_base.specs.declared.tags.Predictor.TheVariants as predictor
+use Rattle.tiff_base.specs.declared.tags.SampleFormat.{SampleFormat}
+use Rattle.tiff_base.specs.declared.tags.SampleFormat.TheVariants.{IEEEFP, Void}
+use Rattle.tiff_base.specs.declared.tags.«Type».{«Type»}
+use Rattle.tiff_base.specs.Directory.{link_place}
+use Rattle.tiff_base.specs.Types.{type_size}
+use Rattle.tiff_value.specs.ColorType.{ColorTypeRecord}
+use Rattle.tiff_encode.specs.Encoder.{is_too_far}
+use Rattle.tiff_encode.specs.Written.{place_len, resolutions_place}
+use Rattle.tiff_value.specs.Buffer.{BufferRecord}
+use Rattle.tiff_value.specs.Data.{FieldData, extras, rationals, data_of}
+use Rattle.tiff_encode.specs.Value.{data_in, buffer_data, is_long}
+use Rattle.tiff_encode.specs.Machine.{FileState, OpenDirectory, OpenImage}
+
+-- the causes of a call that writes: before all others an earlier write that failed
+abbrev pub unless_failed : FileState → Option TiffError → Option TiffError
+unless_failed file cause = if file.failed then Some (UsageError WriterFailed) else cause
+
+-- a number that no place, count or length of a kind of file can be: none is too large for a BigTIFF file
+abbrev pub is_past : FileKind → ℕ → Bool
+is_past Classic n = is_too_far n
+is_past Big n = false
+
+-- more entries than a directory can count
+abbrev pub is_past_count : FileKind → ℕ → Bool
+is_past_count Classic n = nat_lt 65535 n
+is_past_count Big n = false
+
+-- the end of a file, where the next bytes are appended
+abbrev pub end_of : FileState → ℕ
+end_of file = length file.bytes
+
+-- `image_directory`, `extra_directory`
+unfoldable pub begin_cause : FileState → Option TiffError
+begin_cause file = unless_failed file None
+
+-- ---- fields
+
+-- a field: its count; its place, where it stands at one
+abbrev pub field_cause : FileState → FieldData → Option TiffError
+field_cause file value =
+    if is_past file.kind value.count then Some IntSizeError
+    else if is_long file.kind value && is_past file.kind (end_of file) then Some IntSizeError
+    else None
+
+-- a value that may be a text which can't be written
+abbrev pub data_cause : Result FieldData TiffError → (FieldData → Option TiffError) → Option TiffError
+data_cause (Ok value) rest = rest value
+data_cause (Err e) rest = Some e
+
+-- bytes that are handed in have to be little-endian
+abbrev pub order_cause : ByteOrder → Option TiffError → Option TiffError
+order_cause LittleEndian rest = rest
+order_cause BigEndian rest = Some (UsageError ByteOrderMismatch)
+
+-- `write_tag`, `write_entry`
+unfoldable pub write_tag_cause : FileState → Result FieldData TiffError → Option TiffError
+write_tag_cause file value = unless_failed file (data_cause value (field_cause file))
+
+-- `write_tag_buf`, `write_entry_buf`
+unfoldable pub write_buf_cause : FileState → BufferRecord → Option TiffError
+write_buf_cause file b = unless_failed file (order_cause b.order (field_cause file (buffer_data b)))
+
+-- `write_entry_bytes`
+unfoldable pub write_entry_bytes_cause : FileState → «Type» → List ℕ → Option TiffError
+write_entry_bytes_cause file type bytes =
+    unless_failed file
+    (if not (length bytes % type_size type == 0) then Some (UsageError (MismatchedEntryLength type (length bytes)))
+    else field_cause file (data_in type bytes))
+
+-- `write_data` of a directory
+unfoldable pub write_data_cause : FileState → Result FieldData TiffError → Option TiffError
+write_data_cause file value = unless_failed file (data_cause value (λ _. None))
+
+-- `write_data_buf`
+unfoldable pub write_data_buf_cause : FileState → BufferRecord → Option TiffError
+write_data_buf_cause file b = unless_failed file (order_cause b.order None)
+
+-- ---- the end of a directory
+
+-- the parent's link lies within what was written before
+abbrev pub parent_cause : FileState → Option ℕ → Option TiffError
+parent_cause file None = None
+parent_cause file (Some place) =
+    if nat_lt (end_of file) (place + place_len file.kind) then Some (UsageError ParentNotWritten) else None
+
+-- `finish`, `finish_with_offsets`, `discard`: the number of entries, a count of one, the directory's place; the parent
+unfoldable pub finish_cause : FileState → OpenDirectory → Option TiffError
+finish_cause file d =
+    unless_failed file
+    (if is_past_count file.kind (len d.fields)
+    || (list_any (λ entry. is_past file.kind entry.1.count) (entries d.fields) || is_past file.kind (end_of file))
+    then Some IntSizeError
+    else parent_cause file d.parent)
+
+-- `DirectoryOffset::new`, of a directory of so many entries: this alone needs no file
+unfoldable pub offset_cause : FileKind → ℕ → ℕ → Option TiffError
+offset_cause kind pointer count =
+    if is_past kind pointer then Some IntSizeError
+    else if pointer == 0 || nat_le (2 ^ 64) (link_place kind pointer count) then Some (UsageError ZeroIfdPointer)
+    else None
+
+-- ---- images
+
+-- whether differences of the bits of these samples say nothing
+abbrev pub is_not_whole : List SampleFormat → Bool
+is_not_whole [] = false
+is_not_whole (IEEEFP ∷ formats) = true
+is_not_whole (Void ∷ formats) = true
+is_not_whole (format ∷ formats) = false
+
+-- a predictor that isn't for samples of these formats, which are all alike
+abbrev pub predictor_cause : Predictor → List SampleFormat → Option TiffError → Option TiffError
+predictor_cause predictor.None formats rest = rest
+predictor_cause predictor.Horizontal formats rest = if is_not_whole formats then Some (UsageError PredictorIncompatible) else rest
+predictor_cause predictor.FloatingPoint formats rest = Some (UsageError PredictorUnavailable)
+
+-- `new_image`: the sides; the predictor; a resolution's place, which no BigTIFF file needs
+unfoldable pub new_image_cause : FileState → ColorTypeRecord → ℕ → ℕ → Option TiffError
+new_image_cause file colour width height =
+    unless_failed file
+    (if width == 0 || height == 0 then Some (FormatError (InvalidDimensions width height))
+    else predictor_cause file.predictor colour.formats
+    (if is_past file.kind (resolutions_place (end_of file) + 8) then Some IntSizeError else None))
+
+-- all samples of a pixel
+abbrev pub all_samples : OpenImage → ℕ
+all_samples i = length i.colour.bits + length i.extra
+
+-- whether a strip was written
+abbrev pub is_begun : OpenImage → Bool
+is_begun i = nat_lt 0 (length i.chunks)
+
+-- the strips of an image; its rows of a strip are not 0
+abbrev pub chunk_count : OpenImage → ℕ
+chunk_count i = div_ceil i.height i.rows
+
+-- the rows of the strip that is written next, 0 behind the last one
+abbrev pub next_rows : OpenImage → ℕ
+next_rows i = min i.rows (i.height - length i.chunks * i.rows)
+
+-- `next_strip_sample_count`: its samples, or the largest number that the call can answer
+unfoldable pub next_sample_count : OpenImage → ℕ
+next_sample_count i = min (next_rows i * (i.width * all_samples i)) (2 ^ 64 - 1)
+
+-- `extra_samples`
+unfoldable pub extra_samples_cause : FileState → OpenImage → List ExtraSamples → Option TiffError
+extra_samples_cause file i extra =
+    unless_failed file
+    (if is_begun i then Some (UsageError ReconfiguredAfterImageWrite)
+    else if nat_lt 65535 (length i.colour.bits + length extra) then Some IntSizeError
+    else field_cause file (data_of (extras extra)))
+
+-- `rows_per_strip`
+unfoldable pub rows_per_strip_cause : FileState → OpenImage → ℕ → Option TiffError
+rows_per_strip_cause file i rows = unless_failed file (if rows == 0 || is_begun i then Some (IoError InvalidInput) else None)
+
+-- `resolution`: the place of either of its two, before one is written
+unfoldable pub resolution_cause : FileState → Option TiffError
+resolution_cause file = unless_failed file (if is_past file.kind (end_of file + 8) then Some IntSizeError else None)
+
+-- `x_resolution`, `y_resolution`: any rational number takes as many bytes
+unfoldable pub one_resolution_cause : FileState → Option TiffError
+one_resolution_cause file = unless_failed file (field_cause file (data_of (rationals ((1, 1) ∷ []))))
+
+-- `resolution_unit`
+unfoldable pub resolution_unit_cause : FileState → Option TiffError
+resolution_unit_cause file = unless_failed file None
+
+-- `write_strip` of so many samples, which are so many bytes as they are stored
+unfoldable pub write_strip_cause : FileState → OpenImage → ℕ → ℕ → Option TiffError
+write_strip_cause file i count stored =
+    unless_failed file
+    (if next_rows i == 0 || not (count == next_sample_count i) then Some (IoError InvalidData)
+    else if is_past file.kind (end_of file) || is_past file.kind stored then Some IntSizeError
+    else None)
+
+-- `write_data` of an image, of so many samples, before its strips and its end
+unfoldable pub write_image_data_cause : FileState → OpenImage → ℕ → Option TiffError
+write_image_data_cause file i count =
+    unless_failed file
+    (if nat_le (2 ^ 64) (i.width * i.height * all_samples i) then Some (IoError InvalidInput)
+    else if nat_lt count (i.width * i.height * all_samples i) then Some (IoError InvalidData)
+    else None)

@@ -1,0 +1,152 @@
+-- Where an encoder stands: its file, an open directory, an open image; and what calls do to them (this project's).
+use Rattle.std.specs.Prelude.{ℕ, ◌+◌, Bool, false, List, [], ◌∷◌, ◌++◌, length, Option, Some, None, Result, Ok, Err}
+use Rattle.std.specs.FinMap.{FinMap}
+use Rattle.std.specs.Ordering.{nat_cmp}
+use Rattle.tiff_base.specs.declared.error.TiffError.{TiffError}
+use Rattle.tiff_base.specs.declared.tags.CompressionMethod.{CompressionMethod}
+use Rattle.tiff_base.specs.declared.tags.CompressionMethod.TheVariants as method
+use Rattle.tiff_base.specs.declared.tags.ExtraSamples.{ExtraSamples}
+use Rattle.tiff_base.specs.declared.tags.FileKind.{FileKind}
+use Rattle.tiff_base.specs.declared.tags.Predictor.{Predictor}
+use Rattle.tiff_base.specs.declared.tags.Predictor.TheVariants as predictor
+use Rattle.tiff_base.specs.Field.{Field}
+use Rattle.tiff_base.specs.Number.{le}
+use Rattle.tiff_base.specs.Told.{put}
+use Rattle.tiff_value.specs.ColorType.{ColorTypeRecord}
+use Rattle.tiff_encode.specs.Written.{place_len, header_mark, header_bytes, directory_bytes}
+use Rattle.tiff_encode.specs.Model.{HandedField, Model, with_region, with_handed, with_directory, relinked}
+
+-- the file of an encoder: its kind, its bytes, how many writes of its sink failed, whether a write of the encoder did,
+-- where the last link of the chain stands, and what the next images are written by
+pub record FileState : Type 0 where
+  pub kind : FileKind
+  pub bytes : List ℕ
+  pub failures : ℕ
+  pub failed : Bool
+  pub chain : ℕ
+  pub predictor : Predictor
+  pub method : CompressionMethod
+
+-- an open directory: its fields by their tag numbers, where the link stands that is to point to it, and whether its own
+-- link becomes the chain's last
+pub record OpenDirectory : Type 0 where
+  pub fields : FinMap nat_cmp Field
+  pub parent : Option ℕ
+  pub chained : Bool
+
+-- a strip that was written: its place, how many bytes stand there, and its samples as bits
+pub record Chunk : Type 0 where
+  pub place : ℕ
+  pub stored : ℕ
+  pub samples : List ℕ
+
+-- an open image: its directory, its sides, its colour type and the bytes of a sample, its extra samples, how it is
+-- packed, its rows of a strip, and the strips that were written
+pub record OpenImage : Type 0 where
+  pub directory : OpenDirectory
+  pub width : ℕ
+  pub height : ℕ
+  pub colour : ColorTypeRecord
+  pub size : ℕ
+  pub extra : List ExtraSamples
+  pub predictor : Predictor
+  pub method : CompressionMethod
+  pub rows : ℕ
+  pub chunks : List Chunk
+
+-- a new encoder over a sink that held these bytes
+abbrev pub begun : FileKind → List ℕ → ℕ → FileState
+begun kind told failures = record {
+  kind = kind;
+  bytes = told ++ header_bytes kind;
+  failures = failures;
+  failed = false;
+  chain = length told + length (header_mark kind);
+  predictor = predictor.None;
+  method = method.None;
+}
+
+-- what is done to a file: bytes are appended; bytes are handed in for a field, which stand in it or were appended
+-- before; a directory is appended, with link 0; the link at a place is pointed to another
+pub data Deed : Type 0 where
+  Appended : List ℕ → Deed
+  Handed : HandedField → Deed
+  Listed : FinMap nat_cmp Field → Deed
+  Linked : ℕ → ℕ → Deed
+
+-- the bytes after one deed, and after some in their order
+abbrev pub after_deed : FileKind → List ℕ → Deed → List ℕ
+after_deed kind bytes (Appended more) = bytes ++ more
+after_deed kind bytes (Handed handed) = bytes
+after_deed kind bytes (Listed fields) = bytes ++ directory_bytes kind fields
+after_deed kind bytes (Linked place target) = put bytes place (le (place_len kind) target)
+
+abbrev pub bytes_after : FileKind → List ℕ → List Deed → List ℕ
+bytes_after kind bytes [] = bytes
+bytes_after kind bytes (deed ∷ deeds) = bytes_after kind (after_deed kind bytes deed) deeds
+
+-- all that some deeds append
+abbrev pub appended_by : FileKind → List Deed → List ℕ
+appended_by kind [] = []
+appended_by kind (Appended more ∷ deeds) = more ++ appended_by kind deeds
+appended_by kind (Handed handed ∷ deeds) = appended_by kind deeds
+appended_by kind (Listed fields ∷ deeds) = directory_bytes kind fields ++ appended_by kind deeds
+appended_by kind (Linked place target ∷ deeds) = appended_by kind deeds
+
+-- the model after one deed to a file of so many bytes, and after some
+abbrev pub model_after_deed : FileKind → ℕ → Model → Deed → Model
+model_after_deed kind n m (Appended more) = with_region m (record { place = n; bytes = more })
+model_after_deed kind n m (Handed handed) = with_handed m handed
+model_after_deed kind n m (Listed fields) = with_directory kind m (record { place = n; fields = fields })
+model_after_deed kind n m (Linked place target) = relinked kind m place target
+
+abbrev pub model_after : FileKind → List ℕ → Model → List Deed → Model
+model_after kind bytes m [] = m
+model_after kind bytes m (deed ∷ deeds) =
+    model_after kind (after_deed kind bytes deed) (model_after_deed kind (length bytes) m deed) deeds
+
+-- what a call answers, what it does to the file, and where the file stands then. A fault that is answered is neither
+-- want of memory nor the device's.
+pub record Told (A : Type 0) : Type 0 where
+  pub answer : Result A TiffError
+  pub deeds : List Deed
+  pub next : FileState
+
+-- what is told of a call, by the file that it finds
+abbrev pub Writing : Type 0 → Type 0
+Writing A = FileState → Told A
+
+-- to answer what is given, and do nothing
+abbrev pub answers : {A : Type 0} → Result A TiffError → Writing A
+answers answer file = record { answer = answer; deeds = []; next = file }
+
+abbrev pub gives : {A : Type 0} → A → Writing A
+gives x = answers (Ok x)
+
+-- to do something
+abbrev pub does : List Deed → Writing (Unit {0})
+does deeds file = record { answer = Ok tt; deeds = deeds; next = record file { bytes = bytes_after file.kind file.bytes deeds } }
+
+-- the same, with these deeds before
+abbrev pub behind : {A : Type 0} → List Deed → Told A → Told A
+behind deeds told = record { answer = told.answer; deeds = deeds ++ told.deeds; next = told.next }
+
+-- what is told goes on with its answer, unless that is a fault
+abbrev pub going_on : {A B : Type 0} → Result A TiffError → List Deed → FileState → (A → Writing B) → Told B
+going_on (Ok x) deeds next rest = behind deeds (rest x next)
+going_on (Err e) deeds next rest = record { answer = Err e; deeds = deeds; next = next }
+
+-- one call, and what follows it where it is not refused
+infixl 10 ◌>>=◌
+abbrev pub ◌>>=◌ : {A B : Type 0} → Writing A → (A → Writing B) → Writing B
+(call >>= rest) file = going_on (call file).answer (call file).deeds (call file).next rest
+
+-- a call that is refused for a cause, or done
+abbrev pub by_cause : {A : Type 0} → Option TiffError → Writing A → Writing A
+by_cause None call = call
+by_cause (Some e) call = answers (Err e)
+
+-- the cause of a refusal that is told
+abbrev pub cause_in : {A : Type 0} → Result A TiffError → Option TiffError
+cause_in (Ok x) = None
+cause_in (Err e) = Some e

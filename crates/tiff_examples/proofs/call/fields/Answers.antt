@@ -1,0 +1,20 @@
+-- Each example is proved in proofs/Calls.antt.
+use Rattle.tiff_examples.proofs.Calls as p
+use Rattle.tiff_examples.proofs.call.fields.Goals as goal
+
+pub returns : goal.returns
+returns c = (
+  p.entry_short,
+  p.entry_refused,
+  p.entry_buf,
+  p.entry_buf_refused,
+  p.entry_bytes,
+  p.entry_bytes_refused,
+  p.data_place,
+  p.data_refused,
+  p.data_buf,
+  p.data_buf_refused,
+  p.extended,
+  p.extended_none,
+  p.parent_set,
+)

@@ -1,0 +1,15 @@
+-- Each example is proved in proofs/Images.antt.
+use Rattle.tiff_examples.proofs.Images as p
+use Rattle.tiff_examples.proofs.image.strips.Goals as goal
+
+pub returns : goal.returns
+returns c = (
+  p.strip_written,
+  p.strip_behind,
+  p.differenced,
+  p.two_rows,
+  p.not_differenced,
+  p.strips_stored,
+  p.one_stored,
+  p.strips_taken,
+)
