@@ -142,3 +142,18 @@ rgba_bits = refl
 
 pub many_bits : s.many_bits
 many_bits = refl
+
+pub white_number : s.white_number
+white_number = refl
+
+pub planar_number_2 : s.planar_number_2
+planar_number_2 = refl
+
+pub byte_plane_number : s.byte_plane_number
+byte_plane_number = refl
+
+pub unknown_format_number : s.unknown_format_number
+unknown_format_number = refl
+
+pub loose_alpha_number : s.loose_alpha_number
+loose_alpha_number = refl

@@ -26,3 +26,4 @@ pub mod Queries
 pub mod Lists
 pub mod ShortAnswers
 pub mod Images
+pub mod Views

@@ -144,3 +144,19 @@ rgba_bits = bit_depth (colour.RGBA 16) ≡ 16
 
 abbrev pub many_bits : Type 0
 many_bits = bit_depth (colour.Multiband 8 6) ≡ 8
+
+-- further numbers of the same enums
+abbrev pub white_number : Type 0
+white_number = interpretation_number meaning.WhiteIsZero ≡ 0
+
+abbrev pub planar_number_2 : Type 0
+planar_number_2 = planar_number planar.Planar ≡ 2
+
+abbrev pub byte_plane_number : Type 0
+byte_plane_number = predictor_number predictor.FloatingPoint ≡ 3
+
+abbrev pub unknown_format_number : Type 0
+unknown_format_number = format_number (format.Unknown 5) ≡ 5
+
+abbrev pub loose_alpha_number : Type 0
+loose_alpha_number = extra_number extra.UnassociatedAlpha ≡ 2

@@ -12,3 +12,8 @@ pub fn kinds()
         s.centimeter × s.float_format × s.unknown_format × s.void_number × s.loose_alpha × s.extra_3 ×
         s.unspecified_number × s.rgba_samples × s.many_samples × s.rgba_bits × s.many_bits }
 {}
+
+/// Further numbers of the enums.
+pub fn numbers()
+    ensures { s.white_number × s.planar_number_2 × s.byte_plane_number × s.unknown_format_number × s.loose_alpha_number }
+{}

@@ -27,4 +27,5 @@ pub mod sample;
 pub mod steps;
 pub mod told;
 pub mod value;
+pub mod view;
 pub mod writer;

@@ -1,0 +1,49 @@
+-- The worked examples of Views compute.
+use Rattle.std.specs.Prelude.{refl, ◌≡◌, ℕ, ℤ, List, map}
+use Rattle.std.proofs.Common.{ap}
+use Rattle.std.specs.Int.{w8, cast_unsigned}
+use Rattle.tiff_base.specs.declared.tags.Bits16.{Bits16}
+use Rattle.tiff_page.specs.declared.layout.DecodingSampleType.TheVariants as type
+use Rattle.tiff_page.specs.Image.{Decoded}
+use Rattle.tiff_examples.specs.Views as s
+
+pub byte_seen : s.byte_seen
+byte_seen = refl
+
+pub list_seen : s.list_seen
+list_seen = refl
+
+pub byte_back : s.byte_back
+byte_back = refl
+
+pub list_back : s.list_back
+list_back = refl
+
+pub float_seen : s.float_seen
+float_seen = refl
+
+pub no_depth : s.no_depth
+no_depth = refl
+
+pub two_deep : s.two_deep
+two_deep = refl
+
+pub two_seen : s.two_seen
+two_seen = refl
+
+pub bytes_decoded : s.bytes_decoded
+bytes_decoded samples = refl
+
+signed : List ℤ → Decoded
+signed xs = record { sample_type = type.I8; numbers = map (cast_unsigned w8) xs }
+
+pub signed_decoded : s.signed_decoded
+unfolding signed
+signed_decoded samples e = ap signed e
+
+floats : List Bits16 → Decoded
+floats xs = record { sample_type = type.F16; numbers = map (λ b. b.0) xs }
+
+pub floats_decoded : s.floats_decoded
+unfolding floats
+floats_decoded samples e = ap floats e

@@ -1,0 +1,18 @@
+-- Each example is proved in proofs/Views.antt.
+use Rattle.tiff_examples.proofs.Views as p
+use Rattle.tiff_examples.proofs.view.views.Goals as goal
+
+pub returns : goal.returns
+returns c = (
+  p.byte_seen,
+  p.list_seen,
+  p.byte_back,
+  p.list_back,
+  p.float_seen,
+  p.no_depth,
+  p.two_deep,
+  p.two_seen,
+  p.bytes_decoded,
+  p.signed_decoded,
+  p.floats_decoded,
+)

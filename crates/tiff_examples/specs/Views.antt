@@ -1,0 +1,51 @@
+-- Worked views: the plain data that contracts see of values.
+use Rattle.std.specs.Prelude.{◌≡◌, ℕ, ℤ, pos, negsuc, List, [], ◌∷◌, Vec}
+use Rattle.std.specs.declared.alloc.Global.{Global}
+use Rattle.tiff_base.specs.declared.tags.Bits16.{Bits16}
+use Rattle.tiff_ifd.specs.Datum as d
+use Rattle.tiff_ifd.specs.Datum.{DatumList, none, more, data_of, depth}
+use Rattle.tiff_ifd.specs.View.{datum, value, datum_list}
+use Rattle.tiff_ifd.specs.declared.value.Value.TheVariants as v
+use Rattle.tiff_page.specs.declared.layout.DecodingSampleType.TheVariants as type
+use Rattle.tiff_decode.specs.declared.decoder.DecodingResult.TheVariants as result
+use Rattle.tiff_decode.specs.Result.{decoded_as}
+
+-- a number, and a list that holds a list
+abbrev pub byte_seen : Type 0
+byte_seen = datum (v.Byte 3) ≡ d.byte 3
+
+abbrev pub list_seen : Type 0
+list_seen = datum (v.List (d.short 1 ∷ d.list none ∷ [])) ≡ d.list (more (d.short 1) (more (d.list none) none))
+
+-- and back
+abbrev pub byte_back : Type 0
+byte_back = value (d.byte 3) ≡ v.Byte 3
+
+abbrev pub list_back : Type 0
+list_back = value (d.list (more (d.short 1) none)) ≡ v.List (d.short 1 ∷ [])
+
+-- floating numbers are their bits
+abbrev pub float_seen : Type 0
+float_seen = datum (v.Float (record { 0 = 0x3f80_0000 })) ≡ d.float 0x3f80_0000
+
+-- how deep lists nest
+abbrev pub no_depth : Type 0
+no_depth = depth (d.ascii (0x41 ∷ [])) ≡ 0
+
+abbrev pub two_deep : Type 0
+two_deep = depth (d.list (more (d.list (more (d.byte 1) none)) none)) ≡ 2
+
+abbrev pub two_seen : Type 0
+two_seen = datum_list (v.Byte 1 ∷ v.Short 2 ∷ []) ≡ (d.byte 1 ∷ d.short 2 ∷ [])
+
+-- decoded samples by their bits: whole numbers, signed ones, floating ones
+abbrev pub bytes_decoded : Type 0
+bytes_decoded = (samples : Vec ℕ Global) → decoded_as (result.U8 samples) ≡ record { sample_type = type.U8; numbers = samples.items }
+
+abbrev pub signed_decoded : Type 0
+signed_decoded = (samples : Vec ℤ Global) → samples.items ≡ (negsuc 0 ∷ pos 1 ∷ negsuc 127 ∷ [])
+    → decoded_as (result.I8 samples) ≡ record { sample_type = type.I8; numbers = 0xff ∷ 0x01 ∷ 0x80 ∷ [] }
+
+abbrev pub floats_decoded : Type 0
+floats_decoded = (samples : Vec Bits16 Global) → samples.items ≡ (record { 0 = 0x3c00 } ∷ [])
+    → decoded_as (result.F16 samples) ≡ record { sample_type = type.F16; numbers = 0x3c00 ∷ [] }
