@@ -3,3 +3,4 @@ pub mod Causes
 pub mod Maps
 pub mod Turned
 mod Blocks
+mod Named

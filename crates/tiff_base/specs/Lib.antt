@@ -13,3 +13,4 @@ pub mod FieldBytes
 pub mod Runs
 pub mod Turned
 pub mod Blocks
+pub mod Named

@@ -113,6 +113,11 @@ tag_of n =
     if n == 42113 then t.GdalNodata else
     t.Unknown n
 
+-- a tag that has a name
+abbrev pub named_tag : Tag → Option Tag
+named_tag (t.Unknown n) = None
+named_tag tag = Some tag
+
 -- The type of a field's values (TIFF 6.0 section 2; BigTIFF).
 abbrev pub type_number : «Type» → ℕ
 type_number y.BYTE = 1
@@ -167,6 +172,11 @@ method_of n =
     if n == 32946 then m.OldDeflate else if n == 50000 then m.ZSTD else if n == 50001 then m.WebP else
     m.Unknown n
 
+-- a method that has a name
+abbrev pub named_method : CompressionMethod → Option CompressionMethod
+named_method (m.Unknown n) = None
+named_method method = Some method
+
 -- What the samples of a page mean (TIFF 6.0 section 8).
 abbrev pub interpretation_number : PhotometricInterpretation → ℕ
 interpretation_number i.WhiteIsZero = 0
@@ -217,6 +227,11 @@ unit_number u.None = 1
 unit_number u.Inch = 2
 unit_number u.Centimeter = 3
 
+-- the one that a number names
+unfoldable pub unit_of : ℕ → Option ResolutionUnit
+unit_of n =
+    if n == 1 then Some u.None else if n == 2 then Some u.Inch else if n == 3 then Some u.Centimeter else None
+
 -- How a sample's bits are read (TIFF 6.0 section 19).
 abbrev pub format_number : SampleFormat → ℕ
 format_number f.Uint = 1
@@ -230,6 +245,11 @@ unfoldable pub format_of : ℕ → SampleFormat
 format_of n =
     if n == 1 then f.Uint else if n == 2 then f.Int else if n == 3 then f.IEEEFP else
     if n == 4 then f.Void else f.Unknown n
+
+-- a format that has a name
+abbrev pub named_format : SampleFormat → Option SampleFormat
+named_format (f.Unknown n) = None
+named_format format = Some format
 
 -- What a sample beyond those of the colour is (TIFF 6.0 section 8).
 abbrev pub extra_number : ExtraSamples → ℕ

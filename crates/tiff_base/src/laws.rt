@@ -1,6 +1,7 @@
 //! Laws of the definitions, each the contract of a function with no work.
 
 ghost use Rattle.tiff_base.specs.Blocks.{IsUnpacked, IsOneUnpacked};
+ghost use Rattle.tiff_base.specs.Named.{NumbersComeBack, NamesComeBack};
 ghost use Rattle.tiff_base.specs.Turned.{TurnsBack};
 
 /// Bytes that are turned from one order into another and back are as they were; a ragged end stays.
@@ -16,4 +17,14 @@ pub fn unpacked()
 /// It unpacks to nothing else.
 pub fn one_unpacked()
     ensures { IsOneUnpacked }
+{}
+
+/// A number is that of the tag, the method or the format that it names.
+pub fn numbers_come_back()
+    ensures { NumbersComeBack }
+{}
+
+/// What has a name is what its number names.
+pub fn names_come_back()
+    ensures { NamesComeBack }
 {}

@@ -1,7 +1,7 @@
 //! The numbers of TIFF as enums, byte orders, and bit patterns.
 
 ghost use Rattle.std.specs.Prelude.{◌≡◌};
-ghost use Rattle.tiff_base.specs.Tags.{extra_number, extra_of, format_number, format_of, interpretation_number, interpretation_of, method_number, method_of, planar_number, planar_of, predictor_number, predictor_of, tag_number, type_number, type_of, unit_number};
+ghost use Rattle.tiff_base.specs.Tags.{extra_number, extra_of, format_number, format_of, interpretation_number, interpretation_of, method_number, method_of, planar_number, planar_of, predictor_number, predictor_of, tag_number, tag_of, type_number, type_of, unit_number, unit_of, named_tag, named_method, named_format};
 ghost use Rattle.tiff_base.specs.Types.{type_size};
 
 use std::fmt;
@@ -74,6 +74,85 @@ pub enum Tag {
 }
 
 impl Tag {
+    /// The tag of a number; one without a name is `Unknown`.
+    #[tactic(auto, unfolding(crate::specs::Tags::tag_of))]
+    pub fn from_u16_exhaustive(n: u16) -> Self
+        ensures { result ≡ tag_of n }
+    {
+        match n {
+            254 => Tag::NewSubfileType,
+            255 => Tag::SubfileType,
+            256 => Tag::ImageWidth,
+            257 => Tag::ImageLength,
+            258 => Tag::BitsPerSample,
+            259 => Tag::Compression,
+            262 => Tag::PhotometricInterpretation,
+            263 => Tag::Threshholding,
+            264 => Tag::CellWidth,
+            265 => Tag::CellLength,
+            266 => Tag::FillOrder,
+            270 => Tag::ImageDescription,
+            271 => Tag::Make,
+            272 => Tag::Model,
+            273 => Tag::StripOffsets,
+            274 => Tag::Orientation,
+            277 => Tag::SamplesPerPixel,
+            278 => Tag::RowsPerStrip,
+            279 => Tag::StripByteCounts,
+            280 => Tag::MinSampleValue,
+            281 => Tag::MaxSampleValue,
+            282 => Tag::XResolution,
+            283 => Tag::YResolution,
+            284 => Tag::PlanarConfiguration,
+            288 => Tag::FreeOffsets,
+            289 => Tag::FreeByteCounts,
+            290 => Tag::GrayResponseUnit,
+            291 => Tag::GrayResponseCurve,
+            296 => Tag::ResolutionUnit,
+            305 => Tag::Software,
+            306 => Tag::DateTime,
+            315 => Tag::Artist,
+            316 => Tag::HostComputer,
+            317 => Tag::Predictor,
+            320 => Tag::ColorMap,
+            322 => Tag::TileWidth,
+            323 => Tag::TileLength,
+            324 => Tag::TileOffsets,
+            325 => Tag::TileByteCounts,
+            330 => Tag::SubIfd,
+            338 => Tag::ExtraSamples,
+            339 => Tag::SampleFormat,
+            340 => Tag::SMinSampleValue,
+            341 => Tag::SMaxSampleValue,
+            347 => Tag::JPEGTables,
+            530 => Tag::ChromaSubsampling,
+            531 => Tag::ChromaPositioning,
+            33432 => Tag::Copyright,
+            33550 => Tag::ModelPixelScaleTag,
+            33922 => Tag::ModelTiepointTag,
+            34264 => Tag::ModelTransformationTag,
+            34665 => Tag::ExifDirectory,
+            34675 => Tag::IccProfile,
+            34735 => Tag::GeoKeyDirectoryTag,
+            34736 => Tag::GeoDoubleParamsTag,
+            34737 => Tag::GeoAsciiParamsTag,
+            34853 => Tag::GpsDirectory,
+            36864 => Tag::ExifVersion,
+            42113 => Tag::GdalNodata,
+            _ => Tag::Unknown(n),
+        }
+    }
+
+    /// The tag of a number, if it has a name here.
+    pub fn from_u16(n: u16) -> Option<Self>
+        ensures { result ≡ named_tag (tag_of n) }
+    {
+        match Tag::from_u16_exhaustive(n) {
+            Tag::Unknown(_) => None,
+            tag => Some(tag),
+        }
+    }
+
     /// The number.
     pub fn to_u16(&self) -> u16
         ensures { result ≡ tag_number self.now }
@@ -262,6 +341,16 @@ pub enum CompressionMethod {
 }
 
 impl CompressionMethod {
+    /// The value of a number, if it has a name here.
+    pub fn from_u16(n: u16) -> Option<Self>
+        ensures { result ≡ named_method (method_of n) }
+    {
+        match CompressionMethod::from_u16_exhaustive(n) {
+            CompressionMethod::Unknown(_) => None,
+            method => Some(method),
+        }
+    }
+
     /// The value of a number; one without a name is `Unknown`.
     #[tactic(auto, unfolding(crate::specs::Tags::method_of))]
     pub fn from_u16_exhaustive(n: u16) -> Self
@@ -439,6 +528,19 @@ pub enum ResolutionUnit {
 }
 
 impl ResolutionUnit {
+    /// The value of a number, if it has one.
+    #[tactic(auto, unfolding(crate::specs::Tags::unit_of))]
+    pub fn from_u16(n: u16) -> Option<Self>
+        ensures { result ≡ unit_of n }
+    {
+        match n {
+            1 => Some(ResolutionUnit::None),
+            2 => Some(ResolutionUnit::Inch),
+            3 => Some(ResolutionUnit::Centimeter),
+            _ => None,
+        }
+    }
+
     /// The number.
     pub fn to_u16(&self) -> u16
         ensures { result ≡ unit_number self.now }
@@ -464,6 +566,16 @@ pub enum SampleFormat {
 }
 
 impl SampleFormat {
+    /// The value of a number, if it has a name here.
+    pub fn from_u16(n: u16) -> Option<Self>
+        ensures { result ≡ named_format (format_of n) }
+    {
+        match SampleFormat::from_u16_exhaustive(n) {
+            SampleFormat::Unknown(_) => None,
+            format => Some(format),
+        }
+    }
+
     /// The value of a number; one without a name is `Unknown`.
     #[tactic(auto, unfolding(crate::specs::Tags::format_of))]
     pub fn from_u16_exhaustive(n: u16) -> Self
