@@ -1,7 +1,11 @@
 -- Numbers that are turned twice are as they were.
-use Rattle.std.proofs.Common.{◌≡◌, ℕ, zero, suc, ◌*◌, ◌/◌, ◌≤◌, List, ◌++◌, length, take, drop, reverse, refl, ap, ◌∙◌, arith, length-append, length-drop}
-use Rattle.std.proofs.lemmas.List.{length-reverse, take_at, drop_at, take-append-drop, reverse-reverse, length-take-le}
-use Rattle.std.proofs.Math.Nat.{mod-add-div}
+use Rattle.std.proofs.Common.{◌≡◌, ℕ, zero, suc, ◌+◌, ◌*◌, ◌/◌, ◌-◌, ◌≤◌, ◌<◌, List, ◌++◌, length, take, drop, reverse, refl, ap, sym, ◌∙◌, arith, length-append, length-drop}
+use Rattle.std.proofs.Math.Seq.{take-append-add, drop-append-add}
+use Rattle.std.proofs.lemmas.List.{append_assoc, length-reverse, take_at, drop_at, take-append-drop, reverse-reverse, length-take-le}
+use Rattle.std.proofs.Math.Nat.{mod-add-div, mul-div-le, mul-le-mul_left, le_trans}
+use Rattle.std.proofs.lemmas.List.Edits.{paste_all}
+use Rattle.std.proofs.lemmas.Slice.{put_mid-paste}
+use borrow.Rule.Slice.PartMut.{put_mid}
 use Rattle.tiff_base.specs.declared.tags.ByteOrder.TheVariants.{LittleEndian, BigEndian}
 use Rattle.tiff_base.specs.declared.tags.«Type».{«Type»}
 use Rattle.tiff_base.specs.Turned.{unit_size, turned_units, turned, TurnsBack}
@@ -45,3 +49,59 @@ turns_back type LittleEndian BigEndian bytes = turned_back type bytes
 turns_back type BigEndian LittleEndian bytes = turned_back type bytes
 turns_back type LittleEndian LittleEndian bytes = refl
 turns_back type BigEndian BigEndian bytes = refl
+
+-- ---- one more
+
+unit_onto : (size n : ℕ) (U rest : List ℕ) → length U ≡ size
+    → take (size + n) (U ++ rest) ++ (reverse (take size (drop (size + n) (U ++ rest))) ++ drop (size + n + size) (U ++ rest))
+    ≡ U ++ (take n rest ++ (reverse (take size (drop n rest)) ++ drop (n + size) rest))
+unit_onto size n U rest e =
+    let t : take (size + n) (U ++ rest) ≡ U ++ take n rest = ap (λ (k : ℕ). take (k + n) (U ++ rest)) (sym e) ∙ take-append-add U rest n in
+    let d : drop (size + n) (U ++ rest) ≡ drop n rest = ap (λ (k : ℕ). drop (k + n) (U ++ rest)) (sym e) ∙ drop-append-add U rest n in
+    let f : size + n + size ≡ length U + (n + size) = omega (arith, e) in
+    let g : drop (size + n + size) (U ++ rest) ≡ drop (n + size) rest = ap (λ (k : ℕ). drop k (U ++ rest)) f ∙ drop-append-add U rest (n + size) in
+    (λ i. t i ++ (reverse (take size (d i)) ++ g i))
+    ∙ append_assoc U (take n rest) (reverse (take size (drop n rest)) ++ drop (n + size) rest)
+
+-- to turn the next number of those that are turned
+pub turned_more : (size count : ℕ) (bytes : List ℕ) → size * suc count ≤ length bytes
+    → take (count * size) (turned_units size count bytes)
+    ++ (reverse (take size (drop (count * size) (turned_units size count bytes))) ++ drop (count * size + size) (turned_units size count bytes))
+    ≡ turned_units size (suc count) bytes
+turned_more size zero bytes h =
+    let z : zero * size ≡ zero = omega arith in
+    let y : zero * size + size ≡ size = omega arith in
+    λ i. take (z i) bytes ++ (reverse (take size (drop (z i) bytes)) ++ drop (y i) bytes)
+turned_more size (suc count) bytes h =
+    let U = reverse (take size bytes) in
+    let rest = turned_units size count (drop size bytes) in
+    let l : size * suc count ≤ length (drop size bytes) = omega (arith, h, length-drop size bytes) in
+    let u : length (reverse (take size bytes)) ≡ size = length-reverse (take size bytes) ∙ length-take-le size bytes (omega (arith, h)) in
+    let k : suc count * size ≡ size + count * size = omega arith in
+    ap (λ (n : ℕ). take n (U ++ rest) ++ (reverse (take size (drop n (U ++ rest))) ++ drop (n + size) (U ++ rest))) k
+    ∙ unit_onto size (count * size) U rest u
+    ∙ ap (λ xs. U ++ xs) (turned_more size count (drop size bytes) l)
+
+-- one turn of a loop that turns the numbers of a slice
+pub next_unit : (size i : ℕ) (bytes now part : List ℕ) → i < length bytes / size → now ≡ turned_units size i bytes
+    → part ≡ reverse (take (i * size + size - i * size) (drop (i * size) now))
+    → put_mid (i * size) (i * size + size - i * size) now part ≡ turned_units size (i + 1) bytes
+next_unit size i bytes now part h e p =
+    let k : i * size + size - i * size ≡ size = omega arith in
+    let one : suc i ≡ i + 1 = omega arith in
+    let whole : size * suc i ≤ length bytes = le_trans (mul-le-mul_left size h) (mul-div-le (length bytes) size) in
+    let zs = reverse (take size (drop (i * size) now)) in
+    let q : part ≡ zs = p ∙ ap (λ (n : ℕ). reverse (take n (drop (i * size) now))) k in
+    let there : size * i ≤ length bytes = omega (arith, whole) in
+    let room : size ≤ length (drop (i * size) now) = omega (arith, whole, length-drop (i * size) now, ap length e, length-turned_units size i bytes there) in
+    let len : size ≡ length zs = sym (length-reverse (take size (drop (i * size) now)) ∙ length-take-le size (drop (i * size) now) room) in
+    put_mid-paste (i * size) (i * size + size - i * size) now part zs size q (sym k) len
+    ∙ paste_all now (i * size) zs size len
+    ∙ ap (λ xs. take (i * size) xs ++ (reverse (take size (drop (i * size) xs)) ++ drop (i * size + size) xs)) e
+    ∙ turned_more size i bytes whole
+    ∙ ap (λ (n : ℕ). turned_units size n bytes) one
+
+-- its end
+pub last_unit : (size i : ℕ) (bytes now : List ℕ) → i ≡ length bytes / size → now ≡ turned_units size i bytes
+    → now ≡ turned_units size (length bytes / size) bytes
+last_unit size i bytes now h e = e ∙ ap (λ (n : ℕ). turned_units size n bytes) h

@@ -1,8 +1,10 @@
 //! The numbers of TIFF as enums, byte orders, and bit patterns.
 
-ghost use Rattle.std.specs.Prelude.{◌≡◌};
+ghost use Rattle.std.specs.Prelude.{◌≡◌, ◌<◌, ◌/◌, length};
 ghost use Rattle.tiff_base.specs.Tags.{extra_number, extra_of, format_number, format_of, interpretation_number, interpretation_of, method_number, method_of, planar_number, planar_of, predictor_number, predictor_of, tag_number, tag_of, type_number, type_of, unit_number, unit_of, named_tag, named_method, named_format};
+ghost use Rattle.tiff_base.specs.Turned.{convert, turned_units, unit_size};
 ghost use Rattle.tiff_base.specs.Types.{type_size};
+ghost use Rattle.tiff_base.specs.declared.tags.ByteOrder.TheVariants.{LittleEndian};
 
 use std::fmt;
 
@@ -662,6 +664,54 @@ pub enum ByteOrder {
     LittleEndian,
     /// The most one, `MM`.
     BigEndian,
+}
+
+impl ByteOrder {
+    /// The order of the machine, which is little-endian here.
+    pub fn native() -> Self
+        ensures { result ≡ LittleEndian }
+    {
+        ByteOrder::LittleEndian
+    }
+
+    /// Turns the numbers of values of a type into another order. A rational is two numbers; a ragged end stays as it is.
+    #[tactic(auto, unfolding(crate::specs::Turned::turned))]
+    pub fn convert(self, ty: Type, buffer: &mut [u8], to: ByteOrder)
+        ensures { buffer.new ≡ convert ty self buffer.old to }
+    {
+        match (self, to) {
+            (ByteOrder::LittleEndian, ByteOrder::LittleEndian) => return,
+            (ByteOrder::BigEndian, ByteOrder::BigEndian) => return,
+            (ByteOrder::LittleEndian, ByteOrder::BigEndian) => turn_units(buffer, unit_size(ty)),
+            (ByteOrder::BigEndian, ByteOrder::LittleEndian) => turn_units(buffer, unit_size(ty)),
+        }
+    }
+}
+
+// How many bytes a number of a type has.
+fn unit_size(ty: Type) -> usize
+    ensures value { result ≡ unit_size ty }
+    ensures some { 0 < result }
+{
+    match ty {
+        Type::RATIONAL | Type::SRATIONAL => 4,
+        Type::BYTE | Type::ASCII | Type::SBYTE | Type::UNDEFINED => 1,
+        Type::SHORT | Type::SSHORT => 2,
+        Type::LONG | Type::SLONG | Type::FLOAT | Type::IFD => 4,
+        Type::DOUBLE | Type::LONG8 | Type::SLONG8 | Type::IFD8 => 8,
+    }
+}
+
+// Turns each whole number of so many bytes the other way round.
+fn turn_units(buffer: &mut [u8], size: usize)
+    requires { 0 < size }
+    ensures { buffer.new ≡ turned_units size (length buffer.old / size) buffer.old }
+{
+    let units = buffer.len() / size;
+    'units: for i in 0..units {
+        let at = i * size;
+        buffer[at..at + size].reverse();
+    }
 }
 
 /// The two kinds of file, by the width of their places (this project's own).

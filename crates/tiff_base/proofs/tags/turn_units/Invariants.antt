@@ -1,0 +1,6 @@
+use Rattle.std.proofs.Common.{◌≡◌}
+use Rattle.tiff_base.specs.Turned.{turned_units}
+use Rattle.tiff_base.proofs.tags.turn_units.Given as goal
+
+abbrev pub invariant-units : goal.invariant-units
+invariant-units l = l.buffer ≡ turned_units l.size l.i l.initial.buffer
