@@ -10,7 +10,7 @@ ghost use Rattle.tiff_ifd.specs.View.{datum, datum_list};
 use std::alloc::Global;
 use std::marker::Model;
 use tiff_base::error::{TiffError, TiffFormatError, TiffResult};
-use tiff_base::tags::{Bits32, Bits64};
+use tiff_base::tags::{Bits32, Bits64, IfdPointer};
 
 /// The value of a field.
 #[derive(Debug, Drop)]
@@ -120,6 +120,107 @@ impl ValueList {
 }
 
 impl Value {
+    /// A byte. Another kind of value: `InvalidTypeForTag`.
+    pub fn into_u8(self) -> TiffResult<u8>
+        ensures { Gives (λ n. n) result (spec.into_u8 (datum self)) }
+    {
+        match self {
+            Value::Byte(n) => Ok(n),
+            _ => Err(TiffError::FormatError(TiffFormatError::InvalidTypeForTag)),
+        }
+    }
+
+    /// A signed byte. Another kind of value: `InvalidTypeForTag`.
+    pub fn into_i8(self) -> TiffResult<i8>
+        ensures { Gives (λ n. n) result (spec.into_i8 (datum self)) }
+    {
+        match self {
+            Value::SignedByte(n) => Ok(n),
+            _ => Err(TiffError::FormatError(TiffFormatError::InvalidTypeForTag)),
+        }
+    }
+
+    /// A signed number of 16 bits. Another kind of value: `InvalidTypeForTag`; one that doesn't fit: `IntSizeError`.
+    pub fn into_i16(self) -> TiffResult<i16>
+        ensures { Gives (λ n. n) result (spec.into_i16 (datum self)) }
+    {
+        match self {
+            Value::SignedByte(n) => Ok(i16::from(n)),
+            Value::SignedShort(n) => Ok(n),
+            Value::Signed(n) => i16::try_from(n).map_err(|_| TiffError::IntSizeError),
+            Value::SignedBig(n) => i16::try_from(n).map_err(|_| TiffError::IntSizeError),
+            _ => Err(TiffError::FormatError(TiffFormatError::InvalidTypeForTag)),
+        }
+    }
+
+    /// A signed number of 32 bits. Another kind of value: `InvalidTypeForTag`; one that doesn't fit: `IntSizeError`.
+    pub fn into_i32(self) -> TiffResult<i32>
+        ensures { Gives (λ n. n) result (spec.into_i32 (datum self)) }
+    {
+        match self {
+            Value::SignedByte(n) => Ok(i32::from(n)),
+            Value::SignedShort(n) => Ok(i32::from(n)),
+            Value::Signed(n) => Ok(n),
+            Value::SignedBig(n) => i32::try_from(n).map_err(|_| TiffError::IntSizeError),
+            _ => Err(TiffError::FormatError(TiffFormatError::InvalidTypeForTag)),
+        }
+    }
+
+    /// A signed number. Another kind of value: `InvalidTypeForTag`.
+    pub fn into_i64(self) -> TiffResult<i64>
+        ensures { Gives (λ n. n) result (spec.into_i64 (datum self)) }
+    {
+        match self {
+            Value::SignedByte(n) => Ok(i64::from(n)),
+            Value::SignedShort(n) => Ok(i64::from(n)),
+            Value::Signed(n) => Ok(i64::from(n)),
+            Value::SignedBig(n) => Ok(n),
+            _ => Err(TiffError::FormatError(TiffFormatError::InvalidTypeForTag)),
+        }
+    }
+
+    /// The bits of a floating number of 32 bits. Another kind of value: `InvalidTypeForTag`.
+    pub fn into_f32(self) -> TiffResult<Bits32>
+        ensures { Gives (λ x. x.0) result (spec.into_f32 (datum self)) }
+    {
+        match self {
+            Value::Float(x) => Ok(x),
+            _ => Err(TiffError::FormatError(TiffFormatError::InvalidTypeForTag)),
+        }
+    }
+
+    /// The bits of a floating number of 64 bits. Another kind of value: `InvalidTypeForTag`.
+    pub fn into_f64(self) -> TiffResult<Bits64>
+        ensures { Gives (λ x. x.0) result (spec.into_f64 (datum self)) }
+    {
+        match self {
+            Value::Double(x) => Ok(x),
+            _ => Err(TiffError::FormatError(TiffFormatError::InvalidTypeForTag)),
+        }
+    }
+
+    /// The place of a directory. Another kind of value: `InvalidTypeForTag`.
+    pub fn into_ifd_pointer(self) -> TiffResult<IfdPointer>
+        ensures { Gives (λ x. x.0) result (spec.into_ifd_pointer (datum self)) }
+    {
+        match self {
+            Value::Unsigned(n) => Ok(IfdPointer(u64::from(n))),
+            Value::Ifd(n) => Ok(IfdPointer(u64::from(n))),
+            Value::IfdBig(n) => Ok(IfdPointer(n)),
+            _ => Err(TiffError::FormatError(TiffFormatError::InvalidTypeForTag)),
+        }
+    }
+
+    /// A text. Another kind of value: `InvalidTypeForTag`.
+    pub fn into_string(self) -> TiffResult<String>
+        ensures { Gives string_bytes result (spec.into_string (datum self)) }
+    {
+        match self {
+            Value::Ascii(text) => Ok(text.into_string()),
+            _ => Err(TiffError::FormatError(TiffFormatError::InvalidTypeForTag)),
+        }
+    }
+
     /// A number below 2^16. Another kind of value: `InvalidTypeForTag`; a larger one: `IntSizeError`.
     pub fn into_u16(self) -> TiffResult<u16>
         ensures { Gives (λ n. n) result (spec.into_u16 (datum self)) }
