@@ -1,6 +1,6 @@
 //! The values of fields.
 
-ghost use Rattle.std.specs.Prelude.{◌≡◌, [], ◌∷◌, ◌++◌, length, string_bytes};
+ghost use Rattle.std.specs.Prelude.{◌≡◌, ◌^◌, [], ◌∷◌, ◌++◌, length, string_bytes};
 ghost use Rattle.tiff_ifd.specs.Datum.{data_of};
 ghost use Rattle.tiff_ifd.specs.Into as spec;
 ghost use Rattle.std.specs.Str.{chars as letters};
@@ -264,6 +264,37 @@ impl Value {
         }
     }
 
+    /// Bytes, of a list or of one byte. The first item that fails gives the fault.
+    pub fn into_u8_vec(self, alloc: Global) -> TiffResult<Vec<u8>>
+        ensures { AnswersHere (λ v. v.items) result (spec.into_u8_vec (datum self)) }
+    {
+        match self {
+            Value::List(list) => each::<u8>(alloc, list),
+            Value::Byte(n) => one(alloc, n),
+            _ => Err(TiffError::FormatError(TiffFormatError::InvalidTypeForTag)),
+        }
+    }
+
+    /// Numbers below 2^32, of a list, of one number, of a rational or of a text's characters. The first item that fails
+    /// gives the fault; a number that doesn't fit: `IntSizeError`.
+    pub fn into_u32_vec(self, alloc: Global) -> TiffResult<Vec<u32>>
+        ensures { AnswersHere (λ v. v.items) result (spec.into_u32_vec (datum self)) }
+    {
+        match self {
+            Value::List(list) => each::<u32>(alloc, list),
+            Value::Byte(n) => one(alloc, u32::from(n)),
+            Value::Short(n) => one(alloc, u32::from(n)),
+            Value::Unsigned(n) => one(alloc, n),
+            Value::UnsignedBig(n) => one(alloc, narrow(n)?),
+            Value::Ifd(n) => one(alloc, n),
+            Value::IfdBig(n) => one(alloc, narrow(n)?),
+            Value::Rational(n, d) => two(alloc, n, d),
+            Value::RationalBig(n, d) => two(alloc, narrow(n)?, narrow(d)?),
+            Value::Ascii(text) => narrow_chars(alloc, text.as_str()),
+            _ => Err(TiffError::FormatError(TiffFormatError::InvalidTypeForTag)),
+        }
+    }
+
     /// Numbers below 2^16, of a list or of one number. The first item that fails gives the fault.
     pub fn into_u16_vec(self, alloc: Global) -> TiffResult<Vec<u16>>
         ensures { AnswersHere (λ v. v.items) result (spec.into_u16_vec (datum self)) }
@@ -319,6 +350,22 @@ pub trait FromValue: Sized {
         ensures { AnswersHere (λ x. x) result (into (datum value)) };
 }
 
+impl FromValue for u8 {
+    ghost into = { spec.into_u8 };
+
+    fn from_value(value: Value) -> TiffResult<u8> {
+        value.into_u8()
+    }
+}
+
+impl FromValue for u32 {
+    ghost into = { spec.into_u32 };
+
+    fn from_value(value: Value) -> TiffResult<u32> {
+        value.into_u32()
+    }
+}
+
 impl FromValue for u16 {
     ghost into = { spec.into_u16 };
 
@@ -333,6 +380,23 @@ impl FromValue for u64 {
     fn from_value(value: Value) -> TiffResult<u64> {
         value.into_u64()
     }
+}
+
+// A number that has to be below 2^32.
+fn narrow(n: u64) -> TiffResult<u32>
+    ensures { Gives (λ n. n) result (spec.below (2 ^ 32) n) }
+{
+    u32::try_from(n).map_err(|_| TiffError::IntSizeError)
+}
+
+fn narrow_chars(alloc: Global, text: &str) -> TiffResult<Vec<u32>>
+    ensures { AnswersHere (λ v. v.items) result (Ok (letters text.now)) }
+{
+    let mut all = Vec::new(alloc);
+    for c in text.chars() {
+        all.push(c as u32)?;
+    }
+    Ok(all)
 }
 
 fn chars(alloc: Global, text: &str) -> TiffResult<Vec<u64>>
