@@ -2,3 +2,4 @@ pub mod Entries
 pub mod Chain
 pub mod Links
 mod Letters
+mod Joined

@@ -105,6 +105,10 @@ abbrev pub each_joined : {A : Type 0} → (Datum → Result (List A) TiffError) 
 each_joined into none = Ok []
 each_joined into (more f fs) = into f >>= λ xs. each_joined into fs >>= λ ys. Ok (xs ++ ys)
 
+-- some numbers behind others
+abbrev pub appended : {A : Type 0} → List A → Result (List A) TiffError → Result (List A) TiffError
+appended old found = found >>= λ xs. Ok (old ++ xs)
+
 -- one number, as a list
 abbrev pub one : {A : Type 0} → Result A TiffError → Result (List A) TiffError
 one found = found >>= λ x. Ok (x ∷ [])

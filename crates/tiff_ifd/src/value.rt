@@ -1,6 +1,6 @@
 //! The values of fields.
 
-ghost use Rattle.std.specs.Prelude.{◌≡◌, ◌^◌, [], ◌∷◌, ◌++◌, length, string_bytes};
+ghost use Rattle.std.specs.Prelude.{◌≡◌, ◌^◌, Ok, [], ◌∷◌, ◌++◌, length, string_bytes};
 ghost use Rattle.tiff_ifd.specs.Datum.{data_of};
 ghost use Rattle.tiff_ifd.specs.Into as spec;
 ghost use Rattle.std.specs.Str.{chars as letters};
@@ -295,6 +295,27 @@ impl Value {
         }
     }
 
+    /// Signed numbers of 32 bits, of a list or of one value; a signed rational gives two. The first item that fails gives the
+    /// fault; a number that doesn't fit: `IntSizeError`.
+    pub fn into_i32_vec(self, alloc: Global) -> TiffResult<Vec<i32>>
+        ensures { AnswersHere (λ v. v.items) result (spec.into_i32_vec (datum self)) }
+    {
+        match self {
+            Value::List(list) => each_joined::<i32>(alloc, list),
+            value => all_of::<i32>(alloc, value),
+        }
+    }
+
+    /// Signed numbers, of a list or of one value; a signed rational gives two. The first item that fails gives the fault.
+    pub fn into_i64_vec(self, alloc: Global) -> TiffResult<Vec<i64>>
+        ensures { AnswersHere (λ v. v.items) result (spec.into_i64_vec (datum self)) }
+    {
+        match self {
+            Value::List(list) => each_joined::<i64>(alloc, list),
+            value => all_of::<i64>(alloc, value),
+        }
+    }
+
     /// Numbers below 2^16, of a list or of one number. The first item that fails gives the fault.
     pub fn into_u16_vec(self, alloc: Global) -> TiffResult<Vec<u16>>
         ensures { AnswersHere (λ v. v.items) result (spec.into_u16_vec (datum self)) }
@@ -405,6 +426,85 @@ fn chars(alloc: Global, text: &str) -> TiffResult<Vec<u64>>
     let mut all = Vec::new(alloc);
     for c in text.chars() {
         all.push(c as u32 as u64)?;
+    }
+    Ok(all)
+}
+
+/// The numbers that a single value gives, one or two.
+pub trait AppendValue: Sized {
+    ghost use Rattle.std.specs.Prelude.{Result, List};
+    ghost use Rattle.tiff_base.specs.declared.error.TiffError.{TiffError};
+    ghost use Rattle.tiff_ifd.specs.Datum.{Datum};
+
+    // What each value gives.
+    ghost numbers: { Datum → Result (List Self) TiffError };
+
+    fn append_value(value: Value, out: &mut Vec<Self>) -> TiffResult<()>
+        ensures { AnswersHere (λ _. out.new.items) result (spec.appended out.old.items (numbers (datum value))) };
+}
+
+impl AppendValue for i32 {
+    ghost numbers = { spec.i32s_of };
+
+    fn append_value(value: Value, out: &mut Vec<i32>) -> TiffResult<()> {
+        match value {
+            Value::SRational(n, d) => append_two(out, n, d),
+            Value::SRationalBig(n, d) => append_two(out, narrow_signed(n)?, narrow_signed(d)?),
+            value => append_one(out, value.into_i32()?),
+        }
+    }
+}
+
+impl AppendValue for i64 {
+    ghost numbers = { spec.i64s_of };
+
+    fn append_value(value: Value, out: &mut Vec<i64>) -> TiffResult<()> {
+        match value {
+            Value::SRational(n, d) => append_two(out, i64::from(n), i64::from(d)),
+            Value::SRationalBig(n, d) => append_two(out, n, d),
+            value => append_one(out, value.into_i64()?),
+        }
+    }
+}
+
+// A signed number that has to fit into 32 bits.
+fn narrow_signed(n: i64) -> TiffResult<i32>
+    ensures { Gives (λ n. n) result (spec.within (2 ^ 31) n) }
+{
+    i32::try_from(n).map_err(|_| TiffError::IntSizeError)
+}
+
+fn append_one<T: Drop>(out: &mut Vec<T>, x: T) -> TiffResult<()>
+    ensures { AnswersHere (λ _. out.new.items) result (Ok (out.old.items ++ x ∷ [])) }
+{
+    out.push(x)?;
+    Ok(())
+}
+
+#[tactic(auto, using(crate::proofs::Joined::two_more))]
+fn append_two<T: Drop>(out: &mut Vec<T>, x: T, y: T) -> TiffResult<()>
+    ensures { AnswersHere (λ _. out.new.items) result (Ok (out.old.items ++ x ∷ y ∷ [])) }
+{
+    out.push(x)?;
+    out.push(y)?;
+    Ok(())
+}
+
+fn all_of<T: AppendValue + Drop>(alloc: Global, value: Value) -> TiffResult<Vec<T>>
+    ensures { AnswersHere (λ v. v.items) result (T.numbers (datum value)) }
+{
+    let mut all = Vec::new(alloc);
+    T::append_value(value, &mut all)?;
+    Ok(all)
+}
+
+fn each_joined<T: AppendValue + Drop>(alloc: Global, list: ValueList) -> TiffResult<Vec<T>>
+    ensures { AnswersHere (λ v. v.items) result (spec.each_joined T.numbers (data_of list)) }
+{
+    let ValueList { items } = list;
+    let mut all = Vec::new(alloc);
+    for item in items {
+        T::append_value(item, &mut all)?;
     }
     Ok(all)
 }
