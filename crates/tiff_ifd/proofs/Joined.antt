@@ -1,5 +1,22 @@
 -- Lists that are joined.
-use Rattle.std.proofs.Common.{◌≡◌, List, [], ◌∷◌, ◌++◌, ap, ◌∙◌, append_assoc}
+use Rattle.std.proofs.Common.{◌≡◌, List, [], ◌∷◌, ◌++◌, map, Vec, Result, Ok, Err, refl, ap, ◌∙◌, append_assoc}
+use Rattle.std.specs.declared.alloc.Global.{Global}
+use Rattle.tiff_base.specs.declared.error.TiffError.{TiffError}
+use Rattle.std.proofs.lemmas.List.{map-append}
+use Rattle.tiff_base.specs.Answers.{AnswersHere}
 
 pub two_more : {A : Type 0} (xs ys zs : List A) (x y : A) → ys ≡ xs ++ x ∷ [] → zs ≡ ys ++ y ∷ [] → zs ≡ xs ++ x ∷ y ∷ []
 two_more xs ys zs x y p q = q ∙ ap (λ ws. ws ++ y ∷ []) p ∙ append_assoc xs (x ∷ []) (y ∷ [])
+
+pub one_seen : {A B : Type 0} (f : A → B) (xs ys : List A) (x : A) → ys ≡ xs ++ x ∷ [] → map f ys ≡ map f xs ++ f x ∷ []
+one_seen f xs ys x p = ap (map f) p ∙ map-append f xs (x ∷ [])
+
+map_same : {A : Type 0} (xs : List A) → map (λ (x : A). x) xs ≡ xs
+map_same [] = refl
+map_same (x ∷ xs) = ap (λ ys. x ∷ ys) (map_same xs)
+
+-- a list that is seen as it is
+pub as_they_are : {A : Type 0} (r : Result (Vec A Global) TiffError) (given : Result (List A) TiffError)
+    → AnswersHere (λ v. map (λ (x : A). x) v.items) r given → AnswersHere (λ v. v.items) r given
+as_they_are (Ok v) given h = h ∙ ap (λ xs. Ok xs) (map_same v.items)
+as_they_are (Err e) given h = h

@@ -1,6 +1,6 @@
 //! The values of fields.
 
-ghost use Rattle.std.specs.Prelude.{◌≡◌, ◌^◌, Ok, [], ◌∷◌, ◌++◌, length, string_bytes};
+ghost use Rattle.std.specs.Prelude.{◌≡◌, ◌^◌, Ok, map, [], ◌∷◌, ◌++◌, length, string_bytes};
 ghost use Rattle.tiff_ifd.specs.Datum.{data_of};
 ghost use Rattle.tiff_ifd.specs.Into as spec;
 ghost use Rattle.std.specs.Str.{chars as letters};
@@ -265,6 +265,7 @@ impl Value {
     }
 
     /// Bytes, of a list or of one byte. The first item that fails gives the fault.
+    #[tactic(auto, using(crate::proofs::Joined::as_they_are))]
     pub fn into_u8_vec(self, alloc: Global) -> TiffResult<Vec<u8>>
         ensures { AnswersHere (λ v. v.items) result (spec.into_u8_vec (datum self)) }
     {
@@ -277,6 +278,7 @@ impl Value {
 
     /// Numbers below 2^32, of a list, of one number, of a rational or of a text's characters. The first item that fails
     /// gives the fault; a number that doesn't fit: `IntSizeError`.
+    #[tactic(auto, using(crate::proofs::Joined::as_they_are))]
     pub fn into_u32_vec(self, alloc: Global) -> TiffResult<Vec<u32>>
         ensures { AnswersHere (λ v. v.items) result (spec.into_u32_vec (datum self)) }
     {
@@ -292,6 +294,36 @@ impl Value {
             Value::RationalBig(n, d) => two(alloc, narrow(n)?, narrow(d)?),
             Value::Ascii(text) => narrow_chars(alloc, text.as_str()),
             _ => Err(TiffError::FormatError(TiffFormatError::InvalidTypeForTag)),
+        }
+    }
+
+    /// The bits of floating numbers of 32 bits, of a list or of one value. The first item that fails gives the fault.
+    pub fn into_f32_vec(self, alloc: Global) -> TiffResult<Vec<Bits32>>
+        ensures { AnswersHere (λ v. map (λ n. n.0) v.items) result (spec.into_f32_vec (datum self)) }
+    {
+        match self {
+            Value::List(list) => each::<Bits32>(alloc, list),
+            value => one(alloc, value.into_f32()?),
+        }
+    }
+
+    /// The bits of floating numbers of 64 bits, of a list or of one value. The first item that fails gives the fault.
+    pub fn into_f64_vec(self, alloc: Global) -> TiffResult<Vec<Bits64>>
+        ensures { AnswersHere (λ v. map (λ n. n.0) v.items) result (spec.into_f64_vec (datum self)) }
+    {
+        match self {
+            Value::List(list) => each::<Bits64>(alloc, list),
+            value => one(alloc, value.into_f64()?),
+        }
+    }
+
+    /// The places of directories, of a list or of one value. The first item that fails gives the fault.
+    pub fn into_ifd_vec(self, alloc: Global) -> TiffResult<Vec<IfdPointer>>
+        ensures { AnswersHere (λ v. map (λ n. n.0) v.items) result (spec.into_ifd_vec (datum self)) }
+    {
+        match self {
+            Value::List(list) => each::<IfdPointer>(alloc, list),
+            value => one(alloc, value.into_ifd_pointer()?),
         }
     }
 
@@ -317,6 +349,7 @@ impl Value {
     }
 
     /// Numbers below 2^16, of a list or of one number. The first item that fails gives the fault.
+    #[tactic(auto, using(crate::proofs::Joined::as_they_are))]
     pub fn into_u16_vec(self, alloc: Global) -> TiffResult<Vec<u16>>
         ensures { AnswersHere (λ v. v.items) result (spec.into_u16_vec (datum self)) }
     {
@@ -330,6 +363,7 @@ impl Value {
 
     /// Numbers, of a list, of one number, of a rational or of a text's characters. The first item that fails gives the
     /// fault.
+    #[tactic(auto, using(crate::proofs::Joined::as_they_are))]
     pub fn into_u64_vec(self, alloc: Global) -> TiffResult<Vec<u64>>
         ensures { AnswersHere (λ v. v.items) result (spec.into_u64_vec (datum self)) }
     {
@@ -360,19 +394,23 @@ fn two<T: Drop>(alloc: Global, x: T, y: T) -> TiffResult<Vec<T>>
 
 /// A number that a single value gives.
 pub trait FromValue: Sized {
-    ghost use Rattle.std.specs.Prelude.{Result};
+    ghost use Rattle.std.specs.Prelude.{Result, ℕ};
     ghost use Rattle.tiff_base.specs.declared.error.TiffError.{TiffError};
     ghost use Rattle.tiff_ifd.specs.Datum.{Datum};
 
-    // What each field gives.
-    ghost into: { Datum → Result Self TiffError };
+    // What each value gives, and the number of what is given.
+    ghost into: { Datum → Result ℕ TiffError };
+
+    ghost number: { Self → ℕ };
 
     fn from_value(value: Value) -> TiffResult<Self>
-        ensures { AnswersHere (λ x. x) result (into (datum value)) };
+        ensures { AnswersHere number result (into (datum value)) };
 }
 
 impl FromValue for u8 {
     ghost into = { spec.into_u8 };
+
+    ghost number = { λ n. n };
 
     fn from_value(value: Value) -> TiffResult<u8> {
         value.into_u8()
@@ -382,6 +420,8 @@ impl FromValue for u8 {
 impl FromValue for u32 {
     ghost into = { spec.into_u32 };
 
+    ghost number = { λ n. n };
+
     fn from_value(value: Value) -> TiffResult<u32> {
         value.into_u32()
     }
@@ -390,6 +430,8 @@ impl FromValue for u32 {
 impl FromValue for u16 {
     ghost into = { spec.into_u16 };
 
+    ghost number = { λ n. n };
+
     fn from_value(value: Value) -> TiffResult<u16> {
         value.into_u16()
     }
@@ -397,6 +439,8 @@ impl FromValue for u16 {
 
 impl FromValue for u64 {
     ghost into = { spec.into_u64 };
+
+    ghost number = { λ n. n };
 
     fn from_value(value: Value) -> TiffResult<u64> {
         value.into_u64()
@@ -428,6 +472,36 @@ fn chars(alloc: Global, text: &str) -> TiffResult<Vec<u64>>
         all.push(c as u32 as u64)?;
     }
     Ok(all)
+}
+
+impl FromValue for Bits32 {
+    ghost into = { spec.into_f32 };
+
+    ghost number = { λ n. n.0 };
+
+    fn from_value(value: Value) -> TiffResult<Bits32> {
+        value.into_f32()
+    }
+}
+
+impl FromValue for Bits64 {
+    ghost into = { spec.into_f64 };
+
+    ghost number = { λ n. n.0 };
+
+    fn from_value(value: Value) -> TiffResult<Bits64> {
+        value.into_f64()
+    }
+}
+
+impl FromValue for IfdPointer {
+    ghost into = { spec.into_ifd_pointer };
+
+    ghost number = { λ n. n.0 };
+
+    fn from_value(value: Value) -> TiffResult<IfdPointer> {
+        value.into_ifd_pointer()
+    }
 }
 
 /// The numbers that a single value gives, one or two.
@@ -517,8 +591,9 @@ fn one<T: Drop>(alloc: Global, x: T) -> TiffResult<Vec<T>>
     Ok(all)
 }
 
+#[tactic(auto, using(crate::proofs::Joined::one_seen))]
 fn each<T: FromValue + Drop>(alloc: Global, list: ValueList) -> TiffResult<Vec<T>>
-    ensures { AnswersHere (λ v. v.items) result (spec.each T.into (data_of list)) }
+    ensures { AnswersHere (λ v. map T.number v.items) result (spec.each T.into (data_of list)) }
 {
     let ValueList { items } = list;
     let mut all = Vec::new(alloc);

@@ -1,4 +1,4 @@
-use Rattle.std.proofs.Common.{◌≡◌, ◌++◌, Ok}
+use Rattle.std.proofs.Common.{◌≡◌, ◌++◌, Ok, map}
 use Rattle.std.specs.Vec.Iter.{into_iter_items}
 use Rattle.tiff_ifd.specs.Datum.{data_of}
 use Rattle.tiff_ifd.specs.Into as spec
@@ -11,5 +11,5 @@ invariant-loop-item g l = record {
   can : (goal.iterator-loop-item g).can_next l.item-iterator;
   finite : (goal.iterator-loop-item g).is_finite l.item-iterator;
   rest : spec.each g.T.FromValue.into (data_of l.fn.list)
-      ≡ (spec.each g.T.FromValue.into (data_of (datum_list (into_iter_items l.item-iterator))) >>= (λ xs. Ok (l.all.items ++ xs)));
+      ≡ (spec.each g.T.FromValue.into (data_of (datum_list (into_iter_items l.item-iterator))) >>= (λ xs. Ok (map g.T.FromValue.number l.all.items ++ xs)));
 }
