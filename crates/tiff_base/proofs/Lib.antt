@@ -2,3 +2,4 @@ pub mod Bytes
 pub mod Causes
 pub mod Maps
 pub mod Turned
+pub mod EnumLaws

@@ -12,3 +12,4 @@ pub mod Header
 pub mod FieldBytes
 pub mod Runs
 pub mod Turned
+pub mod EnumLaws
