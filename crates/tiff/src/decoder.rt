@@ -2,4 +2,8 @@
 
 pub use tiff_base::color::ChunkType;
 pub use tiff_decode::decoder::{Decoder, DecodingResult};
+pub use tiff_decode::script;
 pub use tiff_ifd::limits::Limits;
+pub use tiff_page::layout::{BufferLayoutPreference, DecodingSampleType, TiffCodingUnit};
+
+pub mod ifd;

@@ -1,12 +1,17 @@
 -- The worked examples of Chains compute.
-use Rattle.std.specs.Prelude.{refl, ◌≡◌, ℕ, List, [], ◌∷◌, Option, Some, None}
-use Rattle.std.proofs.Common.{subst, sym, ◌∙◌, arith, inl, inr}
+use Rattle.std.specs.Prelude.{refl, ◌≡◌, ℕ, Bool, true, false, List, [], ◌∷◌, ◌++◌, length, Option, Some, None, Result, Ok, Err}
+use Rattle.std.proofs.Common.{subst, sym, ap, ◌∙◌, arith, inl, inr}
+use Rattle.std.specs.List.{IsDistinct}
+use Rattle.std.proofs.lemmas.Bool.Decides.{nat_tests}
 use Rattle.std.specs.Ordering.{nat_cmp}
 use Rattle.std.specs.Cmp.{nat_cmp_total}
 use Rattle.std.specs.FinMap.{find, get, get-from_entries}
 use Rattle.tiff_base.specs.Directory.{directory_at, entries_from}
 use Rattle.tiff_base.specs.Number.{number}
-use Rattle.tiff_ifd.specs.Chain.{chain}
+use Rattle.tiff_base.specs.declared.error.TiffError.{TiffError}
+use Rattle.tiff_base.specs.declared.tags.ByteOrder.TheVariants.{LittleEndian}
+use Rattle.tiff_base.specs.declared.tags.FileKind.TheVariants.{Classic}
+use Rattle.tiff_ifd.specs.Chain.{link_from, AreEntered, chain}
 use Rattle.tiff_ifd.specs.Links.{Links, Goes}
 use Rattle.tiff_examples.specs.Chains as s
 
@@ -14,10 +19,19 @@ use Rattle.tiff_examples.specs.Chains as s
 looked : (links : List (ℕ × Option ℕ)) (q : ℕ) → get (s.accepted links) q ≡ find nat_cmp q links
 looked = get-from_entries nat_cmp_total
 
-abbrev place_or : ℕ → Option (Option ℕ) → ℕ
-place_or d (Some (Some n)) = n
-place_or d (Some None) = d
-place_or d None = d
+abbrev IsTrue : Bool → Type 0
+IsTrue true = Unit {0}
+IsTrue false = ⊥
+
+abbrev IsFault : Result (Option ℕ) TiffError → Type 0
+IsFault (Ok x) = ⊥
+IsFault (Err e) = Unit {0}
+
+-- no place is entered in an empty file
+only_none : (others : List ℕ) → AreEntered (link_from Classic LittleEndian []) [] (Some 0) others → (rest : List ℕ) × ([] ≡ others ++ rest)
+unfolding directory_at number
+only_none [] h = ([], refl)
+only_none (place ∷ others) h = absurd (subst IsFault h.2 tt)
 
 abbrev IsLinked : Option (Option ℕ) → Type 0
 IsLinked (Some (Some n)) = Unit {0}
@@ -108,6 +122,25 @@ a_chain = (refl, Some 6, refl, (refl, None, refl, refl))
 
 pub no_chain : s.no_chain
 no_chain = refl
+
+pub none_longest : s.none_longest
+unfolding directory_at number
+none_longest = record { entered = tt; longest = only_none }
+
+pub one_not_longest : s.one_not_longest
+unfolding directory_at number entries_from
+one_not_longest = λ h. (let more = h.longest (0 ∷ 6 ∷ []) (refl, Some 6, refl, (refl, None, refl, tt)) in let e = ap length more.1 in omega (arith, e))
+
+pub places_apart : s.places_apart
+unfolding IsDistinct
+places_apart = record { differ = ((refl, tt), (tt, tt)); below = λ place h. grind (arith, nat_tests) }
+
+pub place_twice : s.place_twice
+unfolding IsDistinct
+place_twice = λ h. subst IsTrue h.differ.0.0 tt
+
+pub place_past_end : s.place_past_end
+place_past_end = λ h. omega (arith, h.below 7 refl)
 
 pub first_link : s.first_link
 first_link = (record { free = looked [] 8; unclosed = λ h. stuck (s.accepted []) 20 8 None (looked [] 20) (λ x. x) (λ e. omega (arith, e)) h.0 h.1 }, refl)

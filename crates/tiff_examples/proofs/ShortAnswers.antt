@@ -108,3 +108,10 @@ wide_place = refl
 pub wide_count : s.wide_count
 unfolding entry_of type_of number
 wide_count = refl
+
+pub no_letters : s.no_letters
+unfolding field_value
+no_letters = refl
+
+pub refused : s.refused
+refused = refl

@@ -7,7 +7,7 @@ use Rattle.tiff_base.specs.declared.error.TiffFormatError.TheVariants.{CycleInOf
 use Rattle.tiff_base.specs.declared.io.IoKind.TheVariants.{UnexpectedEof}
 use Rattle.tiff_base.specs.declared.tags.ByteOrder.TheVariants.{LittleEndian, BigEndian}
 use Rattle.tiff_base.specs.declared.tags.FileKind.TheVariants.{Classic, Big}
-use Rattle.tiff_ifd.specs.Chain.{link_from, entered, AreEntered, IsChain, chain}
+use Rattle.tiff_ifd.specs.Chain.{link_from, entered, AreEntered, IsChain, chain, IsLongest, AreApart}
 use Rattle.tiff_ifd.specs.Links.{Links, Inserts}
 use Rattle.tiff_examples.specs.Files.{gray_file}
 
@@ -124,6 +124,30 @@ a_chain =
 abbrev pub no_chain : Type 0
 no_chain =
     IsChain (link_from Classic LittleEndian (0x00 ∷ 0x00 ∷ 0x00 ∷ 0x00 ∷ 0x00 ∷ 0x00 ∷ [])) [] None [] None
+
+-- of an empty file no place is entered
+abbrev pub none_longest : Type 0
+none_longest =
+    IsLongest Classic LittleEndian [] 0 []
+
+-- the first of two directories alone isn't the longest list
+abbrev pub one_not_longest : Type 0
+one_not_longest =
+    IsLongest Classic LittleEndian (two_directories (0x06 ∷ 0x00 ∷ 0x00 ∷ 0x00 ∷ []) (0x00 ∷ 0x00 ∷ 0x00 ∷ 0x00 ∷ [])) 0 (0 ∷ []) → ⊥
+
+-- two places of a file of seven bytes
+abbrev pub places_apart : Type 0
+places_apart =
+    AreApart (0x00 ∷ 0x00 ∷ 0x00 ∷ 0x00 ∷ 0x00 ∷ 0x00 ∷ 0x00 ∷ []) (0 ∷ 6 ∷ [])
+
+-- a place twice, and one past the end
+abbrev pub place_twice : Type 0
+place_twice =
+    AreApart (0x00 ∷ 0x00 ∷ 0x00 ∷ 0x00 ∷ 0x00 ∷ 0x00 ∷ 0x00 ∷ []) (0 ∷ 0 ∷ []) → ⊥
+
+abbrev pub place_past_end : Type 0
+place_past_end =
+    AreApart (0x00 ∷ 0x00 ∷ 0x00 ∷ 0x00 ∷ 0x00 ∷ 0x00 ∷ 0x00 ∷ []) (7 ∷ []) → ⊥
 
 -- 8 to 20 is accepted
 abbrev pub first_link : Type 0

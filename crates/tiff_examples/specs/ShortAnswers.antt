@@ -1,11 +1,12 @@
 -- Worked answers of sources and sinks, and values looked up in a directory.
 use Rattle.std.specs.Prelude.{◌≡◌, ℕ, negsuc, List, [], ◌∷◌, Some, Ok, Err}
-use Rattle.tiff_base.specs.declared.error.TiffError.TheVariants.{IoError, LimitsExceeded}
+use Rattle.tiff_base.specs.declared.error.TiffError.TheVariants.{IoError, LimitsExceeded, UnsupportedError}
+use Rattle.tiff_base.specs.declared.error.TiffUnsupportedError.TheVariants.{UnsupportedDataType}
 use Rattle.tiff_base.specs.declared.io.IoKind.TheVariants.{UnexpectedEof}
 use Rattle.tiff_base.specs.declared.tags.ByteOrder.TheVariants.{LittleEndian, BigEndian}
 use Rattle.tiff_base.specs.declared.tags.FileKind.TheVariants.{Classic, Big}
 use Rattle.tiff_base.specs.declared.tags.Tag.TheVariants as tag
-use Rattle.tiff_base.specs.declared.tags.«Type».TheVariants.{BYTE, SHORT, SBYTE}
+use Rattle.tiff_base.specs.declared.tags.«Type».TheVariants.{BYTE, ASCII, SHORT, SBYTE}
 use Rattle.tiff_base.specs.Told.{bytes_at, AreOctets, Reads, Appends, Overwrites}
 use Rattle.tiff_base.specs.Directory.{entry_of, last_of_each}
 use Rattle.tiff_base.specs.Field.{Field}
@@ -15,6 +16,7 @@ use Rattle.tiff_ifd.specs.Limits.{unlimited}
 use Rattle.tiff_ifd.specs.Datum.{none, more, list, short, signed_byte}
 use Rattle.tiff_ifd.specs.FieldValue.{field_value}
 use Rattle.tiff_ifd.specs.Look.{look_in}
+use Rattle.tiff_ifd.specs.StandIn.{stand_in}
 use Rattle.tiff_examples.specs.Fields.{of}
 
 -- BitsPerSample: one short in the entry, and three at the place 0
@@ -148,7 +150,7 @@ look_limited =
 -- in a BigTIFF file a place has eight bytes: this one is past the end
 abbrev pub wide_place : Type 0
 wide_place =
-    field_bytes Big LittleEndian (0x01 ∷ 0x02 ∷ 0x03 ∷ []) (of BYTE 9 (0x00 ∷ 0x00 ∷ 0x00 ∷ 0x00 ∷ 0x01 ∷ 0x00 ∷ 0x00 ∷ 0x00 ∷ []))
+    field_bytes Big LittleEndian (0x01 ∷ 0x02 ∷ 0x03 ∷ 0x04 ∷ 0x05 ∷ 0x06 ∷ 0x07 ∷ 0x08 ∷ 0x09 ∷ []) (of BYTE 9 (0x00 ∷ 0x00 ∷ 0x00 ∷ 0x00 ∷ 0x01 ∷ 0x00 ∷ 0x00 ∷ 0x00 ∷ []))
     ≡ Err (IoError UnexpectedEof)
 
 -- and a count eight
@@ -156,3 +158,14 @@ abbrev pub wide_count : Type 0
 wide_count =
     entry_of Big LittleEndian (0x00 ∷ 0x01 ∷ 0x01 ∷ 0x00 ∷ 0x00 ∷ 0x00 ∷ 0x00 ∷ 0x00 ∷ 0x01 ∷ 0x00 ∷ 0x00 ∷ 0x00 ∷ 0x05 ∷ 0x00 ∷ 0x00 ∷ 0x00 ∷ 0x00 ∷ 0x00 ∷ 0x00 ∷ 0x00 ∷ [])
     ≡ Some (256, of BYTE 4294967296 (0x05 ∷ 0x00 ∷ 0x00 ∷ 0x00 ∷ 0x00 ∷ 0x00 ∷ 0x00 ∷ 0x00 ∷ []))
+
+-- a text of no letters is an empty list, as other values are
+abbrev pub no_letters : Type 0
+no_letters =
+    field_value Classic LittleEndian [] unlimited (of ASCII 0 (0x41 ∷ 0x00 ∷ 0x00 ∷ 0x00 ∷ 0x00 ∷ 0x00 ∷ 0x00 ∷ 0x00 ∷ []))
+    ≡ Ok (list none)
+
+-- the refusal that stands in
+abbrev pub refused : Type 0
+refused =
+    stand_in ≡ UnsupportedError UnsupportedDataType

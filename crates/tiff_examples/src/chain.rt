@@ -14,6 +14,11 @@ pub fn entries()
         s.not_the_second × s.a_chain × s.no_chain }
 {}
 
+/// The longest list of places that are entered, and places that differ.
+pub fn wholes()
+    ensures { s.none_longest × s.one_not_longest × s.places_apart × s.place_twice × s.place_past_end }
+{}
+
 /// Links that are handed in one after another, each to the links that the one before left.
 pub fn links()
     ensures { s.first_link × s.same_link × s.other_link × s.closing_link × s.last_link × s.zero_link ×

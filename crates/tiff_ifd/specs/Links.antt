@@ -17,7 +17,7 @@ target None = None
 target (Some to) = link to
 
 module _ (links : Links) where
-  -- Accepted links go from this place over these others, the last of which is that one; over none others from a place to
+  -- Accepted links go from this place over these others, the last of which is that one. Over no others a place goes to
   -- itself.
   abbrev pub Goes : ℕ → List ℕ → ℕ → Type 0
   Goes place [] last = place ≡ last

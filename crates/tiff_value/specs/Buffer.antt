@@ -17,7 +17,7 @@ pub record BufferRecord : Type 0 where
 abbrev pub buffer_count : BufferRecord → ℕ
 buffer_count b = length b.bytes / type_size b.data_type
 
--- no values, in the machine's order, which is little-endian
+-- no values, in native order, which is little-endian
 abbrev pub empty_buffer : «Type» → BufferRecord
 empty_buffer type = record { order = LittleEndian; data_type = type; bytes = [] }
 

@@ -1,5 +1,5 @@
 -- What each colour type says of its samples (TIFF 6.0 sections 4 to 6, 16, 19, 21; their names as in the Rust crate).
-use Rattle.std.specs.Prelude.{◌≡◌, ℕ, ◌*◌, ◌<◌, replicate}
+use Rattle.std.specs.Prelude.{◌≡◌, ℕ, ◌*◌, ◌^◌, ◌<◌, replicate}
 use Rattle.tiff_base.specs.declared.tags.PhotometricInterpretation.{PhotometricInterpretation}
 use Rattle.tiff_base.specs.declared.tags.PhotometricInterpretation.TheVariants.{BlackIsZero, RGB, CMYK, YCbCr}
 use Rattle.tiff_base.specs.declared.tags.SampleFormat.{SampleFormat}
@@ -88,10 +88,11 @@ inner_size name = type_size (inner_type name)
 
 -- ---- its law
 
--- There are samples, all of the bits of a number in memory and of one format.
+-- There are samples, no more than a count of two bytes can tell, all of the bits of a number in memory and of one format.
 pub record IsEven (name : ColorTypeName) : Type 0 where
   pub samples : ℕ
   pub some : 0 < samples
+  pub few : samples < 2 ^ 16
   pub format : SampleFormat
   pub even : colour_type name ≡ samples_of (colour_type name).interpretation samples (8 * inner_size name) format
 

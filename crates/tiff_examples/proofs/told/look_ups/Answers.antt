@@ -10,4 +10,6 @@ returns c = (
   p.look_limited,
   p.wide_place,
   p.wide_count,
+  p.no_letters,
+  p.refused,
 )
