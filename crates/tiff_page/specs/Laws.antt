@@ -9,7 +9,7 @@ use Rattle.tiff_ifd.specs.declared.limits.Limits.{Limits}
 use Rattle.tiff_page.specs.Page.{PageRecord}
 use Rattle.tiff_page.specs.Rect.{rect, across}
 use Rattle.tiff_page.specs.Layout.{LayoutRecord, layout_of, row_bits, row_bytes}
-use Rattle.tiff_page.specs.PixelFault.{each_below}
+use Rattle.tiff_page.specs.PixelFault.{depth_fault, each_below}
 use Rattle.tiff_page.specs.Pixels.{Region, byte_at, chunk_at, region_byte, whole_image, chunk_region}
 use Rattle.tiff_page.specs.Image.{Decoded, image_of}
 use Rattle.tiff_page.specs.Buffers.{planes_layout}
@@ -98,3 +98,8 @@ ImageOfChunks = (file : List ℕ) (order : ByteOrder) (p : PageRecord) (colour :
     → row < (rect p i).height → k < row_bytes p colour (rect p i).width
     → region_byte file order p colour (whole_image file order p) (rect p i).plane ((rect p i).y + row) (row_bits p colour (rect p i).x / 8 + k)
     ≡ region_byte file order p colour (chunk_region file order p i) (rect p i).plane row k
+
+-- a page whose image has a layout, and whose depth and colour are read, has such rows
+abbrev pub WholeRows : Type 0
+WholeRows = (p : PageRecord) (layout : LayoutRecord) → layout_of p p.width p.height ≡ Ok layout → depth_fault p layout.colour ≡ Ok tt
+    → HasWholeRows p layout.colour

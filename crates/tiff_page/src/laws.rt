@@ -1,6 +1,6 @@
 //! Laws of the definitions, each the contract of a function with no work.
 
-ghost use Rattle.tiff_page.specs.Laws.{OneChunk, ChunksWithin, FirstFault, NoFault, PlacedEach, ImageIsFirstPlane, SomeBytes, ImageOfChunks};
+ghost use Rattle.tiff_page.specs.Laws.{OneChunk, ChunksWithin, FirstFault, NoFault, PlacedEach, ImageIsFirstPlane, SomeBytes, ImageOfChunks, WholeRows};
 
 /// Each pixel of the image is of one chunk of a plane and of no other.
 pub fn one_chunk()
@@ -40,4 +40,9 @@ pub fn some_bytes()
 /// A chunk's rows are a part of the rows of the image.
 pub fn image_of_chunks()
     ensures { ImageOfChunks }
+{}
+
+/// A page that is read has rows of whole bytes.
+pub fn whole_rows()
+    ensures { WholeRows }
 {}
