@@ -33,6 +33,10 @@ pub rgb_horizontal : s.rgb_horizontal
 unfolding image_bytes row_bits byte_at shown_sample number
 rgb_horizontal = refl
 
+pub difference_sample : s.difference_sample
+unfolding shown_sample number
+difference_sample = refl
+
 pub rgb_dropped : s.rgb_dropped
 unfolding image_bytes row_bits byte_at shown_sample number
 rgb_dropped = refl

@@ -86,6 +86,14 @@ rgb_horizontal =
     }) (colour.RGB 8)
     ≡ (0x0a ∷ 0x14 ∷ 0x1e ∷ 0x00 ∷ 0x00 ∷ 0x00 ∷ [])
 
+-- the sum of the first two numbers of red is past a byte
+abbrev pub difference_sample : Type 0
+difference_sample =
+    shown_sample (0x0a ∷ 0x14 ∷ 0x1e ∷ 0xf6 ∷ 0xec ∷ 0xe2 ∷ []) LittleEndian (record rgb_row {
+      predictor = predictor.Horizontal;
+    }) 1 0 0
+    ≡ 0
+
 -- the same with a fourth sample of each pixel, which is not shown
 abbrev pub rgb_dropped : Type 0
 rgb_dropped =

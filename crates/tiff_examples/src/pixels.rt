@@ -4,7 +4,7 @@ ghost use Rattle.tiff_examples.specs.Shown as s;
 
 /// Samples and bytes that pages show.
 pub fn samples()
-    ensures { s.pixel_shown × s.pixel_inverted × s.rgb_bytes × s.rgb_sample × s.rgb_horizontal ×
+    ensures { s.pixel_shown × s.pixel_inverted × s.rgb_bytes × s.rgb_sample × s.rgb_horizontal × s.difference_sample ×
         s.rgb_dropped × s.rows_of_differences × s.byte_planes × s.byte_planes_of_two ×
         s.big_endian_bytes × s.big_endian_horizontal × s.inverted_4_bits × s.inverted_16_bits ×
         s.tiles_4_bits × s.packed_bytes }

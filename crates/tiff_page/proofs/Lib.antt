@@ -3,3 +3,4 @@ pub mod Strip
 pub mod Gray
 pub mod Placing
 pub mod Planes
+pub mod Chunks

@@ -1,13 +1,17 @@
--- What a layout gives; the image as its first plane.
-use Rattle.std.proofs.Common.{◌≡◌, ℕ, ◌+◌, ◌*◌, ◌^◌, ◌<◌, ◌≤◌, zero, suc, Bool, true, false, List, length, Ok, Err, refl, ap, sym, subst, ◌∙◌, ◌⊎◌, inl, inr, ⊎_elim, arith}
-use Rattle.std.specs.Prelude.{Result, replicate, slice_index, unwrap_or, if◌then◌else◌, nat_lt, ◌==◌}
+-- What a layout gives; the image as its first plane; rows of whole bytes.
+use Rattle.std.proofs.Common.{◌≡◌, ℕ, ◌+◌, ◌*◌, ◌/◌, ◌^◌, ◌<◌, ◌≤◌, zero, suc, Bool, true, false, List, length, Ok, Err, refl, ap, sym, subst, ◌∙◌, ◌⊎◌, inl, inr, ⊎_elim, arith}
+use Rattle.std.specs.Prelude.{◌%◌, ◌&&◌, not, Result, replicate, slice_index, unwrap_or, if◌then◌else◌, nat_lt, ◌==◌}
+use Rattle.std.proofs.lemmas.Bool.{cases_Bool, cases_lt, eqb-true, ltb-false, le-ltb}
+use Rattle.std.proofs.lemmas.Nat.{div-add-mod'}
 use Rattle.std.proofs.lemmas.List.{ext_get_or, get_or-replicate, length-replicate}
 use Rattle.std.proofs.lemmas.List.FromFn.{length-map-range_with_len, get_or-map-range_with_len}
 use Rattle.std.proofs.Math.Nat.{one-le-mul}
 use Rattle.tiff_base.specs.declared.color.ColorType.{ColorType}
 use Rattle.tiff_base.specs.declared.color.ColorType.TheVariants.{Gray, RGB, RGBA, CMYK, CMYKA, YCbCr, Lab, Multiband}
 use Rattle.tiff_base.specs.declared.error.TiffError.{TiffError}
-use Rattle.tiff_base.specs.declared.error.TiffError.TheVariants.{LimitsExceeded}
+use Rattle.tiff_base.specs.declared.error.TiffError.TheVariants.{UnsupportedError, LimitsExceeded}
+use Rattle.tiff_base.specs.declared.error.TiffUnsupportedError.TheVariants.{MisalignedTileBoundaries, UnsupportedColorType}
+use Rattle.tiff_page.specs.Counts.{parts}
 use Rattle.tiff_base.specs.declared.tags.ByteOrder.{ByteOrder}
 use Rattle.tiff_base.specs.declared.tags.PhotometricInterpretation.{PhotometricInterpretation}
 use Rattle.tiff_base.specs.declared.tags.PhotometricInterpretation.TheVariants as meaning
@@ -22,7 +26,7 @@ use Rattle.tiff_page.specs.declared.layout.DecodingSampleType.{DecodingSampleTyp
 use Rattle.tiff_page.specs.Page.{PageRecord}
 use Rattle.tiff_page.specs.Rect.{chunks_of_plane}
 use Rattle.tiff_page.specs.Layout.{LayoutRecord, layout_of, colour_of, colour_from, no_colour, gray, lab, photometric, first_is_alpha, row_bits, row_bytes, shown, planes, wide, aligned, whole_chroma, sample_type_of, size_of}
-use Rattle.tiff_page.specs.PixelFault.{each_below, chunk_fault, samples_fault}
+use Rattle.tiff_page.specs.PixelFault.{is_whole, depth_fault, each_below, chunk_fault, samples_fault}
 use Rattle.tiff_page.specs.Pixels.{is_short, byte_at, image_bytes, whole_image}
 use Rattle.tiff_page.specs.Image.{decoded, chunks_read, image_of}
 use Rattle.tiff_page.specs.Buffers.{planes_layout}
@@ -54,11 +58,24 @@ wide_value n = given_if (λ r. value r n ≡ n) (nat_lt n (2 ^ 64)) (Ok n) (Err 
 pub wide_is : (n m : ℕ) → wide n ≡ Ok m → m ≡ n
 wide_is n m h = sym (ap (λ r. value r n) h) ∙ wide_value n
 
+abbrev pub colour_or : Result ColorType TiffError → ColorType → ColorType
+colour_or (Ok c) d = c
+colour_or (Err e) d = d
+
+-- it gives the colour that it is handed
+pub aligned_gives : (p : PageRecord) (c : ColorType) (w : ℕ) → colour_or (aligned p c w) c ≡ c
+aligned_gives p c w =
+    given_if (λ r. colour_or r c ≡ c) (nat_lt 1 (parts w p.chunk_width) && not (row_bits p c p.chunk_width % 8 == 0))
+    (Err (UnsupportedError MisalignedTileBoundaries)) (Ok c) refl refl
+
+pub aligned_is : (p : PageRecord) (c : ColorType) (w : ℕ) (a : ColorType) → aligned p c w ≡ Ok a → a ≡ c
+aligned_is p c w a h = sym (ap (λ r. colour_or r c) h) ∙ aligned_gives p c w
+
 -- ---- the layout
 
 module _ (p : PageRecord) (w h : ℕ) where
   abbrev pub Given : Result LayoutRecord TiffError → Type 0
-  Given (Ok l) = ((l.row_bytes ≡ row_bytes p l.colour w) × (l.plane_stride ≡ row_bytes p l.colour w * h)) × (colour_of p ≡ Ok l.colour)
+  Given (Ok l) = ((l.row_bytes ≡ row_bytes p l.colour w) × (l.plane_stride ≡ row_bytes p l.colour w * h)) × ((colour_of p ≡ Ok l.colour) × (aligned p l.colour w ≡ Ok l.colour))
   Given (Err e) = Unit {0}
 
   abbrev pub last : ColorType → ℕ → Result LayoutRecord TiffError
@@ -84,7 +101,7 @@ module _ (p : PageRecord) (w h : ℕ) where
       given_bind Given (wide (row_bytes p colour w * h)) (line colour) (λ e. tt) (λ s es.
       given_bind Given (aligned p colour w) (λ _. chroma colour s) (λ e. tt) (λ a ea.
       given_bind Given (whole_chroma p colour) (λ _. last colour s) (λ e. tt) (λ b eb.
-      ((refl, wide_is (row_bytes p colour w * h) s es), ec))))))
+      ((refl, wide_is (row_bytes p colour w * h) s es), (ec, ea ∙ ap (λ z. Ok z) (aligned_is p colour w a ea))))))))
 
   pub layout_gives : (l : LayoutRecord) → layout_of p w h ≡ Ok l → Given (Ok l)
   layout_gives l e = subst Given e layout_given
@@ -143,8 +160,8 @@ row_some p c w a b s = product_some w p.depth (shown p.planar c) a b (shown_some
 
 pub some_bytes : law.SomeBytes
 some_bytes p w h l wp hp d s e =
-    let g : ((l.row_bytes ≡ row_bytes p l.colour w) × (l.plane_stride ≡ row_bytes p l.colour w * h)) × (colour_of p ≡ Ok l.colour) = layout_gives p w h l e in
-    let c : 0 < num_samples l.colour = subst Shows g.1 (colour_shows p s) in
+    let g : ((l.row_bytes ≡ row_bytes p l.colour w) × (l.plane_stride ≡ row_bytes p l.colour w * h)) × ((colour_of p ≡ Ok l.colour) × (aligned p l.colour w ≡ Ok l.colour)) = layout_gives p w h l e in
+    let c : 0 < num_samples l.colour = subst Shows g.1.0 (colour_shows p s) in
     let r : 0 < row_bytes p l.colour w = row_some p l.colour w wp d c in
     let q : 1 ≤ row_bytes p l.colour w * h = one-le-mul r hp in
     (omega (arith, r, g.0.0), omega (arith, q, g.0.1))
@@ -195,7 +212,7 @@ module _ (file : List ℕ) (order : ByteOrder) (p : PageRecord) (limits : Limits
       ≡ (filled file order p limits l.colour (image_part file order p 1 l.row_bytes) (replicate l.plane_stride 0) >>= (λ bytes. Ok (decoded type bytes)))
   unfolding filled
   of_chunks type =
-      let g : ((l.row_bytes ≡ row_bytes p l.colour p.width) × (l.plane_stride ≡ row_bytes p l.colour p.width * p.height)) × (colour_of p ≡ Ok l.colour) = layout_gives p p.width p.height l given in
+      let g : ((l.row_bytes ≡ row_bytes p l.colour p.width) × (l.plane_stride ≡ row_bytes p l.colour p.width * p.height)) × ((colour_of p ≡ Ok l.colour) × (aligned p l.colour p.width ≡ Ok l.colour)) = layout_gives p p.width p.height l given in
       let n : l.plane_stride ≡ l.row_bytes * p.height = g.0.1 ∙ ap (λ z. z * p.height) (sym g.0.0) in
       let f : ℕ → Result (Unit {0}) TiffError = chunk_fault p limits (is_short file order p l.colour) l.colour in
       finish (each_below f (chunks_of_plane p)) (part_fault file order p limits l.colour (image_part file order p 1 l.row_bytes))
@@ -225,3 +242,53 @@ pub image_is_first_plane : law.ImageIsFirstPlane
 unfolding image_of planes_layout
 image_is_first_plane file order p limits =
     ⊎_elim (λ ok. rw (ok.1) (of_planes file order p limits ok.0 ok.1)) (λ er. rw (er.1) refl) (cases_of (layout_of p p.width p.height))
+
+-- ---- rows of whole bytes
+
+pub whole_depth : (d : ℕ) → is_whole d ≡ true → d ≡ d / 8 * 8
+whole_depth d h =
+    ⊎_elim (λ (t : (d == 8) ≡ true). let e : d ≡ 8 = eqb-true d 8 t in omega (arith, e))
+    (λ (a : (d == 8) ≡ false).
+    ⊎_elim (λ (t : (d == 16) ≡ true). let e : d ≡ 16 = eqb-true d 16 t in omega (arith, e))
+    (λ (b : (d == 16) ≡ false).
+    ⊎_elim (λ (t : (d == 32) ≡ true). let e : d ≡ 32 = eqb-true d 32 t in omega (arith, e))
+    (λ (c : (d == 32) ≡ false).
+    ⊎_elim (λ (t : (d == 64) ≡ true). let e : d ≡ 64 = eqb-true d 64 t in omega (arith, e))
+    (λ (f : (d == 64) ≡ false). let g : false ≡ true = rw (a, b, c, f) at h in cc)
+    (cases_Bool (d == 64)))
+    (cases_Bool (d == 32)))
+    (cases_Bool (d == 16)))
+    (cases_Bool (d == 8))
+
+pub read_depth : (p : PageRecord) (c : ColorType) → depth_fault p c ≡ Ok tt → (p.depth < 8) ⊎ (p.depth ≡ p.depth / 8 * 8)
+unfolding depth_fault
+read_depth p c h =
+    ⊎_elim (λ (l : p.depth < 8). inl l)
+    (λ (g : 8 ≤ p.depth).
+    let f : nat_lt p.depth 8 ≡ false = le-ltb p.depth 8 g in
+    ⊎_elim (λ (t : is_whole p.depth ≡ true). inr (whole_depth p.depth t))
+    (λ (n : is_whole p.depth ≡ false). let k : Err (UnsupportedError (UnsupportedColorType c)) ≡ Ok tt = rw (n, f) at h in cc)
+    (cases_Bool (is_whole p.depth)))
+    (cases_lt p.depth 8)
+
+pub aligned_rows : (p : PageRecord) (c : ColorType) (w : ℕ) (a : ColorType) → aligned p c w ≡ Ok a
+    → (parts w p.chunk_width ≤ 1) ⊎ (row_bits p c p.chunk_width ≡ row_bits p c p.chunk_width / 8 * 8)
+aligned_rows p c w a h =
+    let n : ℕ = row_bits p c p.chunk_width in
+    ⊎_elim
+    (λ (t : nat_lt 1 (parts w p.chunk_width) ≡ true).
+    ⊎_elim
+    (λ (z : (row_bits p c p.chunk_width % 8 == 0) ≡ true).
+    let e : n % 8 ≡ 0 = eqb-true (n % 8) 0 z in
+    let d : n / 8 * 8 + n % 8 ≡ n = div-add-mod' n 8 in
+    inr (omega (arith, e, d)))
+    (λ (f : (row_bits p c p.chunk_width % 8 == 0) ≡ false).
+    let k : Err (UnsupportedError MisalignedTileBoundaries) ≡ Ok a = rw (t, f) at h in cc)
+    (cases_Bool (row_bits p c p.chunk_width % 8 == 0)))
+    (λ (f : nat_lt 1 (parts w p.chunk_width) ≡ false). inl (ltb-false 1 (parts w p.chunk_width) f))
+    (cases_Bool (nat_lt 1 (parts w p.chunk_width)))
+
+pub whole_rows : law.WholeRows
+whole_rows p l e d =
+    let g : ((l.row_bytes ≡ row_bytes p l.colour p.width) × (l.plane_stride ≡ row_bytes p l.colour p.width * p.height)) × ((colour_of p ≡ Ok l.colour) × (aligned p l.colour p.width ≡ Ok l.colour)) = layout_gives p p.width p.height l e in
+    record { depth = read_depth p l.colour d; rows = aligned_rows p l.colour p.width l.colour g.1.1 }

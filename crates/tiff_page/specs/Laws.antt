@@ -1,16 +1,16 @@
 -- Laws of these definitions: each pixel is of one chunk of a plane, a call's fault is the first that there is, a buffer
--- is placed position by position, an image is read as its first plane, and no row is empty.
-use Rattle.std.specs.Prelude.{◌≡◌, ℕ, ◌+◌, ◌<◌, ◌≤◌, List, length, slice_index, unwrap_or, Result, Ok, Err}
+-- is placed position by position, an image is read as its first plane, no row is empty, and an image shows its chunks.
+use Rattle.std.specs.Prelude.{◌≡◌, ℕ, ◌+◌, ◌*◌, ◌/◌, ◌<◌, ◌≤◌, ◌⊎◌, List, length, slice_index, unwrap_or, Result, Ok, Err}
 use Rattle.tiff_base.specs.declared.color.ColorType.{ColorType}
 use Rattle.tiff_base.specs.declared.error.TiffError.{TiffError}
 use Rattle.tiff_base.specs.declared.tags.ByteOrder.{ByteOrder}
 use Rattle.tiff_base.specs.Answers.{◌>>=◌}
 use Rattle.tiff_ifd.specs.declared.limits.Limits.{Limits}
 use Rattle.tiff_page.specs.Page.{PageRecord}
-use Rattle.tiff_page.specs.Rect.{rect}
-use Rattle.tiff_page.specs.Layout.{LayoutRecord, layout_of}
-use Rattle.tiff_page.specs.PixelFault.{each_below}
-use Rattle.tiff_page.specs.Pixels.{Region, byte_at, chunk_at}
+use Rattle.tiff_page.specs.Rect.{rect, across}
+use Rattle.tiff_page.specs.Layout.{LayoutRecord, layout_of, row_bits, row_bytes}
+use Rattle.tiff_page.specs.PixelFault.{depth_fault, each_below}
+use Rattle.tiff_page.specs.Pixels.{Region, byte_at, chunk_at, region_byte, whole_image, chunk_region}
 use Rattle.tiff_page.specs.Image.{Decoded, image_of}
 use Rattle.tiff_page.specs.Buffers.{planes_layout}
 use Rattle.tiff_page.specs.PixelCalls.{placed, image_part, samples}
@@ -85,3 +85,21 @@ ImageIsFirstPlane = (file : List ℕ) (order : ByteOrder) (p : PageRecord) (limi
 abbrev pub SomeBytes : Type 0
 SomeBytes = (p : PageRecord) (width height : ℕ) (layout : LayoutRecord) → 0 < width → 0 < height → 0 < p.depth → 0 < p.samples
     → layout_of p width height ≡ Ok layout → (0 < layout.row_bytes) × (0 < layout.plane_stride)
+
+-- a page whose samples are of whole bytes or below 8 bits, and whose chunks, where there are several across, have rows
+-- of whole bytes: other layouts are refused
+pub record HasWholeRows (p : PageRecord) (colour : ColorType) : Type 0 where
+  pub depth : (p.depth < 8) ⊎ (p.depth ≡ p.depth / 8 * 8)
+  pub rows : (across p ≤ 1) ⊎ (row_bits p colour p.chunk_width ≡ row_bits p colour p.chunk_width / 8 * 8)
+
+-- a chunk's rows are a part of the rows of the image, from the bytes on that the columns before it take
+abbrev pub ImageOfChunks : Type 0
+ImageOfChunks = (file : List ℕ) (order : ByteOrder) (p : PageRecord) (colour : ColorType) (i row k : ℕ) → HasSides p → HasWholeRows p colour
+    → row < (rect p i).height → k < row_bytes p colour (rect p i).width
+    → region_byte file order p colour (whole_image file order p) (rect p i).plane ((rect p i).y + row) (row_bits p colour (rect p i).x / 8 + k)
+    ≡ region_byte file order p colour (chunk_region file order p i) (rect p i).plane row k
+
+-- a page whose image has a layout, and whose depth and colour are read, has such rows
+abbrev pub WholeRows : Type 0
+WholeRows = (p : PageRecord) (layout : LayoutRecord) → layout_of p p.width p.height ≡ Ok layout → depth_fault p layout.colour ≡ Ok tt
+    → HasWholeRows p layout.colour

@@ -1,6 +1,6 @@
 //! Laws of the definitions, each the contract of a function with no work.
 
-ghost use Rattle.tiff_page.specs.Laws.{OneChunk, ChunksWithin, FirstFault, NoFault, PlacedEach, ImageIsFirstPlane, SomeBytes};
+ghost use Rattle.tiff_page.specs.Laws.{OneChunk, ChunksWithin, FirstFault, NoFault, PlacedEach, ImageIsFirstPlane, SomeBytes, ImageOfChunks, WholeRows};
 
 /// Each pixel of the image is of one chunk of a plane and of no other.
 pub fn one_chunk()
@@ -35,4 +35,14 @@ pub fn image_is_first_plane()
 /// The rows and the planes of a layout are of some bytes.
 pub fn some_bytes()
     ensures { SomeBytes }
+{}
+
+/// A chunk's rows are a part of the rows of the image.
+pub fn image_of_chunks()
+    ensures { ImageOfChunks }
+{}
+
+/// A page that is read has rows of whole bytes.
+pub fn whole_rows()
+    ensures { WholeRows }
 {}

@@ -9,6 +9,7 @@ returns c = (
   p.rgb_bytes,
   p.rgb_sample,
   p.rgb_horizontal,
+  p.difference_sample,
   p.rgb_dropped,
   p.rows_of_differences,
   p.byte_planes,

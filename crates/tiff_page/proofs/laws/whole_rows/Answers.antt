@@ -1,0 +1,5 @@
+use Rattle.tiff_page.proofs.Planes.{whole_rows}
+use Rattle.tiff_page.proofs.laws.whole_rows.Goals as goal
+
+pub returns : goal.returns
+returns c = whole_rows
