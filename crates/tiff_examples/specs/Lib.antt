@@ -19,3 +19,4 @@ pub mod Asked
 pub mod Given
 pub mod Samples
 pub mod Images
+pub mod Models

@@ -13,6 +13,7 @@ pub mod give;
 pub mod header;
 pub mod image;
 pub mod kind;
+pub mod model;
 pub mod number;
 pub mod opening;
 pub mod page;
