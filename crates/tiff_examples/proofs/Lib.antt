@@ -20,3 +20,4 @@ pub mod Given
 pub mod Samples
 pub mod Images
 pub mod Models
+pub mod Jobs

@@ -27,10 +27,10 @@ use Rattle.tiff_examples.specs.Models as s
 use Rattle.tiff_examples.specs.Files.{gray_file}
 
 -- a fault is no answer
-err_ok : {A : Type 0} {e : TiffError} {x : A} → let a : Result A TiffError = Err e in let b : Result A TiffError = Ok x in a ≡ b → ⊥
+pub err_ok : {A : Type 0} {e : TiffError} {x : A} → let a : Result A TiffError = Err e in let b : Result A TiffError = Ok x in a ≡ b → ⊥
 err_ok h = cc
 
-unequal : (k l : ℕ) → k < l → k ≡ l → ⊥
+pub unequal : (k l : ℕ) → k < l → k ≡ l → ⊥
 unequal k l h e = omega arith
 
 not_in : s.is_not_in

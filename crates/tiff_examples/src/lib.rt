@@ -12,6 +12,7 @@ pub mod field;
 pub mod give;
 pub mod header;
 pub mod image;
+pub mod job;
 pub mod kind;
 pub mod model;
 pub mod number;
