@@ -1,22 +1,19 @@
 -- What calls do is a function of what they find.
 use Rattle.std.proofs.Common.{◌≡◌, ℕ, ◌^◌, ◌<◌, Bool, true, false, cond, List, Option, Some, None, Result, Ok, Err, refl, ap, sym, ◌∙◌, subst, arith}
 use Rattle.std.proofs.lemmas.Bool.{ne_eqb, lt-leb}
-use Rattle.std.specs.Prelude.{◌||◌, ◌==◌, if◌then◌else◌, nat_le}
+use Rattle.std.specs.Prelude.{◌||◌, ◌==◌, nat_le}
 use Rattle.std.specs.FinMap.{len}
 use Rattle.tiff_base.specs.declared.error.TiffError.{TiffError}
 use Rattle.tiff_base.specs.declared.error.TiffError.TheVariants.{IntSizeError, UsageError}
 use Rattle.tiff_base.specs.declared.error.UsageError.TheVariants.{ZeroIfdPointer}
 use Rattle.tiff_base.specs.declared.tags.CompressionMethod.{CompressionMethod}
-use Rattle.tiff_base.specs.declared.tags.CompressionMethod.TheVariants as method
 use Rattle.tiff_base.specs.declared.tags.FileKind.{FileKind}
 use Rattle.tiff_base.specs.Directory.{link_place}
 use Rattle.tiff_base.specs.Field.{Field}
-use Rattle.tiff_encode.specs.Machine.{FileState, OpenDirectory, OpenImage, Told, Writing, by_cause}
+use Rattle.tiff_encode.specs.Machine.{FileState, OpenDirectory, OpenImage, Writing, by_cause}
 use Rattle.tiff_encode.specs.Causes.{is_past, end_of, finish_cause, offset_cause}
 use Rattle.tiff_encode.specs.Calls.{Offsets, offsets_of, result_by, finish, new_offset}
-use Rattle.tiff_encode.specs.Model.{Model}
 use Rattle.tiff_encode.specs.Stored.{strip_bytes}
-use Rattle.tiff_encode.specs.Jobs.{Standing, IsDone}
 use Rattle.tiff_encode.specs.RunLaws.{IsOneStep, OneStep, OneStored, OffsetsAgree}
 use Rattle.tiff_value.specs.Packed.{IsStored}
 use Rattle.tiff_encode.proofs.Slices.{ok_inj}

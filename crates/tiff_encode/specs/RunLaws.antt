@@ -1,11 +1,10 @@
 -- The laws of calls and of runs: what they do is a function of what they find.
-use Rattle.std.specs.Prelude.{◌≡◌, ℕ, ◌*◌, ◌^◌, ◌<◌, ◌++◌, List, Option, Some, None, Result, Ok}
+use Rattle.std.specs.Prelude.{◌≡◌, ℕ, ◌^◌, ◌<◌, List, Result, Ok}
 use Rattle.std.specs.FinMap.{len}
 use Rattle.tiff_base.specs.declared.error.TiffError.{TiffError}
 use Rattle.tiff_base.specs.declared.tags.CompressionMethod.TheVariants as method
-use Rattle.tiff_base.specs.declared.tags.FileKind.{FileKind}
 use Rattle.tiff_base.specs.Field.{Field}
-use Rattle.tiff_encode.specs.Machine.{FileState, OpenDirectory, OpenImage, Told, bytes_after}
+use Rattle.tiff_encode.specs.Machine.{FileState, OpenDirectory, OpenImage, Told}
 use Rattle.tiff_encode.specs.Calls.{Offsets, finish, new_offset}
 use Rattle.tiff_encode.specs.Stored.{strip_bytes}
 use Rattle.tiff_encode.specs.Jobs.{Standing, IsDone}

@@ -1,10 +1,8 @@
 -- The worked examples of Calls compute.
 use Rattle.std.specs.Prelude.{refl}
-use Rattle.std.specs.Prelude.{◌≡◌, ℕ, true, false, ◌||◌, if◌then◌else◌, List, [], ◌∷◌, ◌++◌, length, Some, None, Ok}
+use Rattle.std.specs.Prelude.{◌≡◌, ℕ, true, false, List, [], ◌∷◌, ◌++◌, length, Some, None, Ok}
 use Rattle.std.proofs.Common.{ap}
 use Rattle.std.specs.FinMap.{len, entries}
-use Rattle.std.specs.List.{flat_map, list_any}
-use Rattle.tiff_base.specs.declared.tags.FileKind.{FileKind}
 use Rattle.tiff_base.specs.declared.tags.FileKind.TheVariants.{Classic, Big}
 use Rattle.tiff_base.specs.Field.{Field}
 use Rattle.tiff_value.specs.Data.{data_of, text_data}

@@ -21,3 +21,4 @@ pub mod Samples
 pub mod Images
 pub mod Models
 pub mod Jobs
+pub mod Writes

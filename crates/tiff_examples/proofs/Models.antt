@@ -1,21 +1,19 @@
 -- The worked examples of Models compute.
-use Rattle.std.specs.Prelude.{refl, if◌then◌else◌, ◌==◌, nat_lt}
-use Rattle.std.proofs.Common.{◌≡◌, ℕ, ◌+◌, ◌*◌, ◌^◌, ◌<◌, ◌≤◌, List, [], ◌∷◌, ◌++◌, length, take, Bool, true, false, Option, Some, None, Result, Ok, Err, zero, suc, ap, sym, ◌∙◌, subst, inl, inr, arith, lit<, lit≤}
+use Rattle.std.specs.Prelude.{refl, if◌then◌else◌, ◌==◌}
+use Rattle.std.proofs.Common.{◌≡◌, ℕ, ◌+◌, ◌*◌, ◌<◌, ◌≤◌, [], ◌∷◌, Result, Ok, Err, zero, suc, ap, sym, ◌∙◌, subst, inl, inr, arith, lit<, lit≤}
 use Rattle.std.specs.Prelude.{slice_index}
-use Rattle.tiff_base.specs.declared.color.ColorType.{ColorType}
 use Rattle.tiff_base.specs.declared.color.ColorType.TheVariants.{Gray}
 use Rattle.tiff_base.specs.declared.error.TiffError.{TiffError}
-use Rattle.tiff_base.specs.declared.tags.FileKind.TheVariants.{Classic, Big}
+use Rattle.tiff_base.specs.declared.tags.FileKind.TheVariants.{Classic}
 use Rattle.tiff_base.specs.declared.tags.ByteOrder.TheVariants.{LittleEndian}
 use Rattle.tiff_base.specs.Color.{num_samples}
 use Rattle.tiff_base.specs.Number.{number}
 use Rattle.tiff_base.specs.Directory.{link_place}
 use Rattle.tiff_ifd.specs.Limits.{unlimited}
 use Rattle.tiff_page.specs.Layout.{colour_of}
-use Rattle.tiff_page.specs.Page.{PageRecord}
 use Rattle.tiff_page.specs.Pixels.{shown_sample}
 use Rattle.tiff_encode.specs.Written.{header_bytes, long_field}
-use Rattle.tiff_encode.specs.Model.{In, FinishedDirectory, Model, IsLink, IsClear, Stands, header_model, own_link}
+use Rattle.tiff_encode.specs.Model.{header_model}
 use Rattle.tiff_encode.specs.Laws.{IsGrayPage}
 use Rattle.tiff_encode.specs.Shows.{Image, Shows, ShowsOnePage, page_at, gray_image, strip_page, all_samples}
 use Rattle.tiff_encode.proofs.Header as its_header
@@ -47,7 +45,7 @@ not_clear_by (inl l) = let a : 9 ≤ 4 = l in omega arith
 not_clear_by (inr l) = let a : 8 ≤ 7 = l in omega arith
 
 -- the page of one pixel 7 fits behind a header
-fits : IsGrayPage 8 1 1 (7 ∷ [])
+pub fits : IsGrayPage 8 1 1 (7 ∷ [])
 fits = record {
   wide = lit< tt;
   high = lit< tt;
@@ -62,7 +60,7 @@ shown =
     subst (λ file. ShowsOnePage file 1 1 (7 ∷ [])) gray_written
     (its_shows.page_shows (header_model Classic) (header_bytes Classic) 4 1 1 (7 ∷ []) (inl refl) fits (its_header.header_stands Classic))
 
-octets : (k : ℕ) → slice_index (7 ∷ []) k < 256
+pub octets : (k : ℕ) → slice_index (7 ∷ []) k < 256
 octets zero = lit< tt
 octets (suc k) = lit< tt
 

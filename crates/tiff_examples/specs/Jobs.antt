@@ -1,45 +1,33 @@
 -- Worked ends of calls, and worked jobs.
-use Rattle.std.specs.Prelude.{◌≡◌, ℕ, ◌+◌, Bool, true, false, List, [], ◌∷◌, ◌++◌, length, take, Option, Some, None, Result, Ok, Err}
-use Rattle.std.specs.FinMap.{from_entries}
+use Rattle.std.specs.Prelude.{◌≡◌, ℕ, true, false, List, [], ◌∷◌, ◌++◌, Option, Some, None, Ok, Err}
 use Rattle.tiff_base.specs.declared.error.TiffError.{TiffError}
-use Rattle.tiff_base.specs.declared.error.TiffError.TheVariants.{FormatError, IoError, IntSizeError, UsageError, OutOfMemory}
-use Rattle.tiff_base.specs.declared.error.TiffFormatError.TheVariants.{InvalidTag, InvalidDimensions}
+use Rattle.tiff_base.specs.declared.error.TiffError.TheVariants.{IoError, IntSizeError, UsageError, OutOfMemory}
 use Rattle.tiff_base.specs.declared.error.UsageError.TheVariants.{ParentNotWritten, WriterFailed}
 use Rattle.tiff_base.specs.declared.io.IoKind.TheVariants.{Device, InvalidInput}
 use Rattle.tiff_base.specs.declared.tags.FileKind.TheVariants.{Classic, Big}
-use Rattle.tiff_base.specs.declared.tags.Predictor.TheVariants as predictor
-use Rattle.tiff_base.specs.declared.tags.PhotometricInterpretation.TheVariants.{BlackIsZero}
-use Rattle.tiff_base.specs.declared.tags.ResolutionUnit.TheVariants as unit
 use Rattle.tiff_base.specs.declared.tags.SampleFormat.TheVariants.{Uint}
-use Rattle.tiff_base.specs.declared.tags.CompressionMethod.TheVariants as method
 use Rattle.tiff_base.specs.declared.tags.Tag.TheVariants as tag
-use Rattle.tiff_base.specs.Field.{Field}
 use Rattle.tiff_encode.specs.declared.encoder.settings.Compression.TheVariants.{Packbits}
 use Rattle.tiff_encode.specs.declared.encoder.script.JobValue.{JobValue}
-use Rattle.tiff_encode.specs.declared.encoder.script.JobValue.TheVariants as value
-use Rattle.tiff_encode.specs.declared.encoder.script.JobBuffer.{JobBuffer}
-use Rattle.tiff_encode.specs.declared.encoder.script.DirectoryStep.{DirectoryStep}
 use Rattle.tiff_encode.specs.declared.encoder.script.DirectoryStep.TheVariants as step
-use Rattle.tiff_encode.specs.declared.encoder.script.ImageStep.{ImageStep}
 use Rattle.tiff_encode.specs.declared.encoder.script.ImageStep.TheVariants as istep
 use Rattle.tiff_encode.specs.declared.encoder.script.DirectoryEnd.TheVariants as end
 use Rattle.tiff_encode.specs.declared.encoder.script.ImageEnd.TheVariants as iend
 use Rattle.tiff_encode.specs.declared.encoder.script.DirectoryJob.{DirectoryJob}
 use Rattle.tiff_encode.specs.declared.encoder.script.Job.TheVariants as job
-use Rattle.tiff_encode.specs.declared.encoder.script.StepReply.{StepReply}
 use Rattle.tiff_encode.specs.declared.encoder.script.StepReply.TheVariants as reply
 use Rattle.tiff_encode.specs.declared.encoder.script.EndReply.TheVariants as last
 use Rattle.tiff_encode.specs.declared.encoder.script.JobReply.{JobReply}
-use Rattle.tiff_encode.specs.Written.{header_bytes, long_field, short_field}
-use Rattle.tiff_encode.specs.Model.{Model, header_model, with_region}
-use Rattle.tiff_encode.specs.Machine.{FileState, OpenDirectory, OpenImage, Told, Deed, Appended, Linked, gives, answers}
+use Rattle.tiff_encode.specs.Written.{long_field}
+use Rattle.tiff_encode.specs.Model.{header_model, with_region}
+use Rattle.tiff_encode.specs.Machine.{FileState, OpenDirectory, Deed, Appended, Linked, gives}
 use Rattle.tiff_encode.specs.Calls as calls
 use Rattle.tiff_encode.specs.Calls.{Offsets, opened}
 use Rattle.tiff_encode.specs.Ends.{IsTold, IsCutOff, IsTornOff, IsWanting, Ends}
-use Rattle.tiff_encode.specs.JobValues.{value_data, buffer_in, cut_to}
+use Rattle.tiff_encode.specs.JobValues.{cut_to}
 use Rattle.tiff_encode.specs.Jobs as jobs
 use Rattle.tiff_encode.specs.Jobs.{Standing, Run, Finished, started}
-use Rattle.tiff_examples.specs.Causes.{new_file, failed_file, file_with, gray, pixel, written_pixel}
+use Rattle.tiff_examples.specs.Causes.{new_file, failed_file, file_with, pixel, written_pixel}
 use Rattle.tiff_examples.specs.Calls.{header, with_fields}
 use Rattle.tiff_examples.specs.Models.{one_region}
 

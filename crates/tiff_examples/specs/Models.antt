@@ -1,17 +1,14 @@
 -- Worked models of what was written, and what calls do to them.
-use Rattle.std.specs.Prelude.{◌≡◌, ℕ, ◌+◌, ◌<◌, Bool, true, false, List, [], ◌∷◌, ◌++◌, length, take, Option, Some, None, Result, Ok, Err}
+use Rattle.std.specs.Prelude.{◌≡◌, ℕ, List, [], ◌∷◌, take, Some, None, Ok, Err}
 use Rattle.std.specs.FinMap.{FinMap, from_entries}
 use Rattle.std.specs.Ordering.{nat_cmp}
-use Rattle.tiff_base.specs.declared.error.TiffError.{TiffError}
-use Rattle.tiff_base.specs.declared.error.TiffError.TheVariants.{IntSizeError, UsageError}
-use Rattle.tiff_base.specs.declared.error.UsageError.TheVariants.{WriterFailed}
-use Rattle.tiff_base.specs.declared.tags.FileKind.{FileKind}
+use Rattle.tiff_base.specs.declared.error.TiffError.TheVariants.{IntSizeError}
 use Rattle.tiff_base.specs.declared.tags.FileKind.TheVariants.{Classic, Big}
 use Rattle.tiff_base.specs.Field.{Field}
-use Rattle.tiff_encode.specs.Written.{header_bytes, long_field}
-use Rattle.tiff_encode.specs.Model.{In, FinishedDirectory, HandedField, Region, Model, IsLink, IsClear, IsApart, own_link, Stands, header_model, relinked, with_directory, with_region, with_handed, Grows}
-use Rattle.tiff_encode.specs.Shows.{Image, Shows, ShowsOnePage, gray_image}
-use Rattle.tiff_encode.specs.Machine.{FileState, Told, Deed, Appended, Handed, Listed, Linked, begun, after_deed, bytes_after, appended_by, model_after, answers, gives, does, by_cause, ◌>>=◌}
+use Rattle.tiff_encode.specs.Written.{long_field}
+use Rattle.tiff_encode.specs.Model.{In, FinishedDirectory, Region, Model, IsLink, IsClear, IsApart, own_link, Stands, header_model, relinked, with_directory, with_region, with_handed, Grows}
+use Rattle.tiff_encode.specs.Shows.{Shows, ShowsOnePage, gray_image}
+use Rattle.tiff_encode.specs.Machine.{Appended, Handed, Listed, Linked, begun, after_deed, bytes_after, appended_by, model_after, answers, gives, does, by_cause, ◌>>=◌}
 use Rattle.tiff_examples.specs.Files.{gray_file}
 use Rattle.tiff_examples.specs.Causes.{new_file, file_with}
 use Rattle.tiff_examples.specs.Calls.{header}

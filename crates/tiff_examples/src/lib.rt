@@ -22,4 +22,5 @@ pub mod pixels;
 pub mod runs;
 pub mod sample;
 pub mod value;
+pub mod write;
 pub mod writer;
