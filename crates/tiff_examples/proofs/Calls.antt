@@ -127,6 +127,10 @@ pub entry_refused : s.entry_refused
 unfolding write_entry write_tag_cause
 entry_refused = (refl, refl)
 
+pub entry_stopped : s.entry_stopped
+unfolding write_entry write_tag_cause data_of
+entry_stopped = (refl, refl)
+
 pub entry_buf : s.entry_buf
 unfolding write_entry_buf write_buf_cause
 entry_buf = (refl, refl)

@@ -1,23 +1,30 @@
 -- The worked examples of Jobs compute.
 use Rattle.std.specs.Prelude.{refl}
-use Rattle.std.proofs.Common.{◌≡◌, ℕ, ◌<◌, ◌⊎◌, [], ◌∷◌, true, false, Some, Result, Ok, Err, ap, sym, ◌∙◌, subst, inl, inr, arith, lit<, lit≤}
+use Rattle.std.proofs.Common.{◌≡◌, ℕ, ◌+◌, ◌<◌, ◌≤◌, ◌⊎◌, List, [], ◌∷◌, ◌++◌, Bool, true, false, Option, Some, None, Result, Ok, Err, ap, sym, ◌∙◌, subst, inl, inr, arith, lit<, lit≤}
 use Rattle.tiff_base.specs.declared.error.TiffError.{TiffError}
 use Rattle.tiff_base.specs.declared.error.TiffError.TheVariants.{IoError, IntSizeError, UsageError, OutOfMemory}
-use Rattle.tiff_base.specs.declared.error.UsageError.TheVariants.{ParentNotWritten}
+use Rattle.tiff_base.specs.declared.error.UsageError.TheVariants.{ParentNotWritten, WriterFailed}
 use Rattle.tiff_base.specs.declared.io.IoKind.TheVariants.{Device}
-use Rattle.tiff_base.specs.declared.tags.FileKind.TheVariants.{Classic}
+use Rattle.tiff_base.specs.declared.tags.FileKind.TheVariants.{Classic, Big}
 use Rattle.tiff_encode.specs.declared.encoder.settings.Compression.TheVariants.{Packbits}
 use Rattle.tiff_encode.specs.declared.encoder.script.StepReply.{StepReply}
 use Rattle.tiff_encode.specs.declared.encoder.script.StepReply.TheVariants as reply
-use Rattle.tiff_encode.specs.Machine.{Told, Appended, model_after}
+use Rattle.tiff_encode.specs.Machine.{FileState, OpenDirectory, Told, Appended, gives, model_after}
 use Rattle.tiff_encode.specs.Causes.{begin_cause, next_sample_count, rows_per_strip_cause}
-use Rattle.tiff_encode.specs.Calls.{Offsets, opened, image_directory, finish, with_compression, set_rows_per_strip, extend_from}
+use Rattle.tiff_encode.specs.Calls.{Offsets, opened, image_directory, finish, with_compression, set_parent, set_rows_per_strip, extend_from}
+use Rattle.tiff_encode.specs.Ends.{IsTold, IsCutOff, IsTornOff, IsWanting}
 use Rattle.tiff_encode.specs.Jobs as jobs
 use Rattle.tiff_encode.specs.Jobs.{Standing, Run, IsDone, started}
 use Rattle.tiff_encode.proofs.Header as its_header
 use Rattle.tiff_encode.proofs.Slices.{ok_inj}
 use Rattle.tiff_examples.proofs.Maps.{entries_puts, len_puts}
-use Rattle.tiff_examples.proofs.Calls.{finish_told}
+use Rattle.tiff_examples.proofs.Calls.{finish_told, finish_told_by}
+use Rattle.tiff_encode.specs.declared.encoder.script.DirectoryStep.{DirectoryStep}
+use Rattle.tiff_encode.specs.declared.encoder.script.DirectoryEnd.{DirectoryEnd}
+use Rattle.tiff_encode.specs.declared.encoder.script.DirectoryEnd.TheVariants as end
+use Rattle.tiff_encode.specs.declared.encoder.script.EndReply.{EndReply}
+use Rattle.tiff_encode.specs.declared.encoder.script.EndReply.TheVariants as last
+use Rattle.tiff_encode.specs.Model.{header_model, with_region}
 use Rattle.tiff_examples.proofs.Models.{unequal, err_ok}
 use Rattle.tiff_examples.specs.Jobs as s
 use Rattle.tiff_examples.specs.Jobs.{first}
@@ -63,6 +70,63 @@ lost : finish (opened (Some 1000) true) (new_file Classic) ≡ lost_told
     → IsDone (finish (opened (Some 1000) true) (new_file Classic)) (Err (UsageError ParentNotWritten)) first first
 lost h = record { ended = record { answer = ap (λ t. t.answer) h; state = sym (ap (λ t. t.next) h) }; model = ap (λ t. model_after Classic (new_file Classic).bytes first.model t.deeds) (sym h) }
 
+not_refused : (old new : Standing) → jobs.Refuses {A = OpenDirectory} (gives (opened None true) old.file) IntSizeError old new → ⊥
+not_refused old new (inl d) = ok_err d.ended.answer
+not_refused old new (inr (inl t)) = sink_size t.torn.fault
+not_refused old new (inr (inr (m, inl c))) = sink_size c.fault
+not_refused old new (inr (inr (m, inr w))) = size_memory w.fault
+
+not_changes : s.changes_uncaused
+not_changes new t h = not_refused first new h.1
+
+-- a directory that is begun, has no steps and is finished
+abbrev empty_told : Told Offsets
+empty_told = finish_told_by (new_file Classic) (opened (Some 4) true) 0 []
+
+empty_finish : finish (opened (Some 4) true) (new_file Classic) ≡ empty_told
+empty_finish = finish_told (new_file Classic) (opened (Some 4) true) 0 [] (len_puts []) (entries_puts [])
+
+abbrev after_begin : Standing
+after_begin = record { file = new_file Classic; model = with_region (header_model Classic) (record { place = 8; bytes = [] }) }
+
+empty_begins : IsDone (image_directory (new_file Classic)) (Ok (opened (Some 4) true)) first after_begin
+unfolding image_directory begin_cause
+empty_begins = record { ended = record { answer = refl; state = refl }; model = refl }
+
+empty_ends : IsDone (finish (opened (Some 4) true) (new_file Classic)) (Ok (record { pointer = 8; link = 10 })) after_begin s.after_empty
+empty_ends = record {
+  ended = record { answer = ap (λ t. t.answer) empty_finish; state = refl };
+  model = sym (ap (λ t. model_after Classic (new_file Classic).bytes after_begin.model t.deeds) empty_finish);
+}
+
+steps_by : (ss : List DirectoryStep) (rs : List (Result StepReply TiffError)) → ss ≡ [] → rs ≡ []
+    → jobs.AllStepped jobs.DirectoryStepped after_begin (opened (Some 4) true) ss rs after_begin (opened (Some 4) true)
+steps_by ss rs p q =
+    let P : List DirectoryStep → List (Result StepReply TiffError) → Type 0 = λ x y. jobs.AllStepped jobs.DirectoryStepped after_begin (opened (Some 4) true) x y after_begin (opened (Some 4) true) in
+    subst (λ x. P x rs) (sym p) (subst (λ y. P [] y) (sym q) (refl, refl))
+
+ends_by : (e : DirectoryEnd) (r : Result EndReply TiffError) → e ≡ end.Finish → r ≡ Ok (last.Offsets 8 10)
+    → jobs.DirectoryEnds after_begin (opened (Some 4) true) e r s.after_empty (Some (record { pointer = 8; link = 10 }))
+ends_by e r p q =
+    let P : DirectoryEnd → Result EndReply TiffError → Type 0 = λ x y. jobs.DirectoryEnds after_begin (opened (Some 4) true) x y s.after_empty (Some (record { pointer = 8; link = 10 })) in
+    subst (λ x. P x r) (sym p) (subst (λ y. P end.Finish y) (sym q) (empty_ends, refl))
+
+directory_by : s.directory_job
+directory_by j r c p q e a l =
+    subst (λ x. jobs.DirectoryRanBy (started Classic) (jobs.named_parent [] x) j r (jobs.ran (started Classic) s.after_empty (Ok (last.Offsets 8 10)) [])) (sym p)
+    (inr (record {
+      first = opened (Some 4) true;
+      after_begin = after_begin;
+      begins = subst (λ x. IsDone (jobs.open_directory x (new_file Classic)) (Ok (opened (Some 4) true)) first after_begin) (sym c) empty_begins;
+      final = opened (Some 4) true;
+      after_steps = after_begin;
+      steps = steps_by j.steps.items r.steps.items q a;
+      place = Some (record { pointer = 8; link = 10 });
+      after_end = s.after_empty;
+      ends = ends_by j.end r.last e l;
+      state = ap (λ x. jobs.ran (started Classic) s.after_empty x []) (sym l);
+    }))
+
 pub told : s.told
 told = record { answer = refl; state = refl }
 
@@ -104,6 +168,12 @@ cut_byte = refl
 pub cut_short : s.cut_short
 cut_short = refl
 
+pub shorts_given : s.shorts_given
+shorts_given = λ l. refl
+
+pub buffer_given : s.buffer_given
+buffer_given = λ b. refl
+
 pub starts : s.starts
 starts = refl
 
@@ -121,6 +191,9 @@ changes_nothing = record { ended = record { answer = refl; state = refl }; model
 
 pub changes_number : s.changes_number
 changes_number = λ h. h
+
+pub changes_uncaused : s.changes_uncaused
+changes_uncaused = not_changes
 
 pub extends_all : s.extends_all
 unfolding extend_from
@@ -166,11 +239,27 @@ parent_later = refl
 pub parent_none : s.parent_none
 parent_none = refl
 
+pub ran_offsets : s.ran_offsets
+ran_offsets = refl
+
+pub ran_nothing : s.ran_nothing
+ran_nothing = refl
+
+pub parented_22 : s.parented_22
+unfolding set_parent
+parented_22 = refl
+
+pub parented_none : s.parented_none
+parented_none = refl
+
 pub parent_job : s.parent_job
 parent_job = λ j r p q l. subst (λ x. jobs.DirectoryRanBy s.later_run (jobs.named_parent s.two_offsets x) j r (jobs.ran s.later_run first (Err (UsageError ParentNotWritten)) [])) (sym p) ((q, l), ap (λ x. jobs.ran s.later_run first x []) (sym l))
 
 pub packed_job : s.packed_job
 packed_job = λ r q l. (q, (l, ap (λ x. jobs.ran (started Classic) (record first { file = with_compression Packbits first.file }) x []) (sym l)))
+
+pub directory_job : s.directory_job
+directory_job = directory_by
 
 pub extra_end : s.extra_end
 extra_end = λ new place h. h

@@ -149,6 +149,9 @@ entry_short = IsSeen (calls.write_entry (Ok (data_of (u32s (5 ∷ [])))) (new_fi
 abbrev pub entry_refused : Type 0
 entry_refused = IsSeen (calls.write_entry no_text (new_file Classic)) (Err (FormatError InvalidTag)) header
 
+abbrev pub entry_stopped : Type 0
+entry_stopped = IsSeen (calls.write_entry (Ok (data_of (u32s (5 ∷ [])))) failed_file) (Err (UsageError WriterFailed)) header
+
 abbrev pub entry_buf : Type 0
 entry_buf = IsSeen (calls.write_entry_buf (buffer LittleEndian (8 ∷ 0 ∷ [])) (new_file Classic)) (Ok (short_field 8)) header
 

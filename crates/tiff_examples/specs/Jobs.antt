@@ -1,5 +1,6 @@
 -- Worked ends of calls, and worked jobs.
 use Rattle.std.specs.Prelude.{◌≡◌, ℕ, true, false, List, [], ◌∷◌, ◌++◌, Option, Some, None, Ok, Err}
+use Rattle.std.specs.Global.{Vec}
 use Rattle.tiff_base.specs.declared.error.TiffError.{TiffError}
 use Rattle.tiff_base.specs.declared.error.TiffError.TheVariants.{IoError, IntSizeError, UsageError, OutOfMemory}
 use Rattle.tiff_base.specs.declared.error.UsageError.TheVariants.{ParentNotWritten, WriterFailed}
@@ -9,6 +10,8 @@ use Rattle.tiff_base.specs.declared.tags.SampleFormat.TheVariants.{Uint}
 use Rattle.tiff_base.specs.declared.tags.Tag.TheVariants as tag
 use Rattle.tiff_encode.specs.declared.encoder.settings.Compression.TheVariants.{Packbits}
 use Rattle.tiff_encode.specs.declared.encoder.script.JobValue.{JobValue}
+use Rattle.tiff_encode.specs.declared.encoder.script.JobValue.TheVariants as value
+use Rattle.tiff_encode.specs.declared.encoder.script.JobBuffer.{JobBuffer}
 use Rattle.tiff_encode.specs.declared.encoder.script.DirectoryStep.TheVariants as step
 use Rattle.tiff_encode.specs.declared.encoder.script.ImageStep.TheVariants as istep
 use Rattle.tiff_encode.specs.declared.encoder.script.DirectoryEnd.TheVariants as end
@@ -19,12 +22,13 @@ use Rattle.tiff_encode.specs.declared.encoder.script.StepReply.TheVariants as re
 use Rattle.tiff_encode.specs.declared.encoder.script.EndReply.TheVariants as last
 use Rattle.tiff_encode.specs.declared.encoder.script.JobReply.{JobReply}
 use Rattle.tiff_encode.specs.Written.{long_field}
-use Rattle.tiff_encode.specs.Model.{header_model, with_region}
+use Rattle.tiff_encode.specs.Model.{FinishedDirectory, header_model, relinked, with_directory, with_region}
 use Rattle.tiff_encode.specs.Machine.{FileState, OpenDirectory, Deed, Appended, Linked, gives}
 use Rattle.tiff_encode.specs.Calls as calls
 use Rattle.tiff_encode.specs.Calls.{Offsets, opened}
 use Rattle.tiff_encode.specs.Ends.{IsTold, IsCutOff, IsTornOff, IsWanting, Ends}
-use Rattle.tiff_encode.specs.JobValues.{cut_to}
+use Rattle.tiff_value.specs.Data.{u16s, data_of}
+use Rattle.tiff_encode.specs.JobValues.{value_data, buffer_in, cut_to}
 use Rattle.tiff_encode.specs.Jobs as jobs
 use Rattle.tiff_encode.specs.Jobs.{Standing, Run, Finished, started}
 use Rattle.tiff_examples.specs.Causes.{new_file, failed_file, file_with, pixel, written_pixel}
@@ -94,6 +98,13 @@ cut_byte = cut_to 1 (257 ∷ 255 ∷ []) ≡ (1 ∷ 255 ∷ [])
 abbrev pub cut_short : Type 0
 cut_short = cut_to 2 (257 ∷ 65536 ∷ []) ≡ (257 ∷ 0 ∷ [])
 
+-- a list of scalars, whatever memory it stands in; and bytes
+abbrev pub shorts_given : Type 0
+shorts_given = (l : Vec ℕ) → value_data (value.U16 l) ≡ Ok (data_of (u16s l.items))
+
+abbrev pub buffer_given : Type 0
+buffer_given = (b : JobBuffer) → (buffer_in b).bytes ≡ b.bytes.items
+
 -- ---- steps
 
 -- where a run begins
@@ -123,6 +134,11 @@ changes_nothing = jobs.Changes (gives (opened None true)) (opened None false) (O
 
 abbrev pub changes_number : Type 0
 changes_number = jobs.Changes (gives (opened None true)) (opened None false) (Ok (reply.Number 8)) first first (opened None true) → ⊥
+
+-- and may not be refused without a cause
+abbrev pub changes_uncaused : Type 0
+changes_uncaused = (new : Standing) (t : OpenDirectory)
+    → jobs.Changes (gives (opened None true)) (opened None false) (Err IntSizeError) first new t → ⊥
 
 -- fields that are given, of which want of memory may leave some out
 abbrev pub extends_all : Type 0
@@ -173,6 +189,21 @@ parent_later = jobs.named_parent two_offsets (Some 2) ≡ Err (UsageError Parent
 abbrev pub parent_none : Type 0
 parent_none = jobs.named_parent [] None ≡ Ok None
 
+-- an end that answers offsets can be linked from; one that answers nothing can't
+abbrev pub ran_offsets : Type 0
+ran_offsets =
+    (jobs.ran (record (started Classic) { offsets = two_offsets }) first (Ok (last.Offsets 28 30)) []).offsets
+    ≡ two_offsets ++ Some (record { pointer = 28; link = 30 }) ∷ []
+
+abbrev pub ran_nothing : Type 0
+ran_nothing = (jobs.ran (started Classic) first (Ok last.Nothing) []).offsets ≡ None ∷ []
+
+abbrev pub parented_22 : Type 0
+parented_22 = (jobs.parented (Some (record { pointer = 8; link = 22 })) (opened (Some 4) true)).parent ≡ Some 22
+
+abbrev pub parented_none : Type 0
+parented_none = jobs.parented None (opened (Some 4) true) ≡ opened (Some 4) true
+
 -- such a job makes no call
 abbrev pub later_run : Run
 later_run = record (started Classic) { offsets = two_offsets }
@@ -187,7 +218,22 @@ packed_job = (r : JobReply) → r.steps.items ≡ [] → r.last ≡ Ok last.Noth
     → jobs.JobRan (started Classic) (job.Compression Packbits) r
     (jobs.ran (started Classic) (record first { file = calls.with_compression Packbits first.file }) (Ok last.Nothing) [])
 
--- a directory that is begun, has no steps and is finished
+-- a directory that is begun, has no steps and is finished: at 8, its link at 10, and the header links to it
+abbrev pub empty_directory : FinishedDirectory
+empty_directory = record { place = 8; fields = (opened None true).fields }
+
+abbrev pub after_empty : Standing
+after_empty = record {
+  file = (calls.finish (opened (Some 4) true) (new_file Classic)).next;
+  model = relinked Classic (with_directory Classic (with_region (header_model Classic) (record { place = 8; bytes = [] })) empty_directory) 4 8;
+}
+
+abbrev pub directory_job : Type 0
+directory_job = (j : DirectoryJob) (r : JobReply) → j.chained ≡ true → j.parent ≡ None → j.steps.items ≡ [] → j.end ≡ end.Finish
+    → r.steps.items ≡ [] → r.last ≡ Ok (last.Offsets 8 10)
+    → jobs.JobRan (started Classic) (job.Directory j) r (jobs.ran (started Classic) after_empty (Ok (last.Offsets 8 10)) [])
+
+-- its end may not answer nothing
 abbrev pub extra_end : Type 0
 extra_end = (new : Standing) (place : Option Offsets)
     → jobs.DirectoryEnds first (opened (Some 1000) true) end.Finish (Ok last.Nothing) new place → ⊥

@@ -9,12 +9,12 @@ pub fn ends()
 
 /// Steps of jobs.
 pub fn steps()
-    ensures { s.cut_byte × s.cut_short × s.starts × s.starts_empty × s.data_stepped × s.data_other × s.changes_nothing × s.changes_number × s.extends_all × s.extends_none × s.extends_fault × s.counted × s.counted_other × s.rows_refused × s.no_steps × s.one_step × s.missing_reply }
+    ensures { s.cut_byte × s.cut_short × s.shorts_given × s.buffer_given × s.starts × s.starts_empty × s.data_stepped × s.data_other × s.changes_nothing × s.changes_number × s.changes_uncaused × s.extends_all × s.extends_none × s.extends_fault × s.counted × s.counted_other × s.rows_refused × s.no_steps × s.one_step × s.missing_reply }
 {}
 
 /// Jobs.
 pub fn jobs()
-    ensures { s.parent_named × s.parent_refused × s.parent_later × s.parent_none × s.parent_job × s.packed_job × s.extra_end × s.lost_end }
+    ensures { s.parent_named × s.parent_refused × s.parent_later × s.parent_none × s.ran_offsets × s.ran_nothing × s.parented_22 × s.parented_none × s.parent_job × s.packed_job × s.directory_job × s.extra_end × s.lost_end }
 {}
 
 /// Images of jobs, and runs.

@@ -8,8 +8,13 @@ returns c = (
   p.parent_refused,
   p.parent_later,
   p.parent_none,
+  p.ran_offsets,
+  p.ran_nothing,
+  p.parented_22,
+  p.parented_none,
   p.parent_job,
   p.packed_job,
+  p.directory_job,
   p.extra_end,
   p.lost_end,
 )
