@@ -4,6 +4,7 @@ pub mod Header
 pub mod Entries
 pub mod Grown
 pub mod Agree
+pub mod Runs
 pub mod Pages
 pub mod Fields
 pub mod Shows

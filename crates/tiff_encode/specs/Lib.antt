@@ -12,3 +12,4 @@ pub mod Ends
 pub mod Stored
 pub mod JobValues
 pub mod Jobs
+pub mod RunLaws

@@ -145,8 +145,3 @@ abbrev pub ◌>>=◌ : {A B : Type 0} → Writing A → (A → Writing B) → Wr
 abbrev pub by_cause : {A : Type 0} → Option TiffError → Writing A → Writing A
 by_cause None call = call
 by_cause (Some e) call = answers (Err e)
-
--- the cause of a refusal that is told
-abbrev pub cause_in : {A : Type 0} → Result A TiffError → Option TiffError
-cause_in (Ok x) = None
-cause_in (Err e) = Some e

@@ -1,10 +1,8 @@
 -- The worked examples of Calls compute.
 use Rattle.std.specs.Prelude.{refl}
-use Rattle.std.specs.Prelude.{◌≡◌, ℕ, true, false, ◌||◌, if◌then◌else◌, List, [], ◌∷◌, ◌++◌, length, Some, None, Ok}
+use Rattle.std.specs.Prelude.{◌≡◌, ℕ, true, false, List, [], ◌∷◌, ◌++◌, length, Some, None, Ok}
 use Rattle.std.proofs.Common.{ap}
 use Rattle.std.specs.FinMap.{len, entries}
-use Rattle.std.specs.List.{flat_map, list_any}
-use Rattle.tiff_base.specs.declared.tags.FileKind.{FileKind}
 use Rattle.tiff_base.specs.declared.tags.FileKind.TheVariants.{Classic, Big}
 use Rattle.tiff_base.specs.Field.{Field}
 use Rattle.tiff_value.specs.Data.{data_of, text_data}
@@ -128,6 +126,10 @@ entry_short = (refl, refl)
 pub entry_refused : s.entry_refused
 unfolding write_entry write_tag_cause
 entry_refused = (refl, refl)
+
+pub entry_stopped : s.entry_stopped
+unfolding write_entry write_tag_cause data_of
+entry_stopped = (refl, refl)
 
 pub entry_buf : s.entry_buf
 unfolding write_entry_buf write_buf_cause

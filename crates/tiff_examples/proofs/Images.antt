@@ -1,32 +1,44 @@
 -- The worked examples of Images compute.
 use Rattle.std.specs.Prelude.{refl}
-use Rattle.std.specs.Prelude.{◌≡◌, ℕ, ◌+◌, true, false, if◌then◌else◌, List, [], ◌∷◌, ◌++◌, length, take, drop, Some, None}
+use Rattle.std.specs.Prelude.{ℕ, ◌+◌, true, if◌then◌else◌, List, [], ◌∷◌, ◌++◌, take, drop, Some, None}
 use Rattle.std.proofs.Common.{ap, arith}
 use Rattle.tiff_base.specs.declared.error.TiffError.TheVariants.{IntSizeError}
-use Rattle.tiff_base.specs.declared.tags.FileKind.TheVariants.{Classic, Big}
+use Rattle.tiff_base.specs.declared.tags.FileKind.TheVariants.{Classic}
 use Rattle.tiff_base.specs.declared.tags.ResolutionUnit.TheVariants as unit
-use Rattle.tiff_base.specs.declared.tags.«Type».TheVariants.{LONG}
+use Rattle.tiff_base.specs.declared.tags.«Type».TheVariants.{SHORT, LONG}
 use Rattle.tiff_base.specs.Field.{Field}
 use Rattle.tiff_value.specs.Data.{data_of}
 use Rattle.tiff_value.specs.Differences.{differences}
 use Rattle.tiff_encode.specs.Encoder.{is_too_far}
 use Rattle.tiff_encode.specs.Written.{short_field, long_field, rational_field}
-use Rattle.tiff_encode.specs.Machine.{FileState, by_cause}
+use Rattle.tiff_encode.specs.Machine.{by_cause}
 use Rattle.tiff_encode.specs.Causes.{begin_cause, extra_samples_cause, new_image_cause, next_sample_count, one_resolution_cause, resolution_cause, resolution_unit_cause, rows_per_strip_cause, write_image_data_cause, write_strip_cause, write_tag_cause}
 use Rattle.tiff_encode.specs.Calls.{extra_samples, finish_image, first_tags, image_directory, last_tags, new_image, opened, resolution, resolution_tags, resolution_unit, set_rows_per_strip, with_tags, write_entry, write_image, write_image_data, write_strip, write_tag, x_resolution, y_resolution}
 use Rattle.tiff_encode.specs.Stored.{strip_bytes}
 use Rattle.tiff_examples.proofs.Maps.{puts, entries_puts, len_puts}
 use Rattle.tiff_examples.proofs.Calls.{finish_told}
 use Rattle.tiff_examples.specs.Images as s
+use Rattle.tiff_examples.specs.Files.{gray_file}
 use Rattle.tiff_examples.specs.Calls.{header, with_fields}
 use Rattle.tiff_examples.specs.Causes.{new_file, file_with, pixel}
 
 -- the fields of the same page behind a refused one, and those of a packed image, the last first
-abbrev after_fields : List (ℕ × Field)
-after_fields =
-    (279, long_field 1) ∷ (273, long_field 40) ∷ (339, short_field 1) ∷ (258, short_field 8)
-    ∷ (296, short_field 1) ∷ (283, rational_field 32) ∷ (282, rational_field 24) ∷ (277, short_field 1)
-    ∷ (278, long_field 1000000) ∷ (262, short_field 1) ∷ (317, short_field 1) ∷ (259, short_field 1)
+abbrev page_fields : ℕ → ℕ → List (ℕ × Field)
+page_fields resolutions strip =
+    (279, long_field 1) ∷ (273, long_field strip) ∷ (339, short_field 1) ∷ (258, short_field 8)
+    ∷ (296, short_field 1) ∷ (283, rational_field (resolutions + 8)) ∷ (282, rational_field resolutions)
+    ∷ (277, short_field 1) ∷ (278, long_field 1000000) ∷ (262, short_field 1) ∷ (317, short_field 1)
+    ∷ (259, short_field 1) ∷ (257, long_field 1) ∷ (256, long_field 1) ∷ []
+
+abbrev three_shorts : ℕ → Field
+three_shorts place = record { field_type = SHORT; count = 3; value = place ∷ 0 ∷ 0 ∷ 0 ∷ 0 ∷ 0 ∷ 0 ∷ 0 ∷ [] }
+
+abbrev ycbcr_fields : List (ℕ × Field)
+ycbcr_fields =
+    (279, long_field 3) ∷ (273, long_field 24) ∷ (339, three_shorts 33) ∷ (258, three_shorts 27)
+    ∷ (296, short_field 1) ∷ (283, rational_field 16) ∷ (282, rational_field 8) ∷ (277, short_field 3)
+    ∷ (278, long_field 333334) ∷ (530, record { field_type = SHORT; count = 2; value = 1 ∷ 0 ∷ 1 ∷ 0 ∷ 0 ∷ 0 ∷ 0 ∷ 0 ∷ [] })
+    ∷ (262, short_field 6) ∷ (317, short_field 1) ∷ (259, short_field 1)
     ∷ (257, long_field 1) ∷ (256, long_field 1) ∷ []
 
 abbrev two_longs : ℕ → Field
@@ -183,7 +195,7 @@ rgb_few = (refl, refl)
 
 pub after_few : s.after_few
 unfolding write_image new_image write_image_data new_image_cause image_directory begin_cause first_tags write_tag write_entry write_tag_cause data_of write_image_data_cause finish_image write_strip write_strip_cause next_sample_count last_tags
-after_few = ap (λ t. t.answer) (finish_told (record (new_file Classic) { bytes = header ++ (s.resolutions ++ (s.resolutions ++ (7 ∷ []))) }) (with_fields (opened (Some 4) true) after_fields) 14 (puts after_fields) (len_puts after_fields) (entries_puts after_fields))
+after_few = ap (λ t. t.answer) (finish_told (record (new_file Classic) { bytes = header ++ (s.resolutions ++ (s.resolutions ++ (7 ∷ []))) }) (with_fields (opened (Some 4) true) (page_fields 24 40)) 14 (puts (page_fields 24 40)) (len_puts (page_fields 24 40)) (entries_puts (page_fields 24 40)))
 
 pub packed_written : s.packed_written
 unfolding write_image new_image write_image_data new_image_cause image_directory begin_cause first_tags write_tag write_entry write_tag_cause data_of write_image_data_cause finish_image write_strip write_strip_cause next_sample_count last_tags
@@ -196,3 +208,19 @@ packed_bytes = ap (λ t. take 20 (drop 24 t.next.bytes)) (finish_told (record s.
 pub stopped_image : s.stopped_image
 unfolding write_image new_image write_image_data new_image_cause image_directory begin_cause first_tags write_tag write_entry write_tag_cause data_of write_image_data_cause finish_image write_strip write_strip_cause next_sample_count last_tags
 stopped_image = (refl, refl)
+
+pub second_page : s.second_page
+unfolding write_image new_image write_image_data new_image_cause image_directory begin_cause first_tags write_tag write_entry write_tag_cause data_of write_image_data_cause finish_image write_strip write_strip_cause next_sample_count last_tags
+second_page = ap (λ t. t.answer) (finish_told (record s.page_file { bytes = gray_file ++ (0 ∷ (s.resolutions ++ (7 ∷ []))) }) (with_fields (opened (Some 195) true) (page_fields 200 216)) 14 (puts (page_fields 200 216)) (len_puts (page_fields 200 216)) (entries_puts (page_fields 200 216)))
+
+pub third_page : s.third_page
+unfolding write_image new_image write_image_data new_image_cause image_directory begin_cause first_tags write_tag write_entry write_tag_cause data_of write_image_data_cause finish_image write_strip write_strip_cause next_sample_count last_tags
+third_page = ap (λ t. t.answer) (finish_told (record s.page_file { bytes = gray_file ++ (0 ∷ (s.resolutions ++ (s.resolutions ++ (7 ∷ [])))) }) (with_fields (opened (Some 195) true) (page_fields 216 232)) 14 (puts (page_fields 216 232)) (len_puts (page_fields 216 232)) (entries_puts (page_fields 216 232)))
+
+pub third_link : s.third_link
+unfolding write_image new_image write_image_data new_image_cause image_directory begin_cause first_tags write_tag write_entry write_tag_cause data_of write_image_data_cause finish_image write_strip write_strip_cause next_sample_count last_tags
+third_link = ap (λ t. take 4 (drop 195 t.next.bytes)) (finish_told (record s.page_file { bytes = gray_file ++ (0 ∷ (s.resolutions ++ (s.resolutions ++ (7 ∷ [])))) }) (with_fields (opened (Some 195) true) (page_fields 216 232)) 14 (puts (page_fields 216 232)) (len_puts (page_fields 216 232)) (entries_puts (page_fields 216 232)))
+
+pub ycbcr_written : s.ycbcr_written
+unfolding write_image new_image write_image_data new_image_cause image_directory begin_cause first_tags write_tag write_entry write_tag_cause data_of write_image_data_cause finish_image write_strip write_strip_cause next_sample_count last_tags
+ycbcr_written = ap (λ t. t.answer) (finish_told (record (new_file Classic) { bytes = header ++ (s.resolutions ++ (1 ∷ 2 ∷ 3 ∷ 8 ∷ 0 ∷ 8 ∷ 0 ∷ 8 ∷ 0 ∷ 1 ∷ 0 ∷ 1 ∷ 0 ∷ 1 ∷ 0 ∷ [])) }) (with_fields (opened (Some 4) true) ycbcr_fields) 15 (puts ycbcr_fields) (len_puts ycbcr_fields) (entries_puts ycbcr_fields))

@@ -1,33 +1,25 @@
 -- Worked calls of the writer.
-use Rattle.std.specs.Prelude.{◌≡◌, ℕ, Bool, true, false, List, [], ◌∷◌, ◌++◌, length, take, drop, Option, Some, None, Result, Ok, Err}
-use Rattle.std.specs.FinMap.{FinMap, from_entries, entries}
+use Rattle.std.specs.Prelude.{◌≡◌, ℕ, true, false, List, [], ◌∷◌, ◌++◌, length, take, Some, None, Result, Ok, Err}
+use Rattle.std.specs.FinMap.{from_entries, entries}
 use Rattle.tiff_base.specs.declared.error.TiffError.{TiffError}
-use Rattle.tiff_base.specs.declared.error.TiffError.TheVariants.{FormatError, IoError, IntSizeError, UsageError}
-use Rattle.tiff_base.specs.declared.error.TiffFormatError.TheVariants.{InvalidDimensions, InvalidTag}
-use Rattle.tiff_base.specs.declared.error.UsageError.TheVariants.{ReconfiguredAfterImageWrite, ByteOrderMismatch, MismatchedEntryLength, ParentNotWritten, WriterFailed, ZeroIfdPointer}
-use Rattle.tiff_base.specs.declared.io.IoKind.TheVariants.{InvalidData, InvalidInput}
+use Rattle.tiff_base.specs.declared.error.TiffError.TheVariants.{FormatError, UsageError}
+use Rattle.tiff_base.specs.declared.error.TiffFormatError.TheVariants.{InvalidTag}
+use Rattle.tiff_base.specs.declared.error.UsageError.TheVariants.{ByteOrderMismatch, MismatchedEntryLength, ParentNotWritten, WriterFailed, ZeroIfdPointer}
 use Rattle.tiff_base.specs.declared.tags.ByteOrder.TheVariants.{LittleEndian, BigEndian}
 use Rattle.tiff_base.specs.declared.tags.CompressionMethod.TheVariants as method
-use Rattle.tiff_base.specs.declared.tags.ExtraSamples.TheVariants.{Unspecified, AssociatedAlpha}
-use Rattle.tiff_base.specs.declared.tags.FileKind.{FileKind}
 use Rattle.tiff_base.specs.declared.tags.FileKind.TheVariants.{Classic, Big}
 use Rattle.tiff_base.specs.declared.tags.Predictor.TheVariants as predictor
-use Rattle.tiff_base.specs.declared.tags.ResolutionUnit.TheVariants as unit
 use Rattle.tiff_base.specs.declared.tags.Tag.TheVariants as tag
-use Rattle.tiff_base.specs.declared.tags.«Type».TheVariants.{BYTE, ASCII, SHORT, LONG, RATIONAL}
+use Rattle.tiff_base.specs.declared.tags.«Type».TheVariants.{ASCII, SHORT}
 use Rattle.tiff_base.specs.Field.{Field}
-use Rattle.tiff_value.specs.ColorTypes.{colour_type, inner_size}
-use Rattle.tiff_value.specs.declared.encoder.colortype.ColorTypeName.TheVariants.{YCbCr8}
 use Rattle.tiff_value.specs.Data.{FieldData, u8s, u16s, u32s, data_of, text_data}
 use Rattle.tiff_encode.specs.declared.encoder.settings.Compression.TheVariants.{Packbits}
-use Rattle.tiff_encode.specs.Written.{short_field, long_field, rational_field, one_to_one}
-use Rattle.tiff_encode.specs.Model.{HandedField}
+use Rattle.tiff_encode.specs.Written.{short_field, long_field}
 use Rattle.tiff_encode.specs.Value.{places, data_in, buffer_data, is_long, filled, field_at}
-use Rattle.tiff_encode.specs.Machine.{FileState, OpenDirectory, OpenImage, Told, Deed, Appended, Handed, Listed, Linked, answers, does, by_cause, ◌>>=◌}
+use Rattle.tiff_encode.specs.Machine.{FileState, OpenDirectory, Told, Appended, Handed, Listed, Linked, ◌>>=◌}
 use Rattle.tiff_encode.specs.Calls as calls
 use Rattle.tiff_encode.specs.Calls.{Offsets, opened}
-use Rattle.tiff_examples.specs.Files.{gray_file}
-use Rattle.tiff_examples.specs.Causes.{new_file, failed_file, file_with, gray, rgb, pixel, written_pixel, buffer, no_text}
+use Rattle.tiff_examples.specs.Causes.{new_file, failed_file, file_with, buffer, no_text}
 
 -- what a call answers and leaves
 abbrev pub IsSeen : {A : Type 0} → Told A → Result A TiffError → List ℕ → Type 0
@@ -156,6 +148,9 @@ entry_short = IsSeen (calls.write_entry (Ok (data_of (u32s (5 ∷ [])))) (new_fi
 
 abbrev pub entry_refused : Type 0
 entry_refused = IsSeen (calls.write_entry no_text (new_file Classic)) (Err (FormatError InvalidTag)) header
+
+abbrev pub entry_stopped : Type 0
+entry_stopped = IsSeen (calls.write_entry (Ok (data_of (u32s (5 ∷ [])))) failed_file) (Err (UsageError WriterFailed)) header
 
 abbrev pub entry_buf : Type 0
 entry_buf = IsSeen (calls.write_entry_buf (buffer LittleEndian (8 ∷ 0 ∷ [])) (new_file Classic)) (Ok (short_field 8)) header

@@ -1,10 +1,8 @@
 -- Worked calls of images that are written.
-use Rattle.std.specs.Prelude.{◌≡◌, ℕ, ◌<◌, Bool, true, false, List, [], ◌∷◌, ◌++◌, length, take, drop, map, Option, Some, None, Result, Ok, Err}
-use Rattle.std.specs.FinMap.{from_entries, entries}
-use Rattle.tiff_base.specs.declared.error.TiffError.{TiffError}
+use Rattle.std.specs.Prelude.{◌≡◌, ℕ, true, List, [], ◌∷◌, ◌++◌, length, take, drop, Some, None, Ok, Err}
 use Rattle.tiff_base.specs.declared.error.TiffError.TheVariants.{FormatError, IoError, IntSizeError, UsageError}
 use Rattle.tiff_base.specs.declared.error.TiffFormatError.TheVariants.{InvalidDimensions}
-use Rattle.tiff_base.specs.declared.error.UsageError.TheVariants.{ReconfiguredAfterImageWrite, ParentNotWritten, WriterFailed}
+use Rattle.tiff_base.specs.declared.error.UsageError.TheVariants.{ReconfiguredAfterImageWrite, WriterFailed}
 use Rattle.tiff_base.specs.declared.io.IoKind.TheVariants.{InvalidData, InvalidInput}
 use Rattle.tiff_base.specs.declared.tags.CompressionMethod.TheVariants as method
 use Rattle.tiff_base.specs.declared.tags.ExtraSamples.TheVariants.{Unspecified, AssociatedAlpha}
@@ -14,14 +12,12 @@ use Rattle.tiff_base.specs.declared.tags.Predictor.TheVariants as predictor
 use Rattle.tiff_base.specs.declared.tags.ResolutionUnit.TheVariants as unit
 use Rattle.tiff_base.specs.declared.tags.SampleFormat.TheVariants.{Uint}
 use Rattle.tiff_base.specs.declared.tags.Tag.TheVariants as tag
-use Rattle.tiff_base.specs.declared.tags.«Type».TheVariants.{BYTE, SHORT, LONG, RATIONAL}
 use Rattle.tiff_base.specs.Field.{Field}
 use Rattle.tiff_value.specs.ColorType.{ColorTypeRecord}
 use Rattle.tiff_value.specs.Data.{u16s, u32s, methods, predictors, interpretations, units, formats, rationals}
-use Rattle.tiff_encode.specs.declared.encoder.settings.Compression.TheVariants.{Packbits, Uncompressed}
+use Rattle.tiff_encode.specs.declared.encoder.settings.Compression.TheVariants.{Packbits}
 use Rattle.tiff_encode.specs.Written.{short_field, long_field, rational_field, one_to_one, header_bytes}
-use Rattle.tiff_encode.specs.Machine.{FileState, OpenDirectory, OpenImage, Told, begun}
-use Rattle.tiff_encode.specs.Causes.{next_sample_count}
+use Rattle.tiff_encode.specs.Machine.{FileState, OpenImage}
 use Rattle.tiff_encode.specs.Calls as calls
 use Rattle.tiff_encode.specs.Calls.{Offsets, opened, image_in, with_chunk}
 use Rattle.tiff_encode.specs.Stored.{strip_bytes, AreStored}
@@ -249,3 +245,30 @@ packed_bytes =
 -- an image that is past a failed write
 abbrev pub stopped_image : Type 0
 stopped_image = IsSeen (calls.write_image gray 1 1 1 (7 ∷ []) [] failed_file) (Err (UsageError WriterFailed)) header
+
+-- the same page once more: behind a zero, linked from the first one's link
+abbrev pub page_file : FileState
+page_file = record (new_file Classic) { bytes = gray_file; chain = 195 }
+
+abbrev pub second_page : Type 0
+second_page =
+    (calls.write_image gray 1 1 1 (7 ∷ []) ((7 ∷ []) ∷ []) page_file).answer ≡ Ok (record { pointer = 217; link = 387 })
+
+-- and behind a refused image: its resolutions stay unused, and the first page's link points to it
+abbrev pub third_page : Type 0
+third_page =
+    (calls.write_image gray 1 1 1 (7 ∷ []) ((7 ∷ []) ∷ [])
+    (calls.write_image rgb 1 50 50 (1 ∷ 2 ∷ 3 ∷ []) [] page_file).next).answer ≡ Ok (record { pointer = 233; link = 403 })
+
+abbrev pub third_link : Type 0
+third_link =
+    take 4 (drop 195 (calls.write_image gray 1 1 1 (7 ∷ []) ((7 ∷ []) ∷ [])
+    (calls.write_image rgb 1 50 50 (1 ∷ 2 ∷ 3 ∷ []) [] page_file).next).next.bytes) ≡ (0xe9 ∷ 0 ∷ 0 ∷ 0 ∷ [])
+
+-- YCbCr of one pixel: its lists of three stand behind the strip
+abbrev pub ycbcr : ColorTypeRecord
+ycbcr = record { interpretation = YCbCr; bits = 8 ∷ 8 ∷ 8 ∷ []; formats = Uint ∷ Uint ∷ Uint ∷ [] }
+
+abbrev pub ycbcr_written : Type 0
+ycbcr_written =
+    (calls.write_image ycbcr 1 1 1 (1 ∷ 2 ∷ 3 ∷ []) ((1 ∷ 2 ∷ 3 ∷ []) ∷ []) (new_file Classic)).answer ≡ Ok (record { pointer = 39; link = 221 })

@@ -28,3 +28,6 @@ pub mod Lists
 pub mod ShortAnswers
 pub mod Images
 pub mod Views
+pub mod Models
+pub mod Jobs
+pub mod Writes

@@ -19,7 +19,7 @@ pub fn tags()
 
 /// Fields and data.
 pub fn fields()
-    ensures { s.entry_short × s.entry_refused × s.entry_buf × s.entry_buf_refused × s.entry_bytes × s.entry_bytes_refused × s.data_place × s.data_refused × s.data_buf × s.data_buf_refused × s.extended × s.extended_none × s.parent_set }
+    ensures { s.entry_short × s.entry_refused × s.entry_stopped × s.entry_buf × s.entry_buf_refused × s.entry_bytes × s.entry_bytes_refused × s.data_place × s.data_refused × s.data_buf × s.data_buf_refused × s.extended × s.extended_none × s.parent_set }
 {}
 
 /// Directories that are finished.

@@ -19,5 +19,5 @@ pub fn strips()
 
 /// Images that are finished.
 pub fn wholes()
-    ensures { s.pixel_finished × s.pixel_stopped × s.pixel_data × s.pixel_few × s.pixel_written × s.pixel_chain × s.rgb_few × s.after_few × s.packed_written × s.packed_bytes × s.stopped_image }
+    ensures { s.pixel_finished × s.pixel_stopped × s.pixel_data × s.pixel_few × s.pixel_written × s.pixel_chain × s.rgb_few × s.after_few × s.packed_written × s.packed_bytes × s.stopped_image × s.second_page × s.third_page × s.third_link × s.ycbcr_written }
 {}

@@ -1,6 +1,7 @@
 //! The laws by which what stands in a file is kept and grows, each the contract of a function with no work.
 
 ghost use Rattle.tiff_encode.specs.Shows.{PageShows, PageLinks, PageReads};
+ghost use Rattle.tiff_encode.specs.RunLaws.{OffsetsAgree, OneStep, OneStored};
 ghost use Rattle.tiff_encode.specs.Laws.{HeaderStands, KeptByAppending, KeptByPatching, KeptByTearing, GrownByRegion, GrownByInline, GrownByPlaced, GrownByDirectory, Finished, ModelsAgree, PageStands};
 
 /// A header that was written stands.
@@ -71,4 +72,19 @@ pub fn page_links()
 /// A page of one gray strip that is appended is read as it was handed in, under limits that let its samples pass.
 pub fn page_reads()
     ensures { PageReads }
+{}
+
+/// Where nothing fails, a call has one answer, and leaves one file and one model.
+pub fn one_step()
+    ensures { OneStep }
+{}
+
+/// Where a strip isn't packed, it is stored in one way.
+pub fn one_stored()
+    ensures { OneStored }
+{}
+
+/// The offsets that are made of a finished directory are those that its end answered.
+pub fn offsets_agree()
+    ensures { OffsetsAgree }
 {}

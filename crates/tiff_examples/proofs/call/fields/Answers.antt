@@ -6,6 +6,7 @@ pub returns : goal.returns
 returns c = (
   p.entry_short,
   p.entry_refused,
+  p.entry_stopped,
   p.entry_buf,
   p.entry_buf_refused,
   p.entry_bytes,

@@ -15,4 +15,8 @@ returns c = (
   p.packed_written,
   p.packed_bytes,
   p.stopped_image,
+  p.second_page,
+  p.third_page,
+  p.third_link,
+  p.ycbcr_written,
 )

@@ -1,0 +1,80 @@
+-- What calls do is a function of what they find.
+use Rattle.std.proofs.Common.{◌≡◌, ℕ, ◌^◌, ◌<◌, Bool, true, false, cond, List, Option, Some, None, Result, Ok, Err, refl, ap, sym, ◌∙◌, subst, arith}
+use Rattle.std.proofs.lemmas.Bool.{ne_eqb, lt-leb}
+use Rattle.std.specs.Prelude.{◌||◌, ◌==◌, nat_le}
+use Rattle.std.specs.FinMap.{len}
+use Rattle.tiff_base.specs.declared.error.TiffError.{TiffError}
+use Rattle.tiff_base.specs.declared.error.TiffError.TheVariants.{IntSizeError, UsageError}
+use Rattle.tiff_base.specs.declared.error.UsageError.TheVariants.{ZeroIfdPointer}
+use Rattle.tiff_base.specs.declared.tags.CompressionMethod.{CompressionMethod}
+use Rattle.tiff_base.specs.declared.tags.FileKind.{FileKind}
+use Rattle.tiff_base.specs.Directory.{link_place}
+use Rattle.tiff_base.specs.Field.{Field}
+use Rattle.tiff_encode.specs.Machine.{FileState, OpenDirectory, OpenImage, Writing, by_cause}
+use Rattle.tiff_encode.specs.Causes.{is_past, end_of, finish_cause, offset_cause}
+use Rattle.tiff_encode.specs.Calls.{Offsets, offsets_of, result_by, finish, new_offset}
+use Rattle.tiff_encode.specs.Stored.{strip_bytes}
+use Rattle.tiff_encode.specs.RunLaws.{IsOneStep, OneStep, OneStored, OffsetsAgree}
+use Rattle.tiff_value.specs.Packed.{IsStored}
+use Rattle.tiff_encode.proofs.Slices.{ok_inj}
+
+one_of : (A : Type 0) → IsOneStep A
+one_of A told r s old new other a b =
+    let f : new.file ≡ other.file = a.ended.state ∙ sym b.ended.state in
+    let m : new.model ≡ other.model = a.model ∙ sym b.model in
+    (sym a.ended.answer ∙ b.ended.answer, λ i. record { file = f i; model = m i })
+
+pub one_step : OneStep
+one_step = (one_of Field, (one_of ℕ, (one_of OpenDirectory, (one_of OpenImage, one_of Offsets))))
+
+pub one_stored : OneStored
+one_stored i samples stored other p a b =
+    let P : CompressionMethod → List ℕ → Type 0 = λ m xs. IsStored m xs (strip_bytes i samples) in
+    let x : stored ≡ strip_bytes i samples = subst (λ m. P m stored) p a in
+    let y : other ≡ strip_bytes i samples = subst (λ m. P m other) p b in
+    x ∙ sym y
+
+-- a fault is no answer, and some cause is not none
+err_ok : {A : Type 0} {e : TiffError} {x : A} → let a : Result A TiffError = Err e in let b : Result A TiffError = Ok x in a ≡ b → ⊥
+err_ok h = cc
+
+some_none : {e : TiffError} → let a : Option TiffError = Some e in a ≡ None → ⊥
+some_none h = cc
+
+-- a call that answers had no cause
+uncaused : {A : Type 0} (c : Option TiffError) (call : Writing A) (file : FileState) (x : A) → (by_cause c call file).answer ≡ Ok x
+    → (c ≡ None) × ((call file).answer ≡ Ok x)
+uncaused None call file x h = (refl, h)
+uncaused (Some e) call file x h = absurd (err_ok h)
+
+-- the last of the tests of a directory's end
+last_test : (f a b c : Bool) (d e : TiffError) (rest : Option TiffError)
+    → cond f (Some d) (cond (a || (b || c)) (Some e) rest) ≡ None → c ≡ false
+last_test true a b c d e rest h = absurd (some_none h)
+last_test false true b c d e rest h = absurd (some_none h)
+last_test false false true c d e rest h = absurd (some_none h)
+last_test false false false true d e rest h = absurd (some_none h)
+last_test false false false false d e rest h = refl
+
+near : (file : FileState) (d : OpenDirectory) → finish_cause file d ≡ None → is_past file.kind (end_of file) ≡ false
+unfolding finish_cause
+near file d h = last_test _ _ _ _ _ _ _ h
+
+-- the tests of an offset
+tests : (kind : FileKind) (p n : ℕ) → is_past kind p ≡ false → 0 < p → link_place kind p n < 2 ^ 64 → offset_cause kind p n ≡ None
+unfolding offset_cause
+tests kind p n a z l =
+    ap (λ b. cond b (Some IntSizeError) (cond (p == 0 || nat_le (2 ^ 64) (link_place kind p n)) (Some (UsageError ZeroIfdPointer)) None)) a
+    ∙ ap (λ b. cond (b || nat_le (2 ^ 64) (link_place kind p n)) (Some (UsageError ZeroIfdPointer)) None) (ne_eqb p 0 (λ e. omega arith))
+    ∙ ap (λ b. cond b (Some (UsageError ZeroIfdPointer)) None) (lt-leb (2 ^ 64) (link_place kind p n) l)
+
+pub offsets_agree : OffsetsAgree
+unfolding finish new_offset
+offsets_agree file d offsets h z l =
+    let c = uncaused (finish_cause file d) _ file offsets h in
+    let o : Offsets = offsets_of file.kind (end_of file) (len d.fields) in
+    let same : o ≡ offsets = ok_inj o offsets c.1 in
+    let cause : offset_cause file.kind o.pointer (len d.fields) ≡ None = tests file.kind o.pointer (len d.fields) (near file d c.0)
+    (subst (λ x. 0 < x.pointer) (sym same) z) (subst (λ x. x.link < 2 ^ 64) (sym same) l) in
+    subst (λ x. result_by (offset_cause file.kind x.pointer (len d.fields)) (offsets_of file.kind x.pointer (len d.fields)) ≡ Ok x) same
+    (ap (λ k. result_by k o) cause)

@@ -1,0 +1,121 @@
+-- The worked examples of Writes hold.
+use Rattle.std.specs.Prelude.{refl}
+use Rattle.std.proofs.Common.{◌≡◌, ◌<◌, ◌≤◌, ◌^◌, [], ◌∷◌, true, Option, Some, None, ap, sym, subst, inl, inr, arith, lit<, lit≤}
+use Rattle.tiff_base.specs.declared.error.TiffError.TheVariants.{FormatError, IntSizeError}
+use Rattle.tiff_base.specs.declared.error.TiffFormatError.TheVariants.{InvalidDimensions}
+use Rattle.tiff_base.specs.declared.tags.FileKind.TheVariants.{Classic}
+use Rattle.tiff_ifd.specs.Limits.{unlimited}
+use Rattle.tiff_encode.specs.Written.{header_bytes}
+use Rattle.tiff_encode.specs.Model.{header_model}
+use Rattle.tiff_encode.specs.Encoder.{page_refusal}
+use Rattle.tiff_encode.specs.Shows.{ReadsAs, LeavesPage, strip_page}
+use Rattle.tiff_encode.proofs.Header as its_header
+use Rattle.tiff_encode.proofs.Shows as its_shows
+use Rattle.tiff_encode.proofs.Pages as its_pages
+use Rattle.tiff_examples.proofs.Written.{gray_written, none_refused}
+use Rattle.tiff_examples.proofs.Jobs.{true_false, size_memory}
+use Rattle.tiff_examples.proofs.Models.{fits, octets}
+use Rattle.tiff_examples.proofs.Models as models
+use Rattle.tiff_examples.specs.Written.{fresh}
+use Rattle.tiff_examples.specs.Calls.{header}
+use Rattle.tiff_examples.specs.Writes as s
+
+none_some : {A : Type 0} {x : A} → let a : Option A = None in a ≡ Some x → ⊥
+none_some h = cc
+
+not_below : 65536 < 2 ^ 16 → ⊥
+not_below h = omega (arith, h)
+
+pub begins : s.begins
+begins = refl
+
+pub begins_behind : s.begins_behind
+begins_behind = refl
+
+pub begins_failed : s.begins_failed
+begins_failed = λ h. true_false (ap (λ e. e.failed) h)
+
+pub too_far : s.too_far
+too_far = refl
+
+pub not_too_far : s.not_too_far
+not_too_far = refl
+
+pub appended_page : s.appended_page
+appended_page = refl
+
+pub appended_refused : s.appended_refused
+appended_refused = refl
+
+pub writes : s.writes
+writes = record { fresh = refl; uncaused = none_refused; state = ap (λ b. record fresh { bytes = b; chain = 195; finished = true }) (sym gray_written) }
+
+pub writes_failed : s.writes_failed
+writes_failed = λ new w. true_false w.fresh
+
+pub stopped : s.stopped
+stopped = record { fault = refl; failed = refl; same = refl }
+
+pub not_stopped : s.not_stopped
+not_stopped = λ new t. true_false (sym t.failed)
+
+pub is_refused : s.is_refused
+is_refused = record { fresh = refl; reason = record { fault = IntSizeError; appended = 1 ∷ [] }; cause = refl; fault = refl; state = refl }
+
+pub is_not_refused : s.is_not_refused
+is_not_refused = λ new r. none_some r.cause
+
+pub cut : s.cut
+cut = record { fresh = refl; fault = inr refl; grew = lit< tt; count = 1; within = lit≤ tt; state = refl }
+
+pub not_cut : s.not_cut
+not_cut = λ e new z c. let l : 0 < new.failures = c.grew in omega arith
+
+pub torn : s.torn
+torn = record { fresh = refl; fault = inl refl; grew = lit< tt; count = 1; within = lit≤ tt; state = refl }
+
+pub not_torn : s.not_torn
+not_torn = λ e new z c. let l : 0 < new.failures = c.grew in omega arith
+
+pub wanting : s.wanting
+wanting = record { fresh = refl; fault = refl; count = 2; within = lit≤ tt; state = refl }
+
+pub not_wanting : s.not_wanting
+not_wanting = λ new w. size_memory w.fault
+
+pub fails : s.fails
+unfolding page_refusal
+fails = inr (inl (record { fresh = refl; reason = record { fault = FormatError (InvalidDimensions 0 5); appended = [] }; cause = refl; fault = refl; state = refl }))
+
+pub placed : s.placed
+placed = record { at_end = λ h. refl; linked = lit≤ tt }
+
+pub not_placed : s.not_placed
+not_placed = λ p. let l : 8 ≤ 2 = p.linked in omega arith
+
+pub grown_one : s.grown_one
+grown_one = refl
+
+pub writable : s.writable
+writable = record { tag_fits = lit< tt; count = lit< tt; whole = refl; filled = λ h. refl }
+
+pub not_writable : s.not_writable
+not_writable = λ w. not_below w.tag_fits
+
+pub gray_fits : s.gray_fits
+gray_fits = fits
+
+pub gray_few : s.gray_few
+gray_few = λ f. let l : 2 ≤ 1 = f.enough in omega arith
+
+pub leaves_header : s.leaves_header
+leaves_header = record { stands = its_header.header_stands Classic; link = inl refl }
+
+pub leaves_no_header : s.leaves_no_header
+leaves_no_header = λ l. models.no_link l.link
+
+pub leaves_page : s.leaves_page
+leaves_page = subst (λ file. LeavesPage (header_model Classic) header 4 1 1 (7 ∷ []) file 195) gray_written (record { stands = its_pages.page_stands (header_model Classic) (header_bytes Classic) 4 1 1 (7 ∷ []) (inl refl) fits (its_header.header_stands Classic); next = its_shows.page_links (header_model Classic) 8 4 1 1 (7 ∷ []); shows = its_shows.page_shows (header_model Classic) (header_bytes Classic) 4 1 1 (7 ∷ []) (inl refl) fits (its_header.header_stands Classic) })
+
+pub reads : s.reads
+reads = subst (λ file. ReadsAs Classic file 25 unlimited (strip_page 8 1 1) (7 ∷ [])) gray_written (its_shows.page_reads (header_model Classic) (header_bytes Classic) 4 1 1 (7 ∷ []) unlimited (inl refl) fits octets (its_header.header_stands Classic) (lit≤ tt) (lit≤ tt))

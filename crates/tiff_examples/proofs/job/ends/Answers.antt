@@ -1,0 +1,18 @@
+-- Each example is proved in proofs/Jobs.antt.
+use Rattle.tiff_examples.proofs.Jobs as p
+use Rattle.tiff_examples.proofs.job.ends.Goals as goal
+
+pub returns : goal.returns
+returns c = (
+  p.told,
+  p.told_other,
+  p.cut_off,
+  p.not_cut_off,
+  p.torn_off,
+  p.not_torn_off,
+  p.wanting,
+  p.not_wanting,
+  p.ends_caused,
+  p.ends_done,
+  p.ends_uncaused,
+)

@@ -1,0 +1,14 @@
+-- Each example is proved in proofs/Writes.antt.
+use Rattle.tiff_examples.proofs.Writes as p
+use Rattle.tiff_examples.proofs.write.faults.Goals as goal
+
+pub returns : goal.returns
+returns c = (
+  p.cut,
+  p.not_cut,
+  p.torn,
+  p.not_torn,
+  p.wanting,
+  p.not_wanting,
+  p.fails,
+)

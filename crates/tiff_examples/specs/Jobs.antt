@@ -1,0 +1,293 @@
+-- Worked ends of calls, and worked jobs.
+use Rattle.std.specs.Prelude.{◌≡◌, ℕ, true, false, List, [], ◌∷◌, ◌++◌, Option, Some, None, Ok, Err}
+use Rattle.std.specs.Global.{Vec}
+use Rattle.tiff_base.specs.declared.error.TiffError.{TiffError}
+use Rattle.tiff_base.specs.declared.error.TiffError.TheVariants.{IoError, IntSizeError, UsageError, OutOfMemory}
+use Rattle.tiff_base.specs.declared.error.UsageError.TheVariants.{ParentNotWritten, WriterFailed}
+use Rattle.tiff_base.specs.declared.io.IoKind.TheVariants.{Device, InvalidInput}
+use Rattle.tiff_base.specs.declared.tags.FileKind.TheVariants.{Classic, Big}
+use Rattle.tiff_base.specs.declared.tags.SampleFormat.TheVariants.{Uint}
+use Rattle.tiff_base.specs.declared.tags.Tag.TheVariants as tag
+use Rattle.tiff_encode.specs.declared.encoder.settings.Compression.TheVariants.{Packbits}
+use Rattle.tiff_encode.specs.declared.encoder.script.JobValue.{JobValue}
+use Rattle.tiff_encode.specs.declared.encoder.script.JobValue.TheVariants as value
+use Rattle.tiff_encode.specs.declared.encoder.script.JobBuffer.{JobBuffer}
+use Rattle.tiff_encode.specs.declared.encoder.script.DirectoryStep.TheVariants as step
+use Rattle.tiff_encode.specs.declared.encoder.script.ImageStep.TheVariants as istep
+use Rattle.tiff_encode.specs.declared.encoder.script.DirectoryEnd.TheVariants as end
+use Rattle.tiff_encode.specs.declared.encoder.script.ImageEnd.TheVariants as iend
+use Rattle.tiff_encode.specs.declared.encoder.script.DirectoryJob.{DirectoryJob}
+use Rattle.tiff_encode.specs.declared.encoder.script.Job.TheVariants as job
+use Rattle.tiff_encode.specs.declared.encoder.script.StepReply.TheVariants as reply
+use Rattle.tiff_encode.specs.declared.encoder.script.EndReply.TheVariants as last
+use Rattle.tiff_encode.specs.declared.encoder.script.JobReply.{JobReply}
+use Rattle.tiff_encode.specs.Written.{long_field}
+use Rattle.tiff_encode.specs.Model.{FinishedDirectory, header_model, relinked, with_directory, with_region}
+use Rattle.tiff_encode.specs.Machine.{FileState, OpenDirectory, Deed, Appended, Linked, gives}
+use Rattle.tiff_encode.specs.Calls as calls
+use Rattle.tiff_encode.specs.Calls.{Offsets, opened}
+use Rattle.tiff_encode.specs.Ends.{IsTold, IsCutOff, IsTornOff, IsWanting, Ends}
+use Rattle.tiff_value.specs.Data.{u16s, data_of}
+use Rattle.tiff_encode.specs.JobValues.{value_data, buffer_in, cut_to}
+use Rattle.tiff_encode.specs.Jobs as jobs
+use Rattle.tiff_encode.specs.Jobs.{Standing, Run, Finished, started}
+use Rattle.tiff_examples.specs.Causes.{new_file, failed_file, file_with, pixel, written_pixel}
+use Rattle.tiff_examples.specs.Calls.{header, with_fields}
+use Rattle.tiff_examples.specs.Models.{one_region}
+
+-- ---- how calls end
+
+-- three bytes that a call appends, and a link that it patches then
+abbrev pub three : List Deed
+three = Appended (1 ∷ 2 ∷ 3 ∷ []) ∷ []
+
+abbrev pub linked : List Deed
+linked = Appended (1 ∷ []) ∷ Linked 4 8 ∷ []
+
+-- a file whose sink has failed once, with these bytes
+abbrev pub failed_with : List ℕ → FileState
+failed_with bytes = record (new_file Classic) { bytes = bytes; failures = 1; failed = true }
+
+-- the call answers what is told, and nothing else
+abbrev pub told : Type 0
+told = IsTold (gives {A = ℕ} 5 (new_file Classic)) (Ok 5) (new_file Classic)
+
+abbrev pub told_other : Type 0
+told_other = IsTold (gives {A = ℕ} 5 (new_file Classic)) (Ok 6) (new_file Classic) → ⊥
+
+-- the sink failed behind the first byte
+abbrev pub cut_off : Type 0
+cut_off = IsCutOff three (IoError Device) (new_file Classic) (failed_with (header ++ (1 ∷ [])))
+
+-- a device's fault is no answer where the sink didn't fail
+abbrev pub not_cut_off : Type 0
+not_cut_off = (e : TiffError) (new : FileState) → new.failures ≡ 0 → IsCutOff three e (new_file Classic) new → ⊥
+
+-- the sink failed behind the first byte of the link
+abbrev pub torn_off : Type 0
+torn_off = IsTornOff linked OutOfMemory (new_file Classic)
+    (failed_with (0x49 ∷ 0x49 ∷ 0x2a ∷ 0x00 ∷ 0x08 ∷ 0x00 ∷ 0x00 ∷ 0x00 ∷ 1 ∷ []))
+
+abbrev pub not_torn_off : Type 0
+not_torn_off = (e : TiffError) (new : FileState) → IsTornOff linked e failed_file new → ⊥
+
+-- the encoder found no memory, before a byte went out
+abbrev pub wanting : Type 0
+wanting = IsWanting three OutOfMemory (new_file Classic) (new_file Classic)
+
+abbrev pub not_wanting : Type 0
+not_wanting = IsWanting three (IoError Device) (new_file Classic) (new_file Classic) → ⊥
+
+-- the first of its causes is an answer; a call that has none may not answer one
+abbrev pub ends_caused : Type 0
+ends_caused =
+    Ends (λ d. d) (calls.image_directory failed_file) (Err (UsageError WriterFailed)) failed_file failed_file
+
+abbrev pub ends_done : Type 0
+ends_done = Ends (λ d. d) (calls.image_directory (new_file Classic)) (Ok (opened (Some 4) true)) (new_file Classic) (new_file Classic)
+
+abbrev pub ends_uncaused : Type 0
+ends_uncaused = (new : FileState) → Ends (λ d. d) (calls.image_directory (new_file Classic)) (Err IntSizeError) (new_file Classic) new → ⊥
+
+-- ---- values of jobs
+
+-- samples are cut to the width of their numbers
+abbrev pub cut_byte : Type 0
+cut_byte = cut_to 1 (257 ∷ 255 ∷ []) ≡ (1 ∷ 255 ∷ [])
+
+abbrev pub cut_short : Type 0
+cut_short = cut_to 2 (257 ∷ 65536 ∷ []) ≡ (257 ∷ 0 ∷ [])
+
+-- a list of scalars, whatever memory it stands in; and bytes
+abbrev pub shorts_given : Type 0
+shorts_given = (l : Vec ℕ) → value_data (value.U16 l) ≡ Ok (data_of (u16s l.items))
+
+abbrev pub buffer_given : Type 0
+buffer_given = (b : JobBuffer) → (buffer_in b).bytes ≡ b.bytes.items
+
+-- ---- steps
+
+-- where a run begins
+abbrev pub first : Standing
+first = (started Classic).standing
+
+abbrev pub starts : Type 0
+starts = (started Big).standing.file ≡ new_file Big
+
+abbrev pub starts_empty : Type 0
+starts_empty = (started Classic).images ≡ []
+
+-- a step that changes nothing: data of no values is written at 8
+abbrev pub data_stepped : Type 0
+data_stepped =
+    jobs.Replies {S = OpenDirectory} reply.Number (calls.appends (7 ∷ [])) (opened None false) (Ok (reply.Number 8)) first
+    (record { file = file_with Classic (header ++ (7 ∷ [])); model = with_region (header_model Classic) one_region }) (opened None false)
+
+-- it doesn't answer another place
+abbrev pub data_other : Type 0
+data_other = (new : Standing)
+    → jobs.Replies {S = OpenDirectory} reply.Number (calls.appends (7 ∷ [])) (opened None false) (Ok (reply.Number 9)) first new (opened None false) → ⊥
+
+-- a call that answers nothing may not answer a number
+abbrev pub changes_nothing : Type 0
+changes_nothing = jobs.Changes (gives (opened None true)) (opened None false) (Ok reply.Nothing) first first (opened None true)
+
+abbrev pub changes_number : Type 0
+changes_number = jobs.Changes (gives (opened None true)) (opened None false) (Ok (reply.Number 8)) first first (opened None true) → ⊥
+
+-- and may not be refused without a cause
+abbrev pub changes_uncaused : Type 0
+changes_uncaused = (new : Standing) (t : OpenDirectory)
+    → jobs.Changes (gives (opened None true)) (opened None false) (Err IntSizeError) first new t → ⊥
+
+-- fields that are given, of which want of memory may leave some out
+abbrev pub extends_all : Type 0
+extends_all = jobs.Extends ((256, long_field 5) ∷ []) (opened None false) (Ok reply.Nothing) first first (with_fields (opened None false) ((256, long_field 5) ∷ []))
+
+abbrev pub extends_none : Type 0
+extends_none = jobs.Extends ((256, long_field 5) ∷ []) (opened None false) (Err OutOfMemory) first first (opened None false)
+
+abbrev pub extends_fault : Type 0
+extends_fault = (d : OpenDirectory) → jobs.Extends [] (opened None false) (Err IntSizeError) first first d → ⊥
+
+-- the samples of the next strip
+abbrev pub counted : Type 0
+counted = jobs.ImageStepped first pixel istep.NextStripSampleCount (Ok (reply.Number 1)) first pixel
+
+abbrev pub counted_other : Type 0
+counted_other = jobs.ImageStepped first pixel istep.NextStripSampleCount (Err OutOfMemory) first pixel → ⊥
+
+-- rows of a strip: none, which is refused and changes nothing
+abbrev pub rows_refused : Type 0
+rows_refused = jobs.ImageStepped first pixel (istep.RowsPerStrip 0) (Err (IoError InvalidInput)) first pixel
+
+-- no steps, and one of which the reply is missing
+abbrev pub no_steps : Type 0
+no_steps = jobs.AllStepped jobs.ImageStepped first pixel [] [] first pixel
+
+abbrev pub one_step : Type 0
+one_step = jobs.AllStepped jobs.ImageStepped first pixel (istep.NextStripSampleCount ∷ []) (Ok (reply.Number 1) ∷ []) first pixel
+
+abbrev pub missing_reply : Type 0
+missing_reply = jobs.AllStepped jobs.ImageStepped first pixel (istep.NextStripSampleCount ∷ []) [] first pixel → ⊥
+
+-- ---- jobs
+
+-- the offsets of earlier jobs: a page's, that of a directory, that of a refused one
+abbrev pub two_offsets : List (Option Offsets)
+two_offsets = Some (record { pointer = 8; link = 22 }) ∷ None ∷ []
+
+abbrev pub parent_named : Type 0
+parent_named = jobs.named_parent two_offsets (Some 0) ≡ Ok (Some (record { pointer = 8; link = 22 }))
+
+abbrev pub parent_refused : Type 0
+parent_refused = jobs.named_parent two_offsets (Some 1) ≡ Err (UsageError ParentNotWritten)
+
+abbrev pub parent_later : Type 0
+parent_later = jobs.named_parent two_offsets (Some 2) ≡ Err (UsageError ParentNotWritten)
+
+abbrev pub parent_none : Type 0
+parent_none = jobs.named_parent [] None ≡ Ok None
+
+-- an end that answers offsets can be linked from; one that answers nothing can't
+abbrev pub ran_offsets : Type 0
+ran_offsets =
+    (jobs.ran (record (started Classic) { offsets = two_offsets }) first (Ok (last.Offsets 28 30)) []).offsets
+    ≡ two_offsets ++ Some (record { pointer = 28; link = 30 }) ∷ []
+
+abbrev pub ran_nothing : Type 0
+ran_nothing = (jobs.ran (started Classic) first (Ok last.Nothing) []).offsets ≡ None ∷ []
+
+abbrev pub parented_22 : Type 0
+parented_22 = (jobs.parented (Some (record { pointer = 8; link = 22 })) (opened (Some 4) true)).parent ≡ Some 22
+
+abbrev pub parented_none : Type 0
+parented_none = jobs.parented None (opened (Some 4) true) ≡ opened (Some 4) true
+
+-- such a job makes no call
+abbrev pub later_run : Run
+later_run = record (started Classic) { offsets = two_offsets }
+
+abbrev pub parent_job : Type 0
+parent_job = (j : DirectoryJob) (r : JobReply) → j.parent ≡ Some 1 → r.steps.items ≡ [] → r.last ≡ Err (UsageError ParentNotWritten)
+    → jobs.JobRan later_run (job.Directory j) r (jobs.ran later_run first (Err (UsageError ParentNotWritten)) [])
+
+-- a setting
+abbrev pub packed_job : Type 0
+packed_job = (r : JobReply) → r.steps.items ≡ [] → r.last ≡ Ok last.Nothing
+    → jobs.JobRan (started Classic) (job.Compression Packbits) r
+    (jobs.ran (started Classic) (record first { file = calls.with_compression Packbits first.file }) (Ok last.Nothing) [])
+
+-- a directory that is begun, has no steps and is finished: at 8, its link at 10, and the header links to it
+abbrev pub empty_directory : FinishedDirectory
+empty_directory = record { place = 8; fields = (opened None true).fields }
+
+abbrev pub after_empty : Standing
+after_empty = record {
+  file = (calls.finish (opened (Some 4) true) (new_file Classic)).next;
+  model = relinked Classic (with_directory Classic (with_region (header_model Classic) (record { place = 8; bytes = [] })) empty_directory) 4 8;
+}
+
+abbrev pub directory_job : Type 0
+directory_job = (j : DirectoryJob) (r : JobReply) → j.chained ≡ true → j.parent ≡ None → j.steps.items ≡ [] → j.end ≡ end.Finish
+    → r.steps.items ≡ [] → r.last ≡ Ok (last.Offsets 8 10)
+    → jobs.JobRan (started Classic) (job.Directory j) r (jobs.ran (started Classic) after_empty (Ok (last.Offsets 8 10)) [])
+
+-- its end may not answer nothing
+abbrev pub extra_end : Type 0
+extra_end = (new : Standing) (place : Option Offsets)
+    → jobs.DirectoryEnds first (opened (Some 1000) true) end.Finish (Ok last.Nothing) new place → ⊥
+
+-- no parent there: the end is refused, and has no place
+abbrev pub lost_end : Type 0
+lost_end = jobs.DirectoryEnds first (opened (Some 1000) true) end.Discard (Err (UsageError ParentNotWritten)) first None
+
+-- an image with each of its strips, and one without
+abbrev pub samples_all : Type 0
+samples_all = jobs.ended_samples written_pixel iend.Finish ≡ Some (7 ∷ [])
+
+abbrev pub samples_missing : Type 0
+samples_missing = jobs.ended_samples pixel iend.Discard ≡ None
+
+abbrev pub image_seven : Type 0
+image_seven = (jobs.image_of written_pixel (7 ∷ [])).bands ≡ 1
+
+abbrev pub image_format : Type 0
+image_format = (jobs.image_of written_pixel (7 ∷ [])).format ≡ Uint
+
+-- a tag that a page is read by, and one that isn't
+abbrev pub width_tag : Type 0
+width_tag = jobs.is_page_tag 256 ≡ true
+
+abbrev pub artist_tag : Type 0
+artist_tag = jobs.is_page_tag 315 ≡ false
+
+abbrev pub apart_step : Type 0
+apart_step = (v : JobValue) → jobs.is_apart (istep.Directory (step.WriteTag tag.Artist v)) ≡ true
+
+abbrev pub page_step : Type 0
+page_step = (v : JobValue) → jobs.is_apart (istep.Directory (step.WriteTag tag.SampleFormat v)) ≡ false
+
+-- so the image of such a step isn't shown
+abbrev pub shown_images : Type 0
+shown_images = (v : JobValue)
+    → jobs.finished_images (istep.Directory (step.WriteTag tag.SampleFormat v) ∷ []) written_pixel iend.Finish (Some (record { pointer = 25; link = 195 })) ≡ []
+
+abbrev pub shown_image : Type 0
+shown_image =
+    jobs.finished_images (istep.NextStripSampleCount ∷ []) written_pixel iend.Finish (Some (record { pointer = 25; link = 195 }))
+    ≡ record { place = 25; image = jobs.image_of written_pixel (7 ∷ []) } ∷ []
+
+-- a job without a reply
+abbrev pub no_jobs : Type 0
+no_jobs = jobs.Jobs (started Classic) [] [] (started Classic)
+
+abbrev pub reply_missing : Type 0
+reply_missing = (new : Run) → jobs.Jobs (started Classic) (job.Compression Packbits ∷ []) [] new → ⊥
+
+-- what is to stand and to be shown: the header of a run that begins
+abbrev pub run_stands : Type 0
+run_stands = jobs.RunStands (started Classic)
+
+abbrev pub run_shows : Type 0
+run_shows = jobs.RunShows (started Classic)
