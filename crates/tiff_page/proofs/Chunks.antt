@@ -1,5 +1,5 @@
--- A chunk's rows are a part of the rows of the image.
-use Rattle.std.proofs.Common.{◌≡◌, ℕ, ◌+◌, ◌-◌, ◌*◌, ◌/◌, ◌%◌, ◌^◌, ◌<◌, ◌≤◌, min, true, false, List, ap, sym, ◌∙◌, ⊎_elim, arith}
+-- A chunk's rows are a part of the rows of the image; a coding unit's are those of the chunk of each plane.
+use Rattle.std.proofs.Common.{◌≡◌, ℕ, Some, ◌+◌, ◌-◌, ◌*◌, ◌/◌, ◌%◌, ◌^◌, ◌<◌, ◌≤◌, min, true, false, List, ap, sym, ◌∙◌, ⊎_elim, arith}
 use Rattle.std.specs.Prelude.{nat_lt}
 use Rattle.std.proofs.lemmas.Bool.{cases_lt, lt-ltb, le-ltb}
 use Rattle.std.proofs.lemmas.Nat.{mod_below, div-add-mod', div-mul-add, mod-mul-add}
@@ -13,6 +13,7 @@ use Rattle.tiff_page.specs.Pixels.{packed_byte, number_byte, region_byte, whole_
 use Rattle.tiff_page.specs.Laws as law
 use Rattle.tiff_page.specs.Laws.{HasSides, HasWholeRows}
 use Rattle.tiff_page.proofs.Sizes.{parts_some}
+use Rattle.tiff_page.proofs.Planes.{from_0}
 
 -- bits in whole bytes, so many times
 pub start_is : (col w d s : ℕ) → w * d * s ≡ w * d * s / 8 * 8 → col * w * d * s / 8 ≡ col * ((w * d * s + 7) / 8)
@@ -45,9 +46,6 @@ numbers_before x d n s e =
     let i : x * (n * s) ≡ x * (s * n) = ap (λ z. x * z) (mul_comm n s) in
     let j : x * (s * n) ≡ x * s * n = sym (mul_assoc x s n) in
     omega (arith, a, b, c, f, g, h, i, j)
-
-pub from_0 : (n : ℕ) → 0 + n ≡ n
-from_0 n = omega arith
 
 pub no_samples : (v d s : ℕ) → s ≡ 0 → (v * d * s + 7) / 8 ≡ 0
 no_samples v d s e =
@@ -157,3 +155,20 @@ module _ (file : List ℕ) (order : ByteOrder) (p : PageRecord) (colour : ColorT
 pub image_of_chunks : law.ImageOfChunks
 unfolding rect
 image_of_chunks file order p colour i row k sides whole rl kl = byte_same file order p colour i row k sides whole rl kl
+
+pub unit_of_chunks : law.UnitOfChunks
+unfolding rect
+unit_of_chunks file order p colour unit plane row k l =
+    let a : unit % chunks_of_plane p ≡ unit = mod-eq_of_lt l in
+    let b : (plane * chunks_of_plane p + unit) % chunks_of_plane p ≡ unit = mod-mul-add plane (chunks_of_plane p) unit l in
+    ap
+    (λ (j : ℕ).
+    region_byte file order p colour (record {
+      x = j % across p * p.chunk_width;
+      y = j / across p * p.chunk_height;
+      width = min p.chunk_width (p.width - j % across p * p.chunk_width);
+      height = min p.chunk_height (p.height - j / across p * p.chunk_height);
+      plane = 0;
+      chunk = Some j;
+    }) plane row k)
+    (a ∙ sym b)

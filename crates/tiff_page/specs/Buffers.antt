@@ -1,4 +1,4 @@
--- How buffers for decoded samples are laid out.
+-- How buffers for decoded samples are laid out (as in the Rust crate; the order of faults is this project's).
 use Rattle.std.specs.Prelude.{ℕ, ◌*◌, ◌^◌, replicate, Option, Some, None, Result, Ok, Err, if◌then◌else◌, nat_lt}
 use Rattle.std.specs.Int.{div_ceil}
 use Rattle.tiff_base.specs.declared.error.TiffError.{TiffError}

@@ -1,5 +1,6 @@
 -- Laws of these definitions: each pixel is of one chunk of a plane, a call's fault is the first that there is, a buffer
--- is placed position by position, an image is read as its first plane, no row is empty, and an image shows its chunks.
+-- is placed position by position, an image is read as its first plane, no row is empty, and images and coding units show
+-- their chunks.
 use Rattle.std.specs.Prelude.{◌≡◌, ℕ, ◌+◌, ◌*◌, ◌/◌, ◌<◌, ◌≤◌, ◌⊎◌, List, length, slice_index, unwrap_or, Result, Ok, Err}
 use Rattle.tiff_base.specs.declared.color.ColorType.{ColorType}
 use Rattle.tiff_base.specs.declared.error.TiffError.{TiffError}
@@ -7,7 +8,7 @@ use Rattle.tiff_base.specs.declared.tags.ByteOrder.{ByteOrder}
 use Rattle.tiff_base.specs.Answers.{◌>>=◌}
 use Rattle.tiff_ifd.specs.declared.limits.Limits.{Limits}
 use Rattle.tiff_page.specs.Page.{PageRecord}
-use Rattle.tiff_page.specs.Rect.{rect, across}
+use Rattle.tiff_page.specs.Rect.{rect, across, chunks_of_plane}
 use Rattle.tiff_page.specs.Layout.{LayoutRecord, layout_of, row_bits, row_bytes}
 use Rattle.tiff_page.specs.PixelFault.{depth_fault, each_below}
 use Rattle.tiff_page.specs.Pixels.{Region, byte_at, chunk_at, region_byte, whole_image, chunk_region}
@@ -103,3 +104,9 @@ ImageOfChunks = (file : List ℕ) (order : ByteOrder) (p : PageRecord) (colour :
 abbrev pub WholeRows : Type 0
 WholeRows = (p : PageRecord) (layout : LayoutRecord) → layout_of p p.width p.height ≡ Ok layout → depth_fault p layout.colour ≡ Ok tt
     → HasWholeRows p layout.colour
+
+-- a coding unit shows of each plane the chunk of that plane
+abbrev pub UnitOfChunks : Type 0
+UnitOfChunks = (file : List ℕ) (order : ByteOrder) (p : PageRecord) (colour : ColorType) (unit plane row k : ℕ) → unit < chunks_of_plane p
+    → region_byte file order p colour (chunk_region file order p unit) plane row k
+    ≡ region_byte file order p colour (chunk_region file order p (plane * chunks_of_plane p + unit)) plane row k

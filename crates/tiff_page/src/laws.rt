@@ -1,6 +1,6 @@
 //! Laws of the definitions, each the contract of a function with no work.
 
-ghost use Rattle.tiff_page.specs.Laws.{OneChunk, ChunksWithin, FirstFault, NoFault, PlacedEach, ImageIsFirstPlane, SomeBytes, ImageOfChunks, WholeRows};
+ghost use Rattle.tiff_page.specs.Laws.{OneChunk, ChunksWithin, FirstFault, NoFault, PlacedEach, ImageIsFirstPlane, SomeBytes, ImageOfChunks, WholeRows, UnitOfChunks};
 
 /// Each pixel of the image is of one chunk of a plane and of no other.
 pub fn one_chunk()
@@ -45,4 +45,9 @@ pub fn image_of_chunks()
 /// A page that is read has rows of whole bytes.
 pub fn whole_rows()
     ensures { WholeRows }
+{}
+
+/// A coding unit shows of each plane the chunk of that plane.
+pub fn unit_of_chunks()
+    ensures { UnitOfChunks }
 {}
