@@ -1,6 +1,6 @@
 //! Directories: a field for each of some tags.
 
-ghost use Rattle.std.specs.Prelude.{◌≡◌, ◌++◌, ◌∷◌, [], IfOk, OnOk, OnErr, None, option_map};
+ghost use Rattle.std.specs.Prelude.{◌≡◌, ◌++◌, ◌∷◌, [], IfOk, OnOk, OnErr, None, option_map, unwrap_or, ◌==◌};
 ghost use Rattle.std.specs.FinMap as map;
 ghost use Rattle.std.specs.Iterator.{YieldsFirstBy, item_count};
 ghost use Rattle.tiff_base.specs.Tags.{tag_number};
@@ -133,6 +133,14 @@ impl Directory {
         self.entries.len()
     }
 
+    /// Whether there is no field.
+    #[tactic(auto, using(crate::proofs::Maps::len_of_tree))]
+    pub fn is_empty(&self) -> bool
+        ensures { result ≡ (map.len self.now.entries == 0) }
+    {
+        self.len() == 0
+    }
+
     /// The place of the next directory.
     pub fn next(&self) -> Option<IfdPointer>
         ensures { option_map (λ p. p.0) result ≡ self.now.next }
@@ -162,6 +170,16 @@ impl Directory {
     {
         self.entries.insert(tag, entry)?;
         Ok(())
+    }
+
+    /// Sets the place of the next directory, or that there is none; so does the place 0.
+    pub fn set_next(&mut self, next: Option<IfdPointer>)
+        ensures { self.new ≡ record self.old { next = link (unwrap_or (option_map (λ p. p.0) next) 0) } }
+    {
+        self.next = match next {
+            Some(pointer) => pointer.0,
+            None => 0,
+        };
     }
 
     /// Sets the place of the next directory; 0 is none.

@@ -1,5 +1,9 @@
 //! Values as bytes.
 
+ghost use Rattle.std.specs.Prelude.{◌≡◌};
+ghost use Rattle.tiff_value.specs.Buffer.{buffer_count, empty_buffer, ordered};
+
+use std::alloc::Global;
 use std::marker::Model;
 use tiff_base::tags::{ByteOrder, Type};
 
@@ -17,4 +21,55 @@ impl Model for ValueBuffer {
     ghost Value = { BufferRecord };
 
     ghost view = { λ b. record { order = b.order; data_type = b.data_type; bytes = b.bytes.items } };
+}
+
+impl ValueBuffer {
+    /// No values of a type, in the machine's order.
+    pub fn empty(alloc: Global, data_type: Type) -> Self
+        ensures { result ≡ empty_buffer data_type }
+    {
+        ValueBuffer {
+            order: ByteOrder::native(),
+            data_type,
+            bytes: Vec::new(alloc),
+        }
+    }
+
+    /// The order of the bytes of each number.
+    pub fn byte_order(&self) -> ByteOrder
+        ensures { result ≡ self.now.order }
+    {
+        self.order
+    }
+
+    /// The type of the values.
+    pub fn data_type(&self) -> Type
+        ensures { result ≡ self.now.data_type }
+    {
+        self.data_type
+    }
+
+    /// How many values there are.
+    pub fn count(&self) -> u64
+        ensures { result ≡ buffer_count self.now }
+    {
+        let size = u64::from(self.data_type.byte_len());
+        self.bytes.len() as u64 / size
+    }
+
+    /// The bytes of the values, in their order.
+    pub fn as_bytes(&self) -> &[u8]
+        ensures { result.now ≡ self.now.bytes }
+    {
+        self.bytes.as_slice()
+    }
+
+    /// Turns the bytes of the numbers into an order.
+    pub fn set_byte_order(&mut self, order: ByteOrder)
+        ensures { self.new ≡ ordered self.old order }
+    {
+        self.order
+            .convert(self.data_type, self.bytes.as_mut_slice(), order);
+        self.order = order;
+    }
 }
