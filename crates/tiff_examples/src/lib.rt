@@ -3,7 +3,6 @@
 
 pub mod ask;
 pub mod buffer;
-pub mod slice;
 pub mod call;
 pub mod cause;
 pub mod chain;
@@ -26,6 +25,7 @@ pub mod pixels;
 pub mod query;
 pub mod runs;
 pub mod sample;
+pub mod slice;
 pub mod steps;
 pub mod told;
 pub mod value;
