@@ -1,18 +1,17 @@
 -- The worked examples of Jobs compute.
 use Rattle.std.specs.Prelude.{refl}
-use Rattle.std.proofs.Common.{◌≡◌, ℕ, ◌+◌, ◌<◌, ◌≤◌, ◌⊎◌, List, [], ◌∷◌, ◌++◌, Bool, true, false, Option, Some, None, Result, Ok, Err, ap, sym, ◌∙◌, subst, inl, inr, arith, lit<, lit≤}
+use Rattle.std.proofs.Common.{◌≡◌, ℕ, ◌<◌, ◌⊎◌, List, [], ◌∷◌, true, false, Some, None, Result, Ok, Err, ap, sym, ◌∙◌, subst, inl, inr, arith, lit<, lit≤}
 use Rattle.tiff_base.specs.declared.error.TiffError.{TiffError}
 use Rattle.tiff_base.specs.declared.error.TiffError.TheVariants.{IoError, IntSizeError, UsageError, OutOfMemory}
-use Rattle.tiff_base.specs.declared.error.UsageError.TheVariants.{ParentNotWritten, WriterFailed}
+use Rattle.tiff_base.specs.declared.error.UsageError.TheVariants.{ParentNotWritten}
 use Rattle.tiff_base.specs.declared.io.IoKind.TheVariants.{Device}
-use Rattle.tiff_base.specs.declared.tags.FileKind.TheVariants.{Classic, Big}
+use Rattle.tiff_base.specs.declared.tags.FileKind.TheVariants.{Classic}
 use Rattle.tiff_encode.specs.declared.encoder.settings.Compression.TheVariants.{Packbits}
 use Rattle.tiff_encode.specs.declared.encoder.script.StepReply.{StepReply}
 use Rattle.tiff_encode.specs.declared.encoder.script.StepReply.TheVariants as reply
-use Rattle.tiff_encode.specs.Machine.{FileState, OpenDirectory, Told, Appended, gives, model_after}
+use Rattle.tiff_encode.specs.Machine.{OpenDirectory, Told, Appended, gives, model_after}
 use Rattle.tiff_encode.specs.Causes.{begin_cause, next_sample_count, rows_per_strip_cause}
 use Rattle.tiff_encode.specs.Calls.{Offsets, opened, image_directory, finish, with_compression, set_parent, set_rows_per_strip, extend_from}
-use Rattle.tiff_encode.specs.Ends.{IsTold, IsCutOff, IsTornOff, IsWanting}
 use Rattle.tiff_encode.specs.Jobs as jobs
 use Rattle.tiff_encode.specs.Jobs.{Standing, Run, IsDone, started}
 use Rattle.tiff_encode.proofs.Header as its_header
