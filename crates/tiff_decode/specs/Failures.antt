@@ -2,7 +2,7 @@
 use Rattle.std.specs.Prelude.{ℕ, ◌+◌, List, [], ◌∷◌, Option, None, Some, Result, Ok, Err, Vec}
 use Rattle.std.specs.declared.alloc.Global.{Global}
 use Rattle.tiff_base.specs.declared.error.TiffError.{TiffError}
-use Rattle.tiff_base.specs.declared.error.TiffError.TheVariants.{IoError, OutOfMemory}
+use Rattle.tiff_base.specs.declared.error.TiffError.TheVariants.{IoError}
 use Rattle.tiff_base.specs.declared.io.IoKind.TheVariants.{Device}
 use Rattle.tiff_base.specs.declared.tags.Tag.{Tag}
 use Rattle.tiff_ifd.specs.declared.value.Value.{Value}
@@ -96,10 +96,3 @@ failures r = device_count (fault_in r)
 abbrev pub all_failures : List Reply → ℕ
 all_failures [] = 0
 all_failures (r ∷ replies) = failures r + all_failures replies
-
--- want of memory or a fault of the device
-abbrev pub is_escape : Option TiffError → Type 0
-is_escape None = ⊥
-is_escape (Some OutOfMemory) = Unit {0}
-is_escape (Some (IoError Device)) = Unit {0}
-is_escape (Some e) = ⊥
