@@ -31,4 +31,5 @@ pub mod told;
 pub mod value;
 pub mod view;
 pub mod write;
+pub mod word;
 pub mod writer;

@@ -1,0 +1,21 @@
+-- Each example is proved in proofs/Words.antt.
+use Rattle.tiff_examples.proofs.Words as p
+use Rattle.tiff_examples.proofs.word.answers.Goals as goal
+
+pub returns : goal.returns
+returns c = (
+  p.given,
+  p.another,
+  p.fault_given,
+  p.fault_another,
+  p.fault_for_none,
+  p.wanting,
+  p.not_wanting,
+  p.failed,
+  p.not_failed,
+  p.end_given,
+  p.kept,
+  p.not_kept,
+  p.fails_from,
+  p.never_fails,
+)

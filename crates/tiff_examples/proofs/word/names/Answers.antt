@@ -1,0 +1,16 @@
+-- Each example is proved in proofs/Words.antt.
+use Rattle.tiff_examples.proofs.Words as p
+use Rattle.tiff_examples.proofs.word.names.Goals as goal
+
+pub returns : goal.returns
+returns c = (
+  p.tags_named,
+  p.methods_named,
+  p.formats_named,
+  p.units_of,
+  p.gray_known,
+  p.gray_wide,
+  p.gray_white,
+  p.gray_signed,
+  p.gray_two,
+)

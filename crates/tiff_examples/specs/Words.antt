@@ -1,0 +1,172 @@
+-- Worked words: what a call may answer, what a source is left as, and what a writer does.
+use Rattle.std.specs.Prelude.{◌≡◌, ℕ, List, [], ◌∷◌, Some, None, true, false, Result, Ok, Err}
+use Rattle.tiff_base.specs.declared.error.TiffError.{TiffError}
+use Rattle.tiff_base.specs.declared.error.TiffError.TheVariants.{IoError, UsageError, LimitsExceeded, IntSizeError, OutOfMemory}
+use Rattle.tiff_base.specs.declared.error.UsageError.TheVariants.{WriterFailed}
+use Rattle.tiff_base.specs.declared.io.IoKind.TheVariants.{UnexpectedEof, Device}
+use Rattle.tiff_base.specs.declared.tags.CompressionMethod.TheVariants as method
+use Rattle.tiff_base.specs.declared.tags.PhotometricInterpretation.TheVariants as meaning
+use Rattle.tiff_base.specs.declared.tags.ResolutionUnit.TheVariants as unit
+use Rattle.tiff_base.specs.declared.tags.SampleFormat.TheVariants as format
+use Rattle.tiff_base.specs.declared.tags.Tag.TheVariants as tag
+use Rattle.tiff_base.specs.Answers.{Answers, AnswersExactly, AnswersHere, Gives, IsKept, FailsFrom}
+use Rattle.tiff_base.specs.Tags.{named_tag, named_method, named_format, unit_of}
+use Rattle.tiff_value.specs.ColorType.{ColorTypeRecord, is_gray}
+use Rattle.tiff_value.specs.Written.{Written, moved, written, IsSinkFault, Fails, IsStopped, IsCut, WritesRaw, Writes}
+
+abbrev pub Never : Type 0 → Type 0
+Never A = A → ⊥
+
+-- ---- what a call may answer
+
+-- a number that is answered as it is
+abbrev pub same : ℕ → ℕ
+same n = n
+
+-- what is given, and something else
+abbrev pub given : Type 0
+given = Answers same (Ok 1) (Ok 1) 0 0
+
+abbrev pub another : Type 0
+another = Never (Answers same (Ok 1) (Ok 2) 0 0)
+
+-- its fault, and another one
+abbrev pub fault_given : Type 0
+fault_given = Gives same (Err IntSizeError) (Err IntSizeError)
+
+abbrev pub fault_another : Type 0
+fault_another = Never (Answers same (Err IntSizeError) (Err LimitsExceeded) 0 0)
+
+abbrev pub fault_for_none : Type 0
+fault_for_none = Never (Answers same (Err LimitsExceeded) (Ok 1) 0 0)
+
+-- want of memory, where memory is taken and where none is
+abbrev pub wanting : Type 0
+wanting = Answers same (Err OutOfMemory) (Ok 1) 0 0 × AnswersHere same (Err OutOfMemory) (Err IntSizeError)
+
+abbrev pub not_wanting : Type 0
+not_wanting = Never (AnswersExactly same (Err OutOfMemory) (Ok 1) 0 0) × Never (Gives same (Err OutOfMemory) (Ok 1))
+
+-- a fault of the device, with a failed read and without, and of a call that reads nothing
+abbrev pub failed : Type 0
+failed = AnswersExactly same (Err (IoError Device)) (Ok 1) 0 1
+
+abbrev pub not_failed : Type 0
+not_failed =
+    Never (Answers same (Err (IoError Device)) (Ok 1) 1 1) × Never (AnswersHere same (Err (IoError Device)) (Ok 1))
+
+-- the end of a source is a fault like others
+abbrev pub end_given : Type 0
+end_given = Never (Answers same (Err (IoError UnexpectedEof)) (Ok 1) 0 1)
+
+-- ---- what a source is left as, of bytes and a count of failures
+
+abbrev pub bytes_of : ℕ × ℕ → ℕ
+bytes_of s = s.0
+
+abbrev pub failures_of : ℕ × ℕ → ℕ
+failures_of s = s.1
+
+abbrev pub kept : Type 0
+kept = IsKept bytes_of failures_of (7, 1) (7, 2)
+
+-- other bytes, and a failure that is forgotten
+abbrev pub not_kept : Type 0
+not_kept = Never (IsKept bytes_of failures_of (7, 1) (8, 1)) × Never (IsKept bytes_of failures_of (7, 1) (7, 0))
+
+-- a source that came to fail, and one that can't
+abbrev pub fails_from : Type 0
+fails_from = FailsFrom failures_of (7, 1)
+
+abbrev pub never_fails : Type 0
+never_fails = Never (FailsFrom (λ (s : ℕ × ℕ). 3) (7, 1))
+
+-- ---- what a writer does
+
+-- a writer of three bytes that stands at the second
+abbrev pub three : Written
+three = record { bytes = 1 ∷ 2 ∷ 3 ∷ []; at = 1; failed = false; failures = 0; last = 0 }
+
+abbrev pub nine_moved : Type 0
+nine_moved = moved three (9 ∷ []) ≡ record three { bytes = 1 ∷ 9 ∷ 3 ∷ []; at = 2 }
+
+-- the count is kept, and bytes past the end are appended
+abbrev pub nines_written : Type 0
+nines_written = written three (9 ∷ 9 ∷ 9 ∷ []) ≡ record three { bytes = 1 ∷ 9 ∷ 9 ∷ 9 ∷ []; at = 4; last = 3 }
+
+abbrev pub none_moved : Type 0
+none_moved = moved three [] ≡ three
+
+-- a fault of a sink is want of memory or of the device
+abbrev pub IntSink : Type 0
+IntSink = IsSinkFault IntSizeError
+
+abbrev pub sink_faults : Type 0
+sink_faults = IsSinkFault OutOfMemory × IsSinkFault (IoError Device) × Never IntSink
+
+-- a failed write, counted and not
+abbrev pub write_fails : Type 0
+write_fails = Fails (IoError Device) three (record three { failed = true; failures = 1 })
+
+abbrev pub write_fails_not : Type 0
+write_fails_not = Never (Fails (IoError Device) three (record three { failed = true }))
+
+-- after a failed write nothing is done; before one it isn't stopped
+abbrev pub stopped : Type 0
+stopped = IsStopped (UsageError WriterFailed) (record three { failed = true }) (record three { failed = true })
+
+abbrev pub not_stopped : Type 0
+not_stopped = Never (IsStopped (UsageError WriterFailed) three three)
+
+-- one of two bytes went out as the sink failed; none did, yet the place moved on
+abbrev pub cut : Type 0
+cut = IsCut (8 ∷ 9 ∷ []) OutOfMemory three (record three { bytes = 1 ∷ 8 ∷ 3 ∷ []; at = 2; failed = true; failures = 1 })
+
+abbrev pub not_cut : Type 0
+not_cut = Never (IsCut [] OutOfMemory three (record three { at = 2; failed = true; failures = 1 }))
+
+-- bytes that are written, their count kept or not
+abbrev pub writes : Type 0
+writes =
+    WritesRaw {A = ℕ} (9 ∷ []) three (record three { bytes = 1 ∷ 9 ∷ 3 ∷ []; at = 2 }) (Ok 0)
+    × Writes {A = ℕ} (9 ∷ []) three (record three { bytes = 1 ∷ 9 ∷ 3 ∷ []; at = 2; last = 1 }) (Ok 0)
+
+-- none after a failed write
+abbrev pub writes_not : Type 0
+writes_not = Never (Writes {A = ℕ} [] (record three { failed = true }) (record three { failed = true }) (Ok 0))
+
+-- ---- names and colour types
+
+abbrev pub tags_named : Type 0
+tags_named = (named_tag tag.ImageWidth ≡ Some tag.ImageWidth) × (named_tag (tag.Unknown 256) ≡ None)
+
+abbrev pub methods_named : Type 0
+methods_named = (named_method method.None ≡ Some method.None) × (named_method (method.Unknown 9) ≡ None)
+
+abbrev pub formats_named : Type 0
+formats_named = (named_format format.Void ≡ Some format.Void) × (named_format (format.Unknown 5) ≡ None)
+
+abbrev pub units_of : Type 0
+units_of = (unit_of 2 ≡ Some unit.Inch) × (unit_of 4 ≡ None)
+
+-- gray of one byte a sample, where 0 is black, and others
+abbrev pub gray_type : ColorTypeRecord
+gray_type = record { interpretation = meaning.BlackIsZero; bits = 8 ∷ []; formats = format.Uint ∷ [] }
+
+abbrev pub gray_known : Type 0
+gray_known = is_gray gray_type ≡ true
+
+abbrev pub gray_wide : Type 0
+gray_wide = is_gray (record gray_type { bits = 16 ∷ [] }) ≡ false
+
+abbrev pub gray_white : Type 0
+gray_white = is_gray (record gray_type { interpretation = meaning.WhiteIsZero }) ≡ false
+
+abbrev pub gray_signed : Type 0
+gray_signed = is_gray (record gray_type { formats = format.Int ∷ [] }) ≡ false
+
+abbrev pub gray_two : Type 0
+gray_two =
+    (is_gray (record gray_type { bits = 8 ∷ 8 ∷ [] }) ≡ false)
+    × (is_gray (record gray_type { formats = format.Uint ∷ format.Uint ∷ [] }) ≡ false)
+    × (is_gray (record gray_type { bits = [] }) ≡ false)
