@@ -2,6 +2,9 @@
 use Rattle.std.specs.Prelude.{refl, ℕ, [], ◌∷◌, false, Result, Ok, Err}
 use Rattle.std.proofs.Common.{ap, arith}
 use Rattle.tiff_base.specs.declared.error.TiffError.{TiffError}
+use Rattle.tiff_base.specs.declared.error.TiffError.TheVariants.{LimitsExceeded}
+use Rattle.std.specs.Prelude.{length}
+use Rattle.tiff_value.specs.Buffer.{BufferRecord}
 use Rattle.tiff_base.specs.Directory.{directory_at, entries_from, last_of_each, entry_of}
 use Rattle.tiff_base.specs.Number.{number}
 use Rattle.tiff_base.specs.Tags.{type_of}
@@ -148,3 +151,45 @@ told_of_two = refl
 pub chunk_sides : s.chunk_sides
 unfolding rect
 chunk_sides = (refl, refl)
+
+pub told_of_big : s.told_of_big
+told_of_big = (refl, refl, refl)
+
+pub no_items : s.no_items
+no_items = omega arith
+
+pub item_missing : s.item_missing
+item_missing = λ h. h
+
+pub item_unasked : s.item_unasked
+item_unasked = λ h. h
+
+pub items_told : s.items_told
+items_told = (0, (refl, omega arith), (1, omega arith, (1, omega arith, omega arith)))
+
+pub item_not_failed : s.item_not_failed
+item_not_failed = λ h. omega (arith, h.1, h.2)
+
+pub item_told : s.item_told
+item_told = (0, (refl, omega arith), omega arith)
+
+fault_number : TiffError → ℕ
+fault_number LimitsExceeded = 1
+fault_number e = 0
+
+pub no_list : s.no_list
+unfolding fault_number
+no_list = ((refl, record { stands = refl; failures = omega arith }), λ h. omega (arith, ap fault_number h.0))
+
+pub buffer_held : s.buffer_held
+buffer_held = refl
+
+pub buffer_emptied : s.buffer_emptied
+buffer_emptied = refl
+
+bytes_in : BufferRecord → ℕ
+bytes_in b = length b.bytes
+
+pub buffer_changed : s.buffer_changed
+unfolding bytes_in
+buffer_changed = λ h. omega (arith, ap bytes_in h)

@@ -204,3 +204,11 @@ string_none = refl
 pub limits_set : s.limits_set
 unfolding outcome.set_limits
 limits_set = refl
+
+pub limits_same : s.limits_same
+unfolding outcome.set_limits
+limits_same = refl
+
+pub gone_0 : s.gone_0
+unfolding outcome.goto_offset
+gone_0 = refl

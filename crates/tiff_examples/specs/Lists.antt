@@ -1,11 +1,17 @@
 -- Worked lists of calls of decoders, with their replies.
 use Rattle.std.specs.Prelude.{◌≡◌, List, [], ◌∷◌, Some, None, true, false, Ok, Err}
-use Rattle.tiff_base.specs.declared.color.ChunkType.TheVariants.{Strip}
+use Rattle.tiff_base.specs.declared.color.ChunkType.TheVariants.{Strip, Tile}
 use Rattle.tiff_base.specs.declared.color.ColorType.TheVariants.{Gray}
-use Rattle.tiff_base.specs.declared.error.TiffError.TheVariants.{FormatError, IoError, OutOfMemory}
+use Rattle.tiff_base.specs.declared.error.TiffError.TheVariants.{FormatError, IoError, LimitsExceeded, OutOfMemory}
 use Rattle.tiff_base.specs.declared.error.TiffFormatError.TheVariants.{ImageFileDirectoryNotFound, CycleInOffsets}
 use Rattle.tiff_base.specs.declared.io.IoKind.TheVariants.{UnexpectedEof, Device}
-use Rattle.tiff_base.specs.declared.tags.ByteOrder.TheVariants.{LittleEndian}
+use Rattle.tiff_base.specs.declared.tags.ByteOrder.TheVariants.{LittleEndian, BigEndian}
+use Rattle.tiff_base.specs.declared.tags.Tag.TheVariants as tag
+use Rattle.tiff_base.specs.declared.tags.«Type».TheVariants.{BYTE, LONG}
+use Rattle.tiff_base.specs.Field.{Field}
+use Rattle.tiff_value.specs.Buffer.{empty_buffer}
+use Rattle.tiff_ifd.specs.Datum as d
+use Rattle.tiff_ifd.specs.declared.value.Value.TheVariants as v
 use Rattle.tiff_decode.specs.declared.script.Call.{Call}
 use Rattle.tiff_decode.specs.declared.script.Call.TheVariants as call
 use Rattle.tiff_decode.specs.declared.script.Reply.{Reply}
@@ -13,8 +19,9 @@ use Rattle.tiff_decode.specs.declared.script.Reply.TheVariants as reply
 use Rattle.tiff_decode.specs.Outcome as outcome
 use Rattle.tiff_decode.specs.Failures.{all_failures, fault_in}
 use Rattle.tiff_decode.specs.Once.{next_state, IsNamed, SameAnswer}
-use Rattle.tiff_decode.specs.Step.{Step}
+use Rattle.tiff_decode.specs.Step.{Step, ItemsAre, Items, BufferLeft}
 use Rattle.tiff_decode.specs.Steps.{Steps, Ran}
+use Rattle.tiff_examples.specs.Shown.{pixel_page}
 use Rattle.tiff_examples.specs.Decoders.{at, gray_state, gray_fields, gray_decoder, two_decoder}
 
 -- no such thing
@@ -98,10 +105,10 @@ one_unasked = Never (Steps gray_decoder [] (reply.MoreImages false ∷ []) gray_
 -- after a cycle there are no more images
 abbrev pub cycle_steps : Type 0
 cycle_steps =
-    let d = two_decoder (0x19 ∷ 0x00 ∷ 0x00 ∷ 0x00 ∷ []) in
-    Steps d (call.MoreImages ∷ call.NextImage ∷ call.MoreImages ∷ [])
+    let two = two_decoder (0x19 ∷ 0x00 ∷ 0x00 ∷ 0x00 ∷ []) in
+    Steps two (call.MoreImages ∷ call.NextImage ∷ call.MoreImages ∷ [])
     (reply.MoreImages true ∷ reply.NextImage (Err (FormatError CycleInOffsets)) ∷ reply.MoreImages false ∷ [])
-    (record d { state = record d.state { more = false } })
+    (record two { state = record two.state { more = false } })
 
 -- two failed reads among three replies, behind an earlier one
 abbrev pub failing_replies : List Reply
@@ -171,3 +178,54 @@ told_of_two = outcome.more_images (two_decoder []) ≡ true
 abbrev pub chunk_sides : Type 0
 chunk_sides =
     (outcome.chunk_dimensions gray_decoder ≡ (1, 1000000)) × (outcome.chunk_data_dimensions gray_decoder 5 ≡ (1, 1))
+
+-- of a decoder of a big-endian file with no pointer
+abbrev pub told_of_big : Type 0
+told_of_big =
+    let big = record gray_decoder { order = BigEndian; state = record gray_state { pointer = None; page = record pixel_page { chunk_type = Tile } } } in
+    (outcome.ifd_pointer big ≡ None) × (outcome.byte_order big ≡ BigEndian) × (outcome.get_chunk_type big ≡ Tile)
+
+-- ---- items of tags, and buffers
+
+-- no items; one that is missing; one too many
+abbrev pub no_items : Type 0
+no_items = ItemsAre [] [] 3 3
+
+abbrev pub item_missing : Type 0
+item_missing = Never (ItemsAre (Err LimitsExceeded ∷ []) [] 0 0)
+
+abbrev pub item_unasked : Type 0
+item_unasked = Never (ItemsAre [] (Err LimitsExceeded ∷ []) 0 0)
+
+-- a fault of its own for each: what is given, a failed read, want of memory
+abbrev pub items_told : Type 0
+items_told =
+    ItemsAre (Err LimitsExceeded ∷ Ok (tag.Compression, d.short 1) ∷ Ok (tag.Compression, d.short 1) ∷ [])
+    (Err LimitsExceeded ∷ Err (IoError Device) ∷ Err OutOfMemory ∷ []) 0 1
+
+-- a failed read that isn't counted
+abbrev pub item_not_failed : Type 0
+item_not_failed = Never (ItemsAre (Err LimitsExceeded ∷ []) (Err (IoError Device) ∷ []) 1 1)
+
+-- an item with its value
+abbrev pub item_told : Type 0
+item_told = ItemsAre (Ok (tag.Compression, d.short 1) ∷ []) (Ok (tag.Compression, v.Short 1) ∷ []) 0 0
+
+-- want of memory for their list, and another fault
+abbrev pub no_list : Type 0
+no_list = Items [] (Err OutOfMemory) gray_decoder gray_decoder × Never (Items [] (Err LimitsExceeded) gray_decoder gray_decoder)
+
+-- the buffer after a limit refused is as it was; after a failed read it has the field's type and no values
+abbrev pub longs : Field
+longs = record { field_type = LONG; count = 2; value = [] }
+
+abbrev pub buffer_held : Type 0
+buffer_held = BufferLeft BigEndian (Some longs) (empty_buffer BYTE) (Err LimitsExceeded) (empty_buffer BYTE)
+
+abbrev pub buffer_emptied : Type 0
+buffer_emptied =
+    BufferLeft BigEndian (Some longs) (empty_buffer BYTE) (Err (IoError Device)) (record { order = BigEndian; data_type = LONG; bytes = [] })
+
+abbrev pub buffer_changed : Type 0
+buffer_changed =
+    Never (BufferLeft BigEndian (Some longs) (empty_buffer BYTE) (Err LimitsExceeded) (record { order = LittleEndian; data_type = BYTE; bytes = 7 ∷ [] }))

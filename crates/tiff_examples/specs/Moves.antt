@@ -237,3 +237,10 @@ string_none =
 
 abbrev pub limits_set : Type 0
 limits_set = outcome.set_limits gray_decoder unlimited ≡ record { answer = Ok tt; next = record gray_state { limits = unlimited } }
+
+abbrev pub limits_same : Type 0
+limits_same = outcome.set_limits gray_decoder gray_state.limits ≡ record { answer = Ok tt; next = gray_state }
+
+-- the front of the file, too
+abbrev pub gone_0 : Type 0
+gone_0 = outcome.goto_offset gray_decoder 0 ≡ record { answer = Ok tt; next = record gray_state { place = 0 } }

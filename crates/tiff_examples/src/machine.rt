@@ -10,7 +10,7 @@ pub fn openings()
 /// Pages of chains.
 pub fn pages()
     ensures { s.no_next × s.next_bare × s.next_cycle × s.next_cut × s.seek_5 × s.seek_5_again × s.seek_1 × s.seek_cycle ×
-        s.seek_0 × s.limits_set }
+        s.seek_0 × s.limits_set × s.limits_same × s.gone_0 }
 {}
 
 /// Numbers at the place.

@@ -17,5 +17,11 @@ pub fn several_calls()
 /// What replies tell.
 pub fn replies()
     ensures { s.next_of_long × s.next_of_sides × s.fault_told × s.no_fault_told × s.named × s.not_named × s.same × s.not_same ×
-        s.not_same_call × s.directory_read × s.directory_past × s.told_of × s.told_of_two × s.chunk_sides }
+        s.not_same_call × s.directory_read × s.directory_past × s.told_of × s.told_of_two × s.chunk_sides × s.told_of_big }
+{}
+
+/// Items of tags, and the buffers that refused reads leave.
+pub fn items()
+    ensures { s.no_items × s.item_missing × s.item_unasked × s.items_told × s.item_not_failed × s.item_told × s.no_list ×
+        s.buffer_held × s.buffer_emptied × s.buffer_changed }
 {}

@@ -14,4 +14,6 @@ returns c = (
   p.seek_cycle,
   p.seek_0,
   p.limits_set,
+  p.limits_same,
+  p.gone_0,
 )

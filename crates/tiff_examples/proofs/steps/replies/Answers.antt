@@ -18,4 +18,5 @@ returns c = (
   p.told_of,
   p.told_of_two,
   p.chunk_sides,
+  p.told_of_big,
 )
