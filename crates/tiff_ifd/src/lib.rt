@@ -9,3 +9,4 @@ pub mod read_value;
 pub mod tag_reader;
 pub mod tags;
 pub mod value;
+pub mod value_reader;

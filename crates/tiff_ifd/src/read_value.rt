@@ -1,6 +1,6 @@
 //! The values of fields are read.
 
-ghost use Rattle.std.specs.Prelude.{◌≡◌, ◌≤◌, ◌<◌, ◌*◌, ◌-◌, Ok, Err, if◌then◌else◌, ◌&&◌, length, slice_index, List, ℕ};
+ghost use Rattle.std.specs.Prelude.{◌≡◌, ◌≤◌, ◌<◌, ◌*◌, ◌-◌, Ok, Err, if◌then◌else◌, ◌&&◌, length, slice_index, option_map};
 ghost use Rattle.std.specs.Int.{w8, w16, w32, w64, byte_len};
 ghost use Rattle.std.specs.List.{list_all, position_or_len, prefix_len, suffix_len};
 ghost use Rattle.std.specs.Str.{is_utf8};
@@ -14,16 +14,17 @@ ghost use Rattle.tiff_ifd.specs.Datum as f;
 ghost use Rattle.tiff_ifd.specs.View.{datum};
 ghost use Rattle.tiff_ifd.specs.Item as spec;
 ghost use Rattle.tiff_ifd.specs.FieldValue as value;
+ghost use Rattle.tiff_ifd.specs.Look.{look_in};
 
 use crate::limits::Limits;
 use crate::value::{AsciiText, Value, ValueList};
 use std::alloc::Global;
 use std::str;
-use tiff_base::directory::Entry;
+use tiff_base::directory::{Directory, Entry};
 use tiff_base::error::{TiffError, TiffFormatError, TiffResult};
 use tiff_base::io::Source;
 use tiff_base::read::{read_bytes_at, u16_from, u32_from, u64_from};
-use tiff_base::tags::{Bits32, Bits64, ByteOrder, FileKind, Type};
+use tiff_base::tags::{Bits32, Bits64, ByteOrder, FileKind, Tag, Type};
 
 // The number that one byte is, in either order.
 #[tactic(auto, unfolding(tiff_base::specs::Number::number))]
@@ -340,4 +341,24 @@ pub fn read_value<R: Source>(
     let place = place_in(kind, order, field);
     let bytes = read_bytes_at(alloc, source, place, len as usize)?;
     value_from(alloc, false, field_type, order, count, &bytes)
+}
+
+/// Reads the value of a tag, if the directory has it.
+#[tactic(auto, unfolding(crate::specs::Look::look_in))]
+pub fn find_value<R: Source>(
+    alloc: Global,
+    source: &mut R,
+    kind: FileKind,
+    order: ByteOrder,
+    limits: &Limits,
+    directory: &Directory,
+    tag: Tag,
+) -> TiffResult<Option<Value>>
+    ensures kept { IsKept R.bytes R.failures source.old source.new }
+    ensures answer { Answers (λ v. option_map datum v) result ((look_in kind order (R.bytes source.old) limits.now directory.now.entries).value tag) (R.failures source.old) (R.failures source.new) }
+{
+    match directory.get(tag) {
+        None => Ok(None),
+        Some(entry) => Ok(Some(read_value(alloc, source, kind, order, limits, entry)?)),
+    }
 }
