@@ -5,6 +5,7 @@ pub mod decode;
 pub mod header;
 pub mod laws;
 pub mod limits;
+pub mod read_bytes;
 pub mod read_value;
 pub mod tag_reader;
 pub mod tags;

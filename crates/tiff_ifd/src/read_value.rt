@@ -1,7 +1,7 @@
 //! The values of fields are read.
 
 ghost use Rattle.std.specs.Prelude.{◌≡◌, ◌≤◌, ◌<◌, ◌*◌, ◌-◌, Ok, Err, if◌then◌else◌, ◌&&◌, length, slice_index, option_map};
-ghost use Rattle.std.specs.Int.{w8, w16, w32, w64, byte_len};
+ghost use Rattle.std.specs.Int.{w8, w16, w32, w64};
 ghost use Rattle.std.specs.List.{list_all, position_or_len, prefix_len, suffix_len};
 ghost use Rattle.std.specs.Str.{is_utf8};
 ghost use Rattle.tiff_base.specs.declared.error.TiffError.TheVariants as tiff;
@@ -9,7 +9,6 @@ ghost use Rattle.tiff_base.specs.declared.error.TiffFormatError.TheVariants as f
 ghost use Rattle.tiff_base.specs.Answers.{Answers, AnswersHere, IsKept};
 ghost use Rattle.tiff_base.specs.Number.{number};
 ghost use Rattle.tiff_base.specs.Types.{type_size};
-ghost use Rattle.tiff_base.specs.Directory.{place_width};
 ghost use Rattle.tiff_ifd.specs.Datum as f;
 ghost use Rattle.tiff_ifd.specs.View.{datum};
 ghost use Rattle.tiff_ifd.specs.Item as spec;
@@ -17,6 +16,7 @@ ghost use Rattle.tiff_ifd.specs.FieldValue as value;
 ghost use Rattle.tiff_ifd.specs.Look.{look_in};
 
 use crate::limits::Limits;
+use crate::read_bytes::{place_in, place_len};
 use crate::value::{AsciiText, Value, ValueList};
 use std::alloc::Global;
 use std::str;
@@ -276,29 +276,6 @@ fn is_allowed(limits: &Limits, field_type: Type, count: u64) -> bool
     match field_type {
         Type::ASCII => count <= room,
         _ => count == 1 || count <= room / 32,
-    }
-}
-
-// How many bytes a value field has.
-fn place_len(kind: FileKind) -> u64
-    ensures { result ≡ byte_len (place_width kind) }
-{
-    match kind {
-        FileKind::Classic => 4,
-        FileKind::Big => 8,
-    }
-}
-
-// The place that a value field holds.
-#[tactic(auto, unfolding(tiff_base::specs::Number::number))]
-fn place_in(kind: FileKind, order: ByteOrder, value: [u8; 8]) -> u64
-    ensures { result ≡ number order (place_width kind) value }
-{
-    match kind {
-        FileKind::Classic => {
-            u64::from(u32_from(order, [value[0], value[1], value[2], value[3]]))
-        }
-        FileKind::Big => u64_from(order, value),
     }
 }
 
