@@ -5,3 +5,4 @@ mod Letters
 mod Joined
 pub mod Items
 pub mod Texts
+pub mod Fitted
