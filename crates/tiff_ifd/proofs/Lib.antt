@@ -3,3 +3,6 @@ pub mod Chain
 pub mod Links
 mod Letters
 mod Joined
+pub mod Items
+pub mod Texts
+pub mod Fitted

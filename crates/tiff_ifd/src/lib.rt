@@ -1,10 +1,14 @@
 //! What a file's header, directories and tags say.
 #![tactic(auto)]
 
+pub mod ask;
 pub mod decode;
 pub mod header;
 pub mod laws;
 pub mod limits;
+pub mod read_bytes;
+pub mod read_value;
 pub mod tag_reader;
 pub mod tags;
 pub mod value;
+pub mod value_reader;

@@ -1,0 +1,108 @@
+//! The bytes of fields are read.
+
+ghost use Rattle.std.specs.Prelude.{◌≡◌, ◌≤◌, IfOk, length, take, drop};
+ghost use Rattle.std.specs.Int.{byte_len};
+ghost use Rattle.tiff_base.specs.Answers.{Answers, AnswersExactly, IsKept};
+ghost use Rattle.tiff_base.specs.Number.{number};
+ghost use Rattle.tiff_base.specs.Directory.{place_width};
+ghost use Rattle.tiff_ifd.specs.Ask.{buffer_of, part_of_field};
+
+use crate::limits::Limits;
+use std::alloc::Global;
+use tiff_base::directory::Entry;
+use tiff_base::error::{TiffError, TiffFormatError, TiffResult};
+use tiff_base::io::Source;
+use tiff_base::read::{read_bytes_at, read_exact_at, u32_from, u64_from};
+use tiff_base::tags::{ByteOrder, FileKind};
+
+// How many bytes a value field has.
+pub(crate) fn place_len(kind: FileKind) -> u64
+    ensures { result ≡ byte_len (place_width kind) }
+{
+    match kind {
+        FileKind::Classic => 4,
+        FileKind::Big => 8,
+    }
+}
+
+// The place that a value field holds.
+#[tactic(auto, unfolding(tiff_base::specs::Number::number))]
+pub(crate) fn place_in(kind: FileKind, order: ByteOrder, value: [u8; 8]) -> u64
+    ensures { result ≡ number order (place_width kind) value }
+{
+    match kind {
+        FileKind::Classic => {
+            u64::from(u32_from(order, [value[0], value[1], value[2], value[3]]))
+        }
+        FileKind::Big => u64_from(order, value),
+    }
+}
+
+/// Reads the bytes of a field, in the file's order. 2^64 bytes or more, or more than the limit: `LimitsExceeded`; bytes
+/// past the end: `IoError(UnexpectedEof)`.
+#[tactic(auto, unfolding(crate::specs::Ask::buffer_of, tiff_base::specs::FieldBytes::field_bytes))]
+pub fn read_field_bytes<R: Source>(
+    alloc: Global,
+    source: &mut R,
+    kind: FileKind,
+    order: ByteOrder,
+    limits: &Limits,
+    entry: &Entry,
+) -> TiffResult<Vec<u8>>
+    ensures kept { IsKept R.bytes R.failures source.old source.new }
+    ensures answer { Answers (λ v. record { order = order; data_type = entry.now.field_type; bytes = v.items }) result
+        (buffer_of kind order (R.bytes source.old) limits.now entry.now) (R.failures source.old) (R.failures source.new) }
+{
+    let size = u64::from(entry.field_type().byte_len());
+    let Some(len) = entry.count().checked_mul(size) else {
+        return Err(TiffError::LimitsExceeded);
+    };
+    if len > limits.decoding_buffer_size as u64 {
+        return Err(TiffError::LimitsExceeded);
+    }
+    let value = entry.value();
+    if len <= place_len(kind) {
+        let mut bytes = vec![in alloc; 0u8; len as usize]?;
+        bytes.copy_from_slice(&value[..len as usize]);
+        return Ok(bytes);
+    }
+    read_bytes_at(alloc, source, place_in(kind, order, value), len as usize)
+}
+
+/// Copies the bytes of a field from `at` on, as many as fit, and answers how many; 0 where `at` isn't below their number.
+/// 2^64 bytes or more: `LimitsExceeded`; a place of 2^64 or more: `InconsistentSizesEncountered`; what is copied past the
+/// end: `IoError(UnexpectedEof)`.
+#[tactic(auto, unfolding(crate::specs::Ask::part_of_field))]
+pub fn read_part<R: Source>(
+    source: &mut R,
+    kind: FileKind,
+    order: ByteOrder,
+    entry: &Entry,
+    at: u64,
+    buf: &mut [u8],
+) -> TiffResult<usize>
+    ensures kept { IsKept R.bytes R.failures source.old source.new }
+    ensures answer { AnswersExactly (λ n. take n buf.new) result (part_of_field kind order (R.bytes source.old) entry.now (length buf.old) at)
+        (R.failures source.old) (R.failures source.new) }
+    ensures rest { IfOk result (λ n. (n ≤ length buf.old) × (drop n buf.new ≡ drop n buf.old)) }
+{
+    let size = u64::from(entry.field_type().byte_len());
+    let Some(len) = entry.count().checked_mul(size) else {
+        return Err(TiffError::LimitsExceeded);
+    };
+    if len <= at {
+        return Ok(0);
+    }
+    let n = std::cmp::min(buf.len() as u64, len - at) as usize;
+    let value = entry.value();
+    if len <= place_len(kind) {
+        let first = at as usize;
+        buf[..n].copy_from_slice(&value[first..first + n]);
+        return Ok(n);
+    }
+    let Some(place) = place_in(kind, order, value).checked_add(at) else {
+        return Err(TiffError::FormatError(TiffFormatError::InconsistentSizesEncountered));
+    };
+    read_exact_at(source, place, &mut buf[..n])?;
+    Ok(n)
+}

@@ -1,0 +1,341 @@
+//! The values of fields are read.
+
+ghost use Rattle.std.specs.Prelude.{◌≡◌, ◌≤◌, ◌<◌, ◌*◌, ◌-◌, Ok, Err, if◌then◌else◌, ◌&&◌, length, slice_index, option_map};
+ghost use Rattle.std.specs.Int.{w8, w16, w32, w64};
+ghost use Rattle.std.specs.List.{list_all, position_or_len, prefix_len, suffix_len};
+ghost use Rattle.std.specs.Str.{is_utf8};
+ghost use Rattle.tiff_base.specs.declared.error.TiffError.TheVariants as tiff;
+ghost use Rattle.tiff_base.specs.declared.error.TiffFormatError.TheVariants as format;
+ghost use Rattle.tiff_base.specs.Answers.{Answers, AnswersHere, IsKept};
+ghost use Rattle.tiff_base.specs.Number.{number};
+ghost use Rattle.tiff_base.specs.Types.{type_size};
+ghost use Rattle.tiff_ifd.specs.Datum as f;
+ghost use Rattle.tiff_ifd.specs.View.{datum};
+ghost use Rattle.tiff_ifd.specs.Item as spec;
+ghost use Rattle.tiff_ifd.specs.FieldValue as value;
+ghost use Rattle.tiff_ifd.specs.Look.{look_in};
+
+use crate::limits::Limits;
+use crate::read_bytes::{place_in, place_len};
+use crate::value::{AsciiText, Value, ValueList};
+use std::alloc::Global;
+use std::str;
+use tiff_base::directory::{Directory, Entry};
+use tiff_base::error::{TiffError, TiffFormatError, TiffResult};
+use tiff_base::io::Source;
+use tiff_base::read::{read_bytes_at, u16_from, u32_from, u64_from};
+use tiff_base::tags::{Bits32, Bits64, ByteOrder, FileKind, Tag, Type};
+
+// The number that one byte is, in either order.
+#[tactic(auto, unfolding(tiff_base::specs::Number::number))]
+fn u8_of(order: ByteOrder, bytes: &[u8]) -> u8
+    requires { length bytes.now ≡ 1 }
+    ensures { result ≡ number order w8 bytes.now }
+{
+    match order {
+        ByteOrder::LittleEndian => u8::from_le_bytes([bytes[0]]),
+        ByteOrder::BigEndian => u8::from_be_bytes([bytes[0]]),
+    }
+}
+
+// The number that two bytes are.
+fn u16_of(order: ByteOrder, bytes: &[u8]) -> u16
+    requires { length bytes.now ≡ 2 }
+    ensures { result ≡ number order w16 bytes.now }
+{
+    u16_from(order, [bytes[0], bytes[1]])
+}
+
+// The number that four bytes are.
+fn u32_of(order: ByteOrder, bytes: &[u8]) -> u32
+    requires { length bytes.now ≡ 4 }
+    ensures { result ≡ number order w32 bytes.now }
+{
+    u32_from(order, [bytes[0], bytes[1], bytes[2], bytes[3]])
+}
+
+// The number that eight bytes are.
+fn u64_of(order: ByteOrder, bytes: &[u8]) -> u64
+    requires { length bytes.now ≡ 8 }
+    ensures { result ≡ number order w64 bytes.now }
+{
+    u64_from(
+        order,
+        [
+            bytes[0], bytes[1], bytes[2], bytes[3], bytes[4], bytes[5], bytes[6], bytes[7],
+        ],
+    )
+}
+
+// The value that some bytes of a type are.
+fn item_from(field_type: Type, order: ByteOrder, bytes: &[u8]) -> Value
+    requires { length bytes.now ≡ type_size field_type }
+    ensures { datum result ≡ spec.item field_type order bytes.now }
+{
+    match field_type {
+        Type::BYTE | Type::ASCII | Type::UNDEFINED => Value::Byte(u8_of(order, bytes)),
+        Type::SBYTE => Value::SignedByte(u8_of(order, bytes).cast_signed()),
+        Type::SHORT => Value::Short(u16_of(order, bytes)),
+        Type::SSHORT => Value::SignedShort(u16_of(order, bytes).cast_signed()),
+        Type::LONG => Value::Unsigned(u32_of(order, bytes)),
+        Type::SLONG => Value::Signed(u32_of(order, bytes).cast_signed()),
+        Type::FLOAT => Value::Float(Bits32(u32_of(order, bytes))),
+        Type::IFD => Value::Ifd(u32_of(order, bytes)),
+        Type::RATIONAL => Value::Rational(u32_of(order, &bytes[..4]), u32_of(order, &bytes[4..])),
+        Type::SRATIONAL => {
+            let n = u32_of(order, &bytes[..4]).cast_signed();
+            Value::SRational(n, u32_of(order, &bytes[4..]).cast_signed())
+        }
+        Type::DOUBLE => Value::Double(Bits64(u64_of(order, bytes))),
+        Type::LONG8 => Value::UnsignedBig(u64_of(order, bytes)),
+        Type::SLONG8 => Value::SignedBig(u64_of(order, bytes).cast_signed()),
+        // Type::IFD8
+        _ => Value::IfdBig(u64_of(order, bytes)),
+    }
+}
+
+// One of several values that stand in the entry itself: bytes are wider numbers.
+fn inline_item(field_type: Type, order: ByteOrder, bytes: &[u8]) -> Value
+    requires { length bytes.now ≡ type_size field_type }
+    ensures { datum result ≡ spec.inline_item field_type order bytes.now }
+{
+    match field_type {
+        Type::BYTE => Value::Unsigned(u32::from(u8_of(order, bytes))),
+        Type::SBYTE => Value::Signed(i32::from(u8_of(order, bytes).cast_signed())),
+        _ => item_from(field_type, order, bytes),
+    }
+}
+
+// One of several values.
+fn list_item(inline: bool, field_type: Type, order: ByteOrder, bytes: &[u8]) -> Value
+    requires { length bytes.now ≡ type_size field_type }
+    ensures { datum result ≡ spec.list_item inline field_type order bytes.now }
+{
+    if inline {
+        inline_item(field_type, order, bytes)
+    } else {
+        item_from(field_type, order, bytes)
+    }
+}
+
+// So many values, one after the other.
+fn list_from(
+    alloc: Global,
+    inline: bool,
+    field_type: Type,
+    order: ByteOrder,
+    count: u64,
+    bytes: &[u8],
+) -> TiffResult<ValueList>
+    requires { length bytes.now ≡ count * type_size field_type }
+    ensures { AnswersHere (λ l. l) result (Ok (spec.items (spec.list_item inline field_type order) (type_size field_type) count bytes.now)) }
+{
+    let width = usize::from(field_type.byte_len());
+    let mut all = Vec::new(alloc);
+    let mut rest = bytes;
+    let mut left = count;
+    while left > 0 {
+        let (unit, after) = rest.split_at(width);
+        all.push(list_item(inline, field_type, order, unit))?;
+        rest = after;
+        left -= 1;
+    }
+    Ok(ValueList::from_vec(all))
+}
+
+// Numbers: one stands alone, several are a list.
+fn numbers_from(
+    alloc: Global,
+    inline: bool,
+    field_type: Type,
+    order: ByteOrder,
+    count: u64,
+    bytes: &[u8],
+) -> TiffResult<Value>
+    requires { length bytes.now ≡ count * type_size field_type }
+    ensures { AnswersHere datum result (Ok (value.numbers inline field_type order count bytes.now)) }
+{
+    if count == 1 {
+        Ok(item_from(field_type, order, bytes))
+    } else {
+        Ok(Value::List(list_from(alloc, inline, field_type, order, count, bytes)?))
+    }
+}
+
+// A text that is UTF-8.
+#[tactic(auto, using(crate::proofs::Texts::utf8))]
+fn text_from(alloc: Global, bytes: &[u8]) -> TiffResult<Value>
+    ensures { AnswersHere datum result (if is_utf8 bytes.now then Ok (f.ascii bytes.now) else Err (tiff.FormatError format.InvalidTag)) }
+{
+    match str::from_utf8(bytes) {
+        Ok(text) => Ok(Value::Ascii(AsciiText::from_string(String::from_str(alloc, text)?))),
+        Err(_) => Err(TiffError::FormatError(TiffFormatError::InvalidTag)),
+    }
+}
+
+// The place of the first zero, or the length.
+fn first_zero(bytes: &[u8]) -> usize
+    ensures value { result ≡ position_or_len value.is_zero bytes.now }
+    ensures bound { result ≤ length bytes.now }
+{
+    let mut n = 0;
+    while n < bytes.len() && bytes[n] != 0 {
+        n += 1;
+    }
+    n
+}
+
+// A text elsewhere: cut at the first zero.
+fn placed_text(alloc: Global, bytes: &[u8]) -> TiffResult<Value>
+    ensures { AnswersHere datum result (value.placed_text bytes.now) }
+{
+    text_from(alloc, &bytes[..first_zero(bytes)])
+}
+
+fn is_ascii(bytes: &[u8]) -> bool
+    ensures { result ≡ list_all value.is_ascii_byte bytes.now }
+{
+    bytes.iter().all(|b| *b < 128)
+}
+
+// Whether bytes are ASCII that ends in a zero.
+fn is_inline_text(bytes: &[u8]) -> bool
+    requires { 0 < length bytes.now }
+    ensures { result ≡ (list_all value.is_ascii_byte bytes.now && value.is_zero (slice_index bytes.now (length bytes.now - 1))) }
+{
+    is_ascii(bytes) && bytes[bytes.len() - 1] == 0
+}
+
+// How many zeros are in front.
+fn zeros_in_front(bytes: &[u8]) -> usize
+    ensures value { result ≡ prefix_len value.is_zero bytes.now }
+    ensures bound { result ≤ length bytes.now }
+{
+    let mut n = 0;
+    while n < bytes.len() && bytes[n] == 0 {
+        n += 1;
+    }
+    n
+}
+
+// The length without the zeros at the end.
+fn len_before_zeros(bytes: &[u8]) -> usize
+    ensures value { result ≡ length bytes.now - suffix_len value.is_zero bytes.now }
+    ensures bound { result ≤ length bytes.now }
+{
+    let mut n = bytes.len();
+    while n > 0 && bytes[n - 1] == 0 {
+        n -= 1;
+    }
+    n
+}
+
+fn without_zeros(bytes: &[u8]) -> &[u8]
+    ensures { result.now ≡ value.without_zeros bytes.now }
+{
+    let rest = &bytes[zeros_in_front(bytes)..];
+    &rest[..len_before_zeros(rest)]
+}
+
+// A text in the entry itself.
+fn inline_text(alloc: Global, bytes: &[u8]) -> TiffResult<Value>
+    requires { 0 < length bytes.now }
+    ensures { AnswersHere datum result (value.inline_text bytes.now) }
+{
+    if !is_inline_text(bytes) {
+        return Err(TiffError::FormatError(TiffFormatError::InvalidTag));
+    }
+    text_from(alloc, without_zeros(bytes))
+}
+
+// The value of all bytes of a field.
+fn value_from(
+    alloc: Global,
+    inline: bool,
+    field_type: Type,
+    order: ByteOrder,
+    count: u64,
+    bytes: &[u8],
+) -> TiffResult<Value>
+    requires whole { length bytes.now ≡ count * type_size field_type }
+    requires some { 0 < count }
+    ensures { AnswersHere datum result (value.value_from inline field_type order count bytes.now) }
+{
+    match field_type {
+        Type::ASCII if inline => inline_text(alloc, bytes),
+        Type::ASCII => placed_text(alloc, bytes),
+        _ => numbers_from(alloc, inline, field_type, order, count, bytes),
+    }
+}
+
+// Whether so many values may be read from elsewhere.
+fn is_allowed(limits: &Limits, field_type: Type, count: u64) -> bool
+    ensures { result ≡ value.is_allowed limits.now field_type count }
+{
+    let room = limits.decoding_buffer_size as u64;
+    match field_type {
+        Type::ASCII => count <= room,
+        _ => count == 1 || count <= room / 32,
+    }
+}
+
+/// Reads the value of a field. 2^64 bytes or more, or elsewhere more values than the limits allow: `LimitsExceeded`;
+/// bytes past the end: `IoError(UnexpectedEof)`; a text that doesn't end in its entry, or isn't one: `InvalidTag`.
+#[tactic(auto, unfolding(crate::specs::FieldValue::field_value, tiff_base::specs::FieldBytes::field_bytes))]
+pub fn read_value<R: Source>(
+    alloc: Global,
+    source: &mut R,
+    kind: FileKind,
+    order: ByteOrder,
+    limits: &Limits,
+    entry: &Entry,
+) -> TiffResult<Value>
+    ensures kept { IsKept R.bytes R.failures source.old source.new }
+    ensures answer { Answers datum result (value.field_value kind order (R.bytes source.old) limits.now entry.now) (R.failures source.old) (R.failures source.new) }
+{
+    let count = entry.count();
+    if count == 0 {
+        return Ok(Value::List(ValueList::from_vec(Vec::new(alloc))));
+    }
+    let field_type = entry.field_type();
+    let Some(len) = count.checked_mul(u64::from(field_type.byte_len())) else {
+        return Err(TiffError::LimitsExceeded);
+    };
+    let field = entry.value();
+    if len <= place_len(kind) {
+        return value_from(
+            alloc,
+            true,
+            field_type,
+            order,
+            count,
+            &field[..len as usize],
+        );
+    }
+    if !is_allowed(limits, field_type, count) {
+        return Err(TiffError::LimitsExceeded);
+    }
+    let place = place_in(kind, order, field);
+    let bytes = read_bytes_at(alloc, source, place, len as usize)?;
+    value_from(alloc, false, field_type, order, count, &bytes)
+}
+
+/// Reads the value of a tag, if the directory has it.
+#[tactic(auto, unfolding(crate::specs::Look::look_in))]
+pub fn find_value<R: Source>(
+    alloc: Global,
+    source: &mut R,
+    kind: FileKind,
+    order: ByteOrder,
+    limits: &Limits,
+    directory: &Directory,
+    tag: Tag,
+) -> TiffResult<Option<Value>>
+    ensures kept { IsKept R.bytes R.failures source.old source.new }
+    ensures answer { Answers (λ v. option_map datum v) result ((look_in kind order (R.bytes source.old) limits.now directory.now.entries).value tag) (R.failures source.old) (R.failures source.new) }
+{
+    match directory.get(tag) {
+        None => Ok(None),
+        Some(entry) => Ok(Some(read_value(alloc, source, kind, order, limits, entry)?)),
+    }
+}

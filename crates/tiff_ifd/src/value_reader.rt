@@ -1,0 +1,54 @@
+//! The tags of a file's directory, of all types.
+
+ghost use Rattle.std.specs.Prelude.{◌≡◌, option_map};
+ghost use Rattle.tiff_base.specs.Answers.{Answers, IsKept};
+ghost use Rattle.tiff_ifd.specs.View.{datum};
+ghost use Rattle.tiff_ifd.specs.Look.{look_in};
+
+use crate::limits::Limits;
+use crate::read_value::find_value;
+use crate::tags::Tags;
+use crate::value::Value;
+use std::alloc::Global;
+use tiff_base::directory::Directory;
+use tiff_base::error::TiffResult;
+use tiff_base::io::Source;
+use tiff_base::tags::{ByteOrder, FileKind, Tag};
+
+/// A source, with a directory of it whose tags are read, whatever their type.
+#[derive(Drop)]
+pub struct ValueReader<R: Source> {
+    pub source: R,
+    pub kind: FileKind,
+    pub order: ByteOrder,
+    pub directory: Directory,
+    pub limits: Limits,
+}
+
+impl<R: Source> Tags for ValueReader<R> {
+    ghost told = { λ t. record {
+      look = look_in t.kind t.order (R.bytes t.source) t.limits t.directory.entries;
+      bytes = R.bytes t.source;
+      kind = t.kind;
+      order = t.order;
+    } };
+
+    ghost failures = { λ t. R.failures t.source };
+
+    #[tactic(auto, unfolding(crate::specs::Look::look_in))]
+    fn contains(&self, tag: Tag) -> bool {
+        self.directory.contains(tag)
+    }
+
+    fn find(&mut self, alloc: Global, tag: Tag) -> TiffResult<Option<Value>> {
+        find_value(
+            alloc,
+            &mut self.source,
+            self.kind,
+            self.order,
+            &self.limits,
+            &self.directory,
+            tag,
+        )
+    }
+}
