@@ -3,3 +3,4 @@ pub mod Chain
 pub mod Links
 mod Letters
 mod Joined
+mod Sames
