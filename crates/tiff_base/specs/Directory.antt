@@ -1,9 +1,9 @@
 -- Entries and directories of a file (TIFF 6.0 section 2; BigTIFF).
-use Rattle.std.specs.Prelude.{ℕ, ◌+◌, ◌*◌, List, [], ◌∷◌, ◌++◌, reverse, Option, Some, None, Result, Ok, if◌then◌else◌, ◌==◌}
+use Rattle.std.specs.Prelude.{◌≡◌, ℕ, ◌+◌, ◌*◌, List, [], ◌∷◌, ◌++◌, map, reverse, Option, Some, None, Result, Ok, if◌then◌else◌, ◌==◌}
 use Rattle.std.specs.Option.{option_map}
 use Rattle.std.specs.Int.{Width, w16, w32, w64, byte_len}
 use Rattle.std.specs.List.{filter_map, fold, range_with_len}
-use Rattle.std.specs.FinMap.{FinMap, from_entries, insert}
+use Rattle.std.specs.FinMap.{FinMap, empty, from_entries, insert}
 use Rattle.std.specs.Ordering.{nat_cmp}
 use Rattle.tiff_base.specs.declared.error.TiffError.{TiffError}
 use Rattle.tiff_base.specs.declared.tags.ByteOrder.{ByteOrder}
@@ -86,3 +86,8 @@ directory_at kind order bytes at = do
   count ← number_at order (count_width kind) bytes at
   next ← number_at order (place_width kind) bytes (link_place kind at count)
   Ok (record { entries = last_of_each (entries_from kind order bytes (first_entry kind at) count); next = link next })
+
+-- The law: of fields that are set in turn in an empty directory, the last of each number stand.
+abbrev pub LastOfEachStand : Type 0
+LastOfEachStand = (items : List (Tag × Field))
+    → (extended (record { entries = empty; next = None }) items).entries ≡ last_of_each (map (λ item. (tag_number item.0, item.1)) items)
