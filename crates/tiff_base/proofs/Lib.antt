@@ -4,3 +4,4 @@ pub mod Maps
 pub mod Turned
 mod Blocks
 mod Named
+mod Extended

@@ -1,17 +1,18 @@
 -- Entries and directories of a file (TIFF 6.0 section 2; BigTIFF).
-use Rattle.std.specs.Prelude.{ℕ, ◌+◌, ◌*◌, List, [], ◌∷◌, ◌++◌, reverse, Option, Some, None, Result, Ok, if◌then◌else◌, ◌==◌}
+use Rattle.std.specs.Prelude.{◌≡◌, ℕ, ◌+◌, ◌*◌, List, [], ◌∷◌, ◌++◌, map, reverse, Option, Some, None, Result, Ok, if◌then◌else◌, ◌==◌}
 use Rattle.std.specs.Option.{option_map}
 use Rattle.std.specs.Int.{Width, w16, w32, w64, byte_len}
-use Rattle.std.specs.List.{filter_map, range_with_len}
-use Rattle.std.specs.FinMap.{FinMap, from_entries}
+use Rattle.std.specs.List.{filter_map, fold, range_with_len}
+use Rattle.std.specs.FinMap.{FinMap, empty, from_entries, insert}
 use Rattle.std.specs.Ordering.{nat_cmp}
 use Rattle.tiff_base.specs.declared.error.TiffError.{TiffError}
 use Rattle.tiff_base.specs.declared.tags.ByteOrder.{ByteOrder}
 use Rattle.tiff_base.specs.declared.tags.FileKind.{FileKind}
+use Rattle.tiff_base.specs.declared.tags.Tag.{Tag}
 use Rattle.tiff_base.specs.declared.tags.«Type».{«Type»}
 use Rattle.tiff_base.specs.declared.tags.FileKind.TheVariants.{Classic, Big}
 use Rattle.tiff_base.specs.Field.{Field, DirectoryRecord}
-use Rattle.tiff_base.specs.Tags.{type_of}
+use Rattle.tiff_base.specs.Tags.{tag_number, type_of}
 use Rattle.tiff_base.specs.Told.{bytes_at, exactly_at}
 use Rattle.tiff_base.specs.Number.{number, number_at}
 use Rattle.tiff_base.specs.Answers.{◌>>=◌}
@@ -64,6 +65,10 @@ entries_from kind order bytes first count =
 unfoldable pub last_of_each : List (ℕ × Field) → FinMap nat_cmp Field
 last_of_each entries = from_entries (reverse entries)
 
+-- a directory with fields set in turn, each under its tag's number: of a number that comes twice the last stands
+abbrev pub extended : DirectoryRecord → List (Tag × Field) → DirectoryRecord
+extended d items = record d { entries = fold (λ m item. insert m (tag_number item.0) item.1) d.entries items }
+
 -- a link of 0 is no next directory
 abbrev pub link : ℕ → Option ℕ
 link place = if place == 0 then None else Some place
@@ -81,3 +86,8 @@ directory_at kind order bytes at = do
   count ← number_at order (count_width kind) bytes at
   next ← number_at order (place_width kind) bytes (link_place kind at count)
   Ok (record { entries = last_of_each (entries_from kind order bytes (first_entry kind at) count); next = link next })
+
+-- The law: of fields that are set in turn in an empty directory, the last of each number stand.
+abbrev pub LastOfEachStand : Type 0
+LastOfEachStand = (items : List (Tag × Field))
+    → (extended (record { entries = empty; next = None }) items).entries ≡ last_of_each (map (λ item. (tag_number item.0, item.1)) items)

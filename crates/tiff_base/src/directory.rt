@@ -1,11 +1,15 @@
 //! Directories: a field for each of some tags.
 
-ghost use Rattle.std.specs.Prelude.{◌≡◌, ◌++◌, ◌∷◌, [], IfOk, OnOk, OnErr, None, option_map, unwrap_or, ◌==◌};
+ghost use Rattle.std.specs.Prelude.{◌≡◌, ◌++◌, ◌∷◌, [], List, IfErr, IfOk, OnOk, OnErr, None, option_map, unwrap_or, ◌==◌};
 ghost use Rattle.std.specs.FinMap as map;
-ghost use Rattle.std.specs.Iterator.{YieldsFirstBy, item_count};
+ghost use Rattle.std.specs.Iterator.{Drains, ExtendsWithItems, IsFinite, YieldsFirstBy, item_count};
 ghost use Rattle.tiff_base.specs.Tags.{tag_number};
-ghost use Rattle.tiff_base.specs.Directory.{link};
+ghost use Rattle.tiff_base.specs.declared.tags.Tag.{Tag};
+ghost use Rattle.tiff_base.specs.declared.error.TiffError.TheVariants.{OutOfMemory};
+ghost use Rattle.tiff_base.specs.Directory.{extended, link};
+ghost use Rattle.tiff_base.specs.Field.{Field};
 
+use crate::error::TiffResult;
 use crate::tags::{IfdPointer, Tag, Type};
 use std::alloc::{AllocError, Global};
 use std::collections::{BTreeMap, btree_map};
@@ -170,6 +174,39 @@ impl Directory {
     {
         self.entries.insert(tag, entry)?;
         Ok(())
+    }
+
+    /// Sets the fields of tags in turn: of a number that comes twice the last stands. Where memory is refused, those that
+    /// came before are set.
+    pub fn extend<U: IntoIterator<Item = (Tag, Entry)>>(&mut self, iter: U) -> TiffResult<()>
+        requires { (it : U.IntoIter) → U.into_iter_gives iter it
+            → U.IntoIter.can_next it × IsFinite (U.IntoIter.remaining it) }
+        ensures ran { ExtendsWithItems U.into_iter_gives U.IntoIter.next_gives (λ d items n. n ≡ extended d items)
+            iter self.old self.new result }
+        ensures err { IfErr result (λ e. e ≡ OutOfMemory) }
+    {
+        let mut rest = iter.into_iter();
+        while let Some(item) = rest.next() {
+            let (tag, entry) = item;
+            self.insert(tag.to_u16(), entry)?;
+        }
+        Ok(())
+    }
+
+    /// A directory of the fields of tags, set in turn: of a number that comes twice the last stands. It has no next one.
+    pub fn from_iter<U: IntoIterator<Item = (Tag, Entry)>>(
+        alloc: Global,
+        iter: U,
+    ) -> TiffResult<Self>
+        requires { (it : U.IntoIter) → U.into_iter_gives iter it
+            → U.IntoIter.can_next it × IsFinite (U.IntoIter.remaining it) }
+        ensures ok { IfOk result (λ d. (it : U.IntoIter) × (items : List (Tag × Field)) × U.into_iter_gives iter it
+            × Drains U.IntoIter.next_gives it items × (d ≡ extended (record { entries = map.empty; next = None }) items)) }
+        ensures err { IfErr result (λ e. e ≡ OutOfMemory) }
+    {
+        let mut directory = Directory::empty(alloc);
+        directory.extend(iter)?;
+        Ok(directory)
     }
 
     /// Sets the place of the next directory, or that there is none; so does the place 0.

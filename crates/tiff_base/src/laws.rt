@@ -1,6 +1,7 @@
 //! Laws of the definitions, each the contract of a function with no work.
 
 ghost use Rattle.tiff_base.specs.Blocks.{IsUnpacked, IsOneUnpacked};
+ghost use Rattle.tiff_base.specs.Directory.{LastOfEachStand};
 ghost use Rattle.tiff_base.specs.Named.{NumbersComeBack, NamesComeBack};
 ghost use Rattle.tiff_base.specs.Turned.{TurnsBack};
 
@@ -27,4 +28,9 @@ pub fn numbers_come_back()
 /// What has a name is what its number names.
 pub fn names_come_back()
     ensures { NamesComeBack }
+{}
+
+/// Of fields that are set in turn in an empty directory, the last of each number stand.
+pub fn last_of_each_stand()
+    ensures { LastOfEachStand }
 {}

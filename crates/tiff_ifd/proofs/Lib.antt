@@ -6,3 +6,4 @@ mod Joined
 pub mod Items
 pub mod Texts
 pub mod Fitted
+mod Sames

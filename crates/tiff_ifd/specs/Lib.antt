@@ -11,3 +11,4 @@ pub mod Chain
 pub mod Links
 pub mod Fitted
 pub mod Ask
+pub mod Same

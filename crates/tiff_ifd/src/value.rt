@@ -1,13 +1,14 @@
 //! The values of fields.
 
-ghost use Rattle.std.specs.Prelude.{◌≡◌, ◌^◌, Ok, map, [], ◌∷◌, ◌++◌, length, string_bytes};
+ghost use Rattle.std.specs.Prelude.{◌≡◌, ◌^◌, Ok, map, [], ◌∷◌, ◌++◌, IfOk, length, string_bytes};
 ghost use Rattle.tiff_ifd.specs.Datum.{data_of};
 ghost use Rattle.tiff_ifd.specs.Into as spec;
+ghost use Rattle.tiff_ifd.specs.Same as equal;
 ghost use Rattle.std.specs.Str.{chars as letters};
 ghost use Rattle.tiff_base.specs.Answers.{AnswersHere, Gives};
 ghost use Rattle.tiff_ifd.specs.View.{datum, datum_list};
 
-use std::alloc::Global;
+use std::alloc::{AllocError, Global};
 use std::marker::Model;
 use tiff_base::error::{TiffError, TiffFormatError, TiffResult};
 use tiff_base::tags::{Bits32, Bits64, IfdPointer};
@@ -390,6 +391,158 @@ fn two<T: Drop>(alloc: Global, x: T, y: T) -> TiffResult<Vec<T>>
     all.push(x)?;
     all.push(y)?;
     Ok(all)
+}
+
+impl PartialEq for AsciiText {
+    ghost use Rattle.std.specs.Prelude.{◌==◌};
+    ghost use Rattle.std.specs.Cmp.{partial_equiv_from_equiv};
+    ghost use Rattle.std.specs.Cmp.Lexicographic.{nat_list_eq_equiv, pointwise};
+
+    ghost eq = { pointwise ◌==◌ };
+
+    ghost laws = { partial_equiv_from_equiv nat_list_eq_equiv };
+
+    fn eq(&self, other: &AsciiText) -> bool {
+        self.text == other.text
+    }
+}
+
+impl Clone for AsciiText {
+    ghost is_clone = { λ s t. t ≡ s };
+
+    fn clone(&self) -> Result<AsciiText, AllocError> {
+        Ok(AsciiText {
+            text: self.text.clone()?,
+        })
+    }
+}
+
+impl PartialEq for ValueList {
+    ghost use Rattle.std.specs.Cmp.{on_per};
+    ghost use Rattle.tiff_ifd.specs.Datum.{data_of};
+    ghost use Rattle.tiff_ifd.specs.Same.{all_same, all_same_per};
+
+    ghost eq = { λ l m. all_same (data_of l) (data_of m) };
+
+    ghost laws = { on_per data_of all_same_per };
+
+    fn eq(&self, other: &ValueList) -> bool {
+        all_same(self.items.as_slice(), other.items.as_slice())
+    }
+}
+
+impl Clone for ValueList {
+    ghost is_clone = { λ l m. m ≡ l };
+
+    fn clone(&self) -> Result<ValueList, AllocError> {
+        copy_list(self)
+    }
+}
+
+impl PartialEq for Value {
+    ghost use Rattle.std.specs.Cmp.{on_per};
+    ghost use Rattle.tiff_ifd.specs.Same.{same, same_per};
+    ghost use Rattle.tiff_ifd.specs.View.{datum};
+
+    ghost eq = { λ v w. same (datum v) (datum w) };
+
+    ghost laws = { on_per datum same_per };
+
+    fn eq(&self, other: &Value) -> bool {
+        same(self, other)
+    }
+}
+
+impl Clone for Value {
+    ghost is_clone = { λ v w. w ≡ v };
+
+    fn clone(&self) -> Result<Value, AllocError> {
+        copy(self)
+    }
+}
+
+#[cycle(same)]
+fn same(a: &Value, b: &Value) -> bool
+    ensures { result ≡ equal.same (datum a.now) (datum b.now) }
+{
+    match a {
+        Value::Byte(m) => matches!(b, Value::Byte(n) if m == n),
+        Value::Short(m) => matches!(b, Value::Short(n) if m == n),
+        Value::SignedByte(m) => matches!(b, Value::SignedByte(n) if m == n),
+        Value::SignedShort(m) => matches!(b, Value::SignedShort(n) if m == n),
+        Value::Signed(m) => matches!(b, Value::Signed(n) if m == n),
+        Value::SignedBig(m) => matches!(b, Value::SignedBig(n) if m == n),
+        Value::Unsigned(m) => matches!(b, Value::Unsigned(n) if m == n),
+        Value::UnsignedBig(m) => matches!(b, Value::UnsignedBig(n) if m == n),
+        Value::Float(m) => matches!(b, Value::Float(n) if m == n),
+        Value::Double(m) => matches!(b, Value::Double(n) if m == n),
+        Value::List(m) => {
+            if let Value::List(n) = b {
+                all_same(m.items.as_slice(), n.items.as_slice())
+            } else {
+                false
+            }
+        }
+        Value::Rational(m, c) => matches!(b, Value::Rational(n, d) if m == n && c == d),
+        Value::RationalBig(m, c) => matches!(b, Value::RationalBig(n, d) if m == n && c == d),
+        Value::SRational(m, c) => matches!(b, Value::SRational(n, d) if m == n && c == d),
+        Value::SRationalBig(m, c) => matches!(b, Value::SRationalBig(n, d) if m == n && c == d),
+        Value::Ascii(s) => matches!(b, Value::Ascii(t) if s == t),
+        Value::Ifd(m) => matches!(b, Value::Ifd(n) if m == n),
+        Value::IfdBig(m) => matches!(b, Value::IfdBig(n) if m == n),
+    }
+}
+
+#[cycle(same)]
+fn all_same(a: &[Value], b: &[Value]) -> bool
+    ensures { result ≡ equal.all_same (data_of (datum_list a.now)) (data_of (datum_list b.now)) }
+{
+    if a.len() != b.len() {
+        return false;
+    }
+    for i in 0..a.len() {
+        if !same(&a[i], &b[i]) {
+            return false;
+        }
+    }
+    true
+}
+
+#[cycle(copy)]
+fn copy(value: &Value) -> Result<Value, AllocError>
+    ensures { IfOk result (λ v. v ≡ value.now) }
+{
+    match value {
+        Value::Byte(n) => Ok(Value::Byte(*n)),
+        Value::Short(n) => Ok(Value::Short(*n)),
+        Value::SignedByte(n) => Ok(Value::SignedByte(*n)),
+        Value::SignedShort(n) => Ok(Value::SignedShort(*n)),
+        Value::Signed(n) => Ok(Value::Signed(*n)),
+        Value::SignedBig(n) => Ok(Value::SignedBig(*n)),
+        Value::Unsigned(n) => Ok(Value::Unsigned(*n)),
+        Value::UnsignedBig(n) => Ok(Value::UnsignedBig(*n)),
+        Value::Float(n) => Ok(Value::Float(*n)),
+        Value::Double(n) => Ok(Value::Double(*n)),
+        Value::List(items) => Ok(Value::List(copy_list(items)?)),
+        Value::Rational(n, d) => Ok(Value::Rational(*n, *d)),
+        Value::RationalBig(n, d) => Ok(Value::RationalBig(*n, *d)),
+        Value::SRational(n, d) => Ok(Value::SRational(*n, *d)),
+        Value::SRationalBig(n, d) => Ok(Value::SRationalBig(*n, *d)),
+        Value::Ascii(text) => Ok(Value::Ascii(text.clone()?)),
+        Value::Ifd(n) => Ok(Value::Ifd(*n)),
+        Value::IfdBig(n) => Ok(Value::IfdBig(*n)),
+    }
+}
+
+#[cycle(copy)]
+fn copy_list(list: &ValueList) -> Result<ValueList, AllocError>
+    ensures { IfOk result (λ l. l ≡ list.now) }
+{
+    let mut items = Vec::with_capacity(*list.items.allocator(), list.items.len())?;
+    for item in &list.items {
+        items.push(copy(item)?)?;
+    }
+    Ok(ValueList { items })
 }
 
 /// A number that a single value gives.

@@ -1,5 +1,6 @@
 -- Values as bytes, in a byte order (as in the Rust crate).
 use Rattle.std.specs.Prelude.{ℕ, ◌/◌, List, [], length}
+use Rattle.std.specs.List.{refill}
 use Rattle.tiff_base.specs.declared.tags.ByteOrder.{ByteOrder}
 use Rattle.tiff_base.specs.declared.tags.ByteOrder.TheVariants.{LittleEndian}
 use Rattle.tiff_base.specs.declared.tags.«Type».{«Type»}
@@ -28,3 +29,7 @@ buffer_from d = record { order = LittleEndian; data_type = d.field_type; bytes =
 -- the same values in this order
 abbrev pub ordered : BufferRecord → ByteOrder → BufferRecord
 ordered b order = record { order = order; data_type = b.data_type; bytes = convert b.data_type b.order b.bytes order }
+
+-- the same order and type with the bytes that were written; as many as there were
+abbrev pub rewritten : BufferRecord → List ℕ → BufferRecord
+rewritten b bytes = record { order = b.order; data_type = b.data_type; bytes = refill (length b.bytes) b.bytes bytes }

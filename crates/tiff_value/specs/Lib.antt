@@ -5,3 +5,4 @@ pub mod Buffer
 pub mod ColorTypes
 pub mod Differences
 pub mod Packed
+pub mod Lends

@@ -24,6 +24,9 @@ impl Model for ValueBuffer {
 }
 
 impl ValueBuffer {
+    ghost use Rattle.std.specs.Borrow.{sem};
+    ghost use Rattle.tiff_value.specs.Lends.{lends_bytes};
+
     /// No values of a type, in the machine's order.
     pub fn empty(alloc: Global, data_type: Type) -> Self
         ensures { result ≡ empty_buffer data_type }
@@ -62,6 +65,14 @@ impl ValueBuffer {
         ensures { result.now ≡ self.now.bytes }
     {
         self.bytes.as_slice()
+    }
+
+    /// The bytes of the values, to be written. Their order and type stay.
+    pub fn as_bytes_mut(&mut self) -> &mut [u8]
+        ensures* writes_back { sem 𝓛 (lends_bytes self.entry result) }
+        ensures value { result.now ≡ self.old.bytes }
+    {
+        self.bytes.as_mut_slice()
     }
 
     /// Turns the bytes of the numbers into an order.
