@@ -31,3 +31,4 @@ pub mod Views
 pub mod Models
 pub mod Jobs
 pub mod Writes
+pub mod Leaves
