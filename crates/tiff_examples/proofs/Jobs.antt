@@ -44,7 +44,7 @@ size_device h = cc
 ok_err : {A : Type 0} {x : A} {e : TiffError} → let a : Result A TiffError = Ok x in let b : Result A TiffError = Err e in a ≡ b → ⊥
 ok_err h = cc
 
-sink_size : let a : TiffError = IntSizeError in (a ≡ OutOfMemory) ⊎ (a ≡ IoError Device) → ⊥
+pub sink_size : let a : TiffError = IntSizeError in (a ≡ OutOfMemory) ⊎ (a ≡ IoError Device) → ⊥
 sink_size (inl h) = size_memory h
 sink_size (inr h) = size_device h
 
@@ -55,7 +55,7 @@ not_uncaused new (inr (inl c)) = sink_size c.fault
 not_uncaused new (inr (inr (inl t))) = sink_size t.fault
 not_uncaused new (inr (inr (inr w))) = size_memory w.fault
 
-number_inj : {m n : ℕ} → let a : StepReply = reply.Number m in a ≡ reply.Number n → m ≡ n
+pub number_inj : {m n : ℕ} → let a : StepReply = reply.Number m in a ≡ reply.Number n → m ≡ n
 number_inj h = cc
 
 data_differs : (n : ℕ) → let a : StepReply = reply.Number 9 in a ≡ reply.Number n → let b : Result ℕ TiffError = Ok 8 in b ≡ Ok n → ⊥

@@ -1,5 +1,5 @@
 -- The worked examples of Views compute.
-use Rattle.std.specs.Prelude.{refl, ◌≡◌, ℕ, ℤ, List, map}
+use Rattle.std.specs.Prelude.{refl, ℤ, List, map}
 use Rattle.std.proofs.Common.{ap}
 use Rattle.std.specs.Int.{w8, cast_unsigned}
 use Rattle.tiff_base.specs.declared.tags.Bits16.{Bits16}

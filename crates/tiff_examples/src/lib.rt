@@ -16,6 +16,7 @@ pub mod header;
 pub mod image;
 pub mod job;
 pub mod kind;
+pub mod leave;
 pub mod machine;
 pub mod model;
 pub mod number;

@@ -1,0 +1,129 @@
+-- Worked steps by which a page is written, and what pages don't show.
+use Rattle.std.specs.Prelude.{◌≡◌, ℕ, true, false, List, [], ◌∷◌, ◌++◌, length, drop, Some, None, Ok, Err}
+use Rattle.tiff_base.specs.declared.error.TiffError.TheVariants.{FormatError, IoError, IntSizeError, UsageError}
+use Rattle.tiff_base.specs.declared.error.TiffFormatError.TheVariants.{InvalidDimensions}
+use Rattle.tiff_base.specs.declared.error.UsageError.TheVariants.{WriterFailed}
+use Rattle.tiff_base.specs.declared.io.IoKind.TheVariants.{InvalidData}
+use Rattle.tiff_base.specs.declared.tags.FileKind.TheVariants.{Classic}
+use Rattle.tiff_ifd.specs.Limits.{unlimited}
+use Rattle.tiff_encode.specs.Written.{long_field}
+use Rattle.tiff_encode.specs.Model.{header_model}
+use Rattle.tiff_encode.specs.Laws.{IsWritable, IsGrayPage}
+use Rattle.tiff_encode.specs.Encoder.{Encoded, stand_in}
+use Rattle.tiff_encode.specs.Shows.{ReadsAs, LeavesPage, ShowsOnePage, strip_page}
+use Rattle.tiff_encode.specs.Steps.{IsPlaced, Stops, Appends, Links, Finishes, first_cause, strip_cause}
+use Rattle.tiff_examples.specs.Files.{gray_file}
+use Rattle.tiff_examples.specs.Written.{begun, fresh, at_end}
+use Rattle.tiff_examples.specs.Calls.{header}
+
+-- ---- what is not shown, not read, not left
+
+-- a file without its pixel's page shows no image
+abbrev pub header_shows : Type 0
+header_shows = ShowsOnePage header 1 1 (7 ∷ []) → ⊥
+
+-- the pixel is 7, and its page is 1 wide
+abbrev pub reads_other : Type 0
+reads_other = ReadsAs Classic gray_file 25 unlimited (strip_page 8 1 1) (8 ∷ []) → ⊥
+
+abbrev pub reads_wide : Type 0
+reads_wide = ReadsAs Classic gray_file 25 unlimited (strip_page 8 2 1) (7 ∷ []) → ⊥
+
+-- a page that shows other samples than those handed in, and one to which nothing links
+abbrev pub leaves_other : Type 0
+leaves_other = LeavesPage (header_model Classic) header 4 1 1 (8 ∷ []) gray_file 195 → ⊥
+
+abbrev pub leaves_unlinked : Type 0
+leaves_unlinked = LeavesPage (header_model Classic) header 4 1 1 (7 ∷ []) (header ++ drop 8 gray_file) 195 → ⊥
+
+-- a value field of fewer than eight bytes; a page past 4 bytes
+abbrev pub short_value : Type 0
+short_value = IsWritable Classic 256 (record (long_field 5) { value = 5 ∷ 0 ∷ 0 ∷ 0 ∷ [] }) → ⊥
+
+abbrev pub gray_far : Type 0
+gray_far = IsGrayPage 4294967296 1 1 (7 ∷ []) → ⊥
+
+abbrev pub gray_high : Type 0
+gray_high = (samples : List ℕ) → IsGrayPage 8 1 1000001 samples → ⊥
+
+-- ---- steps
+
+-- a writer at the end, whose last link reaches past it
+abbrev pub link_past : Type 0
+link_past = IsPlaced (record at_end { bytes = header; at = 8 }) 5 → ⊥
+
+-- a byte is appended, and not forgotten
+abbrev pub appends_one : Type 0
+appends_one = Appends {A = ℕ} (7 ∷ []) fresh (begun (header ++ (7 ∷ []))) (Ok 0)
+
+abbrev pub appends_none : Type 0
+appends_none = Appends {A = ℕ} (7 ∷ []) fresh fresh (Ok 0) → ⊥
+
+-- after a failed write; and no other fault than its causes
+abbrev pub stops_failed : Type 0
+stops_failed = Stops (7 ∷ []) (UsageError WriterFailed) (record fresh { failed = true }) (record fresh { failed = true })
+
+abbrev pub stops_uncaused : Type 0
+stops_uncaused = (new : Encoded) → Stops (7 ∷ []) IntSizeError fresh new → ⊥
+
+-- the header links to a page at 25, whose own link is the last one then
+abbrev pub links_25 : Type 0
+links_25 = Links {A = ℕ} 25 fresh
+    (record fresh { bytes = 0x49 ∷ 0x49 ∷ 0x2a ∷ 0 ∷ 25 ∷ 0 ∷ 0 ∷ 0 ∷ []; chain = 195; finished = true }) (Ok 0)
+
+abbrev pub links_stay : Type 0
+links_stay = Links {A = ℕ} 25 fresh
+    (record fresh { bytes = 0x49 ∷ 0x49 ∷ 0x2a ∷ 0 ∷ 25 ∷ 0 ∷ 0 ∷ 0 ∷ []; finished = true }) (Ok 0) → ⊥
+
+-- a directory is appended at 8, and linked
+abbrev pub finishes_8 : Type 0
+finishes_8 = Finishes {A = ℕ} (1 ∷ 2 ∷ []) fresh
+    (record fresh { bytes = 0x49 ∷ 0x49 ∷ 0x2a ∷ 0 ∷ 8 ∷ 0 ∷ 0 ∷ 0 ∷ 1 ∷ 2 ∷ []; chain = 178; finished = true }) (Ok 0)
+
+-- past 4 bytes nothing is done; and this is told of no other place
+abbrev pub finishes_far : Type 0
+finishes_far = (bytes : List ℕ) → length bytes ≡ 4294967296
+    → Finishes {A = ℕ} (1 ∷ 2 ∷ []) (begun bytes) (begun bytes) (Err IntSizeError)
+
+abbrev pub finishes_uncaused : Type 0
+finishes_uncaused = (new : Encoded) → Finishes {A = ℕ} (1 ∷ 2 ∷ []) fresh new (Err IntSizeError) → ⊥
+
+-- ---- causes
+
+-- sides of 0 first; then a second resolution past 4 bytes; then what isn't written yet
+abbrev pub first_sides : Type 0
+first_sides = first_cause 4294967288 true false 0 5 ≡ Some (FormatError (InvalidDimensions 0 5))
+
+abbrev pub first_far : Type 0
+first_far = first_cause 4294967288 true false 1 1 ≡ Some IntSizeError
+
+abbrev pub first_near : Type 0
+first_near = first_cause 4294967284 false true 1 1 ≡ None
+
+abbrev pub first_second : Type 0
+first_second = first_cause 199 true true 1 1 ≡ Some stand_in
+
+abbrev pub first_colour : Type 0
+first_colour = first_cause 8 false false 1 1 ≡ Some stand_in
+
+abbrev pub first_none : Type 0
+first_none = first_cause 8 false true 1 1 ≡ None
+
+-- too few samples first; then more rows than a strip has; then a strip that begins, or is longer than, past 4 bytes
+abbrev pub strip_few : Type 0
+strip_few = strip_cause 4294967296 1 1000001 1 ≡ Some (IoError InvalidData)
+
+abbrev pub strip_rows : Type 0
+strip_rows = strip_cause 4294967296 1 1000001 1000001 ≡ Some stand_in
+
+abbrev pub strip_far : Type 0
+strip_far = strip_cause 4294967296 1 1 1 ≡ Some IntSizeError
+
+abbrev pub strip_long : Type 0
+strip_long = strip_cause 24 4294967296 1 4294967296 ≡ Some IntSizeError
+
+abbrev pub strip_last : Type 0
+strip_last = strip_cause 4294967295 1 1 1 ≡ None
+
+abbrev pub strip_more : Type 0
+strip_more = strip_cause 24 1 1 2 ≡ None
