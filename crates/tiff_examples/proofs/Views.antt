@@ -1,6 +1,8 @@
 -- The worked examples of Views compute.
 use Rattle.std.specs.Prelude.{refl, ℤ, List, map}
 use Rattle.std.proofs.Common.{ap}
+use Rattle.std.specs.Cmp.{nat_cmp_total}
+use Rattle.std.specs.FinMap.{empty, insert, get-insert}
 use Rattle.std.specs.Int.{w8, cast_unsigned}
 use Rattle.tiff_base.specs.declared.tags.Bits16.{Bits16}
 use Rattle.tiff_page.specs.declared.layout.DecodingSampleType.TheVariants as type
@@ -47,3 +49,27 @@ floats xs = record { sample_type = type.F16; numbers = map (λ b. b.0) xs }
 pub floats_decoded : s.floats_decoded
 unfolding floats
 floats_decoded samples e = ap floats e
+
+pub bytes_same : s.bytes_same
+bytes_same = refl
+
+pub byte_short : s.byte_short
+byte_short = refl
+
+pub lists_same : s.lists_same
+lists_same = refl
+
+pub lists_differ : s.lists_differ
+lists_differ = (refl, refl)
+
+pub rationals_differ : s.rationals_differ
+rationals_differ = refl
+
+pub texts_differ : s.texts_differ
+texts_differ = refl
+
+pub last_set : s.last_set
+last_set = get-insert nat_cmp_total (insert empty 256 s.one_byte) 256 (record s.one_byte { count = 2 }) 256
+
+pub none_set : s.none_set
+none_set = (refl, refl)

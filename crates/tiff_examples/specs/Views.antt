@@ -1,5 +1,11 @@
 -- Worked views: the plain data that contracts see of values.
-use Rattle.std.specs.Prelude.{◌≡◌, ℕ, ℤ, pos, negsuc, [], ◌∷◌, Vec}
+use Rattle.std.specs.Prelude.{◌≡◌, ℕ, ℤ, pos, negsuc, List, [], ◌∷◌, Vec, true, false, Some}
+use Rattle.std.specs.FinMap.{empty, get}
+use Rattle.tiff_base.specs.declared.tags.Tag.TheVariants as tag
+use Rattle.tiff_base.specs.declared.tags.«Type».TheVariants.{BYTE}
+use Rattle.tiff_base.specs.Directory.{extended}
+use Rattle.tiff_base.specs.Field.{Field, DirectoryRecord}
+use Rattle.tiff_ifd.specs.Same.{same}
 use Rattle.std.specs.declared.alloc.Global.{Global}
 use Rattle.tiff_base.specs.declared.tags.Bits16.{Bits16}
 use Rattle.tiff_ifd.specs.Datum as d
@@ -49,3 +55,46 @@ signed_decoded = (samples : Vec ℤ Global) → samples.items ≡ (negsuc 0 ∷ 
 abbrev pub floats_decoded : Type 0
 floats_decoded = (samples : Vec Bits16 Global) → samples.items ≡ (record { 0 = 0x3c00 } ∷ [])
     → decoded_as (result.F16 samples) ≡ record { sample_type = type.F16; numbers = 0x3c00 ∷ [] }
+
+-- ---- the same values
+
+abbrev pub bytes_same : Type 0
+bytes_same = same (d.byte 1) (d.byte 1) ≡ true
+
+-- of another kind, though the number is the same
+abbrev pub byte_short : Type 0
+byte_short = same (d.byte 1) (d.short 1) ≡ false
+
+-- lists by their items, at any depth
+abbrev pub lists_same : Type 0
+lists_same = same (d.list (more (d.list (more (d.byte 1) none)) none)) (d.list (more (d.list (more (d.byte 1) none)) none)) ≡ true
+
+abbrev pub lists_differ : Type 0
+lists_differ =
+    (same (d.list (more (d.list (more (d.byte 1) none)) none)) (d.list (more (d.list (more (d.byte 2) none)) none)) ≡ false)
+    × (same (d.list (more (d.byte 1) none)) (d.list none) ≡ false)
+
+-- rationals by both numbers, texts by their bytes
+abbrev pub rationals_differ : Type 0
+rationals_differ = same (d.rational 1 2) (d.rational 1 3) ≡ false
+
+abbrev pub texts_differ : Type 0
+texts_differ = same (d.ascii (0x41 ∷ [])) (d.ascii (0x41 ∷ 0x41 ∷ [])) ≡ false
+
+-- ---- fields that are set in turn
+
+abbrev pub one_byte : Field
+one_byte = record { field_type = BYTE; count = 1; value = [] }
+
+abbrev pub no_fields : DirectoryRecord
+no_fields = record { entries = empty; next = Some 8 }
+
+-- of a number that comes twice the last stands, by whatever name it goes
+abbrev pub last_set : Type 0
+last_set =
+    get (extended no_fields ((tag.Unknown 256, one_byte) ∷ (tag.ImageWidth, record one_byte { count = 2 }) ∷ [])).entries 256
+    ≡ Some (record one_byte { count = 2 })
+
+-- nothing is set, and the next directory stays
+abbrev pub none_set : Type 0
+none_set = (extended no_fields [] ≡ no_fields) × ((extended no_fields ((tag.Make, one_byte) ∷ [])).next ≡ Some 8)

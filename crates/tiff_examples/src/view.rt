@@ -7,3 +7,9 @@ pub fn views()
     ensures { s.byte_seen × s.list_seen × s.byte_back × s.list_back × s.float_seen × s.no_depth × s.two_deep × s.two_seen ×
         s.bytes_decoded × s.signed_decoded × s.floats_decoded }
 {}
+
+/// Values that are the same, and fields that are set in turn.
+pub fn parts()
+    ensures { s.bytes_same × s.byte_short × s.lists_same × s.lists_differ × s.rationals_differ × s.texts_differ × s.last_set ×
+        s.none_set }
+{}
