@@ -31,3 +31,4 @@ pub mod Models
 pub mod Jobs
 pub mod Writes
 pub mod Leaves
+pub mod Tasks
