@@ -41,7 +41,7 @@ size_memory h = cc
 size_device : let a : TiffError = IntSizeError in a ≡ IoError Device → ⊥
 size_device h = cc
 
-ok_err : {A : Type 0} {x : A} {e : TiffError} → let a : Result A TiffError = Ok x in let b : Result A TiffError = Err e in a ≡ b → ⊥
+pub ok_err : {A : Type 0} {x : A} {e : TiffError} → let a : Result A TiffError = Ok x in let b : Result A TiffError = Err e in a ≡ b → ⊥
 ok_err h = cc
 
 pub sink_size : let a : TiffError = IntSizeError in (a ≡ OutOfMemory) ⊎ (a ≡ IoError Device) → ⊥

@@ -32,3 +32,4 @@ pub mod Jobs
 pub mod Writes
 pub mod Words
 pub mod Leaves
+pub mod Tasks

@@ -28,6 +28,7 @@ pub mod runs;
 pub mod sample;
 pub mod slice;
 pub mod steps;
+pub mod task;
 pub mod told;
 pub mod value;
 pub mod view;

@@ -1,0 +1,13 @@
+-- Each example is proved in proofs/Tasks.antt.
+use Rattle.tiff_examples.proofs.Tasks as p
+use Rattle.tiff_examples.proofs.task.ends.Goals as goal
+
+pub returns : goal.returns
+returns c = (
+  p.data_few,
+  p.data_unfound,
+  p.data_done,
+  p.data_found,
+  p.image_ended,
+  p.data_offsets,
+)

@@ -1,0 +1,19 @@
+-- Each example is proved in proofs/Tasks.antt.
+use Rattle.tiff_examples.proofs.Tasks as p
+use Rattle.tiff_examples.proofs.task.strips.Goals as goal
+
+pub returns : goal.returns
+returns c = (
+  p.uncalled,
+  p.uncalled_fault,
+  p.strip_stood,
+  p.strip_found,
+  p.strip_unfound,
+  p.strip_few,
+  p.strip_number,
+  p.strip_other,
+  p.resolved,
+  p.resolved_part,
+  p.resolved_wanting,
+  p.resolved_uncaused,
+)
