@@ -1,6 +1,6 @@
 -- The worked examples of Words hold.
-use Rattle.std.specs.Prelude.{◌≡◌, refl, ℕ, List, [], ◌∷◌, Result, Ok, Err, length}
-use Rattle.std.proofs.Common.{ap, arith, inl, inr, subst, sym}
+use Rattle.std.specs.Prelude.{refl, ℕ, Result, Ok, Err}
+use Rattle.std.proofs.Common.{ap, arith, inl, inr}
 use Rattle.tiff_base.specs.declared.error.TiffError.{TiffError}
 use Rattle.tiff_base.specs.declared.error.TiffError.TheVariants.{IntSizeError, OutOfMemory, IoError}
 use Rattle.std.proofs.lemmas.Bool.{true≢false, false≢true}

@@ -1,5 +1,5 @@
 -- Worked views: the plain data that contracts see of values.
-use Rattle.std.specs.Prelude.{◌≡◌, ℕ, ℤ, pos, negsuc, List, [], ◌∷◌, Vec, true, false, Some}
+use Rattle.std.specs.Prelude.{◌≡◌, ℕ, ℤ, pos, negsuc, [], ◌∷◌, Vec, true, false, Some}
 use Rattle.std.specs.FinMap.{empty, get}
 use Rattle.tiff_base.specs.declared.tags.Tag.TheVariants as tag
 use Rattle.tiff_base.specs.declared.tags.«Type».TheVariants.{BYTE}

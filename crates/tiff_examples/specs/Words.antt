@@ -1,6 +1,5 @@
 -- Worked words: what a call may answer, what a source is left as, and what a writer does.
-use Rattle.std.specs.Prelude.{◌≡◌, ℕ, List, [], ◌∷◌, Some, None, true, false, Result, Ok, Err}
-use Rattle.tiff_base.specs.declared.error.TiffError.{TiffError}
+use Rattle.std.specs.Prelude.{◌≡◌, ℕ, [], ◌∷◌, Some, None, true, false, Ok, Err}
 use Rattle.tiff_base.specs.declared.error.TiffError.TheVariants.{IoError, UsageError, LimitsExceeded, IntSizeError, OutOfMemory}
 use Rattle.tiff_base.specs.declared.error.UsageError.TheVariants.{WriterFailed}
 use Rattle.tiff_base.specs.declared.io.IoKind.TheVariants.{UnexpectedEof, Device}

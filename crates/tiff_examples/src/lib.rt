@@ -32,6 +32,6 @@ pub mod task;
 pub mod told;
 pub mod value;
 pub mod view;
-pub mod write;
 pub mod word;
+pub mod write;
 pub mod writer;
