@@ -1,5 +1,5 @@
 -- The worked examples of Tasks hold.
-use Rattle.std.specs.Prelude.{refl, get_or}
+use Rattle.std.specs.Prelude.{refl, get_or, take}
 use Rattle.std.specs.Global.{Vec}
 use Rattle.std.proofs.Common.{true, ◌≡◌, ℕ, ◌⊎◌, List, [], ◌∷◌, ◌++◌, Option, Some, None, Result, Ok, Err, ap, sym, ◌∙◌, subst, inl, inr, lit<, lit≤}
 use Rattle.tiff_base.specs.declared.error.TiffError.{TiffError}
@@ -150,6 +150,43 @@ whole j r samples c w h p u e q l =
           ∙ ap (λ x. jobs.ran (started Classic) after_end r.last x) (sym (images_by j.steps.items j.end samples p e));
     })
 
+-- the same by `write_data`
+no_steps : (ss : List ImageStep) (rs : List (Result StepReply TiffError)) → ss ≡ [] → rs ≡ []
+    → jobs.AllStepped jobs.ImageStepped after_begin new_pixel ss rs after_begin new_pixel
+no_steps ss rs p q =
+    let P : List ImageStep → List (Result StepReply TiffError) → Type 0 = λ x y. jobs.AllStepped jobs.ImageStepped after_begin new_pixel x y after_begin new_pixel in
+    subst (λ x. P x rs) (sym p) (subst (λ y. P [] y) (sym q) (refl, refl))
+
+data_ends : (e : ImageEnd) (r : Result EndReply TiffError) (samples : Vec ℕ) → samples.items ≡ 7 ∷ 8 ∷ [] → e ≡ iend.WriteData samples → r ≡ Ok last.Nothing
+    → jobs.ImageEnds after_begin new_pixel e r s.after_data (Some page_place)
+data_ends e r samples u p q =
+    subst (λ x. jobs.ImageEnds after_begin new_pixel x r s.after_data (Some page_place)) (sym p)
+    (subst (λ y. jobs.WritesDataIfFound new_pixel (cut_to 1 samples.items) y after_begin s.after_data (Some page_place)) (sym q)
+    (subst (λ xs. jobs.WritesDataIfFound new_pixel (cut_to 1 xs) (Ok last.Nothing) after_begin s.after_data (Some page_place)) (sym u) data_stands))
+
+data_images : (ss : List ImageStep) (e : ImageEnd) (samples : Vec ℕ) → ss ≡ [] → samples.items ≡ 7 ∷ 8 ∷ [] → e ≡ iend.WriteData samples
+    → jobs.finished_images ss new_pixel e (Some page_place) ≡ s.data_run.images
+data_images ss e samples p u q =
+    ap (λ x. jobs.finished_images x new_pixel e (Some page_place)) p
+    ∙ ap (λ x. jobs.finished_images [] new_pixel x (Some page_place)) q
+    ∙ ap (λ xs. jobs.images_at (Some page_place) (Some (take 1 (cut_to 1 xs))) new_pixel) u
+
+data_whole : s.data_job
+data_whole j r samples c w h p u e q l =
+    inr (record {
+      first = new_pixel;
+      after_begin = after_begin;
+      begins = begins_by j.colour j.width j.height c w h;
+      final = new_pixel;
+      after_steps = after_begin;
+      steps = no_steps j.steps.items r.steps.items p q;
+      place = Some page_place;
+      after_end = s.after_data;
+      ends = data_ends j.end r.last samples u e l;
+      state = ap (λ x. jobs.ran (started Classic) s.after_data x s.data_run.images) (sym l)
+          ∙ ap (λ x. jobs.ran (started Classic) s.after_data r.last x) (sym (data_images j.steps.items j.end samples p u e));
+    })
+
 no_side : s.no_side_job
 unfolding new_image new_image_cause
 no_side j r w h q l =
@@ -244,3 +281,6 @@ strip_job = whole
 
 pub page_shown : s.page_shown
 page_shown = is_shown
+
+pub data_job : s.data_job
+data_job = data_whole

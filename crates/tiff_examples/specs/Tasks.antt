@@ -169,3 +169,13 @@ strip_job = (j : ImageJob) (r : JobReply) (samples : Vec ℕ) → j.colour ≡ n
 -- the image of the run is shown
 abbrev pub page_shown : Type 0
 page_shown = jobs.RunShows page_run
+
+-- the same of two samples, by the end alone
+abbrev pub data_run : Run
+data_run = jobs.ran (started Classic) after_data (Ok last.Nothing) (record { place = 25; image = jobs.image_of new_pixel (7 ∷ []) } ∷ [])
+
+abbrev pub data_job : Type 0
+data_job = (j : ImageJob) (r : JobReply) (samples : Vec ℕ) → j.colour ≡ name.Gray8 → j.width ≡ 1 → j.height ≡ 1
+    → j.steps.items ≡ [] → samples.items ≡ 7 ∷ 8 ∷ [] → j.end ≡ iend.WriteData samples
+    → r.steps.items ≡ [] → r.last ≡ Ok last.Nothing
+    → jobs.JobRan (started Classic) (job.Image j) r data_run

@@ -14,5 +14,5 @@ pub fn ends()
 
 /// Whole image jobs.
 pub fn pages()
-    ensures { s.no_side_job × s.not_begun × s.strip_job × s.page_shown }
+    ensures { s.no_side_job × s.not_begun × s.strip_job × s.page_shown × s.data_job }
 {}

@@ -8,4 +8,5 @@ returns c = (
   p.not_begun,
   p.strip_job,
   p.page_shown,
+  p.data_job,
 )
