@@ -5,16 +5,18 @@ ghost use Rattle.tiff_base.specs.Answers.{Answers};
 ghost use Rattle.tiff_ifd.specs.View.{datum};
 ghost use Rattle.tiff_decode.specs.Outcome as outcome;
 ghost use Rattle.tiff_decode.specs.Reader.{chosen, reading, IsHeld, TagsRead};
-ghost use Rattle.tiff_decode.specs.Step.{bits_32, bits_64};
+ghost use Rattle.tiff_decode.specs.Step.{bits_32, bits_64, BufferLeft};
 
 use crate::decoder::Decoder;
 use std::alloc::Global;
 use tiff_base::directory::{Directory, Entry};
-use tiff_base::error::{TiffFormatError, TiffResult};
+use tiff_base::error::{TiffError, TiffFormatError, TiffResult};
 use tiff_base::io::Source;
 use tiff_base::tags::{Bits32, Bits64, Tag};
+use tiff_ifd::read_bytes::{read_field_bytes, read_part};
 use tiff_ifd::read_value::find_value;
 use tiff_ifd::value::Value;
+use tiff_value::buffer::ValueBuffer;
 
 /// Reads the tags of a directory: of a decoder's page, or of another one of its file.
 #[derive(Drop)]
@@ -79,6 +81,81 @@ impl<R: Source> Decoder<R> {
             directory,
             tag,
         )
+    }
+
+    // The page's directory, or another one.
+    fn directory_of<'x>(&'x self, other: Option<&'x Directory>) -> &'x Directory
+        ensures { result.now ≡ chosen self.now.state.directory (option_map (λ d. d.now) other.entry) }
+    {
+        chosen(&self.tags.directory, other)
+    }
+
+    // The field of a tag of the page's directory, or of another one.
+    #[tactic(auto, unfolding(crate::specs::Outcome::find_entry))]
+    fn entry_in(&self, other: Option<&Directory>, tag: Tag) -> Option<Entry>
+        ensures { result ≡ outcome.find_entry (reading self.now (option_map (λ d. d.now) other.entry)) tag }
+    {
+        match chosen(&self.tags.directory, other).get(tag) {
+            None => None,
+            Some(entry) => Some(Entry::new_u64(entry.field_type(), entry.count(), entry.value())),
+        }
+    }
+
+    // A field and its bytes, of the page's directory or of another one.
+    #[tactic(auto, unfolding(crate::specs::Outcome::find_tag_buf))]
+    fn buf_in(
+        &mut self,
+        other: Option<&Directory>,
+        tag: Tag,
+        buf: &mut ValueBuffer,
+    ) -> TiffResult<Option<Entry>>
+        ensures read { TagsRead (λ e. (e, buf.new)) (outcome.find_tag_buf (reading self.old (option_map (λ d. d.now) other.entry)) tag buf.old) result self.old self.new }
+        ensures left { BufferLeft self.old.order (outcome.find_entry (reading self.old (option_map (λ d. d.now) other.entry)) tag) buf.old result buf.new }
+    {
+        let Some(entry) = self.entry_in(other, tag) else {
+            return Ok(None);
+        };
+        let alloc = self.alloc;
+        let tags = &mut self.tags;
+        match read_field_bytes(
+            alloc,
+            &mut tags.source,
+            tags.kind,
+            tags.order,
+            &tags.limits,
+            &entry,
+        ) {
+            Ok(bytes) => {
+                *buf = ValueBuffer::from_parts(tags.order, entry.field_type(), bytes);
+                return Ok(Some(entry));
+            }
+            Err(TiffError::LimitsExceeded) => return Err(TiffError::LimitsExceeded),
+            Err(fault) => {
+                *buf = ValueBuffer::from_parts(tags.order, entry.field_type(), Vec::new(alloc));
+                return Err(fault);
+            }
+        }
+    }
+
+    // The bytes of a field from one on, of the page's directory or of another one.
+    #[tactic(auto, unfolding(crate::specs::Outcome::find_tag_bytes))]
+    fn bytes_in(
+        &mut self,
+        other: Option<&Directory>,
+        tag: Tag,
+        buf: &mut [u8],
+        at: u64,
+    ) -> TiffResult<Option<usize>>
+        ensures { TagsRead (λ n. (n, buf.new)) (outcome.find_tag_bytes (reading self.old (option_map (λ d. d.now) other.entry)) tag buf.old at) result self.old self.new }
+    {
+        let Some(entry) = self.entry_in(other, tag) else {
+            return Ok(None);
+        };
+        let tags = &mut self.tags;
+        match read_part(&mut tags.source, tags.kind, tags.order, &entry, at, buf) {
+            Ok(n) => return Ok(Some(n)),
+            Err(fault) => return Err(fault),
+        }
     }
 
     /// The value of a tag of the page, if there is the tag. A list of more values than `decoding_buffer_size / 32`, a text of
@@ -197,6 +274,48 @@ impl<R: Source> Decoder<R> {
 }
 
 impl<'a, R: Source> IfdDecoder<'a, R> {
+    /// The directory whose tags are read.
+    pub fn directory(&self) -> &Directory
+        ensures { result.now ≡ chosen self.now.decoder.now.state.directory (option_map (λ d. d.now) self.now.other) }
+    {
+        self.decoder.directory_of(self.other)
+    }
+
+    /// The field of a tag, if there is the tag.
+    pub fn find_entry(&self, tag: Tag) -> Option<Entry>
+        ensures { result ≡ outcome.find_entry (reading self.now.decoder.now (option_map (λ d. d.now) self.now.other)) tag }
+    {
+        self.decoder.entry_in(self.other, tag)
+    }
+
+    /// The field of a tag, if there is the tag, and its bytes as they stand, in the file's order. No such tag: the buffer stays.
+    /// Values of 2^64 bytes or more, and more bytes than `decoding_buffer_size`: `LimitsExceeded`, and the buffer stays; values
+    /// past the end of the source: `IoError(UnexpectedEof)`, and the buffer has the field's type and no values.
+    pub fn find_tag_buf(&mut self, tag: Tag, buf: &mut ValueBuffer) -> TiffResult<Option<Entry>>
+        ensures held { IsHeld self.old.decoder self.new.decoder }
+        ensures other { self.new.other ≡ self.old.other }
+        ensures answer { Answers (λ e. (e, buf.new)) result (outcome.find_tag_buf (reading self.old.decoder.now (option_map (λ d. d.now) self.old.other)) tag buf.old).answer self.old.decoder.now.failures self.new.decoder.now.failures }
+        ensures left { BufferLeft self.old.decoder.now.order (outcome.find_entry (reading self.old.decoder.now (option_map (λ d. d.now) self.old.other)) tag) buf.old result buf.new }
+    {
+        self.decoder.buf_in(self.other, tag, buf)
+    }
+
+    /// Copies the bytes of a tag's values from the byte `offset` on, as many as fit, and answers how many, if there is the tag; 0
+    /// where there is no such byte. Values of 2^64 bytes or more: `LimitsExceeded`; a place of 2^64 or more:
+    /// `InconsistentSizesEncountered`; what is copied past the end of the source: `IoError(UnexpectedEof)`.
+    pub fn find_tag_bytes(
+        &mut self,
+        tag: Tag,
+        buf: &mut [u8],
+        offset: u64,
+    ) -> TiffResult<Option<usize>>
+        ensures held { IsHeld self.old.decoder self.new.decoder }
+        ensures other { self.new.other ≡ self.old.other }
+        ensures answer { Answers (λ n. (n, buf.new)) result (outcome.find_tag_bytes (reading self.old.decoder.now (option_map (λ d. d.now) self.old.other)) tag buf.old offset).answer self.old.decoder.now.failures self.new.decoder.now.failures }
+    {
+        self.decoder.bytes_in(self.other, tag, buf, offset)
+    }
+
     /// The value of a tag, if there is the tag. The faults are those of `Decoder::find_tag`.
     pub fn find_tag(&mut self, tag: Tag) -> TiffResult<Option<Value>>
         ensures held { IsHeld self.old.decoder self.new.decoder }
