@@ -7,3 +7,4 @@ pub mod Items
 pub mod Texts
 pub mod Fitted
 mod Sames
+pub mod Followed

@@ -11,23 +11,23 @@ use Rattle.tiff_base.specs.declared.error.TiffFormatError.TheVariants.{CycleInOf
 use Rattle.tiff_ifd.specs.Links.{Links, target, Goes, Closes, HasAnother, IsClosing, IsNew, Inserts, IsAnswered, IsOneAnswer}
 use Rattle.tiff_ifd.proofs.Chain.{IsFalseBit, Known, known_more, none_known, full, equal_numbers}
 
-abbrev Found : Type 0
+abbrev pub Found : Type 0
 Found = Option (Option ℕ)
 
-abbrev IsFound : Found → Type 0
+abbrev pub IsFound : Found → Type 0
 IsFound (Some x) = Unit {0}
 IsFound None = ⊥
 
-abbrev IsLinked : Found → Type 0
+abbrev pub IsLinked : Found → Type 0
 IsLinked (Some (Some n)) = Unit {0}
 IsLinked (Some None) = ⊥
 IsLinked None = ⊥
 
-abbrev found_or : Option ℕ → Found → Option ℕ
+abbrev pub found_or : Option ℕ → Found → Option ℕ
 found_or d (Some x) = x
 found_or d None = d
 
-abbrev some_or : ℕ → Option ℕ → ℕ
+abbrev pub some_or : ℕ → Option ℕ → ℕ
 some_or d (Some x) = x
 some_or d None = d
 
@@ -65,7 +65,7 @@ abbrev most : List (ℕ × Option ℕ) → ℕ
 most [] = 0
 most (e ∷ es) = e.0 + 1 + most es
 
-equal_order : (r : Ordering) → is_eq r ≡ true → r ≡ Equal
+pub equal_order : (r : Ordering) → is_eq r ≡ true → r ≡ Equal
 equal_order Equal h = refl
 equal_order Less h = absurd (subst IsFalseBit h tt)
 equal_order Greater h = absurd (subst IsFalseBit h tt)

@@ -2,6 +2,7 @@
 #![tactic(auto)]
 
 pub mod ask;
+pub mod cycles;
 pub mod decode;
 pub mod header;
 pub mod laws;
