@@ -10,8 +10,8 @@ use Rattle.tiff_ifd.proofs.Links.{Found, IsFound, IsLinked, some_or, found_or, e
 next_of : (links : Links) (place n m : ℕ) → get links place ≡ Some (Some n) → get links place ≡ Some (Some m) → n ≡ m
 next_of links place n m a b = ap (λ (x : Found). some_or n (found_or None x)) (sym a ∙ b)
 
-none_linked : (x : Found) (t : Option ℕ) → x ≡ Some t → x ≡ None → ⊥
-none_linked x t a b = subst IsFound (sym a ∙ b) tt
+pub no_link_and_link : (x : Found) (t : Option ℕ) → x ≡ Some t → x ≡ None → ⊥
+no_link_and_link x t a b = subst IsFound (sym a ∙ b) tt
 
 -- ---- places on the way differ
 
@@ -20,10 +20,10 @@ same_length : (links : Links) (from : ℕ) → get links from ≡ None → (p : 
 same_length links from free p [] [] a b = refl
 same_length links from free p [] (y ∷ ys) a b =
     let P : ℕ → Type 0 = λ k. get links k ≡ Some (Some y) in
-    absurd (none_linked (get links from) (Some y) (subst P a b.0) free)
+    absurd (no_link_and_link (get links from) (Some y) (subst P a b.0) free)
 same_length links from free p (x ∷ xs) [] a b =
     let P : ℕ → Type 0 = λ k. get links k ≡ Some (Some x) in
-    absurd (none_linked (get links from) (Some x) (subst P b a.0) free)
+    absurd (no_link_and_link (get links from) (Some x) (subst P b a.0) free)
 same_length links from free p (x ∷ xs) (y ∷ ys) a b =
     let P : ℕ → Type 0 = λ k. Goes links k ys from in
     ap suc (same_length links from free x xs ys a.1 (subst P (sym (next_of links p x y a.0 b.0)) b.1))

@@ -8,3 +8,4 @@ pub mod Texts
 pub mod Fitted
 mod Sames
 pub mod Followed
+pub mod Begun

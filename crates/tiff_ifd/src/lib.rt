@@ -13,3 +13,4 @@ pub mod tag_reader;
 pub mod tags;
 pub mod value;
 pub mod value_reader;
+pub mod walk;

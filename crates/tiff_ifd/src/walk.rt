@@ -1,0 +1,131 @@
+//! A file's directories are entered one after another.
+
+ghost use Rattle.std.specs.Prelude.{◌≡◌, ◌<◌, ◌-◌, ◌++◌, ◌∷◌, ℕ, List, [], reverse, length, IfOk, IfErr, OnErr, MatchOption, Ok, Err, None, Some, option_map};
+ghost use Rattle.std.specs.List.{slice_get};
+ghost use Rattle.tiff_base.specs.Answers.{IsCause, IsKept};
+ghost use Rattle.tiff_base.specs.declared.tags.ByteOrder.{ByteOrder};
+ghost use Rattle.tiff_base.specs.declared.tags.FileKind.{FileKind};
+ghost use Rattle.tiff_ifd.specs.Chain.{unless_met, chain};
+ghost use Rattle.tiff_ifd.specs.Links.{target};
+ghost use Rattle.tiff_ifd.specs.Walk.{Steps, Begins, Ends};
+
+use crate::cycles::IfdCycles;
+use crate::decode::read_directory;
+use std::alloc::Global;
+use std::marker::Model;
+use tiff_base::directory::Directory;
+use tiff_base::error::TiffResult;
+use tiff_base::io::Source;
+use tiff_base::tags::{ByteOrder, FileKind, IfdPointer};
+
+/// The places of a file's directories, as far as they were entered, and the link behind the last of them.
+#[derive(Debug, Drop)]
+pub struct Walk {
+    places: Vec<u64>,
+    links: IfdCycles,
+    next: Option<u64>,
+}
+
+impl Model for Walk {
+    ghost use Rattle.std.specs.Prelude.{reverse};
+    ghost use Rattle.tiff_ifd.specs.Walk.{Walked, AreLinked};
+
+    ghost Value = { Walked };
+
+    ghost view = { λ w. record { places = w.places.items; next = w.next } };
+
+    ghost invariant = { λ w. AreLinked w.links (reverse w.places.items) w.next };
+}
+
+// The place of a link, if it leads to one.
+fn pointer(next: Option<u64>) -> Option<IfdPointer>
+    ensures { option_map (λ p. p.0) result ≡ next }
+{
+    next.map(|place| IfdPointer(place))
+}
+
+impl Walk {
+    /// No place was entered yet; `first` is the next one.
+    #[tactic(auto, using(crate::proofs::Begun::none_linked, crate::proofs::Begun::none_begun))]
+    pub fn new(alloc: Global, first: u64) -> Self
+        ensures walked { result ≡ record { places = []; next = Some first } }
+        ensures begins { (kind : FileKind) (order : ByteOrder) (bytes : List ℕ) → Begins kind order bytes first result }
+    {
+        Walk {
+            places: Vec::new(alloc),
+            links: IfdCycles::new(alloc),
+            next: Some(first),
+        }
+    }
+
+    /// How many places were entered.
+    pub fn len(&self) -> usize
+        ensures { result ≡ length self.now.places }
+    {
+        self.places.len()
+    }
+
+    /// The place that was entered after `index` others.
+    pub fn get(&self, index: usize) -> Option<u64>
+        ensures { result ≡ slice_get self.now.places index }
+    {
+        self.places.get(index).copied()
+    }
+
+    /// The place that was entered last.
+    pub fn last(&self) -> Option<u64>
+        ensures { result ≡ slice_get self.now.places (length self.now.places - 1) }
+    {
+        self.places.last().copied()
+    }
+
+    /// The next place, if there is one.
+    pub fn next(&self) -> Option<u64>
+        ensures { result ≡ self.now.next }
+    {
+        self.next
+    }
+
+    // Adds the next place with its link, unless that is one of the places up to and with it.
+    #[tactic(auto, using(crate::proofs::Begun::still_linked, crate::proofs::Begun::not_met, crate::proofs::Begun::links_stay, crate::proofs::Begun::why_refused))]
+    fn add(&mut self, place: u64, next: Option<u64>) -> TiffResult<()>
+        requires at { self.old.next ≡ Some place }
+        requires link { target next ≡ next }
+        ensures unmet { IfOk result (λ _. unless_met (place ∷ reverse self.old.places) next ≡ Ok next) }
+        ensures added { IfOk result (λ _. self.new ≡ record { places = self.old.places ++ place ∷ []; next = next }) }
+        ensures err { IfErr result (λ e. IsCause (Unit {0}) ⊥ e (unless_met (place ∷ reverse self.old.places) next ≡ Err e)) }
+        ensures stays { OnErr result (self.new ≡ self.old) }
+    {
+        self.places.push(place)?;
+        if let Err(e) = self.links.insert_next(IfdPointer(place), pointer(next)) {
+            self.places.pop();
+            return Err(e);
+        }
+        self.next = next;
+        Ok(())
+    }
+
+    /// Enters the next place: its directory, or `None` where there is no next place. What `read_directory` refuses is its
+    /// fault; `FormatError(CycleInOffsets)` where its link is one of the places up to and with it. After a refusal the walk
+    /// is as it was.
+    #[tactic(auto, using(crate::proofs::Begun::read_target, crate::proofs::Begun::unread, crate::proofs::Begun::unentered, crate::proofs::Begun::one_entered))]
+    pub fn enter_next<R: Source>(
+        &mut self,
+        alloc: Global,
+        source: &mut R,
+        kind: FileKind,
+        order: ByteOrder,
+    ) -> TiffResult<Option<Directory>>
+        ensures kept { IsKept R.bytes R.failures source.old source.new }
+        ensures ok { IfOk result (λ entered. Steps kind order (R.bytes source.old) self.old (Ok entered) self.new) }
+        ensures err { IfErr result (λ e. IsCause (self.new ≡ self.old) ((R.failures source.old < R.failures source.new) × (self.new ≡ self.old)) e
+            (Steps kind order (R.bytes source.old) self.old (Err e) self.new)) }
+    {
+        let Some(place) = self.next else {
+            return Ok(None);
+        };
+        let directory = read_directory(alloc, source, place, kind, order)?;
+        self.add(place, directory.next().map(|next| next.0))?;
+        Ok(Some(directory))
+    }
+}
