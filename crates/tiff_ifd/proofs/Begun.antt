@@ -1,8 +1,9 @@
 -- The accepted links of a walk tell where it meets itself, and what was entered is a beginning of the chain.
-use Rattle.std.proofs.Common.{◌≡◌, ◌⊎◌, inl, inr, ℕ, suc, ◌+◌, ◌<◌, ◌≤◌, List, [], ◌∷◌, ◌++◌, length, reverse, Option, None, Some, Bool, true, false, cond, Result, Ok, Err, refl, ap, sym, ◌∙◌, subst, arith, nat_eq, ◌||◌, append_assoc}
+use Rattle.std.proofs.Common.{◌≡◌, ◌⊎◌, inl, inr, ℕ, zero, suc, ◌+◌, ◌<◌, ◌≤◌, List, [], ◌∷◌, ◌++◌, length, reverse, Option, None, Some, Bool, true, false, cond, Result, Ok, Err, refl, ap, sym, ◌∙◌, subst, arith, nat_eq, ◌||◌, append_assoc}
 use Rattle.std.proofs.lemmas.List.{append-nil, reverse-append}
-use Rattle.std.specs.Prelude.{◌==◌}
-use Rattle.std.specs.List.{list_any}
+use Rattle.std.specs.Prelude.{◌==◌, is_none, IfNone}
+use Rattle.std.specs.List.{list_any, slice_get}
+use Rattle.std.proofs.lemmas.Option.{slice_get_past, slice_get-get_or}
 use Rattle.std.specs.Ordering.{eq_by_cmp, nat_cmp}
 use Rattle.std.specs.Cmp.{nat_cmp_total, eq_by_cmp_equiv}
 use Rattle.std.specs.FinMap.{get, insert, empty, get-insert, get-empty, nat_cmp-IsAntisymmetric}
@@ -20,7 +21,7 @@ use Rattle.tiff_base.specs.Number.{number_at}
 use Rattle.tiff_base.proofs.Causes.{cause_along}
 use Rattle.tiff_ifd.specs.Chain.{link_from, unless_met, entered, IsChain, Chain, chain}
 use Rattle.tiff_ifd.specs.Links.{Links, target, Goes, Closes, HasAnother, IsClosing, IsNew, Inserts}
-use Rattle.tiff_ifd.specs.Walk.{Walked, AreLinked, Enters, IsRefused, Begins, Ends}
+use Rattle.tiff_ifd.specs.Walk.{Walked, AreLinked, Enters, IsRefused, Steps, Begins, Ends}
 use Rattle.tiff_ifd.proofs.Chain.{IsFalseBit, equal_numbers, not_both, same_ok, same_err, the_chain}
 use Rattle.tiff_ifd.proofs.Links.{Found, equal_order, In, here, more, either, itself}
 use Rattle.tiff_ifd.proofs.Followed.{no_link_and_link}
@@ -285,6 +286,59 @@ module _ (kind : FileKind) (order : ByteOrder) (bytes : List ℕ) where
         let P : Option ℕ → Type 0 = λ n. IsChain (link_from kind order bytes) (reverse walk.places) n b.rest (chain kind order bytes first).end in
         let r = rest_cut (reverse walk.places) h.place e b.rest (chain kind order bytes first).end h.refused (subst P h.next b.goes_on) in
         ends_by walk b.rest (Some e) b.places r.0 r.1
+
+-- ---- what a step shows of the chain
+
+pub begins_entered : (kind : FileKind) (order : ByteOrder) (bytes : List ℕ) (first : ℕ) (before after : Walked) (place : ℕ) (d : DirectoryRecord) (next : Option ℕ)
+    → before.next ≡ Some place → directory_at kind order bytes place ≡ Ok d → next ≡ d.next → unless_met (place ∷ reverse before.places) next ≡ Ok next
+    → after ≡ record { places = before.places ++ place ∷ []; next = next } → Begins kind order bytes first before → Begins kind order bytes first after
+begins_entered kind order bytes first before after place d next n h e m w b =
+    let P : Option ℕ → Type 0 = λ x. unless_met (place ∷ reverse before.places) x ≡ Ok x in
+    let Q : Option ℕ → Type 0 = λ x. after ≡ record { places = before.places ++ place ∷ []; next = x } in
+    begins_on kind order bytes first before after d (one_entered kind order bytes before after place d n h (subst P e m) (subst Q e w)) b
+
+pub cut_unread : (kind : FileKind) (order : ByteOrder) (bytes : List ℕ) (failed : Type 0) (walk : Walked) (place : ℕ) (e : TiffError) → walk.next ≡ Some place
+    → IsCause (Unit {0}) failed e (directory_at kind order bytes place ≡ Err e)
+    → IsCause (Unit {0}) failed e ((first : ℕ) → Begins kind order bytes first walk → Ends kind order bytes first walk (Some e))
+cut_unread kind order bytes failed walk place e n h =
+    cause_along e (λ w. w) (λ f. f) (λ g first b. ends_cut kind order bytes first walk e (unread kind order bytes walk place e n g) b) h
+
+pub cut_unentered : (kind : FileKind) (order : ByteOrder) (bytes : List ℕ) (failed : Type 0) (walk : Walked) (place : ℕ) (d : DirectoryRecord) (next : Option ℕ) (e : TiffError)
+    → walk.next ≡ Some place → directory_at kind order bytes place ≡ Ok d → next ≡ d.next
+    → IsCause (Unit {0}) ⊥ e (unless_met (place ∷ reverse walk.places) next ≡ Err e)
+    → IsCause (Unit {0}) failed e ((first : ℕ) → Begins kind order bytes first walk → Ends kind order bytes first walk (Some e))
+cut_unentered kind order bytes failed walk place d next e n h s c =
+    let P : Option ℕ → Type 0 = λ x. unless_met (place ∷ reverse walk.places) x ≡ Err e in
+    cause_along e (λ w. w) (λ f. absurd f) (λ g first b. ends_cut kind order bytes first walk e (unentered kind order bytes walk place d e n h (subst P s g)) b) c
+
+-- ---- the places of the chain
+
+front : (xs ys : List ℕ) (k : ℕ) → k < length xs → slice_get (xs ++ ys) k ≡ slice_get xs k
+front [] ys k h = absurd (omega (arith, h))
+front (x ∷ xs) ys zero h = refl
+front (x ∷ xs) ys (suc k) h = front xs ys k (omega (arith, h))
+
+pub place_begun : (kind : FileKind) (order : ByteOrder) (bytes : List ℕ) (first : ℕ) (walk : Walked) (index : ℕ) → index < length walk.places
+    → Begins kind order bytes first walk → slice_get (chain kind order bytes first).places index ≡ slice_get walk.places index
+place_begun kind order bytes first walk index h b =
+    ap (λ (ps : List ℕ). slice_get ps index) b.places ∙ front walk.places b.rest index h
+
+pub place_past : (kind : FileKind) (order : ByteOrder) (bytes : List ℕ) (first : ℕ) (walk : Walked) (end : Option TiffError) (index : ℕ) → length walk.places ≤ index
+    → Ends kind order bytes first walk end → slice_get (chain kind order bytes first).places index ≡ None
+place_past kind order bytes first walk end index h e =
+    ap (λ (c : Chain). slice_get c.places index) e ∙ slice_get_past walk.places index h
+
+-- one more place
+pub grown : (kind : FileKind) (order : ByteOrder) (bytes old : List ℕ) (before after : Walked) (found : Option DirectoryRecord) → is_none found ≡ false
+    → Steps kind order bytes before (Ok found) after → (more : List ℕ) × (before.places ≡ old ++ more) → (more : List ℕ) × (after.places ≡ old ++ more)
+grown kind order bytes old before after None f h m = absurd (subst IsFalseBit f tt)
+grown kind order bytes old before after (Some d) f h m =
+    (m.0 ++ h.place ∷ [], ap (λ (w : Walked). w.places) h.walked ∙ ap (λ (ps : List ℕ). ps ++ h.place ∷ []) m.1 ∙ append_assoc old m.0 (h.place ∷ []))
+
+-- a place that is within is one
+pub is_there : {P : Type 0} (places : List ℕ) (index : ℕ) (r : Option ℕ) → r ≡ slice_get places index → index < length places → IfNone r P
+is_there places index (Some p) e h = tt
+is_there places index None e h = absurd (subst IsSomeNumber (sym (slice_get-get_or places index 0 h) ∙ sym e) tt)
 
 -- ---- the link of a directory that was read is no place 0
 

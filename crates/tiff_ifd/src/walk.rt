@@ -1,6 +1,6 @@
 //! A file's directories are entered one after another.
 
-ghost use Rattle.std.specs.Prelude.{◌≡◌, ◌<◌, ◌-◌, ◌++◌, ◌∷◌, ℕ, List, [], reverse, length, IfOk, IfErr, OnErr, MatchOption, Ok, Err, None, Some, option_map};
+ghost use Rattle.std.specs.Prelude.{◌≡◌, ◌<◌, ◌≤◌, ◌-◌, ◌++◌, ◌∷◌, ℕ, List, [], reverse, length, IfOk, IfErr, IfNone, OnErr, MatchOption, Ok, Err, None, Some, option_map};
 ghost use Rattle.std.specs.List.{slice_get};
 ghost use Rattle.tiff_base.specs.Answers.{IsCause, IsKept};
 ghost use Rattle.tiff_base.specs.declared.tags.ByteOrder.{ByteOrder};
@@ -42,6 +42,13 @@ fn pointer(next: Option<u64>) -> Option<IfdPointer>
     ensures { option_map (λ p. p.0) result ≡ next }
 {
     next.map(|place| IfdPointer(place))
+}
+
+// The place that a directory's link leads to.
+fn behind(directory: &Directory) -> Option<u64>
+    ensures { result ≡ directory.now.next }
+{
+    directory.next().map(|pointer| pointer.0)
 }
 
 impl Walk {
@@ -108,7 +115,7 @@ impl Walk {
     /// Enters the next place: its directory, or `None` where there is no next place. What `read_directory` refuses is its
     /// fault; `FormatError(CycleInOffsets)` where its link is one of the places up to and with it. After a refusal the walk
     /// is as it was.
-    #[tactic(auto, using(crate::proofs::Begun::read_target, crate::proofs::Begun::unread, crate::proofs::Begun::unentered, crate::proofs::Begun::one_entered))]
+    #[tactic(auto, using(crate::proofs::Begun::read_target, crate::proofs::Begun::unread, crate::proofs::Begun::unentered, crate::proofs::Begun::one_entered, crate::proofs::Begun::ends_none, crate::proofs::Begun::begins_entered, crate::proofs::Begun::cut_unread, crate::proofs::Begun::cut_unentered))]
     pub fn enter_next<R: Source>(
         &mut self,
         alloc: Global,
@@ -120,12 +127,49 @@ impl Walk {
         ensures ok { IfOk result (λ entered. Steps kind order (R.bytes source.old) self.old (Ok entered) self.new) }
         ensures err { IfErr result (λ e. IsCause (self.new ≡ self.old) ((R.failures source.old < R.failures source.new) × (self.new ≡ self.old)) e
             (Steps kind order (R.bytes source.old) self.old (Err e) self.new)) }
+        ensures begins { (first : ℕ) → Begins kind order (R.bytes source.old) first self.old → Begins kind order (R.bytes source.old) first self.new }
+        ensures end { IfOk result (λ entered. IfNone entered ((first : ℕ) → Begins kind order (R.bytes source.old) first self.old
+            → Ends kind order (R.bytes source.old) first self.old None)) }
+        ensures cut { IfErr result (λ e. IsCause (Unit {0}) (R.failures source.old < R.failures source.new) e
+            ((first : ℕ) → Begins kind order (R.bytes source.old) first self.old → Ends kind order (R.bytes source.old) first self.old (Some e))) }
     {
         let Some(place) = self.next else {
             return Ok(None);
         };
         let directory = read_directory(alloc, source, place, kind, order)?;
-        self.add(place, directory.next().map(|next| next.0))?;
+        self.add(place, behind(&directory))?;
         Ok(Some(directory))
+    }
+
+    /// The place that comes after `index` others in the file's chain: goes along the chain as far as it must, and reads
+    /// nothing for a place that was entered before. `None` where the chain ends before it; where it is cut before it, the
+    /// fault of the directory that isn't entered, as `enter_next` answers it. The places that were entered stay so.
+    pub fn place_of<R: Source>(
+        &mut self,
+        alloc: Global,
+        source: &mut R,
+        kind: FileKind,
+        order: ByteOrder,
+        index: usize,
+    ) -> TiffResult<Option<u64>>
+        ensures kept { IsKept R.bytes R.failures source.old source.new }
+        ensures there { IfOk result (λ place. place ≡ slice_get self.new.places index) }
+        ensures short { OnErr result (length self.new.places ≤ index) }
+        ensures longer { (more : List ℕ) × (self.new.places ≡ self.old.places ++ more) }
+        ensures known { index < length self.old.places → (self.new ≡ self.old) × (source.new ≡ source.old) }
+        ensures begins { (first : ℕ) → Begins kind order (R.bytes source.old) first self.old → Begins kind order (R.bytes source.old) first self.new }
+        ensures place { IfOk result (λ place. (first : ℕ) → Begins kind order (R.bytes source.old) first self.old
+            → slice_get (chain kind order (R.bytes source.old) first).places index ≡ place) }
+        ensures end { IfOk result (λ place. IfNone place ((first : ℕ) → Begins kind order (R.bytes source.old) first self.old
+            → Ends kind order (R.bytes source.old) first self.new None)) }
+        ensures cut { IfErr result (λ e. IsCause (Unit {0}) (R.failures source.old < R.failures source.new) e
+            ((first : ℕ) → Begins kind order (R.bytes source.old) first self.old → Ends kind order (R.bytes source.old) first self.new (Some e))) }
+    {
+        while self.len() <= index {
+            if self.enter_next(alloc, source, kind, order)?.is_none() {
+                return Ok(None);
+            }
+        }
+        Ok(self.get(index))
     }
 }
