@@ -1,13 +1,12 @@
 -- The accepted links of a walk tell where it meets itself, and what was entered is a beginning of the chain.
-use Rattle.std.proofs.Common.{◌≡◌, ◌⊎◌, inl, inr, ℕ, zero, suc, ◌+◌, ◌<◌, ◌≤◌, List, [], ◌∷◌, ◌++◌, length, reverse, Option, None, Some, Bool, true, false, cond, Result, Ok, Err, refl, ap, sym, ◌∙◌, subst, arith, nat_eq, ◌||◌, append_assoc}
+use Rattle.std.proofs.Common.{◌≡◌, ◌⊎◌, inl, inr, ℕ, zero, suc, ◌<◌, ◌≤◌, List, [], ◌∷◌, ◌++◌, length, reverse, Option, None, Some, Bool, true, false, cond, Result, Ok, Err, refl, ap, sym, ◌∙◌, subst, arith, nat_eq, ◌||◌, append_assoc}
 use Rattle.std.proofs.lemmas.List.{append-nil, reverse-append}
-use Rattle.std.specs.Prelude.{◌==◌, is_none, IfNone}
+use Rattle.std.specs.Prelude.{◌==◌, is_some, IfNone}
 use Rattle.std.specs.List.{list_any, slice_get}
 use Rattle.std.proofs.lemmas.Option.{slice_get_past, slice_get-get_or}
 use Rattle.std.specs.Ordering.{eq_by_cmp, nat_cmp}
 use Rattle.std.specs.Cmp.{nat_cmp_total, eq_by_cmp_equiv}
 use Rattle.std.specs.FinMap.{get, insert, empty, get-insert, get-empty, nat_cmp-IsAntisymmetric}
-use Rattle.std.proofs.lemmas.Bool.Decides.{nat_tests}
 use Rattle.tiff_base.specs.declared.error.TiffError.{TiffError}
 use Rattle.tiff_base.specs.declared.error.TiffError.TheVariants.{FormatError, UnsupportedError, IoError, LimitsExceeded, IntSizeError, UsageError, OutOfMemory}
 use Rattle.tiff_base.specs.declared.error.TiffFormatError.TheVariants.{CycleInOffsets}
@@ -23,7 +22,7 @@ use Rattle.tiff_ifd.specs.Chain.{link_from, unless_met, entered, IsChain, Chain,
 use Rattle.tiff_ifd.specs.Links.{Links, target, Goes, Closes, HasAnother, IsClosing, IsNew, Inserts}
 use Rattle.tiff_ifd.specs.Walk.{Walked, AreLinked, Enters, IsRefused, Steps, Begins, Ends}
 use Rattle.tiff_ifd.proofs.Chain.{IsFalseBit, equal_numbers, not_both, same_ok, same_err, the_chain}
-use Rattle.tiff_ifd.proofs.Links.{Found, equal_order, In, here, more, either, itself}
+use Rattle.tiff_ifd.proofs.Links.{equal_order, In, here, more, either, itself}
 use Rattle.tiff_ifd.proofs.Followed.{no_link_and_link}
 
 abbrev IsSomeNumber : Option ℕ → Type 0
@@ -329,16 +328,16 @@ place_past kind order bytes first walk end index h e =
     ap (λ (c : Chain). slice_get c.places index) e ∙ slice_get_past walk.places index h
 
 -- one more place
-pub grown : (kind : FileKind) (order : ByteOrder) (bytes old : List ℕ) (before after : Walked) (found : Option DirectoryRecord) → is_none found ≡ false
+pub grown : (kind : FileKind) (order : ByteOrder) (bytes old : List ℕ) (before after : Walked) (found : Option DirectoryRecord) → is_some found ≡ true
     → Steps kind order bytes before (Ok found) after → (more : List ℕ) × (before.places ≡ old ++ more) → (more : List ℕ) × (after.places ≡ old ++ more)
 grown kind order bytes old before after None f h m = absurd (subst IsFalseBit f tt)
 grown kind order bytes old before after (Some d) f h m =
     (m.0 ++ h.place ∷ [], ap (λ (w : Walked). w.places) h.walked ∙ ap (λ (ps : List ℕ). ps ++ h.place ∷ []) m.1 ∙ append_assoc old m.0 (h.place ∷ []))
 
 -- a place that is within is one
-pub is_there : {P : Type 0} (places : List ℕ) (index : ℕ) (r : Option ℕ) → r ≡ slice_get places index → index < length places → IfNone r P
-is_there places index (Some p) e h = tt
-is_there places index None e h = absurd (subst IsSomeNumber (sym (slice_get-get_or places index 0 h) ∙ sym e) tt)
+pub is_there : (P : Type 0) (places : List ℕ) (index : ℕ) (r : Option ℕ) → r ≡ slice_get places index → index < length places → IfNone r P
+is_there P places index (Some p) e h = tt
+is_there P places index None e h = absurd (subst IsSomeNumber (sym (slice_get-get_or places index 0 h) ∙ sym e) tt)
 
 -- ---- the link of a directory that was read is no place 0
 

@@ -1,6 +1,6 @@
 //! A file's directories are entered one after another.
 
-ghost use Rattle.std.specs.Prelude.{◌≡◌, ◌<◌, ◌≤◌, ◌-◌, ◌++◌, ◌∷◌, ℕ, List, [], reverse, length, IfOk, IfErr, IfNone, OnErr, MatchOption, Ok, Err, None, Some, option_map};
+ghost use Rattle.std.specs.Prelude.{◌≡◌, ◌==◌, ◌<◌, ◌≤◌, ◌-◌, ◌++◌, ◌∷◌, ℕ, List, [], reverse, length, IfOk, IfErr, IfNone, OnErr, MatchOption, Ok, Err, None, Some, option_map};
 ghost use Rattle.std.specs.List.{slice_get};
 ghost use Rattle.tiff_base.specs.Answers.{IsCause, IsKept};
 ghost use Rattle.tiff_base.specs.declared.tags.ByteOrder.{ByteOrder};
@@ -41,7 +41,7 @@ impl Model for Walk {
 fn pointer(next: Option<u64>) -> Option<IfdPointer>
     ensures { option_map (λ p. p.0) result ≡ next }
 {
-    next.map(|place| IfdPointer(place))
+    next.map(IfdPointer)
 }
 
 // The place that a directory's link leads to.
@@ -70,6 +70,13 @@ impl Walk {
         ensures { result ≡ length self.now.places }
     {
         self.places.len()
+    }
+
+    /// Whether no place was entered.
+    pub fn is_empty(&self) -> bool
+        ensures { result ≡ (length self.now.places == 0) }
+    {
+        self.len() == 0
     }
 
     /// The place that was entered after `index` others.

@@ -1,4 +1,4 @@
-use Rattle.std.proofs.Common.{rules, arith, ap, sym, ◌∙◌, subst, length, List, ℕ}
+use Rattle.std.proofs.Common.{arith, ap, sym, ◌∙◌, subst, length, List, ℕ, not}
 use Rattle.std.proofs.lemmas.List.{length-append}
 use Rattle.tiff_ifd.specs.Walk.{Begins}
 use Rattle.tiff_ifd.proofs.Begun.{grown, place_begun, is_there}
@@ -13,12 +13,12 @@ loop-alloc-preserved g c =
       same_bytes = c.enter_next.ensures.kept.told ∙ i.same_bytes;
       failures = omega (arith, i.failures, c.enter_next.ensures.kept.failures);
       longer = grown c.args.kind c.args.order (g.R.Source.bytes c.loop-alloc.source) c.args.self.now.places c.loop-alloc.self c.enter_next.new.self c.in_ok-enter_next.field-0
-        (cc) c.in_ok-enter_next.ensures.ok i.longer;
+          (c.is_none.ensures ∙ ap not c.if-is_none.false) c.in_ok-enter_next.ensures.ok i.longer;
       known = λ h. absurd (omega (arith, h, longer, both, c.loop-alloc-test.true, c.len.ensures));
       begins = λ first b.
-        (let P : List ℕ → Type 0 = λ bytes. Begins c.args.kind c.args.order bytes first c.enter_next.new.self in
-        let Q : List ℕ → Type 0 = λ bytes. Begins c.args.kind c.args.order bytes first c.loop-alloc.self in
-        subst P i.same_bytes (c.enter_next.ensures.begins first (subst Q (sym i.same_bytes) (i.begins first b))));
+          (let P : List ℕ → Type 0 = λ bytes. Begins c.args.kind c.args.order bytes first c.enter_next.new.self in
+          let Q : List ℕ → Type 0 = λ bytes. Begins c.args.kind c.args.order bytes first c.loop-alloc.self in
+          subst P i.same_bytes (c.enter_next.ensures.begins first (subst Q (sym i.same_bytes) (i.begins first b))));
     }
 
 pub returns-clause-place : goal.returns-clause-place
@@ -27,4 +27,4 @@ returns-clause-place g c = λ first b.
     (c.loop-alloc.invariant.begins first b) ∙ sym c.get.ensures
 
 pub returns-clause-end : goal.returns-clause-end
-returns-clause-end g c = is_there c.loop-alloc.self.places c.args.index c.get.result c.get.ensures (omega (arith, c.loop-alloc-test.false, c.len.ensures))
+returns-clause-end g c = is_there _ c.loop-alloc.self.places c.args.index c.get.result c.get.ensures (omega (arith, c.loop-alloc-test.false, c.len.ensures))
