@@ -1,6 +1,6 @@
 -- The accepted links of a walk tell where it meets itself, and what was entered is a beginning of the chain.
-use Rattle.std.proofs.Common.{◌≡◌, ◌⊎◌, inl, inr, ℕ, zero, suc, ◌<◌, ◌≤◌, List, [], ◌∷◌, ◌++◌, length, reverse, Option, None, Some, Bool, true, false, cond, Result, Ok, Err, refl, ap, sym, ◌∙◌, subst, arith, nat_eq, ◌||◌, append_assoc}
-use Rattle.std.proofs.lemmas.List.{append-nil, reverse-append}
+use Rattle.std.proofs.Common.{◌≡◌, ◌+◌, ◌⊎◌, inl, inr, ℕ, zero, suc, ◌<◌, ◌≤◌, List, [], ◌∷◌, ◌++◌, length, reverse, Option, None, Some, Bool, true, false, cond, Result, Ok, Err, refl, ap, sym, ◌∙◌, subst, arith, nat_eq, ◌||◌, append_assoc}
+use Rattle.std.proofs.lemmas.List.{append-nil, length-append, reverse-append}
 use Rattle.std.specs.Prelude.{◌==◌, is_some, IfNone}
 use Rattle.std.specs.List.{list_any, slice_get}
 use Rattle.std.proofs.lemmas.Option.{slice_get_past, slice_get-get_or}
@@ -333,6 +333,12 @@ pub grown : (kind : FileKind) (order : ByteOrder) (bytes old : List ℕ) (before
 grown kind order bytes old before after None f h m = absurd (subst IsFalseBit f tt)
 grown kind order bytes old before after (Some d) f h m =
     (m.0 ++ h.place ∷ [], ap (λ (w : Walked). w.places) h.walked ∙ ap (λ (ps : List ℕ). ps ++ h.place ∷ []) m.1 ∙ append_assoc old m.0 (h.place ∷ []))
+
+pub one_longer : (kind : FileKind) (order : ByteOrder) (bytes : List ℕ) (before after : Walked) (found : Option DirectoryRecord) → is_some found ≡ true
+    → Steps kind order bytes before (Ok found) after → length after.places ≡ length before.places + 1
+one_longer kind order bytes before after None f h = absurd (subst IsFalseBit f tt)
+one_longer kind order bytes before after (Some d) f h =
+    ap (λ (w : Walked). length w.places) h.walked ∙ length-append before.places (h.place ∷ [])
 
 -- a place that is within is one
 pub is_there : (P : Type 0) (places : List ℕ) (index : ℕ) (r : Option ℕ) → r ≡ slice_get places index → index < length places → IfNone r P

@@ -1,6 +1,6 @@
 //! A file's directories are entered one after another.
 
-ghost use Rattle.std.specs.Prelude.{◌≡◌, ◌==◌, ◌<◌, ◌≤◌, ◌-◌, ◌++◌, ◌∷◌, ℕ, List, [], reverse, length, IfOk, IfErr, IfNone, OnErr, MatchOption, Ok, Err, None, Some, option_map};
+ghost use Rattle.std.specs.Prelude.{◌≡◌, ◌==◌, ◌<◌, ◌≤◌, ◌+◌, ◌-◌, ◌++◌, ◌∷◌, ℕ, List, [], reverse, length, IfOk, IfErr, IfNone, OnErr, MatchOption, Ok, Err, None, Some, option_map};
 ghost use Rattle.std.specs.List.{slice_get};
 ghost use Rattle.tiff_base.specs.Answers.{IsCause, IsKept};
 ghost use Rattle.tiff_base.specs.declared.tags.ByteOrder.{ByteOrder};
@@ -119,9 +119,9 @@ impl Walk {
         Ok(())
     }
 
-    /// Enters the next place: its directory, or `None` where there is no next place. What `read_directory` refuses is its
-    /// fault; `FormatError(CycleInOffsets)` where its link is one of the places up to and with it. After a refusal the walk
-    /// is as it was.
+    /// Enters the next place: its directory, or `None` where there is no next place. Where the place isn't entered, the walk
+    /// is as it was: `IoError(UnexpectedEof)` where the directory is cut, `FormatError(CycleInOffsets)` where its link is one
+    /// of the places up to and with it; or `OutOfMemory`, or `IoError(Device)`.
     #[tactic(auto, using(crate::proofs::Begun::read_target, crate::proofs::Begun::unread, crate::proofs::Begun::unentered, crate::proofs::Begun::one_entered, crate::proofs::Begun::ends_none, crate::proofs::Begun::begins_entered, crate::proofs::Begun::cut_unread, crate::proofs::Begun::cut_unentered))]
     pub fn enter_next<R: Source>(
         &mut self,
@@ -149,8 +149,8 @@ impl Walk {
     }
 
     /// The place that comes after `index` others in the file's chain: goes along the chain as far as it must, and reads
-    /// nothing for a place that was entered before. `None` where the chain ends before it; where it is cut before it, the
-    /// fault of the directory that isn't entered, as `enter_next` answers it. The places that were entered stay so.
+    /// nothing for a place that was entered before. `None` where the chain ends before it; where a directory before it isn't
+    /// entered, the fault that `enter_next` answers. The places that were entered on the way stay so.
     pub fn place_of<R: Source>(
         &mut self,
         alloc: Global,
@@ -162,6 +162,7 @@ impl Walk {
         ensures kept { IsKept R.bytes R.failures source.old source.new }
         ensures there { IfOk result (λ place. place ≡ slice_get self.new.places index) }
         ensures short { OnErr result (length self.new.places ≤ index) }
+        ensures no_further { length self.old.places ≤ index → length self.new.places ≤ index + 1 }
         ensures longer { (more : List ℕ) × (self.new.places ≡ self.old.places ++ more) }
         ensures known { index < length self.old.places → (self.new ≡ self.old) × (source.new ≡ source.old) }
         ensures begins { (first : ℕ) → Begins kind order (R.bytes source.old) first self.old → Begins kind order (R.bytes source.old) first self.new }

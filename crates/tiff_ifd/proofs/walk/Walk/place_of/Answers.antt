@@ -1,7 +1,7 @@
 use Rattle.std.proofs.Common.{arith, ap, sym, ◌∙◌, subst, length, List, ℕ, not}
 use Rattle.std.proofs.lemmas.List.{length-append}
 use Rattle.tiff_ifd.specs.Walk.{Begins}
-use Rattle.tiff_ifd.proofs.Begun.{grown, place_begun, is_there}
+use Rattle.tiff_ifd.proofs.Begun.{grown, one_longer, place_begun, is_there}
 use Rattle.tiff_ifd.proofs.walk.Walk.place_of.Goals as goal
 
 pub loop-alloc-preserved : goal.loop-alloc-preserved
@@ -14,6 +14,10 @@ loop-alloc-preserved g c =
       failures = omega (arith, i.failures, c.enter_next.ensures.kept.failures);
       longer = grown c.args.kind c.args.order (g.R.Source.bytes c.loop-alloc.source) c.args.self.now.places c.loop-alloc.self c.enter_next.new.self c.in_ok-enter_next.field-0
           (c.is_none.ensures ∙ ap not c.if-is_none.false) c.in_ok-enter_next.ensures.ok i.longer;
+      no_further = λ h.
+        (let one = one_longer c.args.kind c.args.order (g.R.Source.bytes c.loop-alloc.source) c.loop-alloc.self c.enter_next.new.self c.in_ok-enter_next.field-0
+        (c.is_none.ensures ∙ ap not c.if-is_none.false) c.in_ok-enter_next.ensures.ok in
+        omega (arith, one, c.loop-alloc-test.true, c.len.ensures));
       known = λ h. absurd (omega (arith, h, longer, both, c.loop-alloc-test.true, c.len.ensures));
       begins = λ first b.
           (let P : List ℕ → Type 0 = λ bytes. Begins c.args.kind c.args.order bytes first c.enter_next.new.self in

@@ -9,6 +9,7 @@ invariant-loop-alloc g l =
       same_bytes : g.R.Source.bytes l.source ≡ bytes;
       failures : g.R.Source.failures l.fn.source ≤ g.R.Source.failures l.source;
       longer : (more : List ℕ) × (l.self.places ≡ l.fn.self.places ++ more);
+      no_further : length l.fn.self.places ≤ l.index → length l.self.places ≤ l.index + 1;
       known : l.index < length l.fn.self.places → (l.self ≡ l.fn.self) × (l.source ≡ l.fn.source);
       begins : (first : ℕ) → Begins l.kind l.order bytes first l.fn.self → Begins l.kind l.order bytes first l.self;
     }
