@@ -1,18 +1,17 @@
 -- The accepted links of a walk tell where it meets itself, and what was entered is a beginning of the chain.
-use Rattle.std.proofs.Common.{◌≡◌, ◌+◌, ◌⊎◌, inl, inr, ℕ, zero, suc, ◌<◌, ◌≤◌, List, [], ◌∷◌, ◌++◌, length, reverse, Option, None, Some, Bool, true, false, cond, Result, Ok, Err, refl, ap, sym, ◌∙◌, subst, arith, nat_eq, ◌||◌, append_assoc}
+use Rattle.std.proofs.Common.{◌≡◌, ◌+◌, ◌⊎◌, inl, inr, ℕ, zero, suc, ◌<◌, List, [], ◌∷◌, ◌++◌, length, reverse, Option, None, Some, Bool, true, false, cond, Result, Ok, Err, refl, ap, sym, ◌∙◌, subst, arith, nat_eq, ◌||◌, append_assoc}
 use Rattle.std.proofs.lemmas.List.{append-nil, length-append, reverse-append}
 use Rattle.std.specs.Prelude.{◌==◌, is_some, IfNone}
 use Rattle.std.specs.List.{list_any, slice_get}
-use Rattle.std.proofs.lemmas.Option.{slice_get_past, slice_get-get_or}
+use Rattle.std.proofs.lemmas.Option.{slice_get-get_or}
 use Rattle.std.specs.Ordering.{eq_by_cmp, nat_cmp}
 use Rattle.std.specs.Cmp.{nat_cmp_total, eq_by_cmp_equiv}
 use Rattle.std.specs.FinMap.{get, insert, empty, get-insert, get-empty, nat_cmp-IsAntisymmetric}
 use Rattle.tiff_base.specs.declared.error.TiffError.{TiffError}
-use Rattle.tiff_base.specs.declared.error.TiffError.TheVariants.{FormatError, UnsupportedError, IoError, LimitsExceeded, IntSizeError, UsageError, OutOfMemory}
+use Rattle.tiff_base.specs.declared.error.TiffError.TheVariants.{FormatError}
 use Rattle.tiff_base.specs.declared.error.TiffFormatError.TheVariants.{CycleInOffsets}
 use Rattle.tiff_base.specs.declared.tags.ByteOrder.{ByteOrder}
 use Rattle.tiff_base.specs.declared.tags.FileKind.{FileKind}
-use Rattle.tiff_base.specs.declared.io.IoKind.TheVariants.{UnexpectedEof, InvalidData, InvalidInput, WriteZero, Device}
 use Rattle.tiff_base.specs.Answers.{IsCause, ◌>>=◌}
 use Rattle.tiff_base.specs.Field.{DirectoryRecord}
 use Rattle.tiff_base.specs.Directory.{directory_at, link, link_place, count_width, place_width}
@@ -64,7 +63,7 @@ is_new : (links : Links) (met : List ℕ) (p q : ℕ) → AreLinked links met (S
 is_new links met p q w u = (let e = new_by (list_any (nat_eq q) (p ∷ met)) links met p q w u refl in e)
 
 -- a link that closes nothing is none of the places
-pub unmet : (links : Links) (met : List ℕ) (p : ℕ) (t : Option ℕ) → AreLinked links met (Some p) → IsNew links p t → unless_met (p ∷ met) t ≡ Ok t
+unmet : (links : Links) (met : List ℕ) (p : ℕ) (t : Option ℕ) → AreLinked links met (Some p) → IsNew links p t → unless_met (p ∷ met) t ≡ Ok t
 unmet links met p None w n = refl
 unmet links met p (Some q) w n =
     ap (λ (b : Bool). cond b (Err (FormatError CycleInOffsets)) (Ok (Some q))) (is_new links met p q w n.unclosed)
@@ -75,11 +74,11 @@ closing links met p (Some q) w c =
     ap (λ (b : Bool). cond b (Err (FormatError CycleInOffsets)) (Ok (Some q))) (is_met links met p q w c.0 c.1)
 
 -- the next place has no link yet
-pub still_new : (links : Links) (met : List ℕ) (p : ℕ) → AreLinked links met (Some p) → get links p ≡ None
+still_new : (links : Links) (met : List ℕ) (p : ℕ) → AreLinked links met (Some p) → get links p ≡ None
 still_new links met p w = w.own p (w.new p refl)
 
 -- a link that is refused is one of the places
-pub met_again : (links : Links) (met : List ℕ) (p : ℕ) (t : Option ℕ) → AreLinked links met (Some p) → HasAnother links p t ⊎ IsClosing links p t
+met_again : (links : Links) (met : List ℕ) (p : ℕ) (t : Option ℕ) → AreLinked links met (Some p) → HasAnother links p t ⊎ IsClosing links p t
     → unless_met (p ∷ met) t ≡ Err (FormatError CycleInOffsets)
 met_again links met p t w (inl h) = absurd (no_link_and_link (get links p) h.other h.accepted (still_new links met p w))
 met_again links met p t w (inr h) = closing links met p t w h.closes
@@ -132,7 +131,7 @@ is_next_new links met p t w n last e =
     let P : Option ℕ → Type 0 = λ x. Closes links p x → ⊥ in
     is_new links met p last w (subst P e n.unclosed)
 
-pub added : (links : Links) (met : List ℕ) (p : ℕ) (t : Option ℕ) → AreLinked links met (Some p) → IsNew links p t → AreLinked (insert links p t) (p ∷ met) t
+added : (links : Links) (met : List ℕ) (p : ℕ) (t : Option ℕ) → AreLinked links met (Some p) → IsNew links p t → AreLinked (insert links p t) (p ∷ met) t
 added links met p t w n = record {
   own = λ q h. (let apart = neither (nat_eq q p) (list_any (nat_eq q) met) h in others_by (eq_by_cmp nat_cmp q p) links p t q apart.0 (w.own q apart.1) refl);
   on = goes_on links met p t w;
@@ -146,7 +145,7 @@ accepted : (links after : Links) (met : List ℕ) (p : ℕ) (to : Option ℕ) (b
 accepted links after met p to true w h = h
 accepted links after met p to false w h = absurd (no_link_and_link (get links p) (target to) h.0 (still_new links met p w))
 
-pub still_linked : (links after : Links) (met : List ℕ) (p : ℕ) (to : Option ℕ) (b : Bool) → AreLinked links met (Some p) → Inserts links p to (Ok b) after
+still_linked : (links after : Links) (met : List ℕ) (p : ℕ) (to : Option ℕ) (b : Bool) → AreLinked links met (Some p) → Inserts links p to (Ok b) after
     → AreLinked after (p ∷ met) (target to)
 still_linked links after met p to b w h =
     let a = accepted links after met p to b w h in
@@ -157,28 +156,9 @@ pub not_met : (links after : Links) (met : List ℕ) (p : ℕ) (to : Option ℕ)
     → unless_met (p ∷ met) (target to) ≡ Ok (target to)
 not_met links after met p to b w h = unmet links met p (target to) w (accepted links after met p to b w h).0
 
-pub is_refused : (links after : Links) (met : List ℕ) (p : ℕ) (to : Option ℕ) (e : TiffError) → AreLinked links met (Some p) → Inserts links p to (Err e) after
+is_refused : (links after : Links) (met : List ℕ) (p : ℕ) (to : Option ℕ) (e : TiffError) → AreLinked links met (Some p) → Inserts links p to (Err e) after
     → unless_met (p ∷ met) (target to) ≡ Err e
 is_refused links after met p to e w h = met_again links met p (target to) w h.1 ∙ ap Err (sym h.0)
-
--- what each cause leaves
-pub in_any : {P : Type 0} (e : TiffError) → IsCause P P e P → P
-in_any OutOfMemory h = h
-in_any (IoError Device) h = h
-in_any (IoError UnexpectedEof) h = h
-in_any (IoError InvalidData) h = h
-in_any (IoError InvalidInput) h = h
-in_any (IoError WriteZero) h = h
-in_any (FormatError x) h = h
-in_any (UnsupportedError x) h = h
-in_any LimitsExceeded h = h
-in_any IntSizeError h = h
-in_any (UsageError x) h = h
-
--- a test that refuses leaves the links as they were
-pub links_stay : (links after : Links) (p : ℕ) (to : Option ℕ) (e : TiffError)
-    → IsCause (IsNew links p (target to) × (after ≡ links)) ⊥ e (Inserts links p to (Err e) after) → after ≡ links
-links_stay links after p to e h = in_any e (cause_along e (λ w. w.1) (λ f. absurd f) (λ g. g.2) h)
 
 pub why_refused : (links after : Links) (met : List ℕ) (p : ℕ) (to : Option ℕ) (e : TiffError) → AreLinked links met (Some p)
     → IsCause (IsNew links p (target to) × (after ≡ links)) ⊥ e (Inserts links p to (Err e) after)
@@ -259,7 +239,7 @@ module _ (kind : FileKind) (order : ByteOrder) (bytes : List ℕ) where
           goes_on = subst P (sym (reverse-append places (place ∷ []))) c;
         }
 
-    pub begins_on : (before after : Walked) (d : DirectoryRecord) → Enters kind order bytes before d after → Begins kind order bytes first before → Begins kind order bytes first after
+    begins_on : (before after : Walked) (d : DirectoryRecord) → Enters kind order bytes before d after → Begins kind order bytes first before → Begins kind order bytes first after
     begins_on before after d h b =
         let P : Option ℕ → Type 0 = λ n. IsChain (link_from kind order bytes) (reverse before.places) n b.rest (chain kind order bytes first).end in
         let r = rest_on (reverse before.places) h.place d.next b.rest (chain kind order bytes first).end h.entered (subst P h.next b.goes_on) in
@@ -321,11 +301,6 @@ pub place_begun : (kind : FileKind) (order : ByteOrder) (bytes : List ℕ) (firs
     → Begins kind order bytes first walk → slice_get (chain kind order bytes first).places index ≡ slice_get walk.places index
 place_begun kind order bytes first walk index h b =
     ap (λ (ps : List ℕ). slice_get ps index) b.places ∙ front walk.places b.rest index h
-
-pub place_past : (kind : FileKind) (order : ByteOrder) (bytes : List ℕ) (first : ℕ) (walk : Walked) (end : Option TiffError) (index : ℕ) → length walk.places ≤ index
-    → Ends kind order bytes first walk end → slice_get (chain kind order bytes first).places index ≡ None
-place_past kind order bytes first walk end index h e =
-    ap (λ (c : Chain). slice_get c.places index) e ∙ slice_get_past walk.places index h
 
 -- one more place
 pub grown : (kind : FileKind) (order : ByteOrder) (bytes old : List ℕ) (before after : Walked) (found : Option DirectoryRecord) → is_some found ≡ true

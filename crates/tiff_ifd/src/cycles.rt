@@ -120,6 +120,7 @@ impl IfdCycles {
         ensures ok { IfOk result (λ new. Inserts self.old from.0 (option_map (λ p. p.0) to) (Ok new) self.new) }
         ensures err { IfErr result (λ e. IsCause (IsNew self.old from.0 (target (option_map (λ p. p.0) to)) × (self.new ≡ self.old)) ⊥ e
             (Inserts self.old from.0 (option_map (λ p. p.0) to) (Err e) self.new)) }
+        ensures stays { OnErr result (self.new ≡ self.old) }
     {
         let to = target(to);
         match self.link_of(from.0) {

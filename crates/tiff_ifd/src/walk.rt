@@ -101,7 +101,7 @@ impl Walk {
     }
 
     // Adds the next place with its link, unless that is one of the places up to and with it.
-    #[tactic(auto, using(crate::proofs::Begun::still_linked, crate::proofs::Begun::not_met, crate::proofs::Begun::links_stay, crate::proofs::Begun::why_refused))]
+    #[tactic(auto, using(crate::proofs::Begun::not_met, crate::proofs::Begun::why_refused, crate::proofs::Begun::stays_linked, crate::proofs::Begun::now_linked))]
     fn add(&mut self, place: u64, next: Option<u64>) -> TiffResult<()>
         requires at { self.old.next ≡ Some place }
         requires link { target next ≡ next }

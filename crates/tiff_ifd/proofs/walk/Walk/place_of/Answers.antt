@@ -15,9 +15,9 @@ loop-alloc-preserved g c =
       longer = grown c.args.kind c.args.order (g.R.Source.bytes c.loop-alloc.source) c.args.self.now.places c.loop-alloc.self c.enter_next.new.self c.in_ok-enter_next.field-0
           (c.is_none.ensures ∙ ap not c.if-is_none.false) c.in_ok-enter_next.ensures.ok i.longer;
       no_further = λ h.
-        (let one = one_longer c.args.kind c.args.order (g.R.Source.bytes c.loop-alloc.source) c.loop-alloc.self c.enter_next.new.self c.in_ok-enter_next.field-0
-        (c.is_none.ensures ∙ ap not c.if-is_none.false) c.in_ok-enter_next.ensures.ok in
-        omega (arith, one, c.loop-alloc-test.true, c.len.ensures));
+          (let one = one_longer c.args.kind c.args.order (g.R.Source.bytes c.loop-alloc.source) c.loop-alloc.self c.enter_next.new.self c.in_ok-enter_next.field-0
+          (c.is_none.ensures ∙ ap not c.if-is_none.false) c.in_ok-enter_next.ensures.ok in
+          omega (arith, one, c.loop-alloc-test.true, c.len.ensures));
       known = λ h. absurd (omega (arith, h, longer, both, c.loop-alloc-test.true, c.len.ensures));
       begins = λ first b.
           (let P : List ℕ → Type 0 = λ bytes. Begins c.args.kind c.args.order bytes first c.enter_next.new.self in
