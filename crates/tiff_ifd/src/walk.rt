@@ -171,7 +171,8 @@ impl Walk {
         ensures end { IfOk result (λ place. IfNone place ((first : ℕ) → Begins kind order (R.bytes source.old) first self.old
             → Ends kind order (R.bytes source.old) first self.new None)) }
         ensures cut { IfErr result (λ e. IsCause (Unit {0}) (R.failures source.old < R.failures source.new) e
-            ((first : ℕ) → Begins kind order (R.bytes source.old) first self.old → Ends kind order (R.bytes source.old) first self.new (Some e))) }
+            ((first : ℕ) → Begins kind order (R.bytes source.old) first self.old
+            → (slice_get (chain kind order (R.bytes source.old) first).places index ≡ None) × Ends kind order (R.bytes source.old) first self.new (Some e))) }
     {
         while self.len() <= index {
             if self.enter_next(alloc, source, kind, order)?.is_none() {
