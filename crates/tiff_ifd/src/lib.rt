@@ -1,6 +1,8 @@
 //! What a file's header, directories and tags say.
 #![tactic(auto)]
 
+pub mod ask;
+pub mod cycles;
 pub mod decode;
 pub mod header;
 pub mod laws;
@@ -10,3 +12,4 @@ pub mod read_value;
 pub mod tags;
 pub mod value;
 pub mod value_reader;
+pub mod walk;
