@@ -12,3 +12,4 @@ pub mod Links
 pub mod Fitted
 pub mod Ask
 pub mod Same
+pub mod Stream

@@ -8,6 +8,7 @@ pub mod laws;
 pub mod limits;
 pub mod read_bytes;
 pub mod read_value;
+pub mod stream;
 pub mod tag_reader;
 pub mod tags;
 pub mod value;
