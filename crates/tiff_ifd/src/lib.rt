@@ -9,7 +9,6 @@ pub mod limits;
 pub mod read_bytes;
 pub mod read_value;
 pub mod stream;
-pub mod tag_reader;
 pub mod tags;
 pub mod value;
 pub mod value_reader;
