@@ -3,4 +3,5 @@
 
 pub mod decoder;
 pub mod laws;
+pub mod low_level;
 pub mod script;
