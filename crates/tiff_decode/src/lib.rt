@@ -5,3 +5,4 @@ pub mod decoder;
 pub mod laws;
 pub mod low_level;
 pub mod script;
+pub mod tags;
