@@ -16,19 +16,19 @@ pub record Reading : Type 0 where
   pub place : ℕ
 
 -- the place after a read of so many bytes; a refused one leaves it
-abbrev pub place_after : {X : Type 0} → Result X TiffError → ℕ → ℕ → ℕ
-place_after (Ok x) len place = place + len
-place_after (Err e) len place = place
+abbrev pub place_behind : {X : Type 0} → Result X TiffError → ℕ → ℕ → ℕ
+place_behind (Ok x) len place = place + len
+place_behind (Err e) len place = place
 
 -- The number of this width at the place was read, and answered as this.
 pub record NumberRead {X : Type 0} (w : Width) (as_number : ℕ → X) (result : Result X TiffError) (old new : Reading) : Type 0 where
   pub answer : AnswersExactly (λ x. x) result (number_at old.order w old.bytes old.place >>= λ n. Ok (as_number n)) old.failures new.failures
-  pub stands : new ≡ record old { failures = new.failures; place = place_after result (byte_len w) old.place }
+  pub stands : new ≡ record old { failures = new.failures; place = place_behind result (byte_len w) old.place }
   pub failures : old.failures ≤ new.failures
 
 -- the floating number of these bits
-abbrev pub float_of : ℕ → Bits32
-float_of n = record { 0 = n }
+abbrev pub of_bits_32 : ℕ → Bits32
+of_bits_32 n = record { 0 = n }
 
-abbrev pub double_of : ℕ → Bits64
-double_of n = record { 0 = n }
+abbrev pub of_bits_64 : ℕ → Bits64
+of_bits_64 n = record { 0 = n }

@@ -2,7 +2,7 @@
 
 ghost use Rattle.std.specs.Prelude.{◌≡◌, Ok};
 ghost use Rattle.std.specs.Int.{w16, w32, w64, cast_signed};
-ghost use Rattle.tiff_ifd.specs.Stream.{NumberRead, double_of, float_of};
+ghost use Rattle.tiff_ifd.specs.Stream.{NumberRead, of_bits_32, of_bits_64};
 
 use std::marker::Model;
 use tiff_base::error::TiffResult;
@@ -111,14 +111,14 @@ impl<R: Source> EndianReader<R> {
 
     /// The next four bytes as a floating number.
     pub fn read_f32(&mut self) -> TiffResult<Bits32>
-        ensures { NumberRead w32 float_of result self.old self.new }
+        ensures { NumberRead w32 of_bits_32 result self.old self.new }
     {
         Ok(Bits32(self.read_u32()?))
     }
 
     /// The next eight bytes as a floating number.
     pub fn read_f64(&mut self) -> TiffResult<Bits64>
-        ensures { NumberRead w64 double_of result self.old self.new }
+        ensures { NumberRead w64 of_bits_64 result self.old self.new }
     {
         Ok(Bits64(self.read_u64()?))
     }
