@@ -13,3 +13,4 @@ pub mod Walk
 pub mod Fitted
 pub mod Ask
 pub mod Same
+pub mod Stream

@@ -9,6 +9,7 @@ pub mod laws;
 pub mod limits;
 pub mod read_bytes;
 pub mod read_value;
+pub mod stream;
 pub mod tags;
 pub mod value;
 pub mod value_reader;
