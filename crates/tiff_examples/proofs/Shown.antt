@@ -270,6 +270,11 @@ unfolding covered_image_of is_gray_strip layout_of colour_of no_colour row_bits 
     predictor_fault white_fault
 colour_told = refl
 
+pub planes_told : s.planes_told
+unfolding covered_image_of is_gray_strip layout_of colour_of no_colour row_bits sample_type_of form_fault depth_fault
+    predictor_fault white_fault
+planes_told = refl
+
 pub type_told : s.type_told
 unfolding covered_image_of is_gray_strip layout_of colour_of no_colour row_bits sample_type_of form_fault depth_fault
     predictor_fault white_fault

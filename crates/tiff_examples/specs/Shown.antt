@@ -416,11 +416,20 @@ strips_page =
 abbrev pub rgb_unread : Type 0
 rgb_unread = covered_image_of [] LittleEndian rgb_row unlimited ≡ Err stand_in
 
--- what comes before it: the layout's fault, that of the number type, ..
+-- what comes before it: the layout's fault, planes that are too long together, the number type's fault, ..
 abbrev pub colour_told : Type 0
 colour_told =
     covered_image_of [] LittleEndian (record gray_page { interpretation = meaning.ItuLab }) unlimited
     ≡ Err (UnsupportedError (InterpretationWithBits meaning.ItuLab (8 ∷ [])))
+
+abbrev pub planes_told : Type 0
+planes_told =
+    covered_image_of [] LittleEndian (record planar_row {
+      width = 4294967295;
+      height = 4294967295;
+      chunk_width = 4294967295;
+    }) unlimited
+    ≡ Err LimitsExceeded
 
 abbrev pub type_told : Type 0
 type_told =

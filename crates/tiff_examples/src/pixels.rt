@@ -40,10 +40,12 @@ pub fn forms()
 
 /// Images that this version reads, and images that it doesn't.
 pub fn covered()
-    ensures { s.covered × s.covered_cut × s.not_covered × s.packed_page × s.predicted_page × s.signed_page × s.white_page × s.planar_page × s.tile_page × s.strips_page × s.rgb_unread }
+    ensures { s.covered × s.covered_cut × s.not_covered × s.packed_page × s.predicted_page ×
+        s.signed_page × s.white_page × s.planar_page × s.tile_page × s.strips_page × s.rgb_unread }
 {}
 
 /// The faults that come before those.
 pub fn before()
-    ensures { s.colour_told × s.type_told × s.samples_told × s.samples_first × s.bytes_told × s.lzw_told × s.white_told }
+    ensures { s.colour_told × s.planes_told × s.type_told × s.samples_told × s.samples_first ×
+        s.bytes_told × s.lzw_told × s.white_told }
 {}

@@ -5,6 +5,7 @@ use Rattle.tiff_examples.proofs.pixels.before.Goals as goal
 pub returns : goal.returns
 returns c = (
   p.colour_told,
+  p.planes_told,
   p.type_told,
   p.samples_told,
   p.samples_first,
