@@ -260,10 +260,10 @@ unfolding covered_image_of is_gray_strip layout_of colour_of no_colour row_bits 
     predictor_fault white_fault
 strips_page = refl
 
-pub rgb_unread : s.rgb_unread
+pub bands_page : s.bands_page
 unfolding covered_image_of is_gray_strip layout_of colour_of no_colour row_bits sample_type_of form_fault depth_fault
     predictor_fault white_fault
-rgb_unread = refl
+bands_page = refl
 
 pub colour_told : s.colour_told
 unfolding covered_image_of is_gray_strip layout_of colour_of no_colour row_bits sample_type_of form_fault depth_fault

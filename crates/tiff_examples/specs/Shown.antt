@@ -403,7 +403,7 @@ planar_page = covered_image_of [] LittleEndian (record gray_page { planar = Plan
 abbrev pub tile_page : Type 0
 tile_page = covered_image_of [] LittleEndian (record gray_page { chunk_type = Tile }) unlimited ≡ Err stand_in
 
--- .. in two strips, of which the second has a fault, and of three samples
+-- .. in two strips, of which the second has a fault, and of two samples a pixel
 abbrev pub strips_page : Type 0
 strips_page =
     covered_image_of [] LittleEndian (record gray_page {
@@ -413,8 +413,8 @@ strips_page =
     }) (limits 99 8)
     ≡ Err stand_in
 
-abbrev pub rgb_unread : Type 0
-rgb_unread = covered_image_of [] LittleEndian rgb_row unlimited ≡ Err stand_in
+abbrev pub bands_page : Type 0
+bands_page = covered_image_of [] LittleEndian (record gray_page { samples = 2 }) unlimited ≡ Err stand_in
 
 -- what comes before it: the layout's fault, planes that are too long together, the number type's fault, ..
 abbrev pub colour_told : Type 0

@@ -41,7 +41,7 @@ pub fn forms()
 /// Images that this version reads, and images that it doesn't.
 pub fn covered()
     ensures { s.covered × s.covered_cut × s.not_covered × s.packed_page × s.predicted_page ×
-        s.signed_page × s.white_page × s.planar_page × s.tile_page × s.strips_page × s.rgb_unread }
+        s.signed_page × s.white_page × s.planar_page × s.tile_page × s.strips_page × s.bands_page }
 {}
 
 /// The faults that come before those.

@@ -14,5 +14,5 @@ returns c = (
   p.planar_page,
   p.tile_page,
   p.strips_page,
-  p.rgb_unread,
+  p.bands_page,
 )
