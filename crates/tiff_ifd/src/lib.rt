@@ -1,7 +1,6 @@
 //! What a file's header, directories and tags say.
 #![tactic(auto)]
 
-pub mod ask;
 pub mod cycles;
 pub mod decode;
 pub mod header;
