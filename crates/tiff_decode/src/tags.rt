@@ -20,11 +20,23 @@ use tiff_ifd::value::Value;
 use tiff_value::buffer::ValueBuffer;
 
 /// Reads the tags of a directory: of a decoder's page, or of another one of its file.
-#[derive(Drop)]
 pub struct IfdDecoder<'a, R: Source> {
     alloc: Global,
     pub(crate) decoder: &'a mut Decoder<R>,
     pub(crate) other: Option<&'a Directory>,
+}
+
+impl<R: Source> Drop for IfdDecoder<'_, R> {
+    // The decoder stands as the last call left it.
+    fn drop(self)
+        ensures { self.exit.1.0.now ≡ self.entry.decoder.now }
+    {
+        let IfdDecoder {
+            alloc: _,
+            decoder: _,
+            other: _,
+        } = self;
+    }
 }
 
 // The other directory, or else this one.
