@@ -7,7 +7,7 @@ use tiff_base::error::TiffResult;
 use tiff_base::tags::{ByteOrder, FileKind};
 
 // An entry of one SHORT.
-const fn short(tag: u16, n: u16) -> LaidEntry<'static> {
+fn short(tag: u16, n: u16) -> LaidEntry<'static> {
     LaidEntry {
         tag,
         field_type: 3,
@@ -17,7 +17,7 @@ const fn short(tag: u16, n: u16) -> LaidEntry<'static> {
 }
 
 // An entry of one LONG.
-const fn long(tag: u16, n: u32) -> LaidEntry<'static> {
+fn long(tag: u16, n: u32) -> LaidEntry<'static> {
     LaidEntry {
         tag,
         field_type: 4,
@@ -27,7 +27,7 @@ const fn long(tag: u16, n: u32) -> LaidEntry<'static> {
 }
 
 // An entry of one RATIONAL at a place.
-const fn rational(tag: u16, place: u32) -> LaidEntry<'static> {
+fn rational(tag: u16, place: u32) -> LaidEntry<'static> {
     LaidEntry {
         tag,
         field_type: 5,
