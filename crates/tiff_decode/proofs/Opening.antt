@@ -1,49 +1,165 @@
 -- What opening a file answers, step by step.
-use Rattle.std.specs.Prelude.{◌≡◌, ℕ, List, Result, Ok, Err}
-use Rattle.std.proofs.Common.{ap, sym, ◌∙◌}
+use Rattle.std.specs.Prelude.{◌≡◌, ℕ, List, [], ◌∷◌, Option, Some, Result, Ok, Err, length}
+use Rattle.std.specs.List.{slice_get}
+use Rattle.std.proofs.Common.{zero, suc, ap, sym, ◌∙◌, refl}
 use Rattle.tiff_base.specs.declared.error.TiffError.{TiffError}
 use Rattle.tiff_base.specs.Answers.{IsCause, ◌>>=◌}
+use Rattle.tiff_base.specs.Directory.{directory_at}
 use Rattle.tiff_base.specs.Field.{DirectoryRecord}
-use Rattle.tiff_base.specs.Header.{Header}
+use Rattle.tiff_base.specs.Header.{Header, header_at}
 use Rattle.tiff_base.proofs.Causes.{cause_along}
 use Rattle.tiff_ifd.specs.declared.limits.Limits.{Limits}
-use Rattle.tiff_ifd.specs.StandIn.{single_look}
+use Rattle.tiff_ifd.specs.Chain.{Chain, chain, walk, onto, entered, link_from, unless_met}
+use Rattle.tiff_ifd.specs.Look.{known}
 use Rattle.tiff_page.specs.Page.{PageRecord}
-use Rattle.tiff_page.specs.Image.{covered_page_of}
-use Rattle.tiff_decode.specs.Opened.{Opened, first_directory, opened}
+use Rattle.tiff_decode.specs.Machine.{Decoding}
+use Rattle.tiff_decode.specs.Outcome.{begun, chain_from, first_directory, first_state, page_in, past}
+use Rattle.tiff_decode.specs.State.{default_limits}
 
--- the rest, once the first directory is found
-rest : List ℕ → Limits → Result (Header × DirectoryRecord) TiffError → Result Opened TiffError
-rest bytes limits r =
-    r >>= λ found. covered_page_of (single_look found.0.kind found.0.order bytes limits found.1.entries) >>= λ page.
-    Ok (record { order = found.0.order; kind = found.0.kind; page = page })
+-- the first place of a chain, or why there is none
+first_of : Chain → Result ℕ TiffError
+first_of c = known (slice_get c.places 0) (past c.end)
+
+of_onto : (place : ℕ) (r : Result (Option ℕ) TiffError) (rest : Option ℕ → Chain)
+    → first_of (onto place r rest) ≡ (r >>= λ _. Ok place)
+unfolding first_of
+of_onto place (Ok after) rest = refl
+of_onto place (Err e) rest = refl
+
+of_walk : (link : ℕ → Result (Option ℕ) TiffError) (steps first : ℕ)
+    → first_of (walk link steps [] (Some first)) ≡ (entered link [] first >>= λ _. Ok first)
+unfolding first_of
+of_walk link zero first = of_onto first (entered link [] first) _
+of_walk link (suc steps) first = of_onto first (entered link [] first) _
+
+-- the first place is entered where its directory is read and isn't its own next one
+first_is : (header : Header) (bytes : List ℕ)
+    → first_of (chain_from header bytes) ≡ (entered (link_from header.kind header.order bytes) [] header.first >>= λ _. Ok header.first)
+unfolding chain first_of
+first_is header bytes = of_walk (link_from header.kind header.order bytes) (length bytes) header.first
+
+-- the rest, once the first place is known
+rest : Header → List ℕ → Result ℕ TiffError → Result (Header × ℕ × DirectoryRecord) TiffError
+rest header bytes r = r >>= λ place. directory_at header.kind header.order bytes place >>= λ directory. Ok (header, place, directory)
+
+-- the same, once the directory at the first place is known
+there : Header → List ℕ → Result DirectoryRecord TiffError → Result (Header × ℕ × DirectoryRecord) TiffError
+there header bytes r = rest header bytes ((r >>= λ d. Ok d.next) >>= unless_met (header.first ∷ []) >>= λ _. Ok header.first)
+
+with_header : (header : Header) (bytes : List ℕ) → header_at bytes ≡ Ok header
+    → first_directory bytes ≡ there header bytes (directory_at header.kind header.order bytes header.first)
+unfolding first_directory rest there first_of
+with_header header bytes h =
+    ap (λ (r : Result Header TiffError). r >>= λ x. rest x bytes (first_of (chain_from x bytes))) h
+    ∙ ap (rest header bytes) (first_is header bytes)
+
+pub headless : (failed : Type 0) (bytes : List ℕ) (e : TiffError) → IsCause ⊥ failed e (header_at bytes ≡ Err e)
+    → IsCause (Unit {0}) failed e (first_directory bytes ≡ Err e)
+unfolding first_directory rest there first_of
+headless failed bytes e c =
+    cause_along e (λ u. absurd u) (λ f. f)
+    (λ h. ap (λ (r : Result Header TiffError). r >>= λ x. rest x bytes (first_of (chain_from x bytes))) h) c
+
+-- the first directory can't be read, from bytes that tell the same
+pub unread : (failed failed' : Type 0) (bytes told : List ℕ) (header : Header) (e : TiffError) → (failed → failed') → told ≡ bytes
+    → header_at bytes ≡ Ok header
+    → IsCause (Unit {0}) failed e (directory_at header.kind header.order told header.first ≡ Err e)
+    → IsCause (Unit {0}) failed' e (first_directory bytes ≡ Err e)
+unfolding rest there
+unread failed failed' bytes told header e f same h c =
+    cause_along e (λ u. u) f
+    (λ d. with_header header bytes h
+    ∙ ap (there header bytes) (ap (λ (b : List ℕ). directory_at header.kind header.order b header.first) (sym same) ∙ d))
+    c
+
+-- it is its own next one
+pub closed : (failed : Type 0) (bytes told : List ℕ) (header : Header) (d : DirectoryRecord) (e : TiffError) → told ≡ bytes
+    → header_at bytes ≡ Ok header → directory_at header.kind header.order told header.first ≡ Ok d
+    → IsCause ⊥ ⊥ e (unless_met (header.first ∷ []) d.next ≡ Err e)
+    → IsCause (Unit {0}) failed e (first_directory bytes ≡ Err e)
+unfolding rest there
+closed failed bytes told header d e same h found c =
+    cause_along e (λ u. absurd u) (λ f. absurd f)
+    (λ met. with_header header bytes h
+    ∙ ap (there header bytes) (ap (λ (b : List ℕ). directory_at header.kind header.order b header.first) (sym same) ∙ found)
+    ∙ ap (λ (r : Result (Option ℕ) TiffError). rest header bytes (r >>= λ _. Ok header.first)) met)
+    c
+
+-- it is entered
+pub first_found : (bytes told : List ℕ) (header : Header) (d : DirectoryRecord) (after : Option ℕ) → told ≡ bytes
+    → header_at bytes ≡ Ok header → directory_at header.kind header.order told header.first ≡ Ok d
+    → unless_met (header.first ∷ []) d.next ≡ Ok after
+    → first_directory bytes ≡ Ok (header, header.first, d)
+unfolding rest there
+first_found bytes told header d after same h found c =
+    let there_is = ap (λ (b : List ℕ). directory_at header.kind header.order b header.first) (sym same) ∙ found in
+    with_header header bytes h ∙ ap (there header bytes) there_is
+    ∙ ap (λ (r : Result (Option ℕ) TiffError). rest header bytes (r >>= λ _. Ok header.first)) c
+    ∙ ap (λ (r : Result DirectoryRecord TiffError). r >>= λ directory. Ok (header, header.first, directory)) there_is
+
+-- ---- the first page
+
+-- the decoder, once its first directory is known
+page_then : List ℕ → ℕ → Result (Header × ℕ × DirectoryRecord) TiffError → Result Decoding TiffError
+page_then bytes failures r =
+    r >>= λ found. page_in found.0.kind found.0.order bytes default_limits found.2 >>= λ page.
+    Ok (record {
+      bytes = bytes;
+      kind = found.0.kind;
+      order = found.0.order;
+      first = found.0.first;
+      failures = failures;
+      state = first_state found.0.kind found.1 found.2 page;
+    })
 
 -- no first directory
-pub opened_unread : (failed failed' : Type 0) (bytes : List ℕ) (limits : Limits) (e : TiffError) → (failed → failed')
-    → IsCause (Unit {0}) failed e (first_directory bytes ≡ Err e) → IsCause (Unit {0}) failed' e (opened bytes limits ≡ Err e)
-unfolding opened rest
-opened_unread failed failed' bytes limits e f c = cause_along e (λ u. u) f (λ h. ap (rest bytes limits) h) c
+pub begun_unread : (failed failed' : Type 0) (bytes : List ℕ) (failures : ℕ) (e : TiffError) → (failed → failed')
+    → IsCause (Unit {0}) failed e (first_directory bytes ≡ Err e) → IsCause (Unit {0}) failed' e (begun bytes failures ≡ Err e)
+unfolding begun page_then
+begun_unread failed failed' bytes failures e f c = cause_along e (λ u. u) f (λ h. ap (page_then bytes failures) h) c
 
 -- a first directory that is no page, where its tags were read with these bytes and limits
-pub opened_unpaged : (failed failed' : Type 0) (bytes there : List ℕ) (limits set : Limits) (header : Header) (directory : DirectoryRecord) (e : TiffError) → (failed → failed')
-    → there ≡ bytes → set ≡ limits → first_directory bytes ≡ Ok (header, directory)
-    → IsCause (Unit {0}) failed e (covered_page_of (single_look header.kind header.order there set directory.entries) ≡ Err e)
-    → IsCause (Unit {0}) failed' e (opened bytes limits ≡ Err e)
-unfolding opened rest
-opened_unpaged failed failed' bytes there limits set header directory e f same given found c =
+pub begun_unpaged : (failed failed' : Type 0) (bytes told : List ℕ) (limits : Limits) (failures : ℕ) (header : Header) (place : ℕ) (directory : DirectoryRecord) (e : TiffError)
+    → (failed → failed')
+    → told ≡ bytes → limits ≡ default_limits → first_directory bytes ≡ Ok (header, place, directory)
+    → IsCause (Unit {0}) failed e (page_in header.kind header.order told limits directory ≡ Err e)
+    → IsCause (Unit {0}) failed' e (begun bytes failures ≡ Err e)
+unfolding begun page_then
+begun_unpaged failed failed' bytes told limits failures header place directory e f same given found c =
     cause_along e (λ u. u) f
-    (λ h. ap (rest bytes limits) found
-    ∙ ap (λ (r : Result PageRecord TiffError). r >>= λ page. Ok (record { order = header.order; kind = header.kind; page = page }))
-    ((λ i. covered_page_of (single_look header.kind header.order (sym same i) (sym given i) directory.entries)) ∙ h))
+    (λ h. ap (page_then bytes failures) found
+    ∙ ap (λ (r : Result PageRecord TiffError). r >>= λ page. Ok (record {
+      bytes = bytes;
+      kind = header.kind;
+      order = header.order;
+      first = header.first;
+      failures = failures;
+      state = first_state header.kind place directory page;
+    }))
+    ((λ i. page_in header.kind header.order (sym same i) (sym given i) directory) ∙ h))
     c
 
 -- a first page
-pub opened_page : (bytes there : List ℕ) (limits set : Limits) (header : Header) (directory : DirectoryRecord) (page : PageRecord)
-    → there ≡ bytes → set ≡ limits → first_directory bytes ≡ Ok (header, directory)
-    → covered_page_of (single_look header.kind header.order there set directory.entries) ≡ Ok page
-    → opened bytes limits ≡ Ok (record { order = header.order; kind = header.kind; page = page })
-unfolding opened rest
-opened_page bytes there limits set header directory page same given found h =
-    ap (rest bytes limits) found
-    ∙ ap (λ (r : Result PageRecord TiffError). r >>= λ page. Ok (record { order = header.order; kind = header.kind; page = page }))
-    ((λ i. covered_page_of (single_look header.kind header.order (sym same i) (sym given i) directory.entries)) ∙ h)
+pub begun_page : (bytes told : List ℕ) (limits : Limits) (failures : ℕ) (header : Header) (place : ℕ) (directory : DirectoryRecord) (page : PageRecord)
+    → told ≡ bytes → limits ≡ default_limits → first_directory bytes ≡ Ok (header, place, directory)
+    → page_in header.kind header.order told limits directory ≡ Ok page
+    → begun bytes failures ≡ Ok (record {
+      bytes = bytes;
+      kind = header.kind;
+      order = header.order;
+      first = header.first;
+      failures = failures;
+      state = first_state header.kind place directory page;
+    })
+unfolding begun page_then
+begun_page bytes told limits failures header place directory page same given found h =
+    ap (page_then bytes failures) found
+    ∙ ap (λ (r : Result PageRecord TiffError). r >>= λ page. Ok (record {
+      bytes = bytes;
+      kind = header.kind;
+      order = header.order;
+      first = header.first;
+      failures = failures;
+      state = first_state header.kind place directory page;
+    }))
+    ((λ i. page_in header.kind header.order (sym same i) (sym given i) directory) ∙ h)

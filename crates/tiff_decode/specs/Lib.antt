@@ -1,4 +1,3 @@
-pub mod Opened
 pub mod State
 pub mod Result
 pub mod Machine

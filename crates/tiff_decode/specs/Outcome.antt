@@ -36,7 +36,7 @@ use Rattle.tiff_page.specs.Layout.{colour_of}
 use Rattle.tiff_page.specs.Counts as counts
 use Rattle.tiff_page.specs.Rect as rects
 use Rattle.tiff_page.specs.Buffers as layouts
-use Rattle.tiff_page.specs.Image.{Decoded, image_of}
+use Rattle.tiff_page.specs.Image.{Decoded, image_of, covered_image_of}
 use Rattle.tiff_page.specs.PixelCalls as pixels
 use Rattle.tiff_decode.specs.State.{default_limits}
 use Rattle.tiff_decode.specs.Machine.{State, Decoding, Outcome, stays}
@@ -68,28 +68,38 @@ abbrev pub header_end : FileKind → ℕ
 header_end Classic = 8
 header_end Big = 16
 
--- the decoder of a file, at its first page under the limits by default, where so many reads failed; or the first fault: of the
--- header, of the chain, where no directory is in it, of the page
-unfoldable pub begun : List ℕ → ℕ → Result Decoding TiffError
-begun bytes failures = do
+-- the header, and the first directory of the chain with its place; or the first fault: of the header, of the chain where no
+-- directory is in it
+unfoldable pub first_directory : List ℕ → Result (Header × ℕ × DirectoryRecord) TiffError
+first_directory bytes = do
   header ← header_at bytes
   place ← known (slice_get (chain_from header bytes).places 0) (past (chain_from header bytes).end)
   directory ← directory_at header.kind header.order bytes place
-  page ← page_in header.kind header.order bytes default_limits directory
+  Ok (header, place, directory)
+
+-- where a decoder begins: at the first directory and its page, behind the header, under the limits by default
+abbrev pub first_state : FileKind → ℕ → DirectoryRecord → PageRecord → State
+first_state kind place directory page = record {
+  pointer = Some (record { 0 = place });
+  more = is_some directory.next;
+  page = page;
+  directory = directory;
+  place = header_end kind;
+  limits = default_limits;
+}
+
+-- the decoder of a file, at its first page, where so many reads failed; or the first fault
+unfoldable pub begun : List ℕ → ℕ → Result Decoding TiffError
+begun bytes failures = do
+  found ← first_directory bytes
+  page ← page_in found.0.kind found.0.order bytes default_limits found.2
   Ok (record {
     bytes = bytes;
-    kind = header.kind;
-    order = header.order;
-    first = header.first;
+    kind = found.0.kind;
+    order = found.0.order;
+    first = found.0.first;
     failures = failures;
-    state = record {
-      pointer = Some (record { 0 = place });
-      more = is_some directory.next;
-      page = page;
-      directory = directory;
-      place = header_end header.kind;
-      limits = default_limits;
-    };
+    state = first_state found.0.kind found.1 found.2 page;
   })
 
 -- the page of a directory that was entered, or its fault, which leaves the former page
@@ -265,6 +275,10 @@ image_coding_unit_layout d unit = stays d (layouts.image_coding_unit_layout d.st
 
 unfoldable pub read_image : Decoding → Outcome Decoded
 read_image d = stays d (image_of d.bytes d.order d.state.page d.state.limits)
+
+-- the same, as far as this version reads images
+unfoldable pub covered_image : Decoding → Outcome Decoded
+covered_image d = stays d (covered_image_of d.bytes d.order d.state.page d.state.limits)
 
 unfoldable pub read_image_to_buffer : Decoding → Outcome (BufferLayoutPreference × Decoded)
 read_image_to_buffer d = stays d (pixels.read_image_to_buffer d.bytes d.order d.state.page d.state.limits)

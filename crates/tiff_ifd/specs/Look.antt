@@ -9,7 +9,7 @@ use Rattle.tiff_base.specs.declared.tags.ByteOrder.{ByteOrder}
 use Rattle.tiff_base.specs.declared.tags.FileKind.{FileKind}
 use Rattle.tiff_base.specs.declared.tags.Tag.{Tag}
 use Rattle.tiff_base.specs.Answers.{◌>>=◌}
-use Rattle.tiff_base.specs.Field.{Field}
+use Rattle.tiff_base.specs.Field.{Field, DirectoryRecord}
 use Rattle.tiff_base.specs.Tags.{tag_number}
 use Rattle.tiff_ifd.specs.declared.limits.Limits.{Limits}
 use Rattle.tiff_ifd.specs.Datum.{Datum}
@@ -20,12 +20,15 @@ pub record Look : Type 0 where
   pub has : Tag → Bool
   pub value : Tag → Result (Option Datum) TiffError
 
--- what tags tell: the look-up, and the bytes, the kind and the byte order of the file that they are of
+-- what tags tell: the look-up, and the bytes, the kind and the byte order of the file, the directory and the limits that it
+-- is of
 pub record Told : Type 0 where
   pub look : Look
   pub bytes : List ℕ
   pub kind : FileKind
   pub order : ByteOrder
+  pub directory : DirectoryRecord
+  pub limits : Limits
 
 -- the value of a field, where there is one
 abbrev pub value_if : (Field → Result Datum TiffError) → Option Field → Result (Option Datum) TiffError

@@ -8,7 +8,6 @@ pub mod laws;
 pub mod limits;
 pub mod read_bytes;
 pub mod read_value;
-pub mod tag_reader;
 pub mod tags;
 pub mod value;
 pub mod value_reader;

@@ -31,6 +31,8 @@ impl<R: Source> Tags for ValueReader<R> {
       bytes = R.bytes t.source;
       kind = t.kind;
       order = t.order;
+      directory = t.directory;
+      limits = t.limits;
     } };
 
     ghost failures = { λ t. R.failures t.source };

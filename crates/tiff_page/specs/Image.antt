@@ -1,5 +1,5 @@
 -- What reading an image answers.
-use Rattle.std.specs.Prelude.{ℕ, ◌*◌, List, Result, Ok, ◌&&◌, ◌==◌, Bool, true, false, nat_le, not}
+use Rattle.std.specs.Prelude.{ℕ, ◌*◌, List, Result, Ok, Err, ◌&&◌, ◌==◌, Bool, true, false, nat_le, if◌then◌else◌}
 use Rattle.tiff_base.specs.declared.color.ChunkType.{ChunkType}
 use Rattle.tiff_base.specs.declared.color.ChunkType.TheVariants.{Strip}
 use Rattle.tiff_base.specs.declared.color.ColorType.{ColorType}
@@ -17,14 +17,12 @@ use Rattle.tiff_base.specs.declared.tags.SampleFormat.{SampleFormat}
 use Rattle.tiff_base.specs.declared.tags.SampleFormat.TheVariants as format
 use Rattle.tiff_base.specs.Answers.{◌>>=◌}
 use Rattle.tiff_ifd.specs.declared.limits.Limits.{Limits}
-use Rattle.tiff_ifd.specs.Look.{Look}
 use Rattle.tiff_ifd.specs.StandIn.{stand_in}
 use Rattle.tiff_page.specs.declared.layout.DecodingSampleType.{DecodingSampleType}
 use Rattle.tiff_page.specs.Page.{PageRecord}
-use Rattle.tiff_page.specs.Checks.{page_of}
 use Rattle.tiff_page.specs.Rect.{chunks_of_plane}
 use Rattle.tiff_page.specs.Layout.{layout_of, planes, wide, sample_type_of, size_of}
-use Rattle.tiff_page.specs.PixelFault.{unless, samples_fault, each_below, chunk_fault}
+use Rattle.tiff_page.specs.PixelFault.{samples_fault, each_below, form_fault, chunk_fault}
 use Rattle.tiff_page.specs.Pixels.{is_short, image_bytes, numbers_in}
 
 -- decoded samples: their number type, and the bits of each
@@ -92,9 +90,17 @@ is_one_strip p = is_strip p.chunk_type && (p.chunk_width == p.width && nat_le p.
 unfoldable pub is_gray_strip : PageRecord → Bool
 is_gray_strip p = is_gray_8 p && (is_as_it_stands p && is_one_strip p)
 
--- the page that the tags tell, where this version reads it: the first fault of the page comes before the stand-in
-unfoldable pub covered_page_of : Look → Result PageRecord TiffError
-covered_page_of look = do
-  page ← page_of look
-  _ ← unless (not (is_gray_strip page)) stand_in
-  Ok page
+-- what is answered of the image of another page: the first fault that comes before the data of its first chunk, else the
+-- stand-in
+abbrev pub unread : PageRecord → Limits → Result Decoded TiffError
+unread p limits = do
+  layout ← layout_of p p.width p.height
+  _ ← wide (layout.plane_stride * planes p.planar layout.colour)
+  type ← sample_type_of p
+  _ ← samples_fault limits (size_of type) layout.plane_stride
+  _ ← form_fault p limits layout.colour 0
+  Err stand_in
+
+-- the samples of a page's image, as far as this version reads them
+unfoldable pub covered_image_of : List ℕ → ByteOrder → PageRecord → Limits → Result Decoded TiffError
+covered_image_of file order p limits = if is_gray_strip p then image_of file order p limits else unread p limits

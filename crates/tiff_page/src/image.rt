@@ -1,12 +1,11 @@
 //! The image of a page.
 
-ghost use Rattle.std.specs.Prelude.{◌≡◌, ◌*◌, true, IfOk};
-ghost use Rattle.tiff_base.specs.Answers.{Answers, IsKept};
+ghost use Rattle.std.specs.Prelude.{◌≡◌, ◌*◌, true};
+ghost use Rattle.tiff_base.specs.Answers.{Answers, AnswersHere, IsKept};
 ghost use Rattle.tiff_base.specs.declared.color.ColorType.TheVariants.{Gray};
-ghost use Rattle.tiff_page.specs.Image.{is_gray_8, is_as_it_stands, is_one_strip, is_gray_strip, chunks_read, image_of, covered_page_of};
+ghost use Rattle.tiff_page.specs.Image.{is_gray_8, is_as_it_stands, is_one_strip, is_gray_strip, chunks_read, image_of, unread, covered_image_of};
 ghost use Rattle.tiff_page.specs.View as view;
 
-use crate::checks::read_page;
 use crate::faults::{form_fault, samples_fault};
 use crate::layout::{DecodingSampleType, layout_of, planes, sample_type_of, size_of, wide_product};
 use crate::page::Page;
@@ -20,7 +19,6 @@ use tiff_base::tags::{
     SampleFormat,
 };
 use tiff_ifd::limits::Limits;
-use tiff_ifd::tags::Tags;
 
 fn is_gray_8(page: &Page) -> bool
     ensures { result ≡ is_gray_8 (view.page page.now) }
@@ -106,17 +104,34 @@ pub fn read_gray_strip<R: Source>(
     read_strip(alloc, source, order, page, limits, layout.plane_stride)
 }
 
-/// The page that the tags tell, where this version reads it: else the first fault of the page, and where there is none
-/// `UnsupportedDataType`.
-#[tactic(auto, unfolding(crate::specs::Image::covered_page_of))]
-pub fn read_covered_page<T: Tags>(tags: &mut T, alloc: Global) -> TiffResult<Page>
-    ensures kept { IsKept T.told T.failures tags.old tags.new }
-    ensures answer { Answers view.page result (covered_page_of (T.told tags.old).look) (T.failures tags.old) (T.failures tags.new) }
-    ensures gray { IfOk result (λ p. is_gray_strip (view.page p) ≡ true) }
+// The first fault of the image of a page that this version doesn't read, or the stand-in.
+fn unread_fault(page: &Page, alloc: Global, limits: &Limits) -> TiffResult<Vec<u8>>
+    ensures { AnswersHere (λ v. record { sample_type = DecodingSampleType.U8; numbers = v.items }) result (unread (view.page page.now) limits.now) }
 {
-    let page = read_page(tags, alloc)?;
-    if !is_gray_strip(&page) {
-        return Err(TiffUnsupportedError::UnsupportedDataType.into());
+    let layout = layout_of(page, alloc, page.width, page.height)?;
+    let bytes = layout.plane_stride;
+    wide_product(bytes, usize::from(planes(page, layout.colour)))?;
+    let sample_type = sample_type_of(page, alloc)?;
+    samples_fault(limits, size_of(sample_type), bytes)?;
+    form_fault(page, limits, layout.colour, 0)?;
+    Err(TiffUnsupportedError::UnsupportedDataType.into())
+}
+
+/// The samples of the image of a page, or the first fault. This version reads those of one gray strip; of any other the first
+/// fault that comes before the data of its first chunk is answered, and where there is none `UnsupportedDataType`.
+#[tactic(auto, unfolding(crate::specs::Image::covered_image_of))]
+pub fn read_covered_image<R: Source>(
+    alloc: Global,
+    source: &mut R,
+    order: ByteOrder,
+    page: &Page,
+    limits: &Limits,
+) -> TiffResult<Vec<u8>>
+    ensures kept { IsKept R.bytes R.failures source.old source.new }
+    ensures answer { Answers (λ v. record { sample_type = DecodingSampleType.U8; numbers = v.items }) result (covered_image_of (R.bytes source.old) order (view.page page.now) limits.now) (R.failures source.old) (R.failures source.new) }
+{
+    if !is_gray_strip(page) {
+        return unread_fault(page, alloc, limits);
     }
-    Ok(page)
+    read_gray_strip(alloc, source, order, page, limits)
 }
