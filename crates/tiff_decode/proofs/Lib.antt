@@ -1,2 +1,3 @@
 pub mod Opening
 mod Once
+pub mod Required

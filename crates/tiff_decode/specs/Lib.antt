@@ -6,3 +6,4 @@ pub mod Failures
 pub mod Step
 pub mod Steps
 pub mod Once
+pub mod Reader

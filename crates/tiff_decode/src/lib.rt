@@ -4,3 +4,4 @@
 pub mod decoder;
 pub mod laws;
 pub mod script;
+pub mod tags;

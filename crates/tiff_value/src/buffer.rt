@@ -38,6 +38,17 @@ impl ValueBuffer {
         }
     }
 
+    /// The values of a type that these bytes are, in an order (this project's).
+    pub fn from_parts(order: ByteOrder, data_type: Type, bytes: Vec<u8>) -> Self
+        ensures { result ≡ record { order = order; data_type = data_type; bytes = bytes.items } }
+    {
+        ValueBuffer {
+            order,
+            data_type,
+            bytes,
+        }
+    }
+
     /// The order of the bytes of each number.
     pub fn byte_order(&self) -> ByteOrder
         ensures { result ≡ self.now.order }

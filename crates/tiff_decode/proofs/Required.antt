@@ -1,0 +1,36 @@
+-- A required tag's value, and what is made of it.
+use Rattle.std.specs.Prelude.{◌≡◌, Option, None, Some, Result, Ok, Err}
+use Rattle.std.proofs.Common.{refl, ap, sym, ◌∙◌}
+use Rattle.tiff_base.specs.declared.error.TiffError.{TiffError}
+use Rattle.tiff_base.specs.declared.error.TiffError.TheVariants.{FormatError}
+use Rattle.tiff_base.specs.declared.error.TiffFormatError.TheVariants.{RequiredTagNotFound}
+use Rattle.tiff_base.specs.declared.tags.Tag.{Tag}
+use Rattle.tiff_base.specs.Answers.{IsCause, ◌>>=◌}
+use Rattle.tiff_base.proofs.Causes.{cause_along}
+use Rattle.tiff_ifd.specs.Datum.{Datum}
+use Rattle.tiff_ifd.specs.Look.{Look, converted, find, known, require}
+
+-- a number that is there is the number
+there : {A : Type 0} (fault : TiffError) (x : Result A TiffError) → ((x >>= λ y. Ok (Some y)) >>= λ found. known found fault) ≡ x
+there fault (Ok y) = refl
+there fault (Err e) = refl
+
+-- a conversion of a required value is what the value converts to
+by_value : {A : Type 0} (into : Datum → Result A TiffError) (fault : TiffError) (r : Result (Option Datum) TiffError)
+    → ((r >>= converted into) >>= λ found. known found fault)
+    ≡ (((r >>= converted (λ d. Ok d)) >>= λ found. known found fault) >>= into)
+by_value into fault (Err e) = refl
+by_value into fault (Ok None) = refl
+by_value into fault (Ok (Some d)) = there fault (into d)
+
+pub required_by : {A : Type 0} (into : Datum → Result A TiffError) (look : Look) (tag : Tag)
+    → require into look tag ≡ (require (λ d. Ok d) look tag >>= into)
+unfolding require find
+required_by into look tag = by_value into (FormatError (RequiredTagNotFound tag)) (look.value tag)
+
+-- a required value that isn't found isn't converted
+pub unconverted : {A : Type 0} (wanting failed : Type 0) (into : Datum → Result A TiffError) (look : Look) (tag : Tag) (e : TiffError)
+    → IsCause wanting failed e (require (λ d. Ok d) look tag ≡ Err e)
+    → IsCause wanting failed e (require into look tag ≡ Err e)
+unconverted wanting failed into look tag e c =
+    cause_along e (λ w. w) (λ f. f) (λ h. required_by into look tag ∙ ap (λ r. r >>= into) h) c

@@ -1,0 +1,456 @@
+//! The tags of a decoder's page, and of other directories.
+
+ghost use Rattle.std.specs.Prelude.{◌≡◌, None, Some, map, option_map, string_bytes};
+ghost use Rattle.tiff_base.specs.Answers.{Answers};
+ghost use Rattle.tiff_ifd.specs.View.{datum};
+ghost use Rattle.tiff_decode.specs.Outcome as outcome;
+ghost use Rattle.tiff_decode.specs.Reader.{chosen, reading, IsHeld, TagsRead};
+ghost use Rattle.tiff_decode.specs.Step.{bits_32, bits_64, BufferLeft};
+
+use crate::decoder::Decoder;
+use std::alloc::Global;
+use tiff_base::directory::{Directory, Entry};
+use tiff_base::error::{TiffError, TiffFormatError, TiffResult};
+use tiff_base::io::Source;
+use tiff_base::tags::{Bits32, Bits64, Tag};
+use tiff_ifd::read_bytes::{read_field_bytes, read_part};
+use tiff_ifd::read_value::find_value;
+use tiff_ifd::value::Value;
+use tiff_value::buffer::ValueBuffer;
+
+/// Reads the tags of a directory: of a decoder's page, or of another one of its file.
+#[derive(Drop)]
+pub struct IfdDecoder<'a, R: Source> {
+    alloc: Global,
+    pub(crate) decoder: &'a mut Decoder<R>,
+    pub(crate) other: Option<&'a Directory>,
+}
+
+// The other directory, or else this one.
+fn chosen<'x>(own: &'x Directory, other: Option<&'x Directory>) -> &'x Directory
+    ensures { result.now ≡ chosen own.now (option_map (λ d. d.now) other.entry) }
+{
+    match other {
+        None => own,
+        Some(other) => other,
+    }
+}
+
+impl<R: Source> Decoder<R> {
+    /// The tags of the page's directory.
+    pub fn image_ifd(&mut self) -> IfdDecoder<'_, R>
+        ensures same_reference { result.decoder.ghost_name ≡ self.entry.ghost_name }
+        ensures decoder { result.decoder.now ≡ self.old }
+        ensures other { result.other ≡ None }
+    {
+        let alloc = self.alloc;
+        IfdDecoder {
+            alloc,
+            decoder: self,
+            other: None,
+        }
+    }
+
+    /// The tags of another directory of the file.
+    pub fn read_directory_tags<'a>(&'a mut self, directory: &'a Directory) -> IfdDecoder<'a, R>
+        ensures same_reference { result.decoder.ghost_name ≡ self.entry.ghost_name }
+        ensures decoder { result.decoder.now ≡ self.old }
+        ensures other { option_map (λ d. d.now) result.other ≡ Some directory.now }
+    {
+        let alloc = self.alloc;
+        IfdDecoder {
+            alloc,
+            decoder: self,
+            other: Some(directory),
+        }
+    }
+
+    // The value of a tag of the page's directory, or of another one.
+    #[tactic(auto, unfolding(crate::specs::Outcome::find_tag, tiff_ifd::specs::Look::look_in))]
+    fn value_in(&mut self, other: Option<&Directory>, tag: Tag) -> TiffResult<Option<Value>>
+        ensures { TagsRead (option_map datum) (outcome.find_tag (reading self.old (option_map (λ d. d.now) other.entry)) tag) result self.old self.new }
+    {
+        let tags = &mut self.tags;
+        let directory = chosen(&tags.directory, other);
+        find_value(
+            self.alloc,
+            &mut tags.source,
+            tags.kind,
+            tags.order,
+            &tags.limits,
+            directory,
+            tag,
+        )
+    }
+
+    // The page's directory, or another one.
+    fn directory_of<'x>(&'x self, other: Option<&'x Directory>) -> &'x Directory
+        ensures { result.now ≡ chosen self.now.state.directory (option_map (λ d. d.now) other.entry) }
+    {
+        chosen(&self.tags.directory, other)
+    }
+
+    // The field of a tag of the page's directory, or of another one.
+    #[tactic(auto, unfolding(crate::specs::Outcome::find_entry))]
+    fn entry_in(&self, other: Option<&Directory>, tag: Tag) -> Option<Entry>
+        ensures { result ≡ outcome.find_entry (reading self.now (option_map (λ d. d.now) other.entry)) tag }
+    {
+        match chosen(&self.tags.directory, other).get(tag) {
+            None => None,
+            Some(entry) => Some(Entry::new_u64(entry.field_type(), entry.count(), entry.value())),
+        }
+    }
+
+    // A field and its bytes, of the page's directory or of another one.
+    #[tactic(auto, unfolding(crate::specs::Outcome::find_tag_buf))]
+    fn buf_in(
+        &mut self,
+        other: Option<&Directory>,
+        tag: Tag,
+        buf: &mut ValueBuffer,
+    ) -> TiffResult<Option<Entry>>
+        ensures read { TagsRead (λ e. (e, buf.new)) (outcome.find_tag_buf (reading self.old (option_map (λ d. d.now) other.entry)) tag buf.old) result self.old self.new }
+        ensures left { BufferLeft self.old.order (outcome.find_entry (reading self.old (option_map (λ d. d.now) other.entry)) tag) buf.old result buf.new }
+    {
+        let Some(entry) = self.entry_in(other, tag) else {
+            return Ok(None);
+        };
+        let alloc = self.alloc;
+        let tags = &mut self.tags;
+        match read_field_bytes(
+            alloc,
+            &mut tags.source,
+            tags.kind,
+            tags.order,
+            &tags.limits,
+            &entry,
+        ) {
+            Ok(bytes) => {
+                *buf = ValueBuffer::from_parts(tags.order, entry.field_type(), bytes);
+                return Ok(Some(entry));
+            }
+            Err(TiffError::LimitsExceeded) => return Err(TiffError::LimitsExceeded),
+            Err(fault) => {
+                *buf = ValueBuffer::from_parts(tags.order, entry.field_type(), Vec::new(alloc));
+                return Err(fault);
+            }
+        }
+    }
+
+    // The bytes of a field from one on, of the page's directory or of another one.
+    #[tactic(auto, unfolding(crate::specs::Outcome::find_tag_bytes))]
+    fn bytes_in(
+        &mut self,
+        other: Option<&Directory>,
+        tag: Tag,
+        buf: &mut [u8],
+        at: u64,
+    ) -> TiffResult<Option<usize>>
+        ensures { TagsRead (λ n. (n, buf.new)) (outcome.find_tag_bytes (reading self.old (option_map (λ d. d.now) other.entry)) tag buf.old at) result self.old self.new }
+    {
+        let Some(entry) = self.entry_in(other, tag) else {
+            return Ok(None);
+        };
+        let tags = &mut self.tags;
+        match read_part(&mut tags.source, tags.kind, tags.order, &entry, at, buf) {
+            Ok(n) => return Ok(Some(n)),
+            Err(fault) => return Err(fault),
+        }
+    }
+
+    /// The value of a tag of the page, if there is the tag. A list of more values than `decoding_buffer_size / 32`, a text of
+    /// more bytes than `decoding_buffer_size`, and values of 2^64 bytes or more: `LimitsExceeded`; values past the end of the
+    /// source: `IoError(UnexpectedEof)`; a text that isn't one: `InvalidTag`.
+    pub fn find_tag(&mut self, tag: Tag) -> TiffResult<Option<Value>>
+        ensures { TagsRead (option_map datum) (outcome.find_tag self.old tag) result self.old self.new }
+    {
+        self.value_in(None, tag)
+    }
+
+    /// The value of a required tag of the page. No such tag: `RequiredTagNotFound`; then the faults of `find_tag`.
+    #[tactic(auto, unfolding(crate::specs::Outcome::get_tag, crate::specs::Outcome::find_tag, tiff_ifd::specs::Look::require, tiff_ifd::specs::Look::find))]
+    pub fn get_tag(&mut self, tag: Tag) -> TiffResult<Value>
+        ensures { TagsRead datum (outcome.get_tag self.old tag) result self.old self.new }
+    {
+        match self.find_tag(tag)? {
+            None => Err(TiffFormatError::RequiredTagNotFound(tag).into()),
+            Some(value) => Ok(value),
+        }
+    }
+
+    /// A required tag's number, below 2^32. No such tag: `RequiredTagNotFound`; then the faults of `find_tag` and of `Value::into_u32`.
+    #[tactic(auto, using(crate::proofs::Required::unconverted, crate::proofs::Required::required_by), unfolding(crate::specs::Outcome::get_tag_u32, crate::specs::Outcome::get_tag))]
+    pub fn get_tag_u32(&mut self, tag: Tag) -> TiffResult<u32>
+        ensures { TagsRead (λ n. n) (outcome.get_tag_u32 self.old tag) result self.old self.new }
+    {
+        self.get_tag(tag)?.into_u32()
+    }
+
+    /// A required tag's number, below 2^64. No such tag: `RequiredTagNotFound`; then the faults of `find_tag` and of `Value::into_u64`.
+    #[tactic(auto, using(crate::proofs::Required::unconverted, crate::proofs::Required::required_by), unfolding(crate::specs::Outcome::get_tag_u64, crate::specs::Outcome::get_tag))]
+    pub fn get_tag_u64(&mut self, tag: Tag) -> TiffResult<u64>
+        ensures { TagsRead (λ n. n) (outcome.get_tag_u64 self.old tag) result self.old self.new }
+    {
+        self.get_tag(tag)?.into_u64()
+    }
+
+    /// The bits of a required tag's floating number of 4 bytes. No such tag: `RequiredTagNotFound`; then the faults of `find_tag` and of `Value::into_f32`.
+    #[tactic(auto, using(crate::proofs::Required::unconverted, crate::proofs::Required::required_by), unfolding(crate::specs::Outcome::get_tag_f32, crate::specs::Outcome::get_tag))]
+    pub fn get_tag_f32(&mut self, tag: Tag) -> TiffResult<Bits32>
+        ensures { TagsRead (bits_32) (outcome.get_tag_f32 self.old tag) result self.old self.new }
+    {
+        self.get_tag(tag)?.into_f32()
+    }
+
+    /// The bits of a required tag's floating number of 8 bytes. No such tag: `RequiredTagNotFound`; then the faults of `find_tag` and of `Value::into_f64`.
+    #[tactic(auto, using(crate::proofs::Required::unconverted, crate::proofs::Required::required_by), unfolding(crate::specs::Outcome::get_tag_f64, crate::specs::Outcome::get_tag))]
+    pub fn get_tag_f64(&mut self, tag: Tag) -> TiffResult<Bits64>
+        ensures { TagsRead (bits_64) (outcome.get_tag_f64 self.old tag) result self.old self.new }
+    {
+        self.get_tag(tag)?.into_f64()
+    }
+
+    /// A required tag's numbers, below 2^32. No such tag: `RequiredTagNotFound`; then the faults of `find_tag` and of `Value::into_u32_vec`.
+    #[tactic(auto, using(crate::proofs::Required::unconverted, crate::proofs::Required::required_by), unfolding(crate::specs::Outcome::get_tag_u32_vec, crate::specs::Outcome::get_tag))]
+    pub fn get_tag_u32_vec(&mut self, tag: Tag) -> TiffResult<Vec<u32>>
+        ensures { TagsRead (λ v. v.items) (outcome.get_tag_u32_vec self.old tag) result self.old self.new }
+    {
+        let alloc = self.alloc;
+        self.get_tag(tag)?.into_u32_vec(alloc)
+    }
+
+    /// A required tag's numbers, below 2^16. No such tag: `RequiredTagNotFound`; then the faults of `find_tag` and of `Value::into_u16_vec`.
+    #[tactic(auto, using(crate::proofs::Required::unconverted, crate::proofs::Required::required_by), unfolding(crate::specs::Outcome::get_tag_u16_vec, crate::specs::Outcome::get_tag))]
+    pub fn get_tag_u16_vec(&mut self, tag: Tag) -> TiffResult<Vec<u16>>
+        ensures { TagsRead (λ v. v.items) (outcome.get_tag_u16_vec self.old tag) result self.old self.new }
+    {
+        let alloc = self.alloc;
+        self.get_tag(tag)?.into_u16_vec(alloc)
+    }
+
+    /// A required tag's numbers, below 2^64. No such tag: `RequiredTagNotFound`; then the faults of `find_tag` and of `Value::into_u64_vec`.
+    #[tactic(auto, using(crate::proofs::Required::unconverted, crate::proofs::Required::required_by), unfolding(crate::specs::Outcome::get_tag_u64_vec, crate::specs::Outcome::get_tag))]
+    pub fn get_tag_u64_vec(&mut self, tag: Tag) -> TiffResult<Vec<u64>>
+        ensures { TagsRead (λ v. v.items) (outcome.get_tag_u64_vec self.old tag) result self.old self.new }
+    {
+        let alloc = self.alloc;
+        self.get_tag(tag)?.into_u64_vec(alloc)
+    }
+
+    /// The bits of a required tag's floating numbers of 4 bytes. No such tag: `RequiredTagNotFound`; then the faults of `find_tag` and of `Value::into_f32_vec`.
+    #[tactic(auto, using(crate::proofs::Required::unconverted, crate::proofs::Required::required_by), unfolding(crate::specs::Outcome::get_tag_f32_vec, crate::specs::Outcome::get_tag))]
+    pub fn get_tag_f32_vec(&mut self, tag: Tag) -> TiffResult<Vec<Bits32>>
+        ensures { TagsRead (λ v. map bits_32 v.items) (outcome.get_tag_f32_vec self.old tag) result self.old self.new }
+    {
+        let alloc = self.alloc;
+        self.get_tag(tag)?.into_f32_vec(alloc)
+    }
+
+    /// The bits of a required tag's floating numbers of 8 bytes. No such tag: `RequiredTagNotFound`; then the faults of `find_tag` and of `Value::into_f64_vec`.
+    #[tactic(auto, using(crate::proofs::Required::unconverted, crate::proofs::Required::required_by), unfolding(crate::specs::Outcome::get_tag_f64_vec, crate::specs::Outcome::get_tag))]
+    pub fn get_tag_f64_vec(&mut self, tag: Tag) -> TiffResult<Vec<Bits64>>
+        ensures { TagsRead (λ v. map bits_64 v.items) (outcome.get_tag_f64_vec self.old tag) result self.old self.new }
+    {
+        let alloc = self.alloc;
+        self.get_tag(tag)?.into_f64_vec(alloc)
+    }
+
+    /// A required tag's bytes. No such tag: `RequiredTagNotFound`; then the faults of `find_tag` and of `Value::into_u8_vec`.
+    #[tactic(auto, using(crate::proofs::Required::unconverted, crate::proofs::Required::required_by), unfolding(crate::specs::Outcome::get_tag_u8_vec, crate::specs::Outcome::get_tag))]
+    pub fn get_tag_u8_vec(&mut self, tag: Tag) -> TiffResult<Vec<u8>>
+        ensures { TagsRead (λ v. v.items) (outcome.get_tag_u8_vec self.old tag) result self.old self.new }
+    {
+        let alloc = self.alloc;
+        self.get_tag(tag)?.into_u8_vec(alloc)
+    }
+
+    /// A required tag's text. No such tag: `RequiredTagNotFound`; then the faults of `find_tag` and of `Value::into_string`.
+    #[tactic(auto, using(crate::proofs::Required::unconverted, crate::proofs::Required::required_by), unfolding(crate::specs::Outcome::get_tag_ascii_string, crate::specs::Outcome::get_tag))]
+    pub fn get_tag_ascii_string(&mut self, tag: Tag) -> TiffResult<String>
+        ensures { TagsRead (string_bytes) (outcome.get_tag_ascii_string self.old tag) result self.old self.new }
+    {
+        self.get_tag(tag)?.into_string()
+    }
+}
+
+impl<'a, R: Source> IfdDecoder<'a, R> {
+    /// The directory whose tags are read.
+    pub fn directory(&self) -> &Directory
+        ensures { result.now ≡ chosen self.now.decoder.now.state.directory (option_map (λ d. d.now) self.now.other) }
+    {
+        self.decoder.directory_of(self.other)
+    }
+
+    /// The field of a tag, if there is the tag.
+    pub fn find_entry(&self, tag: Tag) -> Option<Entry>
+        ensures { result ≡ outcome.find_entry (reading self.now.decoder.now (option_map (λ d. d.now) self.now.other)) tag }
+    {
+        self.decoder.entry_in(self.other, tag)
+    }
+
+    /// The field of a tag, if there is the tag, and its bytes as they stand, in the file's order. No such tag: the buffer stays.
+    /// Values of 2^64 bytes or more, and more bytes than `decoding_buffer_size`: `LimitsExceeded`, and the buffer stays; values
+    /// past the end of the source: `IoError(UnexpectedEof)`, and the buffer has the field's type and no values.
+    pub fn find_tag_buf(&mut self, tag: Tag, buf: &mut ValueBuffer) -> TiffResult<Option<Entry>>
+        ensures held { IsHeld self.old.decoder self.new.decoder }
+        ensures other { self.new.other ≡ self.old.other }
+        ensures answer { Answers (λ e. (e, buf.new)) result (outcome.find_tag_buf (reading self.old.decoder.now (option_map (λ d. d.now) self.old.other)) tag buf.old).answer self.old.decoder.now.failures self.new.decoder.now.failures }
+        ensures left { BufferLeft self.old.decoder.now.order (outcome.find_entry (reading self.old.decoder.now (option_map (λ d. d.now) self.old.other)) tag) buf.old result buf.new }
+    {
+        self.decoder.buf_in(self.other, tag, buf)
+    }
+
+    /// Copies the bytes of a tag's values from the byte `offset` on, as many as fit, and answers how many, if there is the tag; 0
+    /// where there is no such byte. Values of 2^64 bytes or more: `LimitsExceeded`; a place of 2^64 or more:
+    /// `InconsistentSizesEncountered`; what is copied past the end of the source: `IoError(UnexpectedEof)`.
+    pub fn find_tag_bytes(
+        &mut self,
+        tag: Tag,
+        buf: &mut [u8],
+        offset: u64,
+    ) -> TiffResult<Option<usize>>
+        ensures held { IsHeld self.old.decoder self.new.decoder }
+        ensures other { self.new.other ≡ self.old.other }
+        ensures answer { Answers (λ n. (n, buf.new)) result (outcome.find_tag_bytes (reading self.old.decoder.now (option_map (λ d. d.now) self.old.other)) tag buf.old offset).answer self.old.decoder.now.failures self.new.decoder.now.failures }
+    {
+        self.decoder.bytes_in(self.other, tag, buf, offset)
+    }
+
+    /// The value of a tag, if there is the tag. The faults are those of `Decoder::find_tag`.
+    pub fn find_tag(&mut self, tag: Tag) -> TiffResult<Option<Value>>
+        ensures held { IsHeld self.old.decoder self.new.decoder }
+        ensures other { self.new.other ≡ self.old.other }
+        ensures answer { Answers (option_map datum) result (outcome.find_tag (reading self.old.decoder.now (option_map (λ d. d.now) self.old.other)) tag).answer self.old.decoder.now.failures self.new.decoder.now.failures }
+    {
+        self.decoder.value_in(self.other, tag)
+    }
+
+    /// The value of a required tag. No such tag: `RequiredTagNotFound`; then the faults of `find_tag`.
+    #[tactic(auto, unfolding(crate::specs::Outcome::get_tag, crate::specs::Outcome::find_tag, tiff_ifd::specs::Look::require, tiff_ifd::specs::Look::find))]
+    pub fn get_tag(&mut self, tag: Tag) -> TiffResult<Value>
+        ensures held { IsHeld self.old.decoder self.new.decoder }
+        ensures other { self.new.other ≡ self.old.other }
+        ensures answer { Answers datum result (outcome.get_tag (reading self.old.decoder.now (option_map (λ d. d.now) self.old.other)) tag).answer self.old.decoder.now.failures self.new.decoder.now.failures }
+    {
+        match self.find_tag(tag)? {
+            None => Err(TiffFormatError::RequiredTagNotFound(tag).into()),
+            Some(value) => Ok(value),
+        }
+    }
+
+    /// A required tag's number, below 2^32. No such tag: `RequiredTagNotFound`; then the faults of `find_tag` and of `Value::into_u32`.
+    #[tactic(auto, using(crate::proofs::Required::unconverted, crate::proofs::Required::required_by), unfolding(crate::specs::Outcome::get_tag_u32, crate::specs::Outcome::get_tag))]
+    pub fn get_tag_u32(&mut self, tag: Tag) -> TiffResult<u32>
+        ensures held { IsHeld self.old.decoder self.new.decoder }
+        ensures other { self.new.other ≡ self.old.other }
+        ensures answer { Answers (λ n. n) result (outcome.get_tag_u32 (reading self.old.decoder.now (option_map (λ d. d.now) self.old.other)) tag).answer self.old.decoder.now.failures self.new.decoder.now.failures }
+    {
+        self.get_tag(tag)?.into_u32()
+    }
+
+    /// A required tag's number, below 2^64. No such tag: `RequiredTagNotFound`; then the faults of `find_tag` and of `Value::into_u64`.
+    #[tactic(auto, using(crate::proofs::Required::unconverted, crate::proofs::Required::required_by), unfolding(crate::specs::Outcome::get_tag_u64, crate::specs::Outcome::get_tag))]
+    pub fn get_tag_u64(&mut self, tag: Tag) -> TiffResult<u64>
+        ensures held { IsHeld self.old.decoder self.new.decoder }
+        ensures other { self.new.other ≡ self.old.other }
+        ensures answer { Answers (λ n. n) result (outcome.get_tag_u64 (reading self.old.decoder.now (option_map (λ d. d.now) self.old.other)) tag).answer self.old.decoder.now.failures self.new.decoder.now.failures }
+    {
+        self.get_tag(tag)?.into_u64()
+    }
+
+    /// The bits of a required tag's floating number of 4 bytes. No such tag: `RequiredTagNotFound`; then the faults of `find_tag` and of `Value::into_f32`.
+    #[tactic(auto, using(crate::proofs::Required::unconverted, crate::proofs::Required::required_by), unfolding(crate::specs::Outcome::get_tag_f32, crate::specs::Outcome::get_tag))]
+    pub fn get_tag_f32(&mut self, tag: Tag) -> TiffResult<Bits32>
+        ensures held { IsHeld self.old.decoder self.new.decoder }
+        ensures other { self.new.other ≡ self.old.other }
+        ensures answer { Answers (bits_32) result (outcome.get_tag_f32 (reading self.old.decoder.now (option_map (λ d. d.now) self.old.other)) tag).answer self.old.decoder.now.failures self.new.decoder.now.failures }
+    {
+        self.get_tag(tag)?.into_f32()
+    }
+
+    /// The bits of a required tag's floating number of 8 bytes. No such tag: `RequiredTagNotFound`; then the faults of `find_tag` and of `Value::into_f64`.
+    #[tactic(auto, using(crate::proofs::Required::unconverted, crate::proofs::Required::required_by), unfolding(crate::specs::Outcome::get_tag_f64, crate::specs::Outcome::get_tag))]
+    pub fn get_tag_f64(&mut self, tag: Tag) -> TiffResult<Bits64>
+        ensures held { IsHeld self.old.decoder self.new.decoder }
+        ensures other { self.new.other ≡ self.old.other }
+        ensures answer { Answers (bits_64) result (outcome.get_tag_f64 (reading self.old.decoder.now (option_map (λ d. d.now) self.old.other)) tag).answer self.old.decoder.now.failures self.new.decoder.now.failures }
+    {
+        self.get_tag(tag)?.into_f64()
+    }
+
+    /// A required tag's numbers, below 2^32. No such tag: `RequiredTagNotFound`; then the faults of `find_tag` and of `Value::into_u32_vec`.
+    #[tactic(auto, using(crate::proofs::Required::unconverted, crate::proofs::Required::required_by), unfolding(crate::specs::Outcome::get_tag_u32_vec, crate::specs::Outcome::get_tag))]
+    pub fn get_tag_u32_vec(&mut self, tag: Tag) -> TiffResult<Vec<u32>>
+        ensures held { IsHeld self.old.decoder self.new.decoder }
+        ensures other { self.new.other ≡ self.old.other }
+        ensures answer { Answers (λ v. v.items) result (outcome.get_tag_u32_vec (reading self.old.decoder.now (option_map (λ d. d.now) self.old.other)) tag).answer self.old.decoder.now.failures self.new.decoder.now.failures }
+    {
+        let alloc = self.alloc;
+        self.get_tag(tag)?.into_u32_vec(alloc)
+    }
+
+    /// A required tag's numbers, below 2^16. No such tag: `RequiredTagNotFound`; then the faults of `find_tag` and of `Value::into_u16_vec`.
+    #[tactic(auto, using(crate::proofs::Required::unconverted, crate::proofs::Required::required_by), unfolding(crate::specs::Outcome::get_tag_u16_vec, crate::specs::Outcome::get_tag))]
+    pub fn get_tag_u16_vec(&mut self, tag: Tag) -> TiffResult<Vec<u16>>
+        ensures held { IsHeld self.old.decoder self.new.decoder }
+        ensures other { self.new.other ≡ self.old.other }
+        ensures answer { Answers (λ v. v.items) result (outcome.get_tag_u16_vec (reading self.old.decoder.now (option_map (λ d. d.now) self.old.other)) tag).answer self.old.decoder.now.failures self.new.decoder.now.failures }
+    {
+        let alloc = self.alloc;
+        self.get_tag(tag)?.into_u16_vec(alloc)
+    }
+
+    /// A required tag's numbers, below 2^64. No such tag: `RequiredTagNotFound`; then the faults of `find_tag` and of `Value::into_u64_vec`.
+    #[tactic(auto, using(crate::proofs::Required::unconverted, crate::proofs::Required::required_by), unfolding(crate::specs::Outcome::get_tag_u64_vec, crate::specs::Outcome::get_tag))]
+    pub fn get_tag_u64_vec(&mut self, tag: Tag) -> TiffResult<Vec<u64>>
+        ensures held { IsHeld self.old.decoder self.new.decoder }
+        ensures other { self.new.other ≡ self.old.other }
+        ensures answer { Answers (λ v. v.items) result (outcome.get_tag_u64_vec (reading self.old.decoder.now (option_map (λ d. d.now) self.old.other)) tag).answer self.old.decoder.now.failures self.new.decoder.now.failures }
+    {
+        let alloc = self.alloc;
+        self.get_tag(tag)?.into_u64_vec(alloc)
+    }
+
+    /// The bits of a required tag's floating numbers of 4 bytes. No such tag: `RequiredTagNotFound`; then the faults of `find_tag` and of `Value::into_f32_vec`.
+    #[tactic(auto, using(crate::proofs::Required::unconverted, crate::proofs::Required::required_by), unfolding(crate::specs::Outcome::get_tag_f32_vec, crate::specs::Outcome::get_tag))]
+    pub fn get_tag_f32_vec(&mut self, tag: Tag) -> TiffResult<Vec<Bits32>>
+        ensures held { IsHeld self.old.decoder self.new.decoder }
+        ensures other { self.new.other ≡ self.old.other }
+        ensures answer { Answers (λ v. map bits_32 v.items) result (outcome.get_tag_f32_vec (reading self.old.decoder.now (option_map (λ d. d.now) self.old.other)) tag).answer self.old.decoder.now.failures self.new.decoder.now.failures }
+    {
+        let alloc = self.alloc;
+        self.get_tag(tag)?.into_f32_vec(alloc)
+    }
+
+    /// The bits of a required tag's floating numbers of 8 bytes. No such tag: `RequiredTagNotFound`; then the faults of `find_tag` and of `Value::into_f64_vec`.
+    #[tactic(auto, using(crate::proofs::Required::unconverted, crate::proofs::Required::required_by), unfolding(crate::specs::Outcome::get_tag_f64_vec, crate::specs::Outcome::get_tag))]
+    pub fn get_tag_f64_vec(&mut self, tag: Tag) -> TiffResult<Vec<Bits64>>
+        ensures held { IsHeld self.old.decoder self.new.decoder }
+        ensures other { self.new.other ≡ self.old.other }
+        ensures answer { Answers (λ v. map bits_64 v.items) result (outcome.get_tag_f64_vec (reading self.old.decoder.now (option_map (λ d. d.now) self.old.other)) tag).answer self.old.decoder.now.failures self.new.decoder.now.failures }
+    {
+        let alloc = self.alloc;
+        self.get_tag(tag)?.into_f64_vec(alloc)
+    }
+
+    /// A required tag's bytes. No such tag: `RequiredTagNotFound`; then the faults of `find_tag` and of `Value::into_u8_vec`.
+    #[tactic(auto, using(crate::proofs::Required::unconverted, crate::proofs::Required::required_by), unfolding(crate::specs::Outcome::get_tag_u8_vec, crate::specs::Outcome::get_tag))]
+    pub fn get_tag_u8_vec(&mut self, tag: Tag) -> TiffResult<Vec<u8>>
+        ensures held { IsHeld self.old.decoder self.new.decoder }
+        ensures other { self.new.other ≡ self.old.other }
+        ensures answer { Answers (λ v. v.items) result (outcome.get_tag_u8_vec (reading self.old.decoder.now (option_map (λ d. d.now) self.old.other)) tag).answer self.old.decoder.now.failures self.new.decoder.now.failures }
+    {
+        let alloc = self.alloc;
+        self.get_tag(tag)?.into_u8_vec(alloc)
+    }
+
+    /// A required tag's text. No such tag: `RequiredTagNotFound`; then the faults of `find_tag` and of `Value::into_string`.
+    #[tactic(auto, using(crate::proofs::Required::unconverted, crate::proofs::Required::required_by), unfolding(crate::specs::Outcome::get_tag_ascii_string, crate::specs::Outcome::get_tag))]
+    pub fn get_tag_ascii_string(&mut self, tag: Tag) -> TiffResult<String>
+        ensures held { IsHeld self.old.decoder self.new.decoder }
+        ensures other { self.new.other ≡ self.old.other }
+        ensures answer { Answers (string_bytes) result (outcome.get_tag_ascii_string (reading self.old.decoder.now (option_map (λ d. d.now) self.old.other)) tag).answer self.old.decoder.now.failures self.new.decoder.now.failures }
+    {
+        self.get_tag(tag)?.into_string()
+    }
+}
