@@ -1,7 +1,8 @@
 pub use Rattle.tiff_base.specs.Answers
 pub use Rattle.tiff_base.specs.Memory
 pub use Rattle.tiff_page.specs.Image
-pub use Rattle.tiff_decode.specs.Opened
+pub use Rattle.tiff_decode.specs.Machine
+pub use Rattle.tiff_decode.specs.Outcome
 pub use Rattle.tiff_decode.specs.State
 pub use Rattle.tiff_decode.specs.Result
 pub use Rattle.tiff_encode.specs.Written

@@ -1,3 +1,4 @@
 pub mod Opening
 mod Once
 pub mod Required
+pub mod Numbers

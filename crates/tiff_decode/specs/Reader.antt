@@ -1,8 +1,12 @@
 -- A decoder that reads the tags of a directory (as in the Rust crate).
-use Rattle.std.specs.Prelude.{◌≡◌, ◌≤◌, Option, None, Some, Result}
+use Rattle.std.specs.Prelude.{◌≡◌, ◌⊎◌, ℕ, ◌≤◌, List, [], ◌∷◌, ◌++◌, Option, None, Some, Result, Ok, Err, Vec}
+use Rattle.std.specs.declared.alloc.Global.{Global}
 use Rattle.std.specs.Borrow.{MutBor}
 use Rattle.tiff_base.specs.declared.error.TiffError.{TiffError}
-use Rattle.tiff_base.specs.Answers.{Answers}
+use Rattle.tiff_base.specs.declared.error.TiffError.TheVariants.{FormatError}
+use Rattle.tiff_base.specs.declared.error.TiffFormatError.TheVariants.{InvalidTagValueType}
+use Rattle.tiff_base.specs.declared.tags.Tag.{Tag}
+use Rattle.tiff_base.specs.Answers.{Answers, IsCause}
 use Rattle.tiff_base.specs.Field.{DirectoryRecord}
 use Rattle.tiff_decode.specs.Machine.{Decoding, Outcome}
 
@@ -27,3 +31,54 @@ pub record IsHeld (old new : MutBor Decoding) : Type 0 where
   pub same_reference : new.ghost_name ≡ old.ghost_name
   pub state : new.now ≡ record old.now { failures = new.now.failures }
   pub failures : old.now.failures ≤ new.now.failures
+
+-- ---- numbers of any type
+
+-- A tag's number as another type, of which `gives` says what a number becomes: where it doesn't fit, `InvalidTagValueType`.
+abbrev pub IsNumber : {X E : Type 0} → (ℕ → Result X E → Type 0) → Tag → ℕ → Result X TiffError → Type 0
+IsNumber gives tag n (Ok x) = gives n (Ok x)
+IsNumber {E = E} gives tag n (Err e) = (f : E) × gives n (Err f) × (e ≡ FormatError (InvalidTagValueType tag))
+
+-- the number that is given, as another type, but for want of memory and a fault of the device
+abbrev pub NumberAs : {X E : Type 0} → (ℕ → Result X E → Type 0) → Type 0 → Tag → Result ℕ TiffError → Result X TiffError → Type 0
+NumberAs gives failed tag given (Ok x) = (n : ℕ) × (given ≡ Ok n) × IsNumber gives tag n (Ok x)
+NumberAs gives failed tag given (Err e) =
+    IsCause (Unit {0}) failed e ((given ≡ Err e) ⊎ ((n : ℕ) × (given ≡ Ok n) × IsNumber gives tag n (Err e)))
+
+-- the same, where there may be no such tag
+abbrev pub NumberIfAs : {X E : Type 0} → (ℕ → Result X E → Type 0) → Type 0 → Tag → Result (Option ℕ) TiffError → Result (Option X) TiffError → Type 0
+NumberIfAs gives failed tag given (Ok None) = given ≡ Ok None
+NumberIfAs gives failed tag given (Ok (Some x)) = (n : ℕ) × (given ≡ Ok (Some n)) × IsNumber gives tag n (Ok x)
+NumberIfAs gives failed tag given (Err e) =
+    IsCause (Unit {0}) failed e ((given ≡ Err e) ⊎ ((n : ℕ) × (given ≡ Ok (Some n)) × IsNumber gives tag n (Err e)))
+
+-- ---- lists of numbers of any type
+
+-- each number of a list as the other type
+abbrev pub EachGives : {X E : Type 0} → (ℕ → Result X E → Type 0) → List ℕ → List X → Type 0
+EachGives gives [] [] = Unit {0}
+EachGives gives [] (x ∷ xs) = ⊥
+EachGives gives (n ∷ ns) [] = ⊥
+EachGives gives (n ∷ ns) (x ∷ xs) = gives n (Ok x) × EachGives gives ns xs
+
+-- The first number of a list that doesn't fit the type, and its fault.
+pub record FirstUnfit {X E : Type 0} (gives : ℕ → Result X E → Type 0) (tag : Tag) (ns : List ℕ) (e : TiffError) : Type 0 where
+  pub before : List ℕ
+  pub fitting : List X
+  pub n : ℕ
+  pub after : List ℕ
+  pub is : ns ≡ before ++ n ∷ after
+  pub fits : EachGives gives before fitting
+  pub unfit : IsNumber gives tag n (Err e)
+
+-- the numbers of a list as the other type, or the fault of the first that doesn't fit, but for want of memory
+abbrev pub NumbersAs : {X E : Type 0} → (ℕ → Result X E → Type 0) → Tag → List ℕ → Result (Vec X Global) TiffError → Type 0
+NumbersAs gives tag ns (Ok v) = EachGives gives ns v.items
+NumbersAs gives tag ns (Err e) = IsCause (Unit {0}) ⊥ e (FirstUnfit gives tag ns e)
+
+-- the numbers that are given, where there is the tag, as the other type
+abbrev pub NumbersIfAs : {X E : Type 0} → (ℕ → Result X E → Type 0) → Type 0 → Tag → Result (Option (List ℕ)) TiffError → Result (Option (Vec X Global)) TiffError → Type 0
+NumbersIfAs gives failed tag given (Ok None) = given ≡ Ok None
+NumbersIfAs gives failed tag given (Ok (Some v)) = (ns : List ℕ) × (given ≡ Ok (Some ns)) × EachGives gives ns v.items
+NumbersIfAs gives failed tag given (Err e) =
+    IsCause (Unit {0}) failed e ((given ≡ Err e) ⊎ ((ns : List ℕ) × (given ≡ Ok (Some ns)) × FirstUnfit gives tag ns e))

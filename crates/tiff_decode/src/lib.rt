@@ -3,5 +3,6 @@
 
 pub mod decoder;
 pub mod laws;
+pub mod low_level;
 pub mod script;
 pub mod tags;

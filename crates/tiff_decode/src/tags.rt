@@ -1,10 +1,11 @@
 //! The tags of a decoder's page, and of other directories.
 
-ghost use Rattle.std.specs.Prelude.{◌≡◌, None, Some, map, option_map, string_bytes};
+ghost use Rattle.std.specs.Prelude.{◌≡◌, ◌<◌, ◌≤◌, ◌^◌, None, Some, Ok, map, option_map, string_bytes};
 ghost use Rattle.tiff_base.specs.Answers.{Answers};
+ghost use Rattle.tiff_ifd.specs.Fitted.{fitted};
 ghost use Rattle.tiff_ifd.specs.View.{datum};
 ghost use Rattle.tiff_decode.specs.Outcome as outcome;
-ghost use Rattle.tiff_decode.specs.Reader.{chosen, reading, IsHeld, TagsRead};
+ghost use Rattle.tiff_decode.specs.Reader.{chosen, reading, IsHeld, IsNumber, NumberAs, NumberIfAs, NumbersAs, NumbersIfAs, TagsRead};
 ghost use Rattle.tiff_decode.specs.Step.{bits_32, bits_64, BufferLeft};
 
 use crate::decoder::Decoder;
@@ -35,6 +36,40 @@ fn chosen<'x>(own: &'x Directory, other: Option<&'x Directory>) -> &'x Directory
         Some(other) => other,
     }
 }
+
+// A number as a type of number.
+fn as_type<T: TryFrom<u64>>(n: u64, tag: Tag) -> TiffResult<T>
+where
+    T::Error: Drop,
+    ensures { IsNumber T.try_from_gives tag n result }
+{
+    match T::try_from(n) {
+        Ok(x) => Ok(x),
+        Err(_) => Err(TiffFormatError::InvalidTagValueType(tag).into()),
+    }
+}
+
+// Numbers as a type of number.
+#[tactic(auto, using(crate::proofs::Numbers::next_number))]
+fn all_as<T: TryFrom<u64> + Drop>(alloc: Global, numbers: &[u64], tag: Tag) -> TiffResult<Vec<T>>
+where
+    T::Error: Drop,
+    ensures { NumbersAs T.try_from_gives tag numbers.now result }
+{
+    let mut all = Vec::with_capacity(alloc, numbers.len())?;
+    for n in numbers {
+        match as_type(*n, tag) {
+            Ok(x) => all.push(x)?,
+            Err(fault) => return Err(fault),
+        }
+    }
+    Ok(all)
+}
+
+// Numbers of 64 bits are below 2^64.
+fn all_fit(numbers: &[u64])
+    ensures { (tag : _) → fitted tag (2 ^ 64) numbers.now ≡ Ok numbers.now }
+{}
 
 impl<R: Source> Decoder<R> {
     /// The tags of the page's directory.
@@ -165,6 +200,101 @@ impl<R: Source> Decoder<R> {
         ensures { TagsRead (option_map datum) (outcome.find_tag self.old tag) result self.old self.new }
     {
         self.value_in(None, tag)
+    }
+
+    // The number of a tag of the page's directory, or of another one.
+    #[tactic(auto, unfolding(crate::specs::Outcome::find_tag, crate::specs::Outcome::find_tag_unsigned, tiff_ifd::specs::Ask::find_unsigned, tiff_ifd::specs::Look::find))]
+    fn number_in(&mut self, other: Option<&Directory>, tag: Tag) -> TiffResult<Option<u64>>
+        ensures { TagsRead (λ n. n) (outcome.find_tag_unsigned (reading self.old (option_map (λ d. d.now) other.entry)) tag) result self.old self.new }
+    {
+        match self.value_in(other, tag)? {
+            None => Ok(None),
+            Some(value) => Ok(Some(value.into_u64()?)),
+        }
+    }
+
+    // The numbers of a tag of the page's directory, or of another one.
+    #[tactic(auto, unfolding(crate::specs::Outcome::find_tag, crate::specs::Outcome::find_tag_unsigned_vec, tiff_ifd::specs::Ask::find_unsigned_vec, tiff_ifd::specs::Look::find))]
+    fn numbers_in(&mut self, other: Option<&Directory>, tag: Tag) -> TiffResult<Option<Vec<u64>>>
+        ensures { TagsRead (λ o. option_map (λ v. v.items) o) (outcome.find_tag_unsigned_vec (reading self.old (option_map (λ d. d.now) other.entry)) tag) result self.old self.new }
+    {
+        let alloc = self.alloc;
+        match self.value_in(other, tag)? {
+            None => Ok(None),
+            Some(value) => {
+                let numbers = value.into_u64_vec(alloc)?;
+                all_fit(&numbers);
+                Ok(Some(numbers))
+            }
+        }
+    }
+
+    // The number of a required tag of the page's directory, or of another one.
+    #[tactic(auto, unfolding(crate::specs::Outcome::find_tag_unsigned, crate::specs::Outcome::get_tag_unsigned, tiff_ifd::specs::Ask::get_unsigned))]
+    fn required_in(&mut self, other: Option<&Directory>, tag: Tag) -> TiffResult<u64>
+        ensures { TagsRead (λ n. n) (outcome.get_tag_unsigned (reading self.old (option_map (λ d. d.now) other.entry)) tag) result self.old self.new }
+    {
+        match self.number_in(other, tag)? {
+            None => Err(TiffFormatError::RequiredTagNotFound(tag).into()),
+            Some(n) => Ok(n),
+        }
+    }
+
+    /// The number of a tag of the page as a `T`, if there is the tag. The faults are those of `find_tag` and of
+    /// `Value::into_u64`; a number that is no `T`: `InvalidTagValueType`.
+    pub fn find_tag_unsigned<T: TryFrom<u64>>(&mut self, tag: Tag) -> TiffResult<Option<T>>
+    where
+        T::Error: Drop,
+        ensures answer { NumberIfAs T.try_from_gives (self.old.failures < self.new.failures) tag (outcome.find_tag_unsigned self.old tag).answer result }
+        ensures state { self.new ≡ record self.old { failures = self.new.failures } }
+        ensures count { self.old.failures ≤ self.new.failures }
+    {
+        match self.number_in(None, tag) {
+            Ok(None) => Ok(None),
+            Ok(Some(n)) => match as_type(n, tag) {
+                Ok(x) => Ok(Some(x)),
+                Err(fault) => Err(fault),
+            },
+            Err(fault) => Err(fault),
+        }
+    }
+
+    /// The numbers of a tag of the page as a list of `T`, if there is the tag. The faults are those of `find_tag` and of
+    /// `Value::into_u64_vec`; a number that is no `T`: `InvalidTagValueType`.
+    pub fn find_tag_unsigned_vec<T: TryFrom<u64> + Drop>(
+        &mut self,
+        tag: Tag,
+    ) -> TiffResult<Option<Vec<T>>>
+    where
+        T::Error: Drop,
+        ensures answer { NumbersIfAs T.try_from_gives (self.old.failures < self.new.failures) tag (outcome.find_tag_unsigned_vec self.old tag).answer result }
+        ensures state { self.new ≡ record self.old { failures = self.new.failures } }
+        ensures count { self.old.failures ≤ self.new.failures }
+    {
+        let alloc = self.alloc;
+        match self.numbers_in(None, tag) {
+            Ok(None) => Ok(None),
+            Ok(Some(numbers)) => match all_as(alloc, &numbers, tag) {
+                Ok(all) => Ok(Some(all)),
+                Err(fault) => Err(fault),
+            },
+            Err(fault) => Err(fault),
+        }
+    }
+
+    /// The number of a required tag of the page as a `T`. No such tag: `RequiredTagNotFound`; then the faults of
+    /// `find_tag_unsigned`.
+    pub fn get_tag_unsigned<T: TryFrom<u64>>(&mut self, tag: Tag) -> TiffResult<T>
+    where
+        T::Error: Drop,
+        ensures answer { NumberAs T.try_from_gives (self.old.failures < self.new.failures) tag (outcome.get_tag_unsigned self.old tag).answer result }
+        ensures state { self.new ≡ record self.old { failures = self.new.failures } }
+        ensures count { self.old.failures ≤ self.new.failures }
+    {
+        match self.required_in(None, tag) {
+            Ok(n) => as_type(n, tag),
+            Err(fault) => Err(fault),
+        }
     }
 
     /// The value of a required tag of the page. No such tag: `RequiredTagNotFound`; then the faults of `find_tag`.
@@ -323,6 +453,63 @@ impl<'a, R: Source> IfdDecoder<'a, R> {
         ensures answer { Answers (option_map datum) result (outcome.find_tag (reading self.old.decoder.now (option_map (λ d. d.now) self.old.other)) tag).answer self.old.decoder.now.failures self.new.decoder.now.failures }
     {
         self.decoder.value_in(self.other, tag)
+    }
+
+    /// The number of a tag as a `T`, if there is the tag. The faults are those of `find_tag` and of
+    /// `Value::into_u64`; a number that is no `T`: `InvalidTagValueType`.
+    pub fn find_tag_unsigned<T: TryFrom<u64>>(&mut self, tag: Tag) -> TiffResult<Option<T>>
+    where
+        T::Error: Drop,
+        ensures answer { NumberIfAs T.try_from_gives (self.old.decoder.now.failures < self.new.decoder.now.failures) tag (outcome.find_tag_unsigned (reading self.old.decoder.now (option_map (λ d. d.now) self.old.other)) tag).answer result }
+        ensures held { IsHeld self.old.decoder self.new.decoder }
+        ensures other { self.new.other ≡ self.old.other }
+    {
+        match self.decoder.number_in(self.other, tag) {
+            Ok(None) => Ok(None),
+            Ok(Some(n)) => match as_type(n, tag) {
+                Ok(x) => Ok(Some(x)),
+                Err(fault) => Err(fault),
+            },
+            Err(fault) => Err(fault),
+        }
+    }
+
+    /// The numbers of a tag as a list of `T`, if there is the tag. The faults are those of `find_tag` and of
+    /// `Value::into_u64_vec`; a number that is no `T`: `InvalidTagValueType`.
+    pub fn find_tag_unsigned_vec<T: TryFrom<u64> + Drop>(
+        &mut self,
+        tag: Tag,
+    ) -> TiffResult<Option<Vec<T>>>
+    where
+        T::Error: Drop,
+        ensures answer { NumbersIfAs T.try_from_gives (self.old.decoder.now.failures < self.new.decoder.now.failures) tag (outcome.find_tag_unsigned_vec (reading self.old.decoder.now (option_map (λ d. d.now) self.old.other)) tag).answer result }
+        ensures held { IsHeld self.old.decoder self.new.decoder }
+        ensures other { self.new.other ≡ self.old.other }
+    {
+        let alloc = self.alloc;
+        match self.decoder.numbers_in(self.other, tag) {
+            Ok(None) => Ok(None),
+            Ok(Some(numbers)) => match all_as(alloc, &numbers, tag) {
+                Ok(all) => Ok(Some(all)),
+                Err(fault) => Err(fault),
+            },
+            Err(fault) => Err(fault),
+        }
+    }
+
+    /// The number of a required tag as a `T`. No such tag: `RequiredTagNotFound`; then the faults of
+    /// `find_tag_unsigned`.
+    pub fn get_tag_unsigned<T: TryFrom<u64>>(&mut self, tag: Tag) -> TiffResult<T>
+    where
+        T::Error: Drop,
+        ensures answer { NumberAs T.try_from_gives (self.old.decoder.now.failures < self.new.decoder.now.failures) tag (outcome.get_tag_unsigned (reading self.old.decoder.now (option_map (λ d. d.now) self.old.other)) tag).answer result }
+        ensures held { IsHeld self.old.decoder self.new.decoder }
+        ensures other { self.new.other ≡ self.old.other }
+    {
+        match self.decoder.required_in(self.other, tag) {
+            Ok(n) => as_type(n, tag),
+            Err(fault) => Err(fault),
+        }
     }
 
     /// The value of a required tag. No such tag: `RequiredTagNotFound`; then the faults of `find_tag`.

@@ -26,7 +26,6 @@ use Rattle.tiff_ifd.specs.Datum.{short, unsigned}
 use Rattle.tiff_ifd.specs.FieldValue.{field_value}
 use Rattle.tiff_ifd.specs.Look.{Look, value_if, looked}
 use Rattle.tiff_ifd.specs.Look as look
-use Rattle.tiff_ifd.specs.StandIn.{single_value}
 use Rattle.tiff_page.specs.Counts.{parts}
 use Rattle.tiff_page.specs.Page.{Chunks}
 use Rattle.tiff_page.specs.Checks.{size_of, interpretation_of, method_of, samples_of, extra_of, format_of, depth_of, predictor_of, planar_of, subsampling_of, chunk_type_of, counted, strips_of, page_of}
@@ -56,11 +55,6 @@ long_value file limits n h = ap (λ (x : ℕ). Ok (unsigned x)) (number-le w32 n
 -- the values of fields are read so
 pub values_read : (file : List ℕ) (limits : Limits) → ReadsNumbers (field_value Classic LittleEndian file limits)
 values_read file limits = record { shorts = short_value file limits; longs = long_value file limits }
-
--- so are those that this version reads
-pub single_values_read : (file : List ℕ) (limits : Limits)
-    → ReadsNumbers (single_value Classic LittleEndian file limits)
-single_values_read file limits = record { shorts = short_value file limits; longs = long_value file limits }
 
 -- ---- the page that a look-up tells
 

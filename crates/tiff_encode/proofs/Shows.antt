@@ -1,5 +1,5 @@
 -- A page of one gray strip that was appended shows its image.
-use Rattle.std.proofs.Common.{◌≡◌, ℕ, ◌+◌, ◌-◌, ◌*◌, ◌/◌, ◌^◌, ◌<◌, ◌≤◌, min, false, List, [], ◌∷◌, length, take, drop, get_or, Option, Result, Ok, refl, ap, sym, ◌∙◌, subst, inl, inr, arith, lit<, length-drop}
+use Rattle.std.proofs.Common.{◌≡◌, ℕ, ◌+◌, ◌-◌, ◌*◌, ◌/◌, ◌^◌, ◌<◌, ◌≤◌, min, true, false, List, [], ◌∷◌, length, take, drop, get_or, Option, Result, Ok, refl, ap, sym, ◌∙◌, subst, inl, inr, arith, lit<, length-drop}
 use Rattle.std.proofs.lemmas.Bool.{cases_lt, eq-eqb, lt-ltb, le-ltb, le-leb}
 use Rattle.std.proofs.lemmas.Grind.{div_ceil_times}
 use Rattle.std.proofs.lemmas.List.{length-take, length-take-le, get_or-take, get_or_past}
@@ -25,7 +25,6 @@ use Rattle.tiff_ifd.specs.Datum.{Datum}
 use Rattle.tiff_ifd.specs.FieldValue.{field_value}
 use Rattle.tiff_ifd.specs.Limits.{unlimited}
 use Rattle.tiff_ifd.specs.Look.{looked, look_in}
-use Rattle.tiff_ifd.specs.StandIn.{single_value, single_look}
 use Rattle.tiff_page.specs.declared.layout.DecodingSampleType.TheVariants.{U8}
 use Rattle.tiff_page.specs.Page.{PageRecord}
 use Rattle.tiff_page.specs.Checks.{page_of}
@@ -33,15 +32,15 @@ use Rattle.tiff_page.specs.Rect.{chunks_of_plane, rect}
 use Rattle.tiff_page.specs.Layout.{colour_of, sample_type_of, row_bits, layout_of}
 use Rattle.tiff_page.specs.PixelFault.{depth_fault, predictor_fault, white_fault, form_fault}
 use Rattle.tiff_page.specs.Pixels.{is_short, needed, image_bytes, shown_sample}
-use Rattle.tiff_page.specs.Image.{decoded, image_of, is_gray_strip, covered_page_of}
+use Rattle.tiff_page.specs.Image.{decoded, image_of, is_gray_strip}
 use Rattle.tiff_page.proofs.Strip.{gray_page, row_of, shown_is, image_is, numbers_are}
 use Rattle.tiff_encode.specs.Written.{rows_per_strip, strip_place, directory_place, page_map, with_page}
 use Rattle.tiff_encode.specs.Model.{Model, IsLink, Stands}
 use Rattle.tiff_encode.specs.Laws.{IsGrayPage, page_model}
-use Rattle.tiff_encode.specs.Shows.{page_at, Shows, gray_image, PageShows, PageLinks, strip_page, covered_page_at, ReadsAs, PageReads}
+use Rattle.tiff_encode.specs.Shows.{page_at, Shows, gray_image, PageShows, PageLinks, strip_page, ReadsAs, PageReads}
 use Rattle.tiff_encode.proofs.Slices.{ok_bind, is_exact}
 use Rattle.tiff_encode.proofs.Pages.{rows_fit, side_fits, len_of_page, page_stands}
-use Rattle.tiff_encode.proofs.Fields.{ReadsNumbers, values_read, single_values_read, one_part, page_told, fields_tell}
+use Rattle.tiff_encode.proofs.Fields.{ReadsNumbers, values_read, one_part, page_told, fields_tell}
 
 -- all rows of a size are the size before the last, and the last
 all_rows : (w h : ℕ) → 0 < h → (h - 1) * w + w ≡ w * h
@@ -191,17 +190,10 @@ module _ (m : Model) (file : List ℕ) (link width height : ℕ) (samples : List
       found (λ d. page_of (looked (field_value Classic LittleEndian new limits) d.entries))
       (tells (field_value Classic LittleEndian new limits) (values_read new limits))
 
-  -- also as this version reads it
-  covered_is : (limits : Limits) → covered_page_at Classic new place limits ≡ Ok the_page
-  unfolding single_look covered_page_of is_gray_strip
-  covered_is limits =
-      let value : Field → Result Datum TiffError = single_value Classic LittleEndian new limits in
-      found (λ d. covered_page_of (looked value d.entries))
-      (rw (
-        tells value (single_values_read new limits),
-        eq-eqb width width refl,
-        le-leb height (rows_per_strip width) g.one_strip,
-      ) refl)
+  -- this version reads its image
+  covered_is : is_gray_strip the_page ≡ true
+  unfolding is_gray_strip
+  covered_is = rw (eq-eqb width width refl, le-leb height (rows_per_strip width) g.one_strip) refl
 
   -- its strip stands in the file
   strip_is : exactly_at new strip (width * height) ≡ Ok shown
@@ -273,7 +265,7 @@ module _ (m : Model) (file : List ℕ) (link width height : ℕ) (samples : List
       → ReadsAs Classic new place limits the_page shown
   page_reads_as limits small a b = record {
     is_page = page_is limits;
-    is_covered = covered_is limits;
+    is_covered = covered_is;
     is_read = bytes_read limits a b
         ∙ ap (λ (l : List ℕ). Ok (record { sample_type = U8; numbers = l })) (numbers_are _ ∙ bytes_are small);
   }

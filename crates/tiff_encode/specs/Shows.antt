@@ -1,5 +1,5 @@
 -- What a written file shows: an image that was handed in (this project's), by the reader's definitions.
-use Rattle.std.specs.Prelude.{◌≡◌, ℕ, ◌+◌, ◌*◌, ◌<◌, ◌≤◌, List, [], ◌∷◌, length, take, slice_index, Result, Ok}
+use Rattle.std.specs.Prelude.{◌≡◌, ℕ, ◌+◌, ◌*◌, ◌<◌, ◌≤◌, true, List, [], ◌∷◌, length, take, slice_index, Result, Ok}
 use Rattle.tiff_base.specs.declared.color.ChunkType.TheVariants.{Strip}
 use Rattle.tiff_base.specs.declared.color.ColorType.{ColorType}
 use Rattle.tiff_base.specs.declared.error.TiffError.{TiffError}
@@ -22,13 +22,12 @@ use Rattle.tiff_base.specs.Directory.{directory_at}
 use Rattle.tiff_ifd.specs.declared.limits.Limits.{Limits}
 use Rattle.tiff_ifd.specs.Limits.{unlimited}
 use Rattle.tiff_ifd.specs.Look.{look_in}
-use Rattle.tiff_ifd.specs.StandIn.{single_look}
 use Rattle.tiff_page.specs.declared.layout.DecodingSampleType.TheVariants.{U8}
 use Rattle.tiff_page.specs.Page.{PageRecord}
 use Rattle.tiff_page.specs.Checks.{page_of}
 use Rattle.tiff_page.specs.Layout.{colour_of}
 use Rattle.tiff_page.specs.Pixels.{shown_sample}
-use Rattle.tiff_page.specs.Image.{Decoded, image_of, covered_page_of}
+use Rattle.tiff_page.specs.Image.{Decoded, image_of, is_gray_strip}
 use Rattle.tiff_encode.specs.Written.{rows_per_strip, strip_place, directory_place, page_link, with_page}
 use Rattle.tiff_encode.specs.Model.{Model, IsLink, Stands, header_model}
 use Rattle.tiff_encode.specs.Laws.{IsGrayPage, page_model}
@@ -132,18 +131,12 @@ strip_page n width height = record {
   byte_counts = width * height ∷ [];
 }
 
--- the page that the directory at a place of a little-endian file tells, where this version reads it
-abbrev pub covered_page_at : FileKind → List ℕ → ℕ → Limits → Result PageRecord TiffError
-covered_page_at kind file place limits = do
-  directory ← directory_at kind LittleEndian file place
-  covered_page_of (single_look kind LittleEndian file limits directory.entries)
-
--- Under these limits the directory at a place is this page, also as this version reads it, and its image has these
--- numbers of a byte each.
+-- Under these limits the directory at a place is this page, which is one whose image this version reads, and its image has
+-- these numbers of a byte each.
 pub record ReadsAs (kind : FileKind) (file : List ℕ) (place : ℕ) (limits : Limits) (page : PageRecord)
     (numbers : List ℕ) : Type 0 where
   pub is_page : page_at kind file place limits ≡ Ok page
-  pub is_covered : covered_page_at kind file place limits ≡ Ok page
+  pub is_covered : is_gray_strip page ≡ true
   pub is_read : image_of file LittleEndian page limits ≡ Ok (record { sample_type = U8; numbers = numbers })
 
 -- a page of one gray strip that was appended to what stands is read as it was handed in, under limits that let its

@@ -5,7 +5,6 @@ use Rattle.tiff_ifd.specs.Look as look
 use Rattle.tiff_ifd.specs.Look.{require}
 use Rattle.tiff_page.specs.Checks.{page_of, size_of, interpretation_of, method_of, samples_of, extra_of, format_of, depth_of, predictor_of, planar_of, subsampling_of, chunk_type_of, strips_of, tiles_of, counted}
 use Rattle.tiff_page.specs.Layout.{colour_of, no_colour, sample_type_of, layout_of, row_bits}
-use Rattle.tiff_page.specs.Image.{is_gray_strip, covered_page_of}
 use Rattle.tiff_examples.specs.Checks as s
 
 pub height_0 : s.height_0
@@ -273,45 +272,3 @@ chroma_1_2 = refl
 pub chroma_jpeg : s.chroma_jpeg
 unfolding layout_of colour_of row_bits sample_type_of
 chroma_jpeg = refl
-
-pub packed_page : s.packed_page
-unfolding covered_page_of is_gray_strip page_of size_of require look.find interpretation_of tags.interpretation_of method_of tags.method_of
-    samples_of extra_of tags.extra_of format_of tags.format_of depth_of predictor_of tags.predictor_of
-    planar_of tags.planar_of subsampling_of chunk_type_of strips_of tiles_of counted
-packed_page = refl
-
-pub predicted_page : s.predicted_page
-unfolding covered_page_of is_gray_strip page_of size_of require look.find interpretation_of tags.interpretation_of method_of tags.method_of
-    samples_of extra_of tags.extra_of format_of tags.format_of depth_of predictor_of tags.predictor_of
-    planar_of tags.planar_of subsampling_of chunk_type_of strips_of tiles_of counted
-predicted_page = refl
-
-pub signed_page : s.signed_page
-unfolding covered_page_of is_gray_strip page_of size_of require look.find interpretation_of tags.interpretation_of method_of tags.method_of
-    samples_of extra_of tags.extra_of format_of tags.format_of depth_of predictor_of tags.predictor_of
-    planar_of tags.planar_of subsampling_of chunk_type_of strips_of tiles_of counted
-signed_page = refl
-
-pub white_page : s.white_page
-unfolding covered_page_of is_gray_strip page_of size_of require look.find interpretation_of tags.interpretation_of method_of tags.method_of
-    samples_of extra_of tags.extra_of format_of tags.format_of depth_of predictor_of tags.predictor_of
-    planar_of tags.planar_of subsampling_of chunk_type_of strips_of tiles_of counted
-white_page = refl
-
-pub planar_page : s.planar_page
-unfolding covered_page_of is_gray_strip page_of size_of require look.find interpretation_of tags.interpretation_of method_of tags.method_of
-    samples_of extra_of tags.extra_of format_of tags.format_of depth_of predictor_of tags.predictor_of
-    planar_of tags.planar_of subsampling_of chunk_type_of strips_of tiles_of counted
-planar_page = refl
-
-pub tile_page : s.tile_page
-unfolding covered_page_of is_gray_strip page_of size_of require look.find interpretation_of tags.interpretation_of method_of tags.method_of
-    samples_of extra_of tags.extra_of format_of tags.format_of depth_of predictor_of tags.predictor_of
-    planar_of tags.planar_of subsampling_of chunk_type_of strips_of tiles_of counted
-tile_page = refl
-
-pub strips_page : s.strips_page
-unfolding covered_page_of is_gray_strip page_of size_of require look.find interpretation_of tags.interpretation_of method_of tags.method_of
-    samples_of extra_of tags.extra_of format_of tags.format_of depth_of predictor_of tags.predictor_of
-    planar_of tags.planar_of subsampling_of chunk_type_of strips_of tiles_of counted
-strips_page = refl

@@ -16,7 +16,6 @@ use Rattle.tiff_ifd.specs.Limits.{unlimited}
 use Rattle.tiff_ifd.specs.FieldValue.{field_value}
 use Rattle.tiff_ifd.specs.Look as look
 use Rattle.tiff_ifd.specs.Look.{look_in, require, value_if}
-use Rattle.tiff_ifd.specs.StandIn.{single_look, single_value}
 use Rattle.tiff_examples.specs.Conversions as s
 
 -- the look-ups in a directory's fields, by what the fields are made of
@@ -120,33 +119,25 @@ unfolding require look.find
 length_required = refl
 
 pub list_read : s.list_read
-unfolding look_in single_look last_of_each field_value field_bytes number
+unfolding look_in last_of_each field_value field_bytes number
 list_read = ap (value_if (field_value Classic LittleEndian [] unlimited)) (looks 258)
 
 pub list_past_end : s.list_past_end
-unfolding look_in single_look last_of_each field_value field_bytes number
+unfolding look_in last_of_each field_value field_bytes number
 list_past_end = ap (value_if (field_value Classic LittleEndian [] unlimited)) (looks 273)
 
-pub list_stand_in : s.list_stand_in
-unfolding look_in single_look last_of_each field_value field_bytes number
-list_stand_in = ap (value_if (single_value Classic LittleEndian [] unlimited)) (looks 258)
-
-pub list_stand_in_first : s.list_stand_in_first
-unfolding look_in single_look last_of_each field_value field_bytes number
-list_stand_in_first = ap (value_if (single_value Classic LittleEndian [] unlimited)) (looks 273)
-
 pub single_read : s.single_read
-unfolding look_in single_look last_of_each field_value field_bytes number
-single_read = ap (value_if (single_value Classic LittleEndian [] unlimited)) (looks 256)
+unfolding look_in last_of_each field_value field_bytes number
+single_read = ap (value_if (field_value Classic LittleEndian [] unlimited)) (looks 256)
 
 pub single_missing : s.single_missing
-unfolding look_in single_look last_of_each field_value field_bytes number
-single_missing = ap (value_if (single_value Classic LittleEndian [] unlimited)) (looks 257)
+unfolding look_in last_of_each field_value field_bytes number
+single_missing = ap (value_if (field_value Classic LittleEndian [] unlimited)) (looks 257)
 
 pub has_width : s.has_width
-unfolding single_look last_of_each
+unfolding look_in last_of_each
 has_width = ap is_some (looks 256)
 
 pub has_length : s.has_length
-unfolding single_look last_of_each
+unfolding look_in last_of_each
 has_length = ap is_some (looks 257)

@@ -5,7 +5,7 @@ use Rattle.std.specs.Prelude.{length, get_or}
 use Rattle.tiff_base.specs.Number.{number}
 use Rattle.tiff_base.specs.Directory.{directory_at}
 use Rattle.tiff_page.specs.declared.layout.DecodingSampleType.TheVariants.{U8}
-use Rattle.tiff_page.specs.Image.{Decoded}
+use Rattle.tiff_page.specs.Image.{Decoded, is_gray_strip}
 use Rattle.tiff_encode.specs.Laws.{page_model}
 use Rattle.tiff_encode.specs.Encoder.{is_too_far}
 use Rattle.tiff_encode.specs.Shows.{strip_page}
@@ -41,6 +41,10 @@ reads_other = λ r. unequal 7 8 (lit< tt) (ap (λ d. get_or d.numbers 0 0) (ok_i
 
 pub reads_wide : s.reads_wide
 reads_wide = λ r. unequal 1 2 (lit< tt) (ap (λ p. p.width) (ok_inj (strip_page 8 1 1) (strip_page 8 2 1) (sym writes.reads.is_page ∙ r.is_page)))
+
+pub reads_white : s.reads_white
+unfolding is_gray_strip
+reads_white = λ r. true_false (sym r.is_covered)
 
 pub leaves_other : s.leaves_other
 leaves_other = λ l. models.other_sample l.shows

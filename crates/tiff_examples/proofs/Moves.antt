@@ -18,7 +18,7 @@ use Rattle.tiff_ifd.specs.Look as look
 use Rattle.tiff_ifd.specs.Look.{Look, look_in, require}
 use Rattle.tiff_page.specs.Checks.{page_of, size_of, interpretation_of, method_of, samples_of, extra_of, format_of, depth_of, predictor_of, planar_of, subsampling_of, chunk_type_of, strips_of, counted}
 use Rattle.tiff_decode.specs.Outcome as outcome
-use Rattle.tiff_decode.specs.Outcome.{begun, with_page}
+use Rattle.tiff_decode.specs.Outcome.{begun, first_directory, with_page}
 use Rattle.tiff_decode.specs.State.{default_limits}
 use Rattle.tiff_examples.specs.Files.{gray_file, gray_entries}
 use Rattle.tiff_examples.specs.Decoders.{at, gray_state, gray_fields, gray_decoder, two_decoder, two_file, three_decoder, three_file}
@@ -26,7 +26,7 @@ use Rattle.tiff_examples.specs.Moves as s
 use Rattle.tiff_examples.proofs.Openings.{looked_by}
 
 pub gray_begins : s.gray_begins
-unfolding begun header_at chain directory_at number entries_from entry_of type_of last_of_each look_in field_value page_of size_of require look.find interpretation_of
+unfolding begun first_directory header_at chain directory_at number entries_from entry_of type_of last_of_each look_in field_value page_of size_of require look.find interpretation_of
     tags.interpretation_of method_of tags.method_of samples_of extra_of format_of depth_of predictor_of
     planar_of subsampling_of chunk_type_of strips_of counted tags.predictor_of tags.format_of
 gray_begins =
@@ -34,15 +34,15 @@ gray_begins =
     (looked_by (field_value Classic LittleEndian gray_file default_limits) (reverse gray_entries))
 
 pub no_file : s.no_file
-unfolding begun header_at chain directory_at number
+unfolding begun first_directory header_at chain directory_at number
 no_file = refl
 
 pub own_cycle : s.own_cycle
-unfolding begun header_at chain directory_at number
+unfolding begun first_directory header_at chain directory_at number
 own_cycle = refl
 
 pub past_end : s.past_end
-unfolding begun header_at chain directory_at number
+unfolding begun first_directory header_at chain directory_at number
 past_end = refl
 
 pub no_next : s.no_next

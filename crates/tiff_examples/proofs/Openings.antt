@@ -5,29 +5,28 @@ use Rattle.tiff_ifd.specs.Look as look
 use Rattle.tiff_ifd.specs.Look.{require}
 use Rattle.tiff_page.specs.Checks.{page_of, size_of, interpretation_of, method_of, samples_of, extra_of, format_of, depth_of, predictor_of, planar_of, subsampling_of, chunk_type_of, strips_of, counted}
 use Rattle.tiff_base.specs.Number.{number}
-use Rattle.tiff_page.specs.Image.{is_gray_strip, covered_page_of}
-use Rattle.std.specs.Prelude.{◌≡◌, ℕ, List, [], ◌∷◌, drop, reverse, is_some, Result, Ok}
+use Rattle.std.specs.Prelude.{◌≡◌, ℕ, List, [], ◌∷◌, drop, reverse, is_some, Some, Result, Ok}
 use Rattle.std.proofs.Common.{ap}
 use Rattle.std.specs.Ordering.{nat_cmp}
 use Rattle.std.specs.Cmp.{nat_cmp_total}
 use Rattle.std.specs.FinMap.{find, from_entries, get-from_entries}
 use Rattle.tiff_base.specs.declared.error.TiffError.{TiffError}
-use Rattle.tiff_base.specs.declared.tags.ByteOrder.TheVariants.{LittleEndian}
-use Rattle.tiff_base.specs.declared.tags.FileKind.TheVariants.{Classic}
 use Rattle.tiff_base.specs.Answers.{◌>>=◌}
 use Rattle.tiff_base.specs.Field.{Field}
+use Rattle.tiff_base.specs.FieldBytes.{field_bytes}
 use Rattle.tiff_base.specs.Header.{header_at}
 use Rattle.tiff_base.specs.Tags.{tag_number, type_of}
 use Rattle.tiff_base.specs.Directory.{directory_at, entries_from, last_of_each, entry_of}
 use Rattle.tiff_base.specs.Told.{put}
+use Rattle.tiff_ifd.specs.Chain.{chain}
 use Rattle.tiff_ifd.specs.Datum.{Datum}
 use Rattle.tiff_ifd.specs.FieldValue.{field_value}
-use Rattle.tiff_ifd.specs.Limits.{unlimited}
-use Rattle.tiff_ifd.specs.Look.{Look, looked, value_if}
-use Rattle.tiff_ifd.specs.StandIn.{single_look, single_value}
-use Rattle.tiff_decode.specs.Opened.{Opened, opened, first_directory}
+use Rattle.tiff_ifd.specs.Look.{Look, looked, look_in, value_if}
+use Rattle.tiff_decode.specs.Machine.{Decoding}
+use Rattle.tiff_decode.specs.Outcome.{begun, first_directory}
+use Rattle.tiff_decode.specs.State.{default_limits}
+use Rattle.tiff_examples.specs.Decoders.{at, gray_state, decoder_at, two_decoder}
 use Rattle.tiff_examples.specs.Files.{gray_file, gray_entries, one_long, one_short}
-use Rattle.tiff_examples.specs.Shown.{limits}
 use Rattle.tiff_examples.specs.Openings as s
 
 -- the look-up in fields, by the list that they are made of
@@ -41,10 +40,6 @@ looked_by value fields = λ i. record {
   has = λ tag. is_some (get-from_entries nat_cmp_total fields (tag_number tag) i);
   value = λ tag. value_if value (get-from_entries nat_cmp_total fields (tag_number tag) i);
 }
-
--- what is opened, once the tags of a classic little-endian file can be looked up
-abbrev answer : Look → Result Opened TiffError
-answer look = covered_page_of look >>= λ page. Ok (record { order = LittleEndian; kind = Classic; page = page })
 
 -- a file of the one gray pixel's form with a field that is another one
 abbrev fields_with : Field → Field → Field → List (ℕ × Field)
@@ -73,84 +68,114 @@ short_1 = one_short (1 ∷ 0 ∷ 0 ∷ 0 ∷ 0 ∷ 0 ∷ 0 ∷ 0 ∷ [])
 abbrev short_5 : Field
 short_5 = one_short (5 ∷ 0 ∷ 0 ∷ 0 ∷ 0 ∷ 0 ∷ 0 ∷ 0 ∷ [])
 
-pub no_signature : s.no_signature
-unfolding opened first_directory header_at number
-no_signature = refl
+-- a decoder, once the tags of its first page can be looked up
+abbrev answer : Decoding → Look → Result Decoding TiffError
+answer d look = page_of look >>= λ page. Ok (record d { state = record d.state { page = page } })
 
-pub big_endian : s.big_endian
-unfolding opened first_directory header_at number
-big_endian = refl
+-- the tags that a decoder looks up
+abbrev tags_of : (d : Decoding) (fields : List (ℕ × Field)) → looked (field_value d.kind d.order d.bytes default_limits) (from_entries {R = nat_cmp} fields) ≡ record {
+  has = λ tag. is_some (find nat_cmp (tag_number tag) fields);
+  value = λ tag. value_if (field_value d.kind d.order d.bytes default_limits) (find nat_cmp (tag_number tag) fields);
+}
+tags_of d fields = looked_by (field_value d.kind d.order d.bytes default_limits) fields
 
-pub big_file : s.big_file
-unfolding opened first_directory header_at number
-big_file = refl
+-- the decoder of a file of the one gray pixel's form
+abbrev changed : List ℕ → List (ℕ × Field) → Decoding
+changed bytes fields = decoder_at bytes 25 (record gray_state { directory = record gray_state.directory { entries = from_entries fields } })
 
 pub big_endian_0 : s.big_endian_0
-unfolding opened first_directory header_at number
+unfolding begun first_directory header_at chain number
 big_endian_0 = refl
 
 pub big_endian_44 : s.big_endian_44
-unfolding opened first_directory header_at number
+unfolding begun first_directory header_at chain number
 big_endian_44 = refl
 
 pub big_file_cut : s.big_file_cut
-unfolding opened first_directory header_at number
+unfolding begun first_directory header_at chain number
 big_file_cut = refl
 
 pub big_file_4 : s.big_file_4
-unfolding opened first_directory header_at number
+unfolding begun first_directory header_at chain number
 big_file_4 = refl
 
-pub linked : s.linked
-unfolding opened first_directory header_at number directory_at
-linked = refl
-
 pub directory_cut : s.directory_cut
-unfolding opened first_directory header_at number directory_at
+unfolding begun first_directory header_at chain directory_at number
 directory_cut = refl
 
-pub directory_past : s.directory_past
-unfolding opened first_directory header_at number directory_at
-directory_past = refl
-
 pub gray_cut : s.gray_cut
-unfolding opened first_directory header_at number directory_at
+unfolding begun first_directory header_at chain directory_at number
 gray_cut = refl
 
 pub no_tags : s.no_tags
-unfolding opened first_directory header_at number directory_at entries_from entry_of type_of last_of_each
-    single_look field_value covered_page_of page_of size_of require look.find
+unfolding begun first_directory header_at chain directory_at number entries_from entry_of type_of last_of_each
+    look_in field_value page_of size_of require look.find
 no_tags =
-    ap answer (looked_by (single_value Classic LittleEndian s.bare_file unlimited) [])
-
-pub gray_opens : s.gray_opens
-unfolding opened first_directory header_at number directory_at entries_from entry_of type_of last_of_each
-    single_look field_value covered_page_of is_gray_strip page_of size_of require look.find interpretation_of
-    tags.interpretation_of method_of tags.method_of samples_of extra_of format_of depth_of predictor_of
-    planar_of subsampling_of chunk_type_of strips_of counted tags.predictor_of tags.format_of
-gray_opens = ap answer (looked_by (single_value Classic LittleEndian gray_file (limits 0 0)) (reverse gray_entries))
+    let d : Decoding = decoder_at s.bare_file 8 gray_state in
+    ap (answer (record d { state = record d.state { pointer = Some (at 8); directory = s.alone [] } })) (tags_of d [])
 
 pub width_0 : s.width_0
-unfolding opened first_directory header_at number directory_at entries_from entry_of type_of last_of_each
-    single_look field_value covered_page_of is_gray_strip page_of size_of require look.find
+unfolding begun first_directory header_at chain directory_at number entries_from entry_of type_of last_of_each
+    look_in field_value page_of size_of require look.find
 width_0 =
-    ap answer (looked_by (single_value Classic LittleEndian (put gray_file 35 (0 ∷ [])) unlimited)
-    (fields_with long_0 short_1 long_1))
+    let d : Decoding = changed (put gray_file 35 (0 ∷ [])) (fields_with long_0 short_1 long_1) in
+    ap (answer d) (tags_of d (fields_with long_0 short_1 long_1))
 
 pub lzw : s.lzw
-unfolding opened first_directory header_at number directory_at entries_from entry_of type_of last_of_each
-    single_look field_value covered_page_of is_gray_strip page_of size_of require look.find interpretation_of
+unfolding begun first_directory header_at chain directory_at number entries_from entry_of type_of last_of_each
+    look_in field_value page_of size_of require look.find interpretation_of
     tags.interpretation_of method_of tags.method_of samples_of extra_of format_of depth_of predictor_of
     planar_of subsampling_of chunk_type_of strips_of counted tags.predictor_of tags.format_of
 lzw =
-    ap answer (looked_by (single_value Classic LittleEndian (put gray_file 71 (5 ∷ [])) unlimited)
-    (fields_with long_1 short_5 long_1))
+    let d : Decoding = changed (put gray_file 71 (5 ∷ [])) (fields_with long_1 short_5 long_1) in
+    ap (λ (l : Look). answer d l >>= λ d. Ok d.state.page) (tags_of d (fields_with long_1 short_5 long_1))
 
 pub count_0 : s.count_0
-unfolding opened first_directory header_at number directory_at entries_from entry_of type_of last_of_each
-    single_look field_value covered_page_of is_gray_strip page_of size_of require look.find interpretation_of
+unfolding begun first_directory header_at chain directory_at number entries_from entry_of type_of last_of_each
+    look_in field_value page_of size_of require look.find interpretation_of
     tags.interpretation_of method_of tags.method_of samples_of extra_of format_of depth_of predictor_of
     planar_of subsampling_of chunk_type_of strips_of counted tags.predictor_of tags.format_of
 count_0 =
-    ap answer (looked_by (single_value Classic LittleEndian (put gray_file 131 (0 ∷ [])) unlimited)
-    (fields_with long_1 short_1 long_0))
+    let d : Decoding = changed (put gray_file 131 (0 ∷ [])) (fields_with long_1 short_1 long_0) in
+    ap (λ (l : Look). answer d l >>= λ d. Ok d.state.page) (tags_of d (fields_with long_1 short_1 long_0))
+
+pub list_limited : s.list_limited
+unfolding begun first_directory header_at chain directory_at number entries_from entry_of type_of last_of_each
+    look_in field_value page_of size_of require look.find interpretation_of
+    tags.interpretation_of method_of tags.method_of samples_of extra_of format_of depth_of predictor_of
+    planar_of subsampling_of chunk_type_of strips_of counted tags.predictor_of tags.format_of field_bytes
+list_limited =
+    let fields : List (ℕ × Field) = fields_with long_1 short_1 (record long_1 { count = 8388609 }) in
+    let d : Decoding = changed (put gray_file 127 (1 ∷ 0 ∷ 128 ∷ 0 ∷ [])) fields in
+    ap (answer d) (tags_of d fields)
+
+pub list_within : s.list_within
+unfolding begun first_directory header_at chain directory_at number entries_from entry_of type_of last_of_each
+    look_in field_value page_of size_of require look.find interpretation_of
+    tags.interpretation_of method_of tags.method_of samples_of extra_of format_of depth_of predictor_of
+    planar_of subsampling_of chunk_type_of strips_of counted tags.predictor_of tags.format_of field_bytes
+list_within =
+    let fields : List (ℕ × Field) = fields_with long_1 short_1 (record long_1 { count = 8388608 }) in
+    let d : Decoding = changed (put gray_file 127 (0 ∷ 0 ∷ 128 ∷ 0 ∷ [])) fields in
+    ap (answer d) (tags_of d fields)
+
+pub next_unread : s.next_unread
+unfolding begun first_directory header_at chain directory_at number entries_from entry_of type_of last_of_each
+    look_in field_value page_of size_of require look.find interpretation_of
+    tags.interpretation_of method_of tags.method_of samples_of extra_of format_of depth_of predictor_of
+    planar_of subsampling_of chunk_type_of strips_of counted tags.predictor_of tags.format_of
+next_unread = ap (answer (two_decoder [])) (tags_of (two_decoder []) (reverse gray_entries))
+
+pub big_endian : s.big_endian
+unfolding begun first_directory header_at chain directory_at number entries_from entry_of type_of last_of_each
+    look_in field_value field_bytes page_of size_of require look.find interpretation_of
+    tags.interpretation_of method_of tags.method_of samples_of extra_of format_of depth_of predictor_of
+    planar_of subsampling_of chunk_type_of strips_of counted tags.predictor_of tags.format_of
+big_endian = ap (answer s.big_endian_decoder) (tags_of s.big_endian_decoder (reverse s.big_endian_entries))
+
+pub big : s.big
+unfolding begun first_directory header_at chain directory_at number entries_from entry_of type_of last_of_each
+    look_in field_value field_bytes page_of size_of require look.find interpretation_of
+    tags.interpretation_of method_of tags.method_of samples_of extra_of format_of depth_of predictor_of
+    planar_of subsampling_of chunk_type_of strips_of counted tags.predictor_of tags.format_of
+big = ap (answer s.big_decoder) (tags_of s.big_decoder (reverse s.big_entries))

@@ -1,16 +1,12 @@
 -- The worked examples of Shown compute.
 use Rattle.std.specs.Prelude.{refl}
-use Rattle.tiff_base.specs.Tags as tags
-use Rattle.tiff_ifd.specs.Look as look
-use Rattle.tiff_ifd.specs.Look.{require}
-use Rattle.tiff_page.specs.Checks.{page_of, size_of, interpretation_of, method_of, samples_of, extra_of, format_of, depth_of, predictor_of, planar_of, subsampling_of, chunk_type_of, strips_of, counted}
 use Rattle.tiff_page.specs.Rect.{rect}
-use Rattle.tiff_page.specs.Layout.{colour_of, sample_type_of, layout_of, row_bits}
+use Rattle.tiff_page.specs.Layout.{colour_of, no_colour, sample_type_of, layout_of, row_bits}
 use Rattle.tiff_base.specs.Runs.{runs_after}
 use Rattle.tiff_base.specs.Number.{number}
 use Rattle.tiff_page.specs.Pixels.{shown_sample, byte_at, image_bytes, numbers_in}
 use Rattle.tiff_page.specs.PixelFault.{depth_fault, predictor_fault, white_fault, form_fault}
-use Rattle.tiff_page.specs.Image.{image_of, is_gray_strip, covered_page_of}
+use Rattle.tiff_page.specs.Image.{image_of, is_gray_strip, covered_image_of}
 use Rattle.tiff_examples.specs.Shown as s
 
 pub pixel_shown : s.pixel_shown
@@ -215,20 +211,99 @@ unfolding form_fault depth_fault predictor_fault white_fault
 white_3_bits = refl
 
 pub covered : s.covered
-unfolding covered_page_of is_gray_strip page_of size_of require look.find interpretation_of
-    tags.interpretation_of method_of tags.method_of samples_of extra_of format_of depth_of predictor_of
-    planar_of subsampling_of chunk_type_of strips_of counted
+unfolding covered_image_of is_gray_strip image_of layout_of colour_of no_colour row_bits sample_type_of form_fault depth_fault
+    predictor_fault white_fault rect numbers_in image_bytes number byte_at shown_sample
 covered = refl
 
+pub covered_cut : s.covered_cut
+unfolding covered_image_of is_gray_strip image_of layout_of colour_of no_colour row_bits sample_type_of form_fault depth_fault
+    predictor_fault white_fault rect numbers_in image_bytes number byte_at shown_sample
+covered_cut = refl
+
 pub not_covered : s.not_covered
-unfolding covered_page_of is_gray_strip page_of size_of require look.find interpretation_of
-    tags.interpretation_of method_of tags.method_of samples_of extra_of format_of depth_of predictor_of
-    planar_of subsampling_of chunk_type_of strips_of counted
+unfolding covered_image_of is_gray_strip layout_of colour_of no_colour row_bits sample_type_of form_fault depth_fault
+    predictor_fault white_fault
 not_covered = refl
 
-pub fault_first : s.fault_first
-unfolding covered_page_of page_of size_of require look.find
-fault_first = refl
+pub packed_page : s.packed_page
+unfolding covered_image_of is_gray_strip layout_of colour_of no_colour row_bits sample_type_of form_fault depth_fault
+    predictor_fault white_fault
+packed_page = refl
+
+pub predicted_page : s.predicted_page
+unfolding covered_image_of is_gray_strip layout_of colour_of no_colour row_bits sample_type_of form_fault depth_fault
+    predictor_fault white_fault
+predicted_page = refl
+
+pub signed_page : s.signed_page
+unfolding covered_image_of is_gray_strip layout_of colour_of no_colour row_bits sample_type_of form_fault depth_fault
+    predictor_fault white_fault
+signed_page = refl
+
+pub white_page : s.white_page
+unfolding covered_image_of is_gray_strip layout_of colour_of no_colour row_bits sample_type_of form_fault depth_fault
+    predictor_fault white_fault
+white_page = refl
+
+pub planar_page : s.planar_page
+unfolding covered_image_of is_gray_strip layout_of colour_of no_colour row_bits sample_type_of form_fault depth_fault
+    predictor_fault white_fault
+planar_page = refl
+
+pub tile_page : s.tile_page
+unfolding covered_image_of is_gray_strip layout_of colour_of no_colour row_bits sample_type_of form_fault depth_fault
+    predictor_fault white_fault
+tile_page = refl
+
+pub strips_page : s.strips_page
+unfolding covered_image_of is_gray_strip layout_of colour_of no_colour row_bits sample_type_of form_fault depth_fault
+    predictor_fault white_fault
+strips_page = refl
+
+pub bands_page : s.bands_page
+unfolding covered_image_of is_gray_strip layout_of colour_of no_colour row_bits sample_type_of form_fault depth_fault
+    predictor_fault white_fault
+bands_page = refl
+
+pub colour_told : s.colour_told
+unfolding covered_image_of is_gray_strip layout_of colour_of no_colour row_bits sample_type_of form_fault depth_fault
+    predictor_fault white_fault
+colour_told = refl
+
+pub planes_told : s.planes_told
+unfolding covered_image_of is_gray_strip layout_of colour_of no_colour row_bits sample_type_of form_fault depth_fault
+    predictor_fault white_fault
+planes_told = refl
+
+pub type_told : s.type_told
+unfolding covered_image_of is_gray_strip layout_of colour_of no_colour row_bits sample_type_of form_fault depth_fault
+    predictor_fault white_fault
+type_told = refl
+
+pub samples_told : s.samples_told
+unfolding covered_image_of is_gray_strip layout_of colour_of no_colour row_bits sample_type_of form_fault depth_fault
+    predictor_fault white_fault
+samples_told = refl
+
+pub samples_first : s.samples_first
+unfolding covered_image_of is_gray_strip layout_of colour_of no_colour row_bits sample_type_of form_fault depth_fault
+    predictor_fault white_fault
+samples_first = refl
+
+pub bytes_told : s.bytes_told
+unfolding covered_image_of is_gray_strip layout_of colour_of no_colour row_bits sample_type_of form_fault depth_fault
+    predictor_fault white_fault
+bytes_told = refl
+
+pub lzw_told : s.lzw_told
+unfolding covered_image_of is_gray_strip layout_of colour_of no_colour row_bits sample_type_of form_fault depth_fault
+    predictor_fault white_fault
+lzw_told = refl
+
+pub white_told : s.white_told
+unfolding covered_image_of is_gray_strip layout_of colour_of no_colour row_bits sample_type_of form_fault depth_fault
+    predictor_fault white_fault
+white_told = refl
 
 pub rows_of_differences : s.rows_of_differences
 unfolding image_bytes row_bits byte_at shown_sample number

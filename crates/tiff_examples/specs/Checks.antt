@@ -13,12 +13,10 @@ use Rattle.tiff_base.specs.declared.tags.Predictor.TheVariants as predictor
 use Rattle.tiff_base.specs.declared.tags.SampleFormat.TheVariants as format
 use Rattle.tiff_base.specs.declared.tags.Tag.TheVariants as tag
 use Rattle.tiff_ifd.specs.Datum.{Datum, none, more, list, short, unsigned}
-use Rattle.tiff_ifd.specs.StandIn.{stand_in}
 use Rattle.tiff_page.specs.declared.layout.DecodingSampleType.TheVariants as type
 use Rattle.tiff_page.specs.Page.{PageRecord}
 use Rattle.tiff_page.specs.Checks.{page_of}
 use Rattle.tiff_page.specs.Layout.{colour_of, sample_type_of, layout_of, size_of}
-use Rattle.tiff_page.specs.Image.{covered_page_of}
 use Rattle.tiff_examples.specs.Conversions.{told}
 use Rattle.tiff_examples.specs.Pages.{gray_tags, strip_tags, gray_page, rgb_page}
 
@@ -296,30 +294,3 @@ abbrev pub chroma_jpeg : Type 0
 chroma_jpeg =
     layout_of (record rgb_page { interpretation = meaning.YCbCr; method = method.ModernJPEG }) 4 3
     ≡ Ok (record { colour = colour.YCbCr 8; row_bytes = 12; plane_stride = 36 })
-
--- pages that this version doesn't read: packed, predicted, signed, white as 0, in tiles, in two strips
-abbrev pub packed_page : Type 0
-packed_page = covered_page_of (told ((259, short 32773) ∷ gray_tags ++ strip_tags)) ≡ Err stand_in
-
-abbrev pub predicted_page : Type 0
-predicted_page = covered_page_of (told ((317, short 2) ∷ gray_tags ++ strip_tags)) ≡ Err stand_in
-
-abbrev pub signed_page : Type 0
-signed_page = covered_page_of (told ((339, short 2) ∷ gray_tags ++ strip_tags)) ≡ Err stand_in
-
-abbrev pub white_page : Type 0
-white_page = covered_page_of (told ((262, short 0) ∷ gray_tags ++ strip_tags)) ≡ Err stand_in
-
-abbrev pub planar_page : Type 0
-planar_page = covered_page_of (told ((284, short 2) ∷ gray_tags ++ strip_tags)) ≡ Err stand_in
-
-abbrev pub tile_page : Type 0
-tile_page =
-    covered_page_of (told ((322, short 4) ∷ (323, short 3) ∷ (324, unsigned 8) ∷ (325, unsigned 12) ∷ gray_tags))
-    ≡ Err stand_in
-
-abbrev pub strips_page : Type 0
-strips_page =
-    covered_page_of (told ((278, short 2) ∷ (273, two (unsigned 8) (unsigned 16)) ∷ (279, two (unsigned 8) (unsigned 4))
-    ∷ gray_tags))
-    ≡ Err stand_in

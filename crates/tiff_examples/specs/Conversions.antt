@@ -14,7 +14,6 @@ use Rattle.tiff_ifd.specs.Limits.{unlimited}
 use Rattle.tiff_ifd.specs.Datum.{Datum, none, more, list, short, unsigned, unsigned_big, signed, rational, ascii, ifd, ifd_big}
 use Rattle.tiff_ifd.specs.Into.{into_u16, into_u32, into_u64, into_u16_vec, into_u64_vec}
 use Rattle.tiff_ifd.specs.Look.{Look, find, find_or, look_in, require}
-use Rattle.tiff_ifd.specs.StandIn.{single_look, stand_in}
 use Rattle.tiff_examples.specs.Fields.{of}
 
 -- numbers that fit into two bytes, and one that doesn't
@@ -137,7 +136,7 @@ some_fields =
     ∷ (273, of LONG 2 (0x00 ∷ 0x00 ∷ 0x00 ∷ 0x00 ∷ 0x00 ∷ 0x00 ∷ 0x00 ∷ 0x00 ∷ []))
     ∷ []
 
--- the list is read by the whole look-up
+-- a list that stands in its entry
 abbrev pub list_read : Type 0
 list_read =
     (look_in Classic LittleEndian [] unlimited (last_of_each some_fields)).value tag.BitsPerSample
@@ -149,27 +148,18 @@ list_past_end =
     (look_in Classic LittleEndian [] unlimited (last_of_each some_fields)).value tag.StripOffsets
     ≡ Err (IoError UnexpectedEof)
 
--- by this version's look-up a list is the stand-in, and a single short is read
-abbrev pub list_stand_in : Type 0
-list_stand_in =
-    (single_look Classic LittleEndian [] unlimited (last_of_each some_fields)).value tag.BitsPerSample ≡ Err stand_in
-
-abbrev pub list_stand_in_first : Type 0
-list_stand_in_first =
-    (single_look Classic LittleEndian [] unlimited (last_of_each some_fields)).value tag.StripOffsets ≡ Err stand_in
-
+-- a single short, and a tag that is not there
 abbrev pub single_read : Type 0
 single_read =
-    (single_look Classic LittleEndian [] unlimited (last_of_each some_fields)).value tag.ImageWidth
+    (look_in Classic LittleEndian [] unlimited (last_of_each some_fields)).value tag.ImageWidth
     ≡ Ok (Some (short 5))
 
--- a tag that is not there
 abbrev pub single_missing : Type 0
 single_missing =
-    (single_look Classic LittleEndian [] unlimited (last_of_each some_fields)).value tag.ImageLength ≡ Ok None
+    (look_in Classic LittleEndian [] unlimited (last_of_each some_fields)).value tag.ImageLength ≡ Ok None
 
 abbrev pub has_width : Type 0
-has_width = (single_look Classic LittleEndian [] unlimited (last_of_each some_fields)).has tag.ImageWidth ≡ true
+has_width = (look_in Classic LittleEndian [] unlimited (last_of_each some_fields)).has tag.ImageWidth ≡ true
 
 abbrev pub has_length : Type 0
-has_length = (single_look Classic LittleEndian [] unlimited (last_of_each some_fields)).has tag.ImageLength ≡ false
+has_length = (look_in Classic LittleEndian [] unlimited (last_of_each some_fields)).has tag.ImageLength ≡ false

@@ -5,6 +5,8 @@ use Rattle.tiff_base.specs.declared.error.TiffFormatError.TheVariants.{InvalidDi
 use Rattle.tiff_base.specs.declared.error.UsageError.TheVariants.{WriterFailed}
 use Rattle.tiff_base.specs.declared.io.IoKind.TheVariants.{InvalidData}
 use Rattle.tiff_base.specs.declared.tags.FileKind.TheVariants.{Classic}
+use Rattle.tiff_base.specs.declared.tags.PhotometricInterpretation.TheVariants as meaning
+use Rattle.tiff_base.specs.Told.{put}
 use Rattle.tiff_ifd.specs.Limits.{unlimited}
 use Rattle.tiff_encode.specs.Written.{long_field}
 use Rattle.tiff_encode.specs.Model.{header_model}
@@ -28,6 +30,12 @@ reads_other = ReadsAs Classic gray_file 25 unlimited (strip_page 8 1 1) (8 ∷ [
 
 abbrev pub reads_wide : Type 0
 reads_wide = ReadsAs Classic gray_file 25 unlimited (strip_page 8 2 1) (7 ∷ []) → ⊥
+
+-- white as 0 it would be 248, but this version doesn't read such an image
+abbrev pub reads_white : Type 0
+reads_white =
+    ReadsAs Classic (put gray_file 83 (0x00 ∷ [])) 25 unlimited
+    (record (strip_page 8 1 1) { interpretation = meaning.WhiteIsZero }) (248 ∷ []) → ⊥
 
 -- a page that shows other samples than those handed in, and one to which nothing links
 abbrev pub leaves_other : Type 0

@@ -1,89 +1,191 @@
--- Worked openings of files, as far as this version reads.
-use Rattle.std.specs.Prelude.{◌≡◌, ℕ, List, take, [], ◌∷◌, Ok, Err}
-use Rattle.tiff_base.specs.declared.error.TiffError.TheVariants.{FormatError, IoError}
+-- Worked openings of files: headers, directories, and the first page.
+use Rattle.std.specs.Prelude.{◌≡◌, ℕ, List, take, reverse, [], ◌∷◌, ◌++◌, Some, None, false, Result, Ok, Err}
+use Rattle.std.specs.FinMap.{from_entries}
+use Rattle.tiff_base.specs.declared.error.TiffError.{TiffError}
+use Rattle.tiff_base.specs.declared.error.TiffError.TheVariants.{FormatError, IoError, LimitsExceeded}
 use Rattle.tiff_base.specs.declared.error.TiffFormatError.TheVariants.{TiffSignatureNotFound, TiffSignatureInvalid, ImageFileDirectoryNotFound, RequiredTagNotFound, InvalidDimensions}
 use Rattle.tiff_base.specs.declared.io.IoKind.TheVariants.{UnexpectedEof}
-use Rattle.tiff_base.specs.declared.tags.ByteOrder.TheVariants.{LittleEndian}
-use Rattle.tiff_base.specs.declared.tags.FileKind.TheVariants.{Classic}
+use Rattle.tiff_base.specs.declared.tags.ByteOrder.TheVariants.{LittleEndian, BigEndian}
+use Rattle.tiff_base.specs.declared.tags.CompressionMethod.TheVariants as method
+use Rattle.tiff_base.specs.declared.tags.FileKind.TheVariants.{Classic, Big}
 use Rattle.tiff_base.specs.declared.tags.Tag.TheVariants as tag
+use Rattle.tiff_base.specs.declared.tags.«Type».TheVariants.{SHORT, LONG}
+use Rattle.tiff_base.specs.Answers.{◌>>=◌}
+use Rattle.tiff_base.specs.Field.{Field, DirectoryRecord}
 use Rattle.tiff_base.specs.Told.{put}
-use Rattle.tiff_ifd.specs.Limits.{unlimited}
-use Rattle.tiff_ifd.specs.StandIn.{stand_in}
-use Rattle.tiff_decode.specs.Opened.{opened}
+use Rattle.tiff_page.specs.Page.{PageRecord}
+use Rattle.tiff_decode.specs.State.{default_limits}
+use Rattle.tiff_decode.specs.Machine.{Decoding}
+use Rattle.tiff_decode.specs.Outcome.{begun}
+use Rattle.tiff_examples.specs.Decoders.{at, two_file, two_decoder}
+use Rattle.tiff_examples.specs.Fields.{of}
 use Rattle.tiff_examples.specs.Files.{gray_file}
-use Rattle.tiff_examples.specs.Shown.{limits, pixel_page}
+use Rattle.tiff_examples.specs.Shown.{pixel_page}
 
--- a file that is no TIFF file
-abbrev pub no_signature : Type 0
-no_signature = opened (0x58 ∷ 0x58 ∷ []) unlimited ≡ Err (FormatError TiffSignatureNotFound)
+-- the page that a file opens at
+abbrev pub first_page : List ℕ → Result PageRecord TiffError
+first_page bytes = begun bytes 0 >>= λ d. Ok d.state.page
 
--- a big-endian file is the stand-in, before its directory is read
-abbrev pub big_endian : Type 0
-big_endian = opened (0x4d ∷ 0x4d ∷ 0x00 ∷ 0x2a ∷ 0x00 ∷ 0x00 ∷ 0x00 ∷ 0x08 ∷ []) unlimited ≡ Err stand_in
+-- ---- headers and directories
 
--- so is a BigTIFF file
-abbrev pub big_file : Type 0
-big_file = opened (0x49 ∷ 0x49 ∷ 0x2b ∷ 0x00 ∷ 0x08 ∷ 0x00 ∷ 0x00 ∷ 0x00 ∷ 0x10 ∷ 0x00 ∷ 0x00 ∷ 0x00 ∷ 0x00 ∷ 0x00
-    ∷ 0x00 ∷ 0x00 ∷ []) unlimited ≡ Err stand_in
-
--- a fault of the header comes before: of a big-endian file the place 0 and the version 44
+-- of a big-endian file the place 0 and the version 44
 abbrev pub big_endian_0 : Type 0
-big_endian_0 = opened (0x4d ∷ 0x4d ∷ 0x00 ∷ 0x2a ∷ 0x00 ∷ 0x00 ∷ 0x00 ∷ 0x00 ∷ []) unlimited
+big_endian_0 = begun (0x4d ∷ 0x4d ∷ 0x00 ∷ 0x2a ∷ 0x00 ∷ 0x00 ∷ 0x00 ∷ 0x00 ∷ []) 0
     ≡ Err (FormatError ImageFileDirectoryNotFound)
 
 abbrev pub big_endian_44 : Type 0
-big_endian_44 = opened (0x4d ∷ 0x4d ∷ 0x00 ∷ 0x2c ∷ 0x00 ∷ 0x00 ∷ 0x00 ∷ 0x08 ∷ []) unlimited
+big_endian_44 = begun (0x4d ∷ 0x4d ∷ 0x00 ∷ 0x2c ∷ 0x00 ∷ 0x00 ∷ 0x00 ∷ 0x08 ∷ []) 0
     ≡ Err (FormatError TiffSignatureInvalid)
 
 -- of a BigTIFF file the place that is cut off, and places of 4 bytes
 abbrev pub big_file_cut : Type 0
-big_file_cut = opened (0x49 ∷ 0x49 ∷ 0x2b ∷ 0x00 ∷ 0x08 ∷ 0x00 ∷ 0x00 ∷ 0x00 ∷ 0x10 ∷ 0x00 ∷ 0x00 ∷ 0x00
-    ∷ []) unlimited ≡ Err (IoError UnexpectedEof)
+big_file_cut = begun (0x49 ∷ 0x49 ∷ 0x2b ∷ 0x00 ∷ 0x08 ∷ 0x00 ∷ 0x00 ∷ 0x00 ∷ 0x10 ∷ 0x00 ∷ 0x00 ∷ 0x00
+    ∷ []) 0 ≡ Err (IoError UnexpectedEof)
 
 abbrev pub big_file_4 : Type 0
-big_file_4 = opened (0x49 ∷ 0x49 ∷ 0x2b ∷ 0x00 ∷ 0x04 ∷ 0x00 ∷ 0x00 ∷ 0x00 ∷ 0x10 ∷ 0x00 ∷ 0x00 ∷ 0x00
-    ∷ []) unlimited ≡ Err (FormatError TiffSignatureNotFound)
+big_file_4 = begun (0x49 ∷ 0x49 ∷ 0x2b ∷ 0x00 ∷ 0x04 ∷ 0x00 ∷ 0x00 ∷ 0x00 ∷ 0x10 ∷ 0x00 ∷ 0x00 ∷ 0x00
+    ∷ []) 0 ≡ Err (FormatError TiffSignatureNotFound)
 
--- a directory that links to another (to itself here) is the stand-in, before its tags are read
-abbrev pub linked : Type 0
-linked = opened (0x49 ∷ 0x49 ∷ 0x2a ∷ 0x00 ∷ 0x08 ∷ 0x00 ∷ 0x00 ∷ 0x00 ∷ 0x00 ∷ 0x00 ∷ 0x08 ∷ 0x00 ∷ 0x00 ∷ 0x00
-    ∷ []) unlimited ≡ Err stand_in
-
--- a directory that is cut off, and one past the end
+-- a directory whose link, to itself, is cut off
 abbrev pub directory_cut : Type 0
-directory_cut = opened (0x49 ∷ 0x49 ∷ 0x2a ∷ 0x00 ∷ 0x08 ∷ 0x00 ∷ 0x00 ∷ 0x00 ∷ 0x00 ∷ 0x00 ∷ 0x08 ∷ 0x00 ∷ 0x00
-    ∷ []) unlimited ≡ Err (IoError UnexpectedEof)
-
-abbrev pub directory_past : Type 0
-directory_past = opened (0x49 ∷ 0x49 ∷ 0x2a ∷ 0x00 ∷ 0x09 ∷ 0x00 ∷ 0x00 ∷ 0x00 ∷ []) unlimited
-    ≡ Err (IoError UnexpectedEof)
+directory_cut = begun (0x49 ∷ 0x49 ∷ 0x2a ∷ 0x00 ∷ 0x08 ∷ 0x00 ∷ 0x00 ∷ 0x00 ∷ 0x00 ∷ 0x00 ∷ 0x08 ∷ 0x00 ∷ 0x00
+    ∷ []) 0 ≡ Err (IoError UnexpectedEof)
 
 -- the file of one gray pixel without its last byte
 abbrev pub gray_cut : Type 0
-gray_cut = opened (take 198 gray_file) unlimited ≡ Err (IoError UnexpectedEof)
+gray_cut = begun (take 198 gray_file) 0 ≡ Err (IoError UnexpectedEof)
+
+-- ---- the first page
 
 -- a file whose directory has no entries
 abbrev pub bare_file : List ℕ
 bare_file = 0x49 ∷ 0x49 ∷ 0x2a ∷ 0x00 ∷ 0x08 ∷ 0x00 ∷ 0x00 ∷ 0x00 ∷ 0x00 ∷ 0x00 ∷ 0x00 ∷ 0x00 ∷ 0x00 ∷ 0x00 ∷ []
 
 abbrev pub no_tags : Type 0
-no_tags = opened bare_file unlimited ≡ Err (FormatError (RequiredTagNotFound tag.ImageWidth))
+no_tags = begun bare_file 0 ≡ Err (FormatError (RequiredTagNotFound tag.ImageWidth))
 
--- the file of one gray pixel opens, under limits of no bytes too
-abbrev pub gray_opens : Type 0
-gray_opens =
-    opened gray_file (limits 0 0) ≡ Ok (record { order = LittleEndian; kind = Classic; page = pixel_page })
-
--- its width set to 0
+-- the file of one gray pixel, its width set to 0
 abbrev pub width_0 : Type 0
-width_0 = opened (put gray_file 35 (0x00 ∷ [])) unlimited ≡ Err (FormatError (InvalidDimensions 0 1))
+width_0 = begun (put gray_file 35 (0x00 ∷ [])) 0 ≡ Err (FormatError (InvalidDimensions 0 1))
 
--- its method set to 5, which this version doesn't read
+-- its method set to 5, and its byte count set to 0: it opens
 abbrev pub lzw : Type 0
-lzw = opened (put gray_file 71 (0x05 ∷ [])) unlimited ≡ Err stand_in
+lzw = first_page (put gray_file 71 (0x05 ∷ [])) ≡ Ok (record pixel_page { method = method.LZW })
 
--- its byte count set to 0: it opens
 abbrev pub count_0 : Type 0
-count_0 =
-    opened (put gray_file 131 (0x00 ∷ [])) unlimited
-    ≡ Ok (record { order = LittleEndian; kind = Classic; page = record pixel_page { byte_counts = 0 ∷ [] } })
+count_0 = first_page (put gray_file 131 (0x00 ∷ [])) ≡ Ok (record pixel_page { byte_counts = 0 ∷ [] })
+
+-- a list of more byte counts than the limits by default let pass, and of just as many, which the file doesn't have
+abbrev pub list_limited : Type 0
+list_limited = begun (put gray_file 127 (0x01 ∷ 0x00 ∷ 0x80 ∷ 0x00 ∷ [])) 0 ≡ Err LimitsExceeded
+
+abbrev pub list_within : Type 0
+list_within = begun (put gray_file 127 (0x00 ∷ 0x00 ∷ 0x80 ∷ 0x00 ∷ [])) 0 ≡ Err (IoError UnexpectedEof)
+
+-- with a next directory that is cut off it opens too: that one isn't read yet
+abbrev pub next_unread : Type 0
+next_unread = begun (two_file []) 0 ≡ Ok (two_decoder [])
+
+-- ---- other orders and kinds
+
+-- the page of 3 by 2 samples of one bit, in two strips at 8 and 10
+abbrev pub small_page : PageRecord
+small_page = record pixel_page {
+  width = 3;
+  height = 2;
+  depth = 1;
+  chunk_width = 3;
+  chunk_height = 1;
+  offsets = 8 ∷ 10 ∷ [];
+  byte_counts = 1 ∷ 2 ∷ [];
+}
+
+-- a directory of some entries and no next one
+abbrev pub alone : List (ℕ × Field) → DirectoryRecord
+alone entries = record { entries = from_entries (reverse entries); next = None }
+
+-- a big-endian file of that page
+abbrev pub big_endian_file : List ℕ
+big_endian_file =
+    (0x4d ∷ 0x4d ∷ 0x00 ∷ 0x2a ∷ 0x00 ∷ 0x00 ∷ 0x00 ∷ 0x08 ∷ 0x00 ∷ 0x06 ∷ [])
+    ++ (0x01 ∷ 0x00 ∷ 0x00 ∷ 0x03 ∷ 0x00 ∷ 0x00 ∷ 0x00 ∷ 0x01 ∷ 0x00 ∷ 0x03 ∷ 0x00 ∷ 0x00 ∷ [])
+    ++ (0x01 ∷ 0x01 ∷ 0x00 ∷ 0x03 ∷ 0x00 ∷ 0x00 ∷ 0x00 ∷ 0x01 ∷ 0x00 ∷ 0x02 ∷ 0x00 ∷ 0x00 ∷ [])
+    ++ (0x01 ∷ 0x06 ∷ 0x00 ∷ 0x03 ∷ 0x00 ∷ 0x00 ∷ 0x00 ∷ 0x01 ∷ 0x00 ∷ 0x01 ∷ 0x00 ∷ 0x00 ∷ [])
+    ++ (0x01 ∷ 0x11 ∷ 0x00 ∷ 0x03 ∷ 0x00 ∷ 0x00 ∷ 0x00 ∷ 0x02 ∷ 0x00 ∷ 0x08 ∷ 0x00 ∷ 0x0a ∷ [])
+    ++ (0x01 ∷ 0x16 ∷ 0x00 ∷ 0x03 ∷ 0x00 ∷ 0x00 ∷ 0x00 ∷ 0x01 ∷ 0x00 ∷ 0x01 ∷ 0x00 ∷ 0x00 ∷ [])
+    ++ (0x01 ∷ 0x17 ∷ 0x00 ∷ 0x03 ∷ 0x00 ∷ 0x00 ∷ 0x00 ∷ 0x02 ∷ 0x00 ∷ 0x01 ∷ 0x00 ∷ 0x02 ∷ [])
+    ++ (0x00 ∷ 0x00 ∷ 0x00 ∷ 0x00 ∷ [])
+
+abbrev pub big_endian_entries : List (ℕ × Field)
+big_endian_entries =
+    (256, of SHORT 1 (0x00 ∷ 0x03 ∷ 0x00 ∷ 0x00 ∷ 0x00 ∷ 0x00 ∷ 0x00 ∷ 0x00 ∷ []))
+    ∷ (257, of SHORT 1 (0x00 ∷ 0x02 ∷ 0x00 ∷ 0x00 ∷ 0x00 ∷ 0x00 ∷ 0x00 ∷ 0x00 ∷ []))
+    ∷ (262, of SHORT 1 (0x00 ∷ 0x01 ∷ 0x00 ∷ 0x00 ∷ 0x00 ∷ 0x00 ∷ 0x00 ∷ 0x00 ∷ []))
+    ∷ (273, of SHORT 2 (0x00 ∷ 0x08 ∷ 0x00 ∷ 0x0a ∷ 0x00 ∷ 0x00 ∷ 0x00 ∷ 0x00 ∷ []))
+    ∷ (278, of SHORT 1 (0x00 ∷ 0x01 ∷ 0x00 ∷ 0x00 ∷ 0x00 ∷ 0x00 ∷ 0x00 ∷ 0x00 ∷ []))
+    ∷ (279, of SHORT 2 (0x00 ∷ 0x01 ∷ 0x00 ∷ 0x02 ∷ 0x00 ∷ 0x00 ∷ 0x00 ∷ 0x00 ∷ []))
+    ∷ []
+
+-- its decoder
+abbrev pub big_endian_decoder : Decoding
+big_endian_decoder = record {
+  bytes = big_endian_file;
+  kind = Classic;
+  order = BigEndian;
+  first = 8;
+  failures = 0;
+  state = record {
+    pointer = Some (at 8);
+    more = false;
+    page = small_page;
+    directory = alone big_endian_entries;
+    place = 8;
+    limits = default_limits;
+  };
+}
+
+abbrev pub big_endian : Type 0
+big_endian = begun big_endian_file 0 ≡ Ok big_endian_decoder
+
+-- a BigTIFF file of that page: two places of 4 bytes stand in their entry
+abbrev pub big_file : List ℕ
+big_file =
+    (0x49 ∷ 0x49 ∷ 0x2b ∷ 0x00 ∷ 0x08 ∷ 0x00 ∷ 0x00 ∷ 0x00 ∷ 0x10 ∷ 0x00 ∷ 0x00 ∷ 0x00 ∷ 0x00 ∷ 0x00 ∷ 0x00 ∷ 0x00 ∷ 0x06 ∷ 0x00 ∷ 0x00 ∷ 0x00 ∷ 0x00 ∷ 0x00 ∷ 0x00 ∷ 0x00 ∷ [])
+    ++ (0x00 ∷ 0x01 ∷ 0x03 ∷ 0x00 ∷ 0x01 ∷ 0x00 ∷ 0x00 ∷ 0x00 ∷ 0x00 ∷ 0x00 ∷ 0x00 ∷ 0x00 ∷ 0x03 ∷ 0x00 ∷ 0x00 ∷ 0x00 ∷ 0x00 ∷ 0x00 ∷ 0x00 ∷ 0x00 ∷ [])
+    ++ (0x01 ∷ 0x01 ∷ 0x03 ∷ 0x00 ∷ 0x01 ∷ 0x00 ∷ 0x00 ∷ 0x00 ∷ 0x00 ∷ 0x00 ∷ 0x00 ∷ 0x00 ∷ 0x02 ∷ 0x00 ∷ 0x00 ∷ 0x00 ∷ 0x00 ∷ 0x00 ∷ 0x00 ∷ 0x00 ∷ [])
+    ++ (0x06 ∷ 0x01 ∷ 0x03 ∷ 0x00 ∷ 0x01 ∷ 0x00 ∷ 0x00 ∷ 0x00 ∷ 0x00 ∷ 0x00 ∷ 0x00 ∷ 0x00 ∷ 0x01 ∷ 0x00 ∷ 0x00 ∷ 0x00 ∷ 0x00 ∷ 0x00 ∷ 0x00 ∷ 0x00 ∷ [])
+    ++ (0x11 ∷ 0x01 ∷ 0x04 ∷ 0x00 ∷ 0x02 ∷ 0x00 ∷ 0x00 ∷ 0x00 ∷ 0x00 ∷ 0x00 ∷ 0x00 ∷ 0x00 ∷ 0x08 ∷ 0x00 ∷ 0x00 ∷ 0x00 ∷ 0x0a ∷ 0x00 ∷ 0x00 ∷ 0x00 ∷ [])
+    ++ (0x16 ∷ 0x01 ∷ 0x03 ∷ 0x00 ∷ 0x01 ∷ 0x00 ∷ 0x00 ∷ 0x00 ∷ 0x00 ∷ 0x00 ∷ 0x00 ∷ 0x00 ∷ 0x01 ∷ 0x00 ∷ 0x00 ∷ 0x00 ∷ 0x00 ∷ 0x00 ∷ 0x00 ∷ 0x00 ∷ [])
+    ++ (0x17 ∷ 0x01 ∷ 0x03 ∷ 0x00 ∷ 0x02 ∷ 0x00 ∷ 0x00 ∷ 0x00 ∷ 0x00 ∷ 0x00 ∷ 0x00 ∷ 0x00 ∷ 0x01 ∷ 0x00 ∷ 0x02 ∷ 0x00 ∷ 0x00 ∷ 0x00 ∷ 0x00 ∷ 0x00 ∷ [])
+    ++ (0x00 ∷ 0x00 ∷ 0x00 ∷ 0x00 ∷ 0x00 ∷ 0x00 ∷ 0x00 ∷ 0x00 ∷ [])
+
+abbrev pub big_entries : List (ℕ × Field)
+big_entries =
+    (256, of SHORT 1 (0x03 ∷ 0x00 ∷ 0x00 ∷ 0x00 ∷ 0x00 ∷ 0x00 ∷ 0x00 ∷ 0x00 ∷ []))
+    ∷ (257, of SHORT 1 (0x02 ∷ 0x00 ∷ 0x00 ∷ 0x00 ∷ 0x00 ∷ 0x00 ∷ 0x00 ∷ 0x00 ∷ []))
+    ∷ (262, of SHORT 1 (0x01 ∷ 0x00 ∷ 0x00 ∷ 0x00 ∷ 0x00 ∷ 0x00 ∷ 0x00 ∷ 0x00 ∷ []))
+    ∷ (273, of LONG 2 (0x08 ∷ 0x00 ∷ 0x00 ∷ 0x00 ∷ 0x0a ∷ 0x00 ∷ 0x00 ∷ 0x00 ∷ []))
+    ∷ (278, of SHORT 1 (0x01 ∷ 0x00 ∷ 0x00 ∷ 0x00 ∷ 0x00 ∷ 0x00 ∷ 0x00 ∷ 0x00 ∷ []))
+    ∷ (279, of SHORT 2 (0x01 ∷ 0x00 ∷ 0x02 ∷ 0x00 ∷ 0x00 ∷ 0x00 ∷ 0x00 ∷ 0x00 ∷ []))
+    ∷ []
+
+-- its decoder stands behind the header of 16 bytes
+abbrev pub big_decoder : Decoding
+big_decoder = record {
+  bytes = big_file;
+  kind = Big;
+  order = LittleEndian;
+  first = 16;
+  failures = 0;
+  state = record {
+    pointer = Some (at 16);
+    more = false;
+    page = small_page;
+    directory = alone big_entries;
+    place = 16;
+    limits = default_limits;
+  };
+}
+
+abbrev pub big : Type 0
+big = begun big_file 0 ≡ Ok big_decoder

@@ -1,10 +1,10 @@
 -- Worked samples: what a page shows, and the faults of reading it.
-use Rattle.std.specs.Prelude.{◌≡◌, ℕ, ◌++◌, List, [], ◌∷◌, Some, None, Ok, Err, take, replicate}
+use Rattle.std.specs.Prelude.{◌≡◌, ℕ, List, [], ◌∷◌, Some, None, Ok, Err, take, replicate}
 use Rattle.tiff_base.specs.declared.color.ChunkType.TheVariants.{Strip, Tile}
 use Rattle.tiff_base.specs.declared.color.ColorType.TheVariants as colour
 use Rattle.tiff_base.specs.declared.error.TiffError.TheVariants.{FormatError, UnsupportedError, IoError, LimitsExceeded}
-use Rattle.tiff_base.specs.declared.error.TiffFormatError.TheVariants.{InvalidDimensions, InconsistentSizesEncountered}
-use Rattle.tiff_base.specs.declared.error.TiffUnsupportedError.TheVariants.{UnsupportedColorType, HorizontalPredictor, FloatingPointPredictor, UnsupportedCompressionMethod, UnknownInterpretation, UnsupportedSampleDepth}
+use Rattle.tiff_base.specs.declared.error.TiffFormatError.TheVariants.{InconsistentSizesEncountered}
+use Rattle.tiff_base.specs.declared.error.TiffUnsupportedError.TheVariants.{UnsupportedColorType, HorizontalPredictor, FloatingPointPredictor, UnsupportedCompressionMethod, UnknownInterpretation, UnsupportedSampleDepth, InterpretationWithBits}
 use Rattle.tiff_base.specs.declared.io.IoKind.TheVariants.{UnexpectedEof}
 use Rattle.tiff_base.specs.declared.tags.ByteOrder.TheVariants.{LittleEndian, BigEndian}
 use Rattle.tiff_base.specs.declared.tags.CompressionMethod.TheVariants as method
@@ -14,17 +14,15 @@ use Rattle.tiff_base.specs.declared.tags.PlanarConfiguration.TheVariants.{Chunky
 use Rattle.tiff_base.specs.declared.tags.Predictor.TheVariants as predictor
 use Rattle.tiff_base.specs.declared.tags.SampleFormat.TheVariants as format
 use Rattle.tiff_ifd.specs.declared.limits.Limits.{Limits}
-use Rattle.tiff_ifd.specs.Datum.{short}
 use Rattle.tiff_ifd.specs.Limits.{unlimited}
 use Rattle.tiff_ifd.specs.StandIn.{stand_in}
 use Rattle.tiff_page.specs.declared.layout.DecodingSampleType.TheVariants as type
 use Rattle.tiff_page.specs.Page.{PageRecord}
 use Rattle.tiff_page.specs.PixelFault.{form_fault}
 use Rattle.tiff_page.specs.Pixels.{shown_sample, byte_at, image_bytes, numbers_in, whole_image, chunk_region}
-use Rattle.tiff_page.specs.Image.{image_of, covered_page_of}
+use Rattle.tiff_page.specs.Image.{image_of, covered_image_of}
 use Rattle.tiff_examples.specs.Files.{gray_file}
-use Rattle.tiff_examples.specs.Conversions.{told}
-use Rattle.tiff_examples.specs.Pages.{gray_tags, strip_tags, gray_page}
+use Rattle.tiff_examples.specs.Pages.{gray_page}
 
 -- the page of the file of one gray pixel
 abbrev pub pixel_page : PageRecord
@@ -368,18 +366,97 @@ white_3_bits =
     form_fault (record pixel_page { depth = 3; interpretation = meaning.WhiteIsZero }) unlimited (colour.Gray 3) 0
     ≡ Err (UnsupportedError UnknownInterpretation)
 
--- this version reads the gray page of one strip
+-- as far as this version reads images: one gray strip of 8 bits is read, or its data are too few
 abbrev pub covered : Type 0
-covered = covered_page_of (told (gray_tags ++ strip_tags)) ≡ Ok gray_page
+covered =
+    covered_image_of (replicate 20 1) LittleEndian gray_page unlimited
+    ≡ Ok (record { sample_type = type.U8; numbers = replicate 12 1 })
 
--- of 16 bits the page is the stand-in
+abbrev pub covered_cut : Type 0
+covered_cut = covered_image_of (replicate 19 1) LittleEndian gray_page unlimited ≡ Err (IoError UnexpectedEof)
+
+-- another page, without any data, is the stand-in: of 16 bits, under limits that just suffice, ..
+abbrev pub two_bytes : PageRecord
+two_bytes = record gray_page { depth = 16 }
+
 abbrev pub not_covered : Type 0
-not_covered = covered_page_of (told ((258, short 16) ∷ gray_tags ++ strip_tags)) ≡ Err stand_in
+not_covered = covered_image_of [] LittleEndian two_bytes (limits 24 12) ≡ Err stand_in
 
--- a fault of the page comes before it
-abbrev pub fault_first : Type 0
-fault_first =
-    covered_page_of (told ((256, short 0) ∷ gray_tags ++ strip_tags)) ≡ Err (FormatError (InvalidDimensions 0 3))
+-- .. packed, predicted, signed, white as 0, in planes, in tiles, ..
+abbrev pub packed_page : Type 0
+packed_page = covered_image_of [] LittleEndian (record gray_page { method = method.PackBits }) unlimited ≡ Err stand_in
+
+abbrev pub predicted_page : Type 0
+predicted_page =
+    covered_image_of [] LittleEndian (record gray_page { predictor = predictor.Horizontal }) unlimited ≡ Err stand_in
+
+abbrev pub signed_page : Type 0
+signed_page = covered_image_of [] LittleEndian (record gray_page { format = format.Int }) unlimited ≡ Err stand_in
+
+abbrev pub white_page : Type 0
+white_page =
+    covered_image_of [] LittleEndian (record gray_page { interpretation = meaning.WhiteIsZero }) unlimited ≡ Err stand_in
+
+abbrev pub planar_page : Type 0
+planar_page = covered_image_of [] LittleEndian (record gray_page { planar = Planar }) unlimited ≡ Err stand_in
+
+abbrev pub tile_page : Type 0
+tile_page = covered_image_of [] LittleEndian (record gray_page { chunk_type = Tile }) unlimited ≡ Err stand_in
+
+-- .. in two strips, of which the second has a fault, and of two samples a pixel
+abbrev pub strips_page : Type 0
+strips_page =
+    covered_image_of [] LittleEndian (record gray_page {
+      chunk_height = 2;
+      offsets = 8 ∷ 16 ∷ [];
+      byte_counts = 8 ∷ 99 ∷ [];
+    }) (limits 99 8)
+    ≡ Err stand_in
+
+abbrev pub bands_page : Type 0
+bands_page = covered_image_of [] LittleEndian (record gray_page { samples = 2 }) unlimited ≡ Err stand_in
+
+-- what comes before it: the layout's fault, planes that are too long together, the number type's fault, ..
+abbrev pub colour_told : Type 0
+colour_told =
+    covered_image_of [] LittleEndian (record gray_page { interpretation = meaning.ItuLab }) unlimited
+    ≡ Err (UnsupportedError (InterpretationWithBits meaning.ItuLab (8 ∷ [])))
+
+abbrev pub planes_told : Type 0
+planes_told =
+    covered_image_of [] LittleEndian (record planar_row {
+      width = 4294967295;
+      height = 4294967295;
+      chunk_width = 4294967295;
+    }) unlimited
+    ≡ Err LimitsExceeded
+
+abbrev pub type_told : Type 0
+type_told =
+    covered_image_of [] LittleEndian (record gray_page { depth = 65 }) (limits 0 0)
+    ≡ Err (UnsupportedError (UnsupportedSampleDepth 65))
+
+-- .. the limit of samples, which comes before the method, the limit of the file's bytes, the method, ..
+abbrev pub samples_told : Type 0
+samples_told = covered_image_of [] LittleEndian two_bytes (limits 23 12) ≡ Err LimitsExceeded
+
+abbrev pub samples_first : Type 0
+samples_first =
+    covered_image_of [] LittleEndian (record gray_page { method = method.LZW }) (limits 11 12) ≡ Err LimitsExceeded
+
+abbrev pub bytes_told : Type 0
+bytes_told = covered_image_of [] LittleEndian two_bytes (limits 24 11) ≡ Err LimitsExceeded
+
+abbrev pub lzw_told : Type 0
+lzw_told =
+    covered_image_of [] LittleEndian (record gray_page { method = method.LZW }) unlimited
+    ≡ Err (UnsupportedError (UnsupportedCompressionMethod method.LZW))
+
+-- .. and white as 0 that can't be inverted
+abbrev pub white_told : Type 0
+white_told =
+    covered_image_of [] LittleEndian (record gray_page { format = format.Int; interpretation = meaning.WhiteIsZero }) unlimited
+    ≡ Err (UnsupportedError UnknownInterpretation)
 
 -- differences begin anew in each row
 abbrev pub rows_of_differences : Type 0

@@ -29,9 +29,3 @@ pub fn layouts()
         s.float_64 × s.half_size × s.double_size × s.plane_too_long × s.long_first ×
         s.half_bytes_first × s.chroma_1_2 × s.chroma_jpeg }
 {}
-
-/// Pages that this version doesn't read.
-pub fn covered()
-    ensures { s.packed_page × s.predicted_page × s.signed_page × s.white_page × s.planar_page ×
-        s.tile_page × s.strips_page }
-{}

@@ -16,8 +16,7 @@ pub fn look_ups()
         s.width_required × s.length_required }
 {}
 
-/// Tags of a directory, and the stand-in for values that this version doesn't read.
+/// Tags of a directory.
 pub fn directories()
-    ensures { s.list_read × s.list_past_end × s.list_stand_in × s.list_stand_in_first × s.single_read ×
-        s.single_missing × s.has_width × s.has_length }
+    ensures { s.list_read × s.list_past_end × s.single_read × s.single_missing × s.has_width × s.has_length }
 {}

@@ -4,7 +4,7 @@ ghost use Rattle.tiff_examples.specs.Leaves as s;
 
 /// What pages do not show and leave.
 pub fn pages()
-    ensures { s.header_shows × s.reads_other × s.reads_wide × s.leaves_other × s.leaves_unlinked × s.short_value × s.gray_far × s.gray_high }
+    ensures { s.header_shows × s.reads_other × s.reads_wide × s.reads_white × s.leaves_other × s.leaves_unlinked × s.short_value × s.gray_far × s.gray_high }
 {}
 
 /// Steps of a page.

@@ -2,13 +2,17 @@
 
 ghost use Rattle.tiff_examples.specs.Openings as s;
 
-/// Files that are refused, or that this version doesn't read, before their tags are read.
+/// Files that are refused before their tags are read.
 pub fn openings()
-    ensures { s.no_signature × s.big_endian × s.big_file × s.big_endian_0 × s.big_endian_44 ×
-        s.big_file_cut × s.big_file_4 × s.linked × s.directory_cut × s.directory_past × s.gray_cut }
+    ensures { s.big_endian_0 × s.big_endian_44 × s.big_file_cut × s.big_file_4 × s.directory_cut × s.gray_cut }
 {}
 
 /// Files whose tags are read.
 pub fn tags()
-    ensures { s.no_tags × s.gray_opens × s.width_0 × s.lzw × s.count_0 }
+    ensures { s.no_tags × s.width_0 × s.lzw × s.count_0 × s.list_limited × s.list_within × s.next_unread }
+{}
+
+/// A file of the other byte order, and one of the other kind.
+pub fn forms()
+    ensures { s.big_endian × s.big }
 {}

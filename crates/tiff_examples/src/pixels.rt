@@ -38,7 +38,14 @@ pub fn forms()
         s.packed_form × s.method_first × s.white_several × s.white_4_bits }
 {}
 
-/// Pages that this version reads.
+/// Images that this version reads, and images that it doesn't.
 pub fn covered()
-    ensures { s.covered × s.not_covered × s.fault_first }
+    ensures { s.covered × s.covered_cut × s.not_covered × s.packed_page × s.predicted_page ×
+        s.signed_page × s.white_page × s.planar_page × s.tile_page × s.strips_page × s.bands_page }
+{}
+
+/// The faults that come before those.
+pub fn before()
+    ensures { s.colour_told × s.planes_told × s.type_told × s.samples_told × s.samples_first ×
+        s.bytes_told × s.lzw_told × s.white_told }
 {}

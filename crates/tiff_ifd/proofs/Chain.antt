@@ -43,13 +43,13 @@ abbrev IsSomeLink : Option ℕ → Type 0
 IsSomeLink (Some x) = Unit {0}
 IsSomeLink None = ⊥
 
-not_both : (r : Link) (x : Option ℕ) (e : TiffError) → r ≡ Ok x → r ≡ Err e → ⊥
+pub not_both : (r : Link) (x : Option ℕ) (e : TiffError) → r ≡ Ok x → r ≡ Err e → ⊥
 not_both r x e a b = subst IsOkLink (sym a ∙ b) tt
 
-same_ok : (r : Link) (x y : Option ℕ) → r ≡ Ok x → r ≡ Ok y → x ≡ y
+pub same_ok : (r : Link) (x y : Option ℕ) → r ≡ Ok x → r ≡ Ok y → x ≡ y
 same_ok r x y a b = ap (ok_or x) (sym a ∙ b)
 
-same_err : (r : Link) (x y : TiffError) → r ≡ Err x → r ≡ Err y → x ≡ y
+pub same_err : (r : Link) (x y : TiffError) → r ≡ Err x → r ≡ Err y → x ≡ y
 same_err r x y a b = ap (err_or x) (sym a ∙ b)
 
 -- there is one at most

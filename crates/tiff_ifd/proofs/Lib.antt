@@ -7,3 +7,5 @@ pub mod Items
 pub mod Texts
 pub mod Fitted
 mod Sames
+pub mod Followed
+pub mod Begun

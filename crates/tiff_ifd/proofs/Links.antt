@@ -11,23 +11,23 @@ use Rattle.tiff_base.specs.declared.error.TiffFormatError.TheVariants.{CycleInOf
 use Rattle.tiff_ifd.specs.Links.{Links, target, Goes, Closes, HasAnother, IsClosing, IsNew, Inserts, IsAnswered, IsOneAnswer}
 use Rattle.tiff_ifd.proofs.Chain.{IsFalseBit, Known, known_more, none_known, full, equal_numbers}
 
-abbrev Found : Type 0
+abbrev pub Found : Type 0
 Found = Option (Option ℕ)
 
-abbrev IsFound : Found → Type 0
+abbrev pub IsFound : Found → Type 0
 IsFound (Some x) = Unit {0}
 IsFound None = ⊥
 
-abbrev IsLinked : Found → Type 0
+abbrev pub IsLinked : Found → Type 0
 IsLinked (Some (Some n)) = Unit {0}
 IsLinked (Some None) = ⊥
 IsLinked None = ⊥
 
-abbrev found_or : Option ℕ → Found → Option ℕ
+abbrev pub found_or : Option ℕ → Found → Option ℕ
 found_or d (Some x) = x
 found_or d None = d
 
-abbrev some_or : ℕ → Option ℕ → ℕ
+abbrev pub some_or : ℕ → Option ℕ → ℕ
 some_or d (Some x) = x
 some_or d None = d
 
@@ -65,7 +65,7 @@ abbrev most : List (ℕ × Option ℕ) → ℕ
 most [] = 0
 most (e ∷ es) = e.0 + 1 + most es
 
-equal_order : (r : Ordering) → is_eq r ≡ true → r ≡ Equal
+pub equal_order : (r : Ordering) → is_eq r ≡ true → r ≡ Equal
 equal_order Equal h = refl
 equal_order Less h = absurd (subst IsFalseBit h tt)
 equal_order Greater h = absurd (subst IsFalseBit h tt)
@@ -83,7 +83,7 @@ linked_below : (links : Links) (q : ℕ) (x : Option ℕ) → get links q ≡ So
 linked_below links q x h = found_below q (entries links) x (sym (get-entries links q) ∙ h)
 
 -- membership
-abbrev In : ℕ → List ℕ → Type 0
+abbrev pub In : ℕ → List ℕ → Type 0
 In q met = list_any (nat_eq q) met ≡ true
 
 in_more : (b c : Bool) → c ≡ true → (b || c) ≡ true
@@ -94,17 +94,17 @@ in_head : (b c : Bool) → b ≡ true → (b || c) ≡ true
 in_head true c h = refl
 in_head false c h = absurd (subst IsFalseBit h tt)
 
-either : (b c : Bool) → (b || c) ≡ true → (b ≡ true) ⊎ (c ≡ true)
+pub either : (b c : Bool) → (b || c) ≡ true → (b ≡ true) ⊎ (c ≡ true)
 either true c h = inl refl
 either false c h = inr h
 
-itself : (n : ℕ) → nat_eq n n ≡ true
+pub itself : (n : ℕ) → nat_eq n n ≡ true
 itself n = grind (arith, nat_tests)
 
-here : (n : ℕ) (met : List ℕ) → In n (n ∷ met)
+pub here : (n : ℕ) (met : List ℕ) → In n (n ∷ met)
 here n met = in_head (nat_eq n n) (list_any (nat_eq n) met) (itself n)
 
-more : (q n : ℕ) (met : List ℕ) → In q met → In q (n ∷ met)
+pub more : (q n : ℕ) (met : List ℕ) → In q met → In q (n ∷ met)
 more q n met h = in_more (nat_eq q n) (list_any (nat_eq q) met) h
 
 not_equal : (q p : ℕ) → nat_eq q p ≡ false → q ≡ p → ⊥

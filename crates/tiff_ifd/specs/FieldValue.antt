@@ -11,6 +11,7 @@ use Rattle.tiff_base.specs.declared.tags.FileKind.{FileKind}
 use Rattle.tiff_base.specs.declared.tags.«Type».{«Type»}
 use Rattle.tiff_base.specs.declared.tags.«Type».TheVariants as t
 use Rattle.tiff_base.specs.Field.{Field}
+use Rattle.tiff_base.specs.Told.{exactly_at}
 use Rattle.tiff_base.specs.Types.{type_size}
 use Rattle.tiff_base.specs.Answers.{◌>>=◌}
 use Rattle.tiff_base.specs.Directory.{place_width}
@@ -18,6 +19,7 @@ use Rattle.tiff_base.specs.FieldBytes.{field_len, field_bytes}
 use Rattle.tiff_ifd.specs.declared.limits.Limits.{Limits}
 use Rattle.tiff_ifd.specs.Datum.{Datum, data_of}
 use Rattle.tiff_ifd.specs.Datum as f
+use Rattle.tiff_ifd.specs.Into.{into_string}
 use Rattle.tiff_ifd.specs.Item.{item, list_item, items}
 
 abbrev pub is_zero : ℕ → Bool
@@ -38,6 +40,10 @@ inline_text bs =
 abbrev pub placed_text : List ℕ → Result Datum TiffError
 placed_text bs =
     let text = before_first is_zero bs in if is_utf8 text then Ok (f.ascii text) else Err (FormatError InvalidTag)
+
+-- a text of so many bytes at a place
+abbrev pub text_at : List ℕ → ℕ → ℕ → Result (List ℕ) TiffError
+text_at bytes at len = exactly_at bytes at len >>= placed_text >>= into_string
 
 -- numbers: one stands alone, several are a list
 abbrev pub numbers : Bool → «Type» → ByteOrder → ℕ → List ℕ → Datum

@@ -9,6 +9,8 @@ pub mod StandIn
 pub mod Limits
 pub mod Chain
 pub mod Links
+pub mod Walk
 pub mod Fitted
 pub mod Ask
 pub mod Same
+pub mod Stream

@@ -97,8 +97,8 @@ fn read_count_at<R: Source>(
     }
 }
 
-// A place that a directory holds.
-fn read_link_at<R: Source>(
+/// Reads a place of 4 or 8 bytes, as a directory holds it. Fewer bytes there: `IoError(UnexpectedEof)`.
+pub fn read_link_at<R: Source>(
     source: &mut R,
     at: u64,
     kind: FileKind,

@@ -1,13 +1,15 @@
 //! What a file's header, directories and tags say.
 #![tactic(auto)]
 
-pub mod ask;
+pub mod cycles;
 pub mod decode;
 pub mod header;
 pub mod laws;
 pub mod limits;
 pub mod read_bytes;
 pub mod read_value;
+pub mod stream;
 pub mod tags;
 pub mod value;
 pub mod value_reader;
+pub mod walk;

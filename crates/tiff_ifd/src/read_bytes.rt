@@ -15,8 +15,8 @@ use tiff_base::io::Source;
 use tiff_base::read::{read_bytes_at, read_exact_at, u32_from, u64_from};
 use tiff_base::tags::{ByteOrder, FileKind};
 
-// How many bytes a value field has.
-pub(crate) fn place_len(kind: FileKind) -> u64
+/// How many bytes a place has, and the value field of an entry.
+pub fn place_len(kind: FileKind) -> u64
     ensures { result ≡ byte_len (place_width kind) }
 {
     match kind {

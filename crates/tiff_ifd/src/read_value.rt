@@ -1,6 +1,6 @@
 //! The values of fields are read.
 
-ghost use Rattle.std.specs.Prelude.{◌≡◌, ◌≤◌, ◌<◌, ◌*◌, ◌-◌, Ok, Err, if◌then◌else◌, ◌&&◌, length, slice_index, option_map};
+ghost use Rattle.std.specs.Prelude.{◌≡◌, ◌≤◌, ◌<◌, ◌*◌, ◌-◌, Ok, Err, if◌then◌else◌, ◌&&◌, length, slice_index, option_map, string_bytes};
 ghost use Rattle.std.specs.Int.{w8, w16, w32, w64};
 ghost use Rattle.std.specs.List.{list_all, position_or_len, prefix_len, suffix_len};
 ghost use Rattle.std.specs.Str.{is_utf8};
@@ -266,6 +266,20 @@ fn value_from(
         Type::ASCII => placed_text(alloc, bytes),
         _ => numbers_from(alloc, inline, field_type, order, count, bytes),
     }
+}
+
+/// Reads a text of so many bytes, up to its first zero. Fewer bytes there: `IoError(UnexpectedEof)`; not UTF-8: `InvalidTag`.
+pub fn read_text_at<R: Source>(
+    alloc: Global,
+    source: &mut R,
+    at: u64,
+    len: usize,
+) -> TiffResult<String>
+    ensures kept { IsKept R.bytes R.failures source.old source.new }
+    ensures answer { Answers string_bytes result (value.text_at (R.bytes source.old) at len) (R.failures source.old) (R.failures source.new) }
+{
+    let bytes = read_bytes_at(alloc, source, at, len)?;
+    placed_text(alloc, &bytes)?.into_string()
 }
 
 // Whether so many values may be read from elsewhere.

@@ -67,13 +67,10 @@ const HEADERS: [(&[u8], &str); 8] = [
         &[0x49, 0x49, 0x2a, 0, 0, 0, 0, 0],
         "format error: image file directory not found",
     ),
-    (
-        &[0x4d, 0x4d, 0, 0x2a, 0, 0, 0, 8],
-        "unsupported error: unsupported data type",
-    ),
+    (&[0x4d, 0x4d, 0, 0x2a, 0, 0, 0, 8], "unexpected end of file"),
     (
         &[0x49, 0x49, 0x2b, 0, 8, 0, 0, 0, 16, 0, 0, 0, 0, 0, 0, 0],
-        "unsupported error: unsupported data type",
+        "unexpected end of file",
     ),
 ];
 
@@ -86,7 +83,7 @@ fn headers_are_refused_by_their_first_fault(rt: HostRuntime) -> Result<(), Fail>
 }
 
 // A byte of the page, what it is set to, and what is answered then.
-const CHANGES: [(usize, u8, &str); 14] = [
+const CHANGES: [(usize, u8, &str); 16] = [
     (40, 0, "format error: invalid dimensions: 0x2"),
     (52, 0, "format error: invalid dimensions: 3x0"),
     (
@@ -94,14 +91,27 @@ const CHANGES: [(usize, u8, &str); 14] = [
         0,
         "unsupported error: inconsistent bits per sample: [0]",
     ),
-    (64, 12, "unsupported error: unsupported data type"),
-    (76, 5, "unsupported error: unsupported data type"),
+    (
+        64,
+        12,
+        "unsupported error: color type Gray(12) is unsupported",
+    ),
+    (64, 16, "unsupported error: unsupported data type"),
+    (
+        76,
+        5,
+        "unsupported error: compression method LZW is unsupported",
+    ),
     (
         88,
         7,
         "unsupported error: unknown photometric interpretation",
     ),
-    (88, 2, "unsupported error: unsupported data type"),
+    (
+        88,
+        2,
+        "unsupported error: Photometric interpretation RGB with bits per sample [8] is unsupported",
+    ),
     (112, 0, "format error: samples per pixel is zero"),
     (
         128,
@@ -111,8 +121,17 @@ const CHANGES: [(usize, u8, &str); 14] = [
     (136, 0, "read"),
     (100, 199, "unexpected end of file"),
     (184, 4, "format error: unknown predictor “4” encountered"),
-    (196, 3, "unsupported error: unsupported data type"),
-    (200, 8, "unsupported error: unsupported data type"),
+    (
+        196,
+        3,
+        "unsupported error: 8 samples per pixel is unsupported",
+    ),
+    (200, 8, "read"),
+    (
+        200,
+        30,
+        "format error: file contained a cycle in the list of IFDs",
+    ),
 ];
 
 #[test]

@@ -6,8 +6,6 @@ pub returns : goal.returns
 returns c = (
   p.list_read,
   p.list_past_end,
-  p.list_stand_in,
-  p.list_stand_in_first,
   p.single_read,
   p.single_missing,
   p.has_width,

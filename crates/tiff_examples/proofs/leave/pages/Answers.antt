@@ -7,6 +7,7 @@ returns c = (
   p.header_shows,
   p.reads_other,
   p.reads_wide,
+  p.reads_white,
   p.leaves_other,
   p.leaves_unlinked,
   p.short_value,

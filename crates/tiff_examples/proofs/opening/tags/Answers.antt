@@ -3,4 +3,12 @@ use Rattle.tiff_examples.proofs.Openings as p
 use Rattle.tiff_examples.proofs.opening.tags.Goals as goal
 
 pub returns : goal.returns
-returns c = (p.no_tags, p.gray_opens, p.width_0, p.lzw, p.count_0)
+returns c = (
+  p.no_tags,
+  p.width_0,
+  p.lzw,
+  p.count_0,
+  p.list_limited,
+  p.list_within,
+  p.next_unread,
+)

@@ -5,6 +5,14 @@ use Rattle.tiff_examples.proofs.pixels.covered.Goals as goal
 pub returns : goal.returns
 returns c = (
   p.covered,
+  p.covered_cut,
   p.not_covered,
-  p.fault_first,
+  p.packed_page,
+  p.predicted_page,
+  p.signed_page,
+  p.white_page,
+  p.planar_page,
+  p.tile_page,
+  p.strips_page,
+  p.bands_page,
 )

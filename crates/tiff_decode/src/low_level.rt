@@ -1,0 +1,181 @@
+//! Bytes and numbers are read at a place of the file, as they stand there.
+
+ghost use Rattle.std.specs.Prelude.{string_bytes};
+ghost use Rattle.std.specs.Int.{w8};
+ghost use Rattle.tiff_base.specs.Answers.{AnswersExactly, IsKept};
+ghost use Rattle.tiff_base.specs.Number.{number_at};
+ghost use Rattle.tiff_decode.specs.Machine.{Follows, FollowsExactly, FollowsPlainly};
+ghost use Rattle.tiff_decode.specs.Outcome as outcome;
+ghost use Rattle.tiff_decode.specs.Step.{bits_32, bits_64};
+
+use crate::decoder::Decoder;
+use tiff_base::error::{TiffFormatError, TiffResult};
+use tiff_base::io::Source;
+use tiff_base::read::{read_exact_at, read_u16_at, read_u32_at, read_u64_at};
+use tiff_base::tags::{Bits32, Bits64, ByteOrder, FileKind};
+use tiff_ifd::decode::read_link_at;
+use tiff_ifd::read_bytes::place_len;
+use tiff_ifd::read_value::read_text_at;
+
+// The byte at a place.
+#[tactic(auto, unfolding(tiff_base::specs::Number::number))]
+fn read_u8_at<R: Source>(source: &mut R, at: u64, order: ByteOrder) -> TiffResult<u8>
+    ensures kept { IsKept R.bytes R.failures source.old source.new }
+    ensures answer { AnswersExactly (λ n. n) result (number_at order w8 (R.bytes source.old) at) (R.failures source.old) (R.failures source.new) }
+{
+    let mut bytes = [0u8; 1];
+    read_exact_at(source, at, &mut bytes)?;
+    match order {
+        ByteOrder::LittleEndian => Ok(u8::from_le_bytes(bytes)),
+        ByteOrder::BigEndian => Ok(u8::from_be_bytes(bytes)),
+    }
+}
+
+/// The low-level reads stand at a place, at first behind the header. A read goes behind what it gives, and a refused one stays:
+/// where there are too few bytes, `IoError(UnexpectedEof)`.
+impl<R: Source> Decoder<R> {
+    /// The next low-level read is from here on; any place will do.
+    #[tactic(auto, unfolding(crate::specs::Outcome::goto_offset))]
+    pub fn goto_offset(&mut self, offset: u32) -> TiffResult<()>
+        ensures { FollowsPlainly (λ x. x) (outcome.goto_offset self.old offset) result self.old self.new }
+    {
+        self.place = u64::from(offset);
+        Ok(())
+    }
+
+    /// The next low-level read is from here on; any place will do.
+    #[tactic(auto, unfolding(crate::specs::Outcome::goto_offset))]
+    pub fn goto_offset_u64(&mut self, offset: u64) -> TiffResult<()>
+        ensures { FollowsPlainly (λ x. x) (outcome.goto_offset self.old offset) result self.old self.new }
+    {
+        self.place = offset;
+        Ok(())
+    }
+
+    /// The next number of 4 bytes, in BigTIFF of 8.
+    #[tactic(auto, unfolding(crate::specs::Outcome::read_ifd_offset))]
+    pub fn read_ifd_offset(&mut self) -> TiffResult<u64>
+        ensures { FollowsExactly (λ x. x) (outcome.read_ifd_offset self.old) result self.old self.new }
+    {
+        let kind = self.tags.kind;
+        let n = read_link_at(&mut self.tags.source, self.place, kind, self.tags.order)?;
+        self.place += place_len(kind);
+        Ok(n)
+    }
+
+    /// The next byte.
+    #[tactic(auto, unfolding(crate::specs::Outcome::read_byte))]
+    pub fn read_byte(&mut self) -> TiffResult<u8>
+        ensures { FollowsExactly (λ x. x) (outcome.read_byte self.old) result self.old self.new }
+    {
+        let n = read_u8_at(&mut self.tags.source, self.place, self.tags.order)?;
+        self.place += 1;
+        Ok(n)
+    }
+
+    /// The next number of two bytes.
+    #[tactic(auto, unfolding(crate::specs::Outcome::read_short))]
+    pub fn read_short(&mut self) -> TiffResult<u16>
+        ensures { FollowsExactly (λ x. x) (outcome.read_short self.old) result self.old self.new }
+    {
+        let n = read_u16_at(&mut self.tags.source, self.place, self.tags.order)?;
+        self.place += 2;
+        Ok(n)
+    }
+
+    /// The next signed number of two bytes.
+    #[tactic(auto, unfolding(crate::specs::Outcome::read_short, crate::specs::Outcome::read_sshort))]
+    pub fn read_sshort(&mut self) -> TiffResult<i16>
+        ensures { FollowsExactly (λ x. x) (outcome.read_sshort self.old) result self.old self.new }
+    {
+        Ok(self.read_short()?.cast_signed())
+    }
+
+    /// The next number of four bytes.
+    #[tactic(auto, unfolding(crate::specs::Outcome::read_long))]
+    pub fn read_long(&mut self) -> TiffResult<u32>
+        ensures { FollowsExactly (λ x. x) (outcome.read_long self.old) result self.old self.new }
+    {
+        let n = read_u32_at(&mut self.tags.source, self.place, self.tags.order)?;
+        self.place += 4;
+        Ok(n)
+    }
+
+    /// The next signed number of four bytes.
+    #[tactic(auto, unfolding(crate::specs::Outcome::read_long, crate::specs::Outcome::read_slong))]
+    pub fn read_slong(&mut self) -> TiffResult<i32>
+        ensures { FollowsExactly (λ x. x) (outcome.read_slong self.old) result self.old self.new }
+    {
+        Ok(self.read_long()?.cast_signed())
+    }
+
+    /// The next number of eight bytes.
+    #[tactic(auto, unfolding(crate::specs::Outcome::read_long8))]
+    pub fn read_long8(&mut self) -> TiffResult<u64>
+        ensures { FollowsExactly (λ x. x) (outcome.read_long8 self.old) result self.old self.new }
+    {
+        let n = read_u64_at(&mut self.tags.source, self.place, self.tags.order)?;
+        self.place += 8;
+        Ok(n)
+    }
+
+    /// The next signed number of eight bytes.
+    #[tactic(auto, unfolding(crate::specs::Outcome::read_long8, crate::specs::Outcome::read_slong8))]
+    pub fn read_slong8(&mut self) -> TiffResult<i64>
+        ensures { FollowsExactly (λ x. x) (outcome.read_slong8 self.old) result self.old self.new }
+    {
+        Ok(self.read_long8()?.cast_signed())
+    }
+
+    /// The next floating number of four bytes.
+    #[tactic(auto, unfolding(crate::specs::Outcome::read_long, crate::specs::Outcome::read_float))]
+    pub fn read_float(&mut self) -> TiffResult<Bits32>
+        ensures { FollowsExactly bits_32 (outcome.read_float self.old) result self.old self.new }
+    {
+        Ok(Bits32(self.read_long()?))
+    }
+
+    /// The next floating number of eight bytes.
+    #[tactic(auto, unfolding(crate::specs::Outcome::read_long8, crate::specs::Outcome::read_double))]
+    pub fn read_double(&mut self) -> TiffResult<Bits64>
+        ensures { FollowsExactly bits_64 (outcome.read_double self.old) result self.old self.new }
+    {
+        Ok(Bits64(self.read_long8()?))
+    }
+
+    /// The next `length` bytes as a text, which ends before its first zero. Not UTF-8: `InvalidTag`.
+    #[tactic(auto, unfolding(crate::specs::Outcome::read_string))]
+    pub fn read_string(&mut self, length: usize) -> TiffResult<String>
+        ensures { Follows string_bytes (outcome.read_string self.old length) result self.old self.new }
+    {
+        let text = read_text_at(self.alloc, &mut self.tags.source, self.place, length)?;
+        self.place += length as u64;
+        Ok(text)
+    }
+
+    /// The next four bytes as they stand. In BigTIFF: `InconsistentSizesEncountered`.
+    #[tactic(auto, unfolding(crate::specs::Outcome::read_offset))]
+    pub fn read_offset(&mut self) -> TiffResult<[u8; 4]>
+        ensures { FollowsExactly (λ x. x) (outcome.read_offset self.old) result self.old self.new }
+    {
+        match self.tags.kind {
+            FileKind::Classic => (),
+            FileKind::Big => return Err(TiffFormatError::InconsistentSizesEncountered.into()),
+        }
+        let mut bytes = [0u8; 4];
+        read_exact_at(&mut self.tags.source, self.place, &mut bytes)?;
+        self.place += 4;
+        Ok(bytes)
+    }
+
+    /// The next eight bytes as they stand.
+    #[tactic(auto, unfolding(crate::specs::Outcome::read_offset_u64))]
+    pub fn read_offset_u64(&mut self) -> TiffResult<[u8; 8]>
+        ensures { FollowsExactly (λ x. x) (outcome.read_offset_u64 self.old) result self.old self.new }
+    {
+        let mut bytes = [0u8; 8];
+        read_exact_at(&mut self.tags.source, self.place, &mut bytes)?;
+        self.place += 8;
+        Ok(bytes)
+    }
+}

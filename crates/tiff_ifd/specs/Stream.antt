@@ -1,0 +1,34 @@
+-- A reader of numbers, and what it reads (TIFF 6.0 section 2).
+use Rattle.std.specs.Prelude.{◌≡◌, ℕ, ◌+◌, ◌≤◌, List, Result, Ok, Err}
+use Rattle.std.specs.Int.{Width, byte_len}
+use Rattle.tiff_base.specs.declared.error.TiffError.{TiffError}
+use Rattle.tiff_base.specs.declared.tags.ByteOrder.{ByteOrder}
+use Rattle.tiff_base.specs.declared.tags.Bits32.{Bits32}
+use Rattle.tiff_base.specs.declared.tags.Bits64.{Bits64}
+use Rattle.tiff_base.specs.Answers.{AnswersExactly, ◌>>=◌}
+use Rattle.tiff_base.specs.Number.{number_at}
+
+-- the bytes of its source, how many reads of it failed so far, the byte order, and the place of the next number
+pub record Reading : Type 0 where
+  pub bytes : List ℕ
+  pub failures : ℕ
+  pub order : ByteOrder
+  pub place : ℕ
+
+-- the place after a read of so many bytes; a refused one leaves it
+abbrev pub place_behind : {X : Type 0} → Result X TiffError → ℕ → ℕ → ℕ
+place_behind (Ok x) len place = place + len
+place_behind (Err e) len place = place
+
+-- The number of this width at the place was read, and answered as this.
+pub record NumberRead {X : Type 0} (w : Width) (as_number : ℕ → X) (result : Result X TiffError) (old new : Reading) : Type 0 where
+  pub answer : AnswersExactly (λ x. x) result (number_at old.order w old.bytes old.place >>= λ n. Ok (as_number n)) old.failures new.failures
+  pub stands : new ≡ record old { failures = new.failures; place = place_behind result (byte_len w) old.place }
+  pub failures : old.failures ≤ new.failures
+
+-- the floating number of these bits
+abbrev pub of_bits_32 : ℕ → Bits32
+of_bits_32 n = record { 0 = n }
+
+abbrev pub of_bits_64 : ℕ → Bits64
+of_bits_64 n = record { 0 = n }

@@ -1,0 +1,125 @@
+//! Numbers are read, one after the other.
+
+ghost use Rattle.std.specs.Prelude.{◌≡◌, Ok};
+ghost use Rattle.std.specs.Int.{w16, w32, w64, cast_signed};
+ghost use Rattle.tiff_ifd.specs.Stream.{NumberRead, of_bits_32, of_bits_64};
+
+use std::marker::Model;
+use tiff_base::error::TiffResult;
+use tiff_base::io::Source;
+use tiff_base::read::{read_u16_at, read_u32_at, read_u64_at};
+use tiff_base::tags::{Bits32, Bits64, ByteOrder};
+
+/// Reads numbers of one byte order, one after the other.
+#[derive(Debug, Drop)]
+pub struct EndianReader<R: Source> {
+    source: R,
+    byte_order: ByteOrder,
+    place: u64,
+}
+
+impl<R: Source> Model for EndianReader<R> {
+    ghost use Rattle.tiff_ifd.specs.Stream.{Reading};
+
+    ghost Value = { Reading };
+
+    ghost view = { λ r. record {
+      bytes = R.bytes r.source;
+      failures = R.failures r.source;
+      order = r.byte_order;
+      place = r.place;
+    } };
+}
+
+impl<R: Source> EndianReader<R> {
+    /// Reads from the source's start on.
+    pub fn new(source: R, byte_order: ByteOrder) -> Self
+        ensures { result ≡ record { bytes = R.bytes source; failures = R.failures source; order = byte_order; place = 0 } }
+    {
+        EndianReader {
+            source,
+            byte_order,
+            place: 0,
+        }
+    }
+
+    /// The source.
+    pub fn inner(&self) -> &R
+        ensures bytes { R.bytes result.now ≡ self.now.bytes }
+        ensures failures { R.failures result.now ≡ self.now.failures }
+    {
+        &self.source
+    }
+
+    /// The next number is read from here on; any place will do.
+    pub fn goto_offset(&mut self, offset: u64) -> TiffResult<()>
+        ensures answer { result ≡ Ok tt }
+        ensures state { self.new ≡ record self.old { place = offset } }
+    {
+        self.place = offset;
+        Ok(())
+    }
+
+    /// The next two bytes as a number. Fewer bytes there: `IoError(UnexpectedEof)`, as of each of these reads; a refused
+    /// one stays at its place.
+    pub fn read_u16(&mut self) -> TiffResult<u16>
+        ensures { NumberRead w16 (λ n. n) result self.old self.new }
+    {
+        let n = read_u16_at(&mut self.source, self.place, self.byte_order)?;
+        self.place += 2;
+        Ok(n)
+    }
+
+    /// The next two bytes as a signed number.
+    pub fn read_i16(&mut self) -> TiffResult<i16>
+        ensures { NumberRead w16 (cast_signed w16) result self.old self.new }
+    {
+        Ok(self.read_u16()?.cast_signed())
+    }
+
+    /// The next four bytes as a number.
+    pub fn read_u32(&mut self) -> TiffResult<u32>
+        ensures { NumberRead w32 (λ n. n) result self.old self.new }
+    {
+        let n = read_u32_at(&mut self.source, self.place, self.byte_order)?;
+        self.place += 4;
+        Ok(n)
+    }
+
+    /// The next four bytes as a signed number.
+    pub fn read_i32(&mut self) -> TiffResult<i32>
+        ensures { NumberRead w32 (cast_signed w32) result self.old self.new }
+    {
+        Ok(self.read_u32()?.cast_signed())
+    }
+
+    /// The next eight bytes as a number.
+    pub fn read_u64(&mut self) -> TiffResult<u64>
+        ensures { NumberRead w64 (λ n. n) result self.old self.new }
+    {
+        let n = read_u64_at(&mut self.source, self.place, self.byte_order)?;
+        self.place += 8;
+        Ok(n)
+    }
+
+    /// The next eight bytes as a signed number.
+    pub fn read_i64(&mut self) -> TiffResult<i64>
+        ensures { NumberRead w64 (cast_signed w64) result self.old self.new }
+    {
+        Ok(self.read_u64()?.cast_signed())
+    }
+
+    /// The next four bytes as a floating number.
+    pub fn read_f32(&mut self) -> TiffResult<Bits32>
+        ensures { NumberRead w32 of_bits_32 result self.old self.new }
+    {
+        Ok(Bits32(self.read_u32()?))
+    }
+
+    /// The next eight bytes as a floating number.
+    pub fn read_f64(&mut self) -> TiffResult<Bits64>
+        ensures { NumberRead w64 of_bits_64 result self.old self.new }
+    {
+        Ok(Bits64(self.read_u64()?))
+    }
+}

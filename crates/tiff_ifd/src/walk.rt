@@ -1,0 +1,184 @@
+//! A file's directories are entered one after another.
+
+ghost use Rattle.std.specs.Prelude.{◌≡◌, ◌==◌, ◌<◌, ◌≤◌, ◌+◌, ◌-◌, ◌++◌, ◌∷◌, ℕ, List, [], reverse, length, IfOk, IfErr, IfNone, OnErr, MatchOption, Ok, Err, None, Some, option_map};
+ghost use Rattle.std.specs.List.{slice_get};
+ghost use Rattle.tiff_base.specs.Answers.{IsCause, IsKept};
+ghost use Rattle.tiff_base.specs.declared.tags.ByteOrder.{ByteOrder};
+ghost use Rattle.tiff_base.specs.declared.tags.FileKind.{FileKind};
+ghost use Rattle.tiff_ifd.specs.Chain.{unless_met, chain};
+ghost use Rattle.tiff_ifd.specs.Links.{target};
+ghost use Rattle.tiff_ifd.specs.Walk.{Steps, Begins, Ends};
+
+use crate::cycles::IfdCycles;
+use crate::decode::read_directory;
+use std::alloc::Global;
+use std::marker::Model;
+use tiff_base::directory::Directory;
+use tiff_base::error::TiffResult;
+use tiff_base::io::Source;
+use tiff_base::tags::{ByteOrder, FileKind, IfdPointer};
+
+/// The places of a file's directories, as far as they were entered, and the link behind the last of them.
+#[derive(Debug, Drop)]
+pub struct Walk {
+    places: Vec<u64>,
+    links: IfdCycles,
+    next: Option<u64>,
+}
+
+impl Model for Walk {
+    ghost use Rattle.std.specs.Prelude.{reverse};
+    ghost use Rattle.tiff_ifd.specs.Walk.{Walked, AreLinked};
+
+    ghost Value = { Walked };
+
+    ghost view = { λ w. record { places = w.places.items; next = w.next } };
+
+    ghost invariant = { λ w. AreLinked w.links (reverse w.places.items) w.next };
+}
+
+// The place of a link, if it leads to one.
+fn pointer(next: Option<u64>) -> Option<IfdPointer>
+    ensures { option_map (λ p. p.0) result ≡ next }
+{
+    next.map(IfdPointer)
+}
+
+// The place that a directory's link leads to.
+fn behind(directory: &Directory) -> Option<u64>
+    ensures { result ≡ directory.now.next }
+{
+    directory.next().map(|pointer| pointer.0)
+}
+
+impl Walk {
+    /// No place was entered yet; `first` is the next one.
+    #[tactic(auto, using(crate::proofs::Begun::none_linked, crate::proofs::Begun::none_begun))]
+    pub fn new(alloc: Global, first: u64) -> Self
+        ensures walked { result ≡ record { places = []; next = Some first } }
+        ensures begins { (kind : FileKind) (order : ByteOrder) (bytes : List ℕ) → Begins kind order bytes first result }
+    {
+        Walk {
+            places: Vec::new(alloc),
+            links: IfdCycles::new(alloc),
+            next: Some(first),
+        }
+    }
+
+    /// How many places were entered.
+    pub fn len(&self) -> usize
+        ensures { result ≡ length self.now.places }
+    {
+        self.places.len()
+    }
+
+    /// Whether no place was entered.
+    pub fn is_empty(&self) -> bool
+        ensures { result ≡ (length self.now.places == 0) }
+    {
+        self.len() == 0
+    }
+
+    /// The place that was entered after `index` others.
+    pub fn get(&self, index: usize) -> Option<u64>
+        ensures { result ≡ slice_get self.now.places index }
+    {
+        self.places.get(index).copied()
+    }
+
+    /// The place that was entered last.
+    pub fn last(&self) -> Option<u64>
+        ensures { result ≡ slice_get self.now.places (length self.now.places - 1) }
+    {
+        self.places.last().copied()
+    }
+
+    /// The next place, if there is one.
+    pub fn next(&self) -> Option<u64>
+        ensures { result ≡ self.now.next }
+    {
+        self.next
+    }
+
+    // Adds the next place with its link, unless that is one of the places up to and with it.
+    #[tactic(auto, using(crate::proofs::Begun::not_met, crate::proofs::Begun::why_refused, crate::proofs::Begun::stays_linked, crate::proofs::Begun::now_linked))]
+    fn add(&mut self, place: u64, next: Option<u64>) -> TiffResult<()>
+        requires at { self.old.next ≡ Some place }
+        requires link { target next ≡ next }
+        ensures unmet { IfOk result (λ _. unless_met (place ∷ reverse self.old.places) next ≡ Ok next) }
+        ensures added { IfOk result (λ _. self.new ≡ record { places = self.old.places ++ place ∷ []; next = next }) }
+        ensures err { IfErr result (λ e. IsCause (Unit {0}) ⊥ e (unless_met (place ∷ reverse self.old.places) next ≡ Err e)) }
+        ensures stays { OnErr result (self.new ≡ self.old) }
+    {
+        self.places.push(place)?;
+        if let Err(e) = self.links.insert_next(IfdPointer(place), pointer(next)) {
+            self.places.pop();
+            return Err(e);
+        }
+        self.next = next;
+        Ok(())
+    }
+
+    /// Enters the next place: its directory, or `None` where there is no next place. Where the place isn't entered, the walk
+    /// is as it was: `IoError(UnexpectedEof)` where the directory is cut, `FormatError(CycleInOffsets)` where its link is one
+    /// of the places up to and with it; or `OutOfMemory`, or `IoError(Device)`.
+    #[tactic(auto, using(crate::proofs::Begun::read_target, crate::proofs::Begun::unread, crate::proofs::Begun::unentered, crate::proofs::Begun::one_entered, crate::proofs::Begun::ends_none, crate::proofs::Begun::begins_entered, crate::proofs::Begun::cut_unread, crate::proofs::Begun::cut_unentered))]
+    pub fn enter_next<R: Source>(
+        &mut self,
+        alloc: Global,
+        source: &mut R,
+        kind: FileKind,
+        order: ByteOrder,
+    ) -> TiffResult<Option<Directory>>
+        ensures kept { IsKept R.bytes R.failures source.old source.new }
+        ensures ok { IfOk result (λ entered. Steps kind order (R.bytes source.old) self.old (Ok entered) self.new) }
+        ensures err { IfErr result (λ e. IsCause (self.new ≡ self.old) ((R.failures source.old < R.failures source.new) × (self.new ≡ self.old)) e
+            (Steps kind order (R.bytes source.old) self.old (Err e) self.new)) }
+        ensures begins { (first : ℕ) → Begins kind order (R.bytes source.old) first self.old → Begins kind order (R.bytes source.old) first self.new }
+        ensures end { IfOk result (λ entered. IfNone entered ((first : ℕ) → Begins kind order (R.bytes source.old) first self.old
+            → Ends kind order (R.bytes source.old) first self.old None)) }
+        ensures cut { IfErr result (λ e. IsCause (Unit {0}) (R.failures source.old < R.failures source.new) e
+            ((first : ℕ) → Begins kind order (R.bytes source.old) first self.old → Ends kind order (R.bytes source.old) first self.old (Some e))) }
+    {
+        let Some(place) = self.next else {
+            return Ok(None);
+        };
+        let directory = read_directory(alloc, source, place, kind, order)?;
+        self.add(place, behind(&directory))?;
+        Ok(Some(directory))
+    }
+
+    /// The place that comes after `index` others in the file's chain: goes along the chain as far as it must, and reads
+    /// nothing for a place that was entered before. `None` where the chain ends before it; where a directory before it isn't
+    /// entered, the fault that `enter_next` answers. The places that were entered on the way stay so.
+    pub fn place_of<R: Source>(
+        &mut self,
+        alloc: Global,
+        source: &mut R,
+        kind: FileKind,
+        order: ByteOrder,
+        index: usize,
+    ) -> TiffResult<Option<u64>>
+        ensures kept { IsKept R.bytes R.failures source.old source.new }
+        ensures there { IfOk result (λ place. place ≡ slice_get self.new.places index) }
+        ensures short { OnErr result (length self.new.places ≤ index) }
+        ensures no_further { length self.old.places ≤ index → length self.new.places ≤ index + 1 }
+        ensures longer { (more : List ℕ) × (self.new.places ≡ self.old.places ++ more) }
+        ensures known { index < length self.old.places → (self.new ≡ self.old) × (source.new ≡ source.old) }
+        ensures begins { (first : ℕ) → Begins kind order (R.bytes source.old) first self.old → Begins kind order (R.bytes source.old) first self.new }
+        ensures place { IfOk result (λ place. (first : ℕ) → Begins kind order (R.bytes source.old) first self.old
+            → slice_get (chain kind order (R.bytes source.old) first).places index ≡ place) }
+        ensures end { IfOk result (λ place. IfNone place ((first : ℕ) → Begins kind order (R.bytes source.old) first self.old
+            → Ends kind order (R.bytes source.old) first self.new None)) }
+        ensures cut { IfErr result (λ e. IsCause (Unit {0}) (R.failures source.old < R.failures source.new) e
+            ((first : ℕ) → Begins kind order (R.bytes source.old) first self.old
+            → (slice_get (chain kind order (R.bytes source.old) first).places index ≡ None) × Ends kind order (R.bytes source.old) first self.new (Some e))) }
+    {
+        while self.len() <= index {
+            if self.enter_next(alloc, source, kind, order)?.is_none() {
+                return Ok(None);
+            }
+        }
+        Ok(self.get(index))
+    }
+}
