@@ -81,6 +81,24 @@ pub fn one_sample_with(
     Ok(file)
 }
 
+/// A BigTIFF file of one gray sample 7 with this entry in its directory: the sample at 16, the directory at 17.
+pub fn big_sample_with(alloc: Global, entry: LaidEntry<'_>) -> TiffResult<Vec<u8>> {
+    let mut file = Layout::new(alloc, ByteOrder::LittleEndian, FileKind::Big);
+    file.header(17)?;
+    file.bytes(&[7])?;
+    let entries = [
+        long(256, 1),
+        long(257, 1),
+        short(258, 8),
+        short(262, 1),
+        long(273, 16),
+        long(279, 1),
+        entry,
+    ];
+    file.directory(&entries, 0)?;
+    Ok(file.into_vec())
+}
+
 // The file of one gray sample 7, little-endian.
 const ONE_SAMPLE: [u8; 199] = [
     0x49, 0x49, 0x2a, 0x00, 0x19, 0x00, 0x00, 0x00, // header
@@ -130,9 +148,9 @@ fn a_file_is_laid_in_either_order(rt: HostRuntime) -> Result<(), Fail> {
     Ok(())
 }
 
-#[test]
-fn a_big_file_is_laid(rt: HostRuntime) -> Result<(), Fail> {
-    let mut file = Layout::new(rt.alloc(), ByteOrder::LittleEndian, FileKind::Big);
+/// A BigTIFF file whose directory has an entry of unknown type, and a width without a height.
+pub fn unknown_entry(alloc: Global) -> TiffResult<Vec<u8>> {
+    let mut file = Layout::new(alloc, ByteOrder::LittleEndian, FileKind::Big);
     file.header(16)?;
     let unknown = LaidEntry {
         tag: 0xffff,
@@ -141,8 +159,13 @@ fn a_big_file_is_laid(rt: HostRuntime) -> Result<(), Fail> {
         field: Field::Bytes(&[0xaa; 8]),
     };
     file.directory(&[unknown, long(256, 5)], 0)?;
+    Ok(file.into_vec())
+}
+
+#[test]
+fn a_big_file_is_laid(rt: HostRuntime) -> Result<(), Fail> {
     assert_eq!(rt;
-        file.into_vec().as_slice(),
+        unknown_entry(rt.alloc())?.as_slice(),
         [
             0x49, 0x49, 0x2b, 0, 8, 0, 0, 0, 0x10, 0, 0, 0, 0, 0, 0, 0, 2, 0, 0, 0, 0, 0, 0, 0,
             0xff, 0xff, 0x63, 0, 0xaa, 0xaa, 0xaa, 0xaa, 0xaa, 0xaa, 0xaa, 0xaa, 0xaa, 0xaa, 0xaa,

@@ -9,6 +9,8 @@ mod layout;
 #[cfg(test)]
 mod reading;
 #[cfg(test)]
+mod tags;
+#[cfg(test)]
 mod values;
 #[cfg(test)]
 mod writing;
