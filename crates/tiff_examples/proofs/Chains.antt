@@ -16,7 +16,7 @@ use Rattle.tiff_ifd.specs.Links.{Links, Goes}
 use Rattle.tiff_examples.specs.Chains as s
 
 -- a look-up in links that are made of a list
-looked : (links : List (ℕ × Option ℕ)) (q : ℕ) → get (s.accepted links) q ≡ find nat_cmp q links
+pub looked : (links : List (ℕ × Option ℕ)) (q : ℕ) → get (s.accepted links) q ≡ find nat_cmp q links
 looked = get-from_entries nat_cmp_total
 
 abbrev IsTrue : Bool → Type 0
@@ -33,7 +33,7 @@ unfolding directory_at number
 only_none [] h = ([], refl)
 only_none (place ∷ others) h = absurd (subst IsFault h.2 tt)
 
-abbrev IsLinked : Option (Option ℕ) → Type 0
+abbrev pub IsLinked : Option (Option ℕ) → Type 0
 IsLinked (Some (Some n)) = Unit {0}
 IsLinked (Some None) = ⊥
 IsLinked None = ⊥
@@ -43,7 +43,7 @@ IsPlace n (Some m) = n ≡ m
 IsPlace n None = ⊥
 
 -- accepted links that lead nowhere from a place end there
-stuck : (links : Links) (at last : ℕ) (x : Option (Option ℕ)) → get links at ≡ x → (IsLinked x → ⊥) → (at ≡ last → ⊥) → (others : List ℕ) → Goes links at others last → ⊥
+pub stuck : (links : Links) (at last : ℕ) (x : Option (Option ℕ)) → get links at ≡ x → (IsLinked x → ⊥) → (at ≡ last → ⊥) → (others : List ℕ) → Goes links at others last → ⊥
 stuck links at last x e none apart [] h = apart h
 stuck links at last x e none apart (next ∷ others) h = none (subst IsLinked (sym h.0 ∙ e) tt)
 

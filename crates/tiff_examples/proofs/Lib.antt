@@ -33,3 +33,6 @@ pub mod Writes
 pub mod Words
 pub mod Leaves
 pub mod Tasks
+pub mod Fits
+pub mod Streams
+pub mod Walks

@@ -1,0 +1,16 @@
+-- Each example is proved in proofs/Walks.antt.
+use Rattle.tiff_examples.proofs.Walks as p
+use Rattle.tiff_examples.proofs.walk.chains.Goals as goal
+
+pub returns : goal.returns
+returns c = (
+  p.begins_none,
+  p.begins_one,
+  p.begins_all,
+  p.begins_second,
+  p.begins_ended,
+  p.ends_all,
+  p.ends_early,
+  p.ends_back,
+  p.ends_plain,
+)
