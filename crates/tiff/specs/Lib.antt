@@ -9,3 +9,7 @@ pub use Rattle.tiff_encode.specs.Written
 pub use Rattle.tiff_encode.specs.Model
 pub use Rattle.tiff_encode.specs.Shows
 pub use Rattle.tiff_encode.specs.Encoder
+pub use Rattle.tiff_base.specs.Field
+pub use Rattle.tiff_base.specs.Tags
+pub use Rattle.tiff_ifd.specs.Ask
+pub use Rattle.tiff_decode.specs.Reader

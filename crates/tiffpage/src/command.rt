@@ -16,6 +16,11 @@ pub enum Command<'a> {
         page: u32,
         output: &'a str,
     },
+    /// A line for each entry of a page.
+    Tags {
+        input: &'a str,
+        page: u32,
+    },
 }
 
 /// The command that the words are, if they are one.
@@ -32,6 +37,10 @@ pub fn parse(words: &[String]) -> Option<Command<'_>> {
             input: input.as_str(),
             page: page.as_str().parse::<u32>().ok()?,
             output: output.as_str(),
+        }),
+        ("tags", [input, page]) => Some(Command::Tags {
+            input: input.as_str(),
+            page: page.as_str().parse::<u32>().ok()?,
         }),
         _ => None,
     }

@@ -1,8 +1,9 @@
-//! Writes the bytes of a file as a gray TIFF page, and the samples of a page into a file.
+//! Writes the bytes of a file as a gray TIFF page, and the samples of a page into a file, and lists the entries of a page.
 #![tactic(auto)]
 
 mod command;
 mod files;
+mod listing;
 mod program;
 #[cfg(test)]
 mod tests;

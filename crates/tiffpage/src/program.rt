@@ -5,6 +5,7 @@ ghost use Rattle.tiff.specs.Shows.{ShowsOnePage};
 
 use crate::command::{Command, parse};
 use crate::files::Files;
+use crate::listing::list_entries;
 use std::alloc::Global;
 use std::fmt;
 use std::io::Write;
@@ -63,23 +64,36 @@ fn gray_file(alloc: Global, width: u32, height: u32, samples: &[u8]) -> TiffResu
     Ok(encoder.into_inner().into_vec())
 }
 
-// The samples of a page. This version reads the first page alone, and samples of 8 bits.
-fn page_samples(alloc: Global, file: Vec<u8>, page: u32) -> TiffResult<Vec<u8>> {
-    let mut decoder = Decoder::new(alloc, MemorySource::new(file))?;
+// A file at a page. This version reads the first page alone.
+fn open_page(alloc: Global, file: Vec<u8>, page: u32) -> TiffResult<Decoder<MemorySource>> {
+    let decoder = Decoder::new(alloc, MemorySource::new(file))?;
     if page > 0 {
         return Err(TiffFormatError::ImageFileDirectoryNotFound.into());
     }
+    Ok(decoder)
+}
+
+// The samples of a page. This version reads samples of 8 bits.
+fn page_samples(alloc: Global, file: Vec<u8>, page: u32) -> TiffResult<Vec<u8>> {
+    let mut decoder = open_page(alloc, file, page)?;
     match decoder.read_image()? {
         DecodingResult::U8(samples) => Ok(samples),
         _ => Err(TiffUnsupportedError::UnsupportedDataType.into()),
     }
 }
 
+// The entries of a page, a line for each.
+fn page_tags(alloc: Global, file: Vec<u8>, page: u32) -> TiffResult<String> {
+    let mut decoder = open_page(alloc, file, page)?;
+    list_entries(alloc, &mut decoder)
+}
+
+// Does what a command asks for, and answers what is to be printed.
 fn execute<'a, F: Files>(
     alloc: Global,
     command: Command<'a>,
     files: &mut F,
-) -> Result<(), Failure<'a>> {
+) -> Result<String, Failure<'a>> {
     match command {
         Command::Gray {
             output,
@@ -89,7 +103,8 @@ fn execute<'a, F: Files>(
         } => {
             let samples = read(files, input)?;
             let file = gray_file(alloc, width, height, samples.as_slice())?;
-            write(files, output, file.as_slice())
+            write(files, output, file.as_slice())?;
+            Ok(String::new(alloc))
         }
         Command::Raw {
             input,
@@ -98,7 +113,12 @@ fn execute<'a, F: Files>(
         } => {
             let file = read(files, input)?;
             let samples = page_samples(alloc, file, page)?;
-            write(files, output, samples.as_slice())
+            write(files, output, samples.as_slice())?;
+            Ok(String::new(alloc))
+        }
+        Command::Tags { input, page } => {
+            let file = read(files, input)?;
+            Ok(page_tags(alloc, file, page)?)
         }
     }
 }
@@ -108,7 +128,7 @@ const USAGE: &str = "usage: tiffpage gray|raw|tags ..";
 /// Does what the words ask for, and answers the status: 0; 1 for a fault, with a line `error: ..` on `err`, and where a
 /// write to `out` or `err` fails; 2 for a wrong command line, with the usage on `err`. No words give the usage on `out`.
 /// Faults are found in this order: the command line, reading the input, the decoder's or the encoder's, writing the
-/// output.
+/// output. On a fault nothing is written to `out`.
 pub fn run<F: Files, O: Write, E: Write>(
     alloc: Global,
     words: &[String],
@@ -133,7 +153,10 @@ pub fn run<F: Files, O: Write, E: Write>(
         };
     };
     match execute(alloc, command, files) {
-        Ok(()) => 0,
+        Ok(text) => match out.write_all(text.as_bytes()) {
+            Ok(()) => 0,
+            Err(_) => 1,
+        },
         Err(failure) => {
             let _ = writeln!(err, "error: {failure}");
             1

@@ -100,6 +100,30 @@ const ONE: [u8; 199] = [
     0x00, 0x00, 0x00, 0x00, // link
 ];
 
+/// The same file, big-endian.
+const BIG: [u8; 199] = [
+    0x4d, 0x4d, 0x00, 0x2a, 0x00, 0x00, 0x00, 0x19, // header
+    0x00, 0x00, 0x00, 0x01, 0x00, 0x00, 0x00, 0x01, // resolutions
+    0x00, 0x00, 0x00, 0x01, 0x00, 0x00, 0x00, 0x01, //
+    0x07, // strip
+    0x00, 0x0e, // directory
+    0x01, 0x00, 0x00, 0x04, 0x00, 0x00, 0x00, 0x01, 0x00, 0x00, 0x00, 0x01, //
+    0x01, 0x01, 0x00, 0x04, 0x00, 0x00, 0x00, 0x01, 0x00, 0x00, 0x00, 0x01, //
+    0x01, 0x02, 0x00, 0x03, 0x00, 0x00, 0x00, 0x01, 0x00, 0x08, 0x00, 0x00, //
+    0x01, 0x03, 0x00, 0x03, 0x00, 0x00, 0x00, 0x01, 0x00, 0x01, 0x00, 0x00, //
+    0x01, 0x06, 0x00, 0x03, 0x00, 0x00, 0x00, 0x01, 0x00, 0x01, 0x00, 0x00, //
+    0x01, 0x11, 0x00, 0x04, 0x00, 0x00, 0x00, 0x01, 0x00, 0x00, 0x00, 0x18, //
+    0x01, 0x15, 0x00, 0x03, 0x00, 0x00, 0x00, 0x01, 0x00, 0x01, 0x00, 0x00, //
+    0x01, 0x16, 0x00, 0x04, 0x00, 0x00, 0x00, 0x01, 0x00, 0x0f, 0x42, 0x40, //
+    0x01, 0x17, 0x00, 0x04, 0x00, 0x00, 0x00, 0x01, 0x00, 0x00, 0x00, 0x01, //
+    0x01, 0x1a, 0x00, 0x05, 0x00, 0x00, 0x00, 0x01, 0x00, 0x00, 0x00, 0x08, //
+    0x01, 0x1b, 0x00, 0x05, 0x00, 0x00, 0x00, 0x01, 0x00, 0x00, 0x00, 0x10, //
+    0x01, 0x28, 0x00, 0x03, 0x00, 0x00, 0x00, 0x01, 0x00, 0x01, 0x00, 0x00, //
+    0x01, 0x3d, 0x00, 0x03, 0x00, 0x00, 0x00, 0x01, 0x00, 0x01, 0x00, 0x00, //
+    0x01, 0x53, 0x00, 0x03, 0x00, 0x00, 0x00, 0x01, 0x00, 0x01, 0x00, 0x00, //
+    0x00, 0x00, 0x00, 0x00, // link
+];
+
 #[test]
 fn a_byte_to_a_page_and_back(rt: HostRuntime) -> Result<(), Fail> {
     let mut files = MemoryFiles::with(rt.alloc(), "IN", &[7])?;
@@ -114,7 +138,7 @@ fn a_byte_to_a_page_and_back(rt: HostRuntime) -> Result<(), Fail> {
 }
 
 // A command line, its status and its line on the error stream; IN has three bytes, ONE the file of one sample.
-const FAULTS: [(&[&str], u8, &[u8]); 17] = [
+const FAULTS: [(&[&str], u8, &[u8]); 22] = [
     (
         &["gray", "OUT", "0", "5", "IN"],
         1,
@@ -179,7 +203,16 @@ const FAULTS: [(&[&str], u8, &[u8]); 17] = [
     (&["gray", "OUT", "1", "-1", "IN"], 2, USAGE),
     (&["gray", "OUT", "1", "4294967296", "NONE"], 2, USAGE),
     (&["raw", "NONE", "x", "OUT"], 2, USAGE),
-    (&["tags", "ONE", "0"], 2, USAGE),
+    (
+        &["tags", "ONE", "1"],
+        1,
+        b"error: format error: image file directory not found\n",
+    ),
+    (&["tags", "CUT", "0"], 1, b"error: unexpected end of file\n"),
+    (&["tags", "NONE", "0"], 1, b"error: cannot read NONE\n"),
+    (&["tags", "ONE"], 2, USAGE),
+    (&["tags", "ONE", "0", "OUT"], 2, USAGE),
+    (&["tags", "NONE", "-1"], 2, USAGE),
 ];
 
 #[test]
@@ -194,6 +227,80 @@ fn faults_are_told_in_their_order(rt: HostRuntime) -> Result<(), Fail> {
         assert_eq!(rt; run.err.as_slice(), line);
         assert!(rt; files.read("OUT").is_err());
     }
+    Ok(())
+}
+
+const LISTING: &[u8] = b"256 4 1 01000000
+257 4 1 01000000
+258 3 1 0800
+259 3 1 0100
+262 3 1 0100
+273 4 1 18000000
+277 3 1 0100
+278 4 1 40420f00
+279 4 1 01000000
+282 5 1 0100000001000000
+283 5 1 0100000001000000
+296 3 1 0100
+317 3 1 0100
+339 3 1 0100
+";
+
+const BIG_LISTING: &[u8] = b"256 4 1 00000001
+257 4 1 00000001
+258 3 1 0008
+259 3 1 0001
+262 3 1 0001
+273 4 1 00000018
+277 3 1 0001
+278 4 1 000f4240
+279 4 1 00000001
+282 5 1 0000000100000001
+283 5 1 0000000100000001
+296 3 1 0001
+317 3 1 0001
+339 3 1 0001
+";
+
+// Lists the entries of a file's first page.
+fn run_tags(alloc: Global, file: &[u8]) -> TiffResult<Run> {
+    let mut files = MemoryFiles::with(alloc, "IN", file)?;
+    run_words(alloc, &mut files, &["tags", "IN", "0"])
+}
+
+#[test]
+fn entries_are_listed(rt: HostRuntime) -> Result<(), Fail> {
+    for (file, listing) in [(ONE, LISTING), (BIG, BIG_LISTING)] {
+        let run = run_tags(rt.alloc(), &file)?;
+        assert_eq!(rt; run.status, 0);
+        assert_eq!(rt; run.out.as_slice(), listing);
+        assert_eq!(rt; run.err.len(), 0);
+    }
+    Ok(())
+}
+
+#[test]
+fn no_values_are_a_dash(rt: HostRuntime) -> Result<(), Fail> {
+    let mut file = ONE;
+    file[184] = 0xfe;
+    file[187] = 0;
+    let run = run_tags(rt.alloc(), &file)?;
+    assert_eq!(rt; run.status, 0);
+    assert!(rt; run.out.as_slice().ends_with(b"317 3 1 0100\n65107 3 0 -\n"));
+    Ok(())
+}
+
+#[test]
+fn a_value_past_the_end_lists_nothing(rt: HostRuntime) -> Result<(), Fail> {
+    let mut file = ONE;
+    file[155] = 192;
+    let run = run_tags(rt.alloc(), &file)?;
+    assert_eq!(rt; run.status, 1);
+    assert_eq!(rt; run.out.len(), 0);
+    assert_eq!(rt;
+        run.err.as_slice(),
+        b"error: unexpected end of file\n".as_slice()
+    );
     Ok(())
 }
 

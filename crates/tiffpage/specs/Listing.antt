@@ -1,0 +1,51 @@
+-- The entries of a page as lines.
+use Rattle.std.specs.Prelude.{ℕ, List, [], ◌∷◌, ◌++◌, ◌/◌, ◌%◌, Option, None, Some, Result, Ok, codes, flat_map, map, false}
+use Rattle.std.specs.FinMap.{entries}
+use Rattle.std.specs.Fmt.{decimal, digit_glyph}
+use Rattle.tiff_base.specs.declared.error.TiffError.{TiffError}
+use Rattle.tiff.specs.Answers.{◌>>=◌}
+use Rattle.tiff.specs.Field.{Field}
+use Rattle.tiff.specs.Tags.{tag_of, type_number}
+use Rattle.tiff.specs.Ask.{buffer_of}
+use Rattle.tiff.specs.Machine.{Decoding}
+use Rattle.tiff.specs.Outcome.{find_entry}
+
+-- a byte as two hexadecimal digits, of small letters
+abbrev pub two_digits : ℕ → List ℕ
+two_digits b = digit_glyph false (b / 16) ∷ digit_glyph false (b % 16) ∷ []
+
+-- bytes as two digits each; a dash for none
+abbrev pub shown_bytes : List ℕ → List ℕ
+shown_bytes [] = codes "-"
+shown_bytes (b ∷ bs) = flat_map two_digits (b ∷ bs)
+
+-- the line of a field: the numbers of its tag and its type, how many values it has, and their bytes
+abbrev pub line : ℕ → Field → List ℕ → List ℕ
+line tag f bytes =
+    decimal tag ++ codes " " ++ decimal (type_number f.field_type) ++ codes " " ++ decimal f.count ++ codes " " ++ shown_bytes bytes ++ codes "\n"
+
+-- a field's line, where there is one, or the fault of its bytes
+abbrev pub line_of : Decoding → ℕ → Option Field → Result (List ℕ) TiffError
+line_of d tag None = Ok []
+line_of d tag (Some f) = do
+  found ← buffer_of d.kind d.order d.bytes d.state.limits f
+  Ok (line tag f found.bytes)
+
+-- the line of the field of a tag number
+abbrev pub field_line : Decoding → ℕ → Result (List ℕ) TiffError
+field_line d tag = line_of d tag (find_entry d (tag_of tag))
+
+-- a text, and what follows it
+abbrev pub after : List ℕ → Result (List ℕ) TiffError → Result (List ℕ) TiffError
+after text more = more >>= λ l. Ok (text ++ l)
+
+-- one line after another, or the first fault
+abbrev pub lines : Decoding → List ℕ → Result (List ℕ) TiffError
+lines d [] = Ok []
+lines d (tag ∷ tags) = do
+  first ← field_line d tag
+  after first (lines d tags)
+
+-- a line for each entry of the page's directory, in ascending tag number
+abbrev pub listing : Decoding → Result (List ℕ) TiffError
+listing d = lines d (map (λ e. e.0) (entries d.state.directory.entries))
