@@ -1,5 +1,5 @@
 -- A decoder goes along the chain of its file.
-use Rattle.std.proofs.Common.{◌≡◌, ℕ, zero, suc, ◌+◌, ◌-◌, ◌<◌, ◌≤◌, List, [], ◌∷◌, ◌++◌, length, Option, None, Some, Bool, true, false, cond, Result, Ok, Err, refl, ap, sym, ◌∙◌, subst, arith, nat_eq, add-one}
+use Rattle.std.proofs.Common.{◌≡◌, ℕ, zero, suc, ◌+◌, ◌-◌, ◌<◌, ◌≤◌, List, [], ◌∷◌, ◌++◌, length, Option, None, Some, Bool, true, false, cond, Result, Ok, Err, refl, ap, sym, ◌∙◌, subst, arith, nat_eq}
 use Rattle.std.proofs.lemmas.Bool.Decides.{nat_tests}
 use Rattle.std.proofs.lemmas.Map.Keys.{IsDistinct-head, IsDistinct-tail}
 use Rattle.std.proofs.lemmas.Option.{slice_get_within, slice_get_past}
@@ -20,7 +20,7 @@ use Rattle.tiff_ifd.proofs.Chain.{apart_chain}
 use Rattle.tiff_ifd.proofs.Begun.{place_begun}
 use Rattle.tiff_decode.specs.Along.{IsAt, IsAlong}
 use Rattle.tiff_decode.specs.Machine.{State, Decoding, Outcome, StandsAt, Gives, ReadFailed, Refused, Follows, keeps_state}
-use Rattle.tiff_decode.specs.Outcome.{chain_of, place_after, next_place, next_entered, next_image, enter, entered, seek_to_image, sought, sought_past, closed, past, not_found}
+use Rattle.tiff_decode.specs.Outcome.{chain_of, place_after, next_place, next_entered, next_image, enter, entered, seek_to_image, sought, closed, past, not_found}
 
 -- ---- where the pointer is
 

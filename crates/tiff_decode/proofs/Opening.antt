@@ -1,5 +1,5 @@
 -- What opening a file answers, step by step.
-use Rattle.std.specs.Prelude.{◌≡◌, ℕ, List, [], ◌∷◌, Option, Some, Result, Ok, Err, length}
+use Rattle.std.specs.Prelude.{◌≡◌, ℕ, List, [], Option, Some, Result, Ok, Err, length}
 use Rattle.std.specs.List.{slice_get}
 use Rattle.std.proofs.Common.{zero, suc, ap, sym, ◌∙◌, refl, subst}
 use Rattle.tiff_base.specs.declared.error.TiffError.{TiffError}
