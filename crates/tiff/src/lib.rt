@@ -4,9 +4,11 @@
 
 pub mod decoder;
 pub mod encoder;
+pub mod tags;
 
 pub use tiff_base::color::ColorType;
+pub use tiff_base::directory::Directory;
 pub use tiff_base::error::{
     TiffError, TiffFormatError, TiffResult, TiffUnsupportedError, UsageError,
 };
-pub use tiff_base::{error, io, tags};
+pub use tiff_base::{directory, error, io};

@@ -1,7 +1,7 @@
 //! The tags of a decoder's page, and of other directories.
 
 ghost use Rattle.std.specs.Prelude.{◌≡◌, ◌<◌, ◌≤◌, ◌^◌, None, Some, Ok, map, option_map, string_bytes};
-ghost use Rattle.tiff_base.specs.Answers.{Answers};
+ghost use Rattle.tiff_base.specs.Answers.{Answers, AnswersExactly};
 ghost use Rattle.tiff_ifd.specs.Fitted.{fitted};
 ghost use Rattle.tiff_ifd.specs.View.{datum};
 ghost use Rattle.tiff_decode.specs.Outcome as outcome;
@@ -20,11 +20,23 @@ use tiff_ifd::value::Value;
 use tiff_value::buffer::ValueBuffer;
 
 /// Reads the tags of a directory: of a decoder's page, or of another one of its file.
-#[derive(Drop)]
 pub struct IfdDecoder<'a, R: Source> {
     alloc: Global,
     pub(crate) decoder: &'a mut Decoder<R>,
     pub(crate) other: Option<&'a Directory>,
+}
+
+impl<R: Source> Drop for IfdDecoder<'_, R> {
+    // The decoder stands as the last call left it.
+    fn drop(self)
+        ensures { self.exit.1.0.now ≡ self.entry.decoder.now }
+    {
+        let IfdDecoder {
+            alloc: _,
+            decoder: _,
+            other: _,
+        } = self;
+    }
 }
 
 // The other directory, or else this one.
@@ -181,7 +193,9 @@ impl<R: Source> Decoder<R> {
         buf: &mut [u8],
         at: u64,
     ) -> TiffResult<Option<usize>>
-        ensures { TagsRead (λ n. (n, buf.new)) (outcome.find_tag_bytes (reading self.old (option_map (λ d. d.now) other.entry)) tag buf.old at) result self.old self.new }
+        ensures answer { AnswersExactly (λ n. (n, buf.new)) result (outcome.find_tag_bytes (reading self.old (option_map (λ d. d.now) other.entry)) tag buf.old at).answer self.old.failures self.new.failures }
+        ensures state { self.new ≡ record self.old { failures = self.new.failures } }
+        ensures count { self.old.failures ≤ self.new.failures }
     {
         let Some(entry) = self.entry_in(other, tag) else {
             return Ok(None);
@@ -441,7 +455,7 @@ impl<'a, R: Source> IfdDecoder<'a, R> {
     ) -> TiffResult<Option<usize>>
         ensures held { IsHeld self.old.decoder self.new.decoder }
         ensures other { self.new.other ≡ self.old.other }
-        ensures answer { Answers (λ n. (n, buf.new)) result (outcome.find_tag_bytes (reading self.old.decoder.now (option_map (λ d. d.now) self.old.other)) tag buf.old offset).answer self.old.decoder.now.failures self.new.decoder.now.failures }
+        ensures answer { AnswersExactly (λ n. (n, buf.new)) result (outcome.find_tag_bytes (reading self.old.decoder.now (option_map (λ d. d.now) self.old.other)) tag buf.old offset).answer self.old.decoder.now.failures self.new.decoder.now.failures }
     {
         self.decoder.bytes_in(self.other, tag, buf, offset)
     }

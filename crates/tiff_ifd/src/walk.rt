@@ -149,8 +149,8 @@ impl Walk {
     }
 
     /// The place that comes after `index` others in the file's chain: goes along the chain as far as it must, and reads
-    /// nothing for a place that was entered before. `None` where the chain ends before it; where a directory before it isn't
-    /// entered, the fault that `enter_next` answers. The places that were entered on the way stay so.
+    /// nothing for a place that was entered before. `None` where the chain ends before it; where a directory on the way, or
+    /// its own, isn't entered, the fault that `enter_next` answers. The places that were entered on the way stay so.
     pub fn place_of<R: Source>(
         &mut self,
         alloc: Global,

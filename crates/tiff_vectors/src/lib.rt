@@ -3,6 +3,14 @@
 
 pub mod doubles;
 #[cfg(test)]
+mod files;
+#[cfg(test)]
+mod layout;
+#[cfg(test)]
 mod reading;
+#[cfg(test)]
+mod tags;
+#[cfg(test)]
+mod values;
 #[cfg(test)]
 mod writing;
