@@ -2,3 +2,4 @@ pub mod Opening
 mod Once
 pub mod Required
 pub mod Numbers
+pub mod Along

@@ -1,7 +1,7 @@
 -- What opening a file answers, step by step.
-use Rattle.std.specs.Prelude.{◌≡◌, ℕ, List, [], ◌∷◌, Option, Some, Result, Ok, Err, length}
+use Rattle.std.specs.Prelude.{◌≡◌, ℕ, List, [], Option, Some, Result, Ok, Err, length}
 use Rattle.std.specs.List.{slice_get}
-use Rattle.std.proofs.Common.{zero, suc, ap, sym, ◌∙◌, refl}
+use Rattle.std.proofs.Common.{zero, suc, ap, sym, ◌∙◌, refl, subst}
 use Rattle.tiff_base.specs.declared.error.TiffError.{TiffError}
 use Rattle.tiff_base.specs.Answers.{IsCause, ◌>>=◌}
 use Rattle.tiff_base.specs.Directory.{directory_at}
@@ -9,8 +9,9 @@ use Rattle.tiff_base.specs.Field.{DirectoryRecord}
 use Rattle.tiff_base.specs.Header.{Header, header_at}
 use Rattle.tiff_base.proofs.Causes.{cause_along}
 use Rattle.tiff_ifd.specs.declared.limits.Limits.{Limits}
-use Rattle.tiff_ifd.specs.Chain.{Chain, chain, walk, onto, entered, link_from, unless_met}
+use Rattle.tiff_ifd.specs.Chain.{Chain, chain, walk, onto, entered, link_from}
 use Rattle.tiff_ifd.specs.Look.{known}
+use Rattle.tiff_ifd.specs.Walk.{Walked, Enters, IsRefused, Steps}
 use Rattle.tiff_page.specs.Page.{PageRecord}
 use Rattle.tiff_decode.specs.Machine.{Decoding}
 use Rattle.tiff_decode.specs.Outcome.{begun, chain_from, first_directory, first_state, page_in, past}
@@ -42,60 +43,62 @@ first_is header bytes = of_walk (link_from header.kind header.order bytes) (leng
 rest : Header → List ℕ → Result ℕ TiffError → Result (Header × ℕ × DirectoryRecord) TiffError
 rest header bytes r = r >>= λ place. directory_at header.kind header.order bytes place >>= λ directory. Ok (header, place, directory)
 
--- the same, once the directory at the first place is known
-there : Header → List ℕ → Result DirectoryRecord TiffError → Result (Header × ℕ × DirectoryRecord) TiffError
-there header bytes r = rest header bytes ((r >>= λ d. Ok d.next) >>= unless_met (header.first ∷ []) >>= λ _. Ok header.first)
-
+-- with this header, of a chain whose first place is entered or isn't
 with_header : (header : Header) (bytes : List ℕ) → header_at bytes ≡ Ok header
-    → first_directory bytes ≡ there header bytes (directory_at header.kind header.order bytes header.first)
-unfolding first_directory rest there first_of
+    → first_directory bytes
+    ≡ rest header bytes (entered (link_from header.kind header.order bytes) [] header.first >>= λ _. Ok header.first)
+unfolding first_directory rest first_of
 with_header header bytes h =
     ap (λ (r : Result Header TiffError). r >>= λ x. rest x bytes (first_of (chain_from x bytes))) h
     ∙ ap (rest header bytes) (first_is header bytes)
 
 pub headless : (failed : Type 0) (bytes : List ℕ) (e : TiffError) → IsCause ⊥ failed e (header_at bytes ≡ Err e)
     → IsCause (Unit {0}) failed e (first_directory bytes ≡ Err e)
-unfolding first_directory rest there first_of
+unfolding first_directory rest first_of
 headless failed bytes e c =
     cause_along e (λ u. absurd u) (λ f. f)
     (λ h. ap (λ (r : Result Header TiffError). r >>= λ x. rest x bytes (first_of (chain_from x bytes))) h) c
 
--- the first directory can't be read, from bytes that tell the same
-pub unread : (failed failed' : Type 0) (bytes told : List ℕ) (header : Header) (e : TiffError) → (failed → failed') → told ≡ bytes
-    → header_at bytes ≡ Ok header
-    → IsCause (Unit {0}) failed e (directory_at header.kind header.order told header.first ≡ Err e)
-    → IsCause (Unit {0}) failed' e (first_directory bytes ≡ Err e)
-unfolding rest there
-unread failed failed' bytes told header e f same h c =
-    cause_along e (λ u. u) f
-    (λ d. with_header header bytes h
-    ∙ ap (there header bytes) (ap (λ (b : List ℕ). directory_at header.kind header.order b header.first) (sym same) ∙ d))
-    c
+-- a walk that begins at a header's first place
+abbrev begun_at : Header → Walked
+begun_at header = record { places = []; next = Some header.first }
 
--- it is its own next one
-pub closed : (failed : Type 0) (bytes told : List ℕ) (header : Header) (d : DirectoryRecord) (e : TiffError) → told ≡ bytes
-    → header_at bytes ≡ Ok header → directory_at header.kind header.order told header.first ≡ Ok d
-    → IsCause ⊥ ⊥ e (unless_met (header.first ∷ []) d.next ≡ Err e)
-    → IsCause (Unit {0}) failed e (first_directory bytes ≡ Err e)
-unfolding rest there
-closed failed bytes told header d e same h found c =
-    cause_along e (λ u. absurd u) (λ f. absurd f)
-    (λ met. with_header header bytes h
-    ∙ ap (there header bytes) (ap (λ (b : List ℕ). directory_at header.kind header.order b header.first) (sym same) ∙ found)
-    ∙ ap (λ (r : Result (Option ℕ) TiffError). rest header bytes (r >>= λ _. Ok header.first)) met)
+same_place : (header : Header) (place : ℕ) → (begun_at header).next ≡ Some place → place ≡ header.first
+same_place header place h = cc
+
+-- the first place isn't entered, of bytes that tell the same
+pub unentered : (failed failed' : Type 0) (bytes told : List ℕ) (header : Header) (before after : Walked) (e : TiffError) → (failed → failed') → told ≡ bytes
+    → header_at bytes ≡ Ok header → before ≡ begun_at header
+    → IsCause (after ≡ before) (failed × (after ≡ before)) e (Steps header.kind header.order told before (Err e) after)
+    → IsCause (Unit {0}) failed' e (first_directory bytes ≡ Err e)
+unfolding rest
+unentered failed failed' bytes told header before after e f same h b c =
+    cause_along e (λ _. tt) (λ x. f x.0)
+    (λ s. (let P : List ℕ → Type 0 = λ k. IsRefused header.kind header.order k before e in
+    let Q : Walked → Type 0 = λ w. IsRefused header.kind header.order bytes w e in
+    let r : IsRefused header.kind header.order bytes (begun_at header) e = subst Q b (subst P same s.0) in
+    let E : ℕ → Type 0 = λ p. entered (link_from header.kind header.order bytes) [] p ≡ Err e in
+    let at_first : entered (link_from header.kind header.order bytes) [] header.first ≡ Err e = subst E (same_place header r.place r.next) r.refused in
+    with_header header bytes h
+    ∙ ap (λ (x : Result (Option ℕ) TiffError). rest header bytes (x >>= λ _. Ok header.first)) at_first))
     c
 
 -- it is entered
-pub first_found : (bytes told : List ℕ) (header : Header) (d : DirectoryRecord) (after : Option ℕ) → told ≡ bytes
-    → header_at bytes ≡ Ok header → directory_at header.kind header.order told header.first ≡ Ok d
-    → unless_met (header.first ∷ []) d.next ≡ Ok after
+pub first_entered : (bytes told : List ℕ) (header : Header) (before after : Walked) (d : DirectoryRecord) → told ≡ bytes
+    → header_at bytes ≡ Ok header → before ≡ begun_at header → Steps header.kind header.order told before (Ok (Some d)) after
     → first_directory bytes ≡ Ok (header, header.first, d)
-unfolding rest there
-first_found bytes told header d after same h found c =
-    let there_is = ap (λ (b : List ℕ). directory_at header.kind header.order b header.first) (sym same) ∙ found in
-    with_header header bytes h ∙ ap (there header bytes) there_is
-    ∙ ap (λ (r : Result (Option ℕ) TiffError). rest header bytes (r >>= λ _. Ok header.first)) c
-    ∙ ap (λ (r : Result DirectoryRecord TiffError). r >>= λ directory. Ok (header, header.first, directory)) there_is
+unfolding rest
+first_entered bytes told header before after d same h b s =
+    let P : List ℕ → Type 0 = λ k. Enters header.kind header.order k before d after in
+    let Q : Walked → Type 0 = λ w. Enters header.kind header.order bytes w d after in
+    let r : Enters header.kind header.order bytes (begun_at header) d after = subst Q b (subst P same s) in
+    let E : ℕ → Type 0 = λ p. entered (link_from header.kind header.order bytes) [] p ≡ Ok d.next in
+    let at_first : entered (link_from header.kind header.order bytes) [] header.first ≡ Ok d.next = subst E (same_place header r.place r.next) r.entered in
+    let D : ℕ → Type 0 = λ p. directory_at header.kind header.order bytes p ≡ Ok d in
+    let there_is : directory_at header.kind header.order bytes header.first ≡ Ok d = subst D (same_place header r.place r.next) r.read in
+    with_header header bytes h
+    ∙ ap (λ (x : Result (Option ℕ) TiffError). rest header bytes (x >>= λ _. Ok header.first)) at_first
+    ∙ ap (λ (x : Result DirectoryRecord TiffError). x >>= λ directory. Ok (header, header.first, directory)) there_is
 
 -- ---- the first page
 

@@ -1,5 +1,5 @@
 -- A decoder as a machine (this project's): where it stands, and what a call leaves of it.
-use Rattle.std.specs.Prelude.{◌≡◌, ℕ, ◌<◌, ◌≤◌, List, Option, Bool, Result, Ok, Err}
+use Rattle.std.specs.Prelude.{◌≡◌, ℕ, ◌<◌, ◌≤◌, List, Option, Bool, true, false, Result, Ok, Err}
 use Rattle.tiff_base.specs.declared.error.TiffError.{TiffError}
 use Rattle.tiff_base.specs.declared.error.TiffError.TheVariants.{IoError, OutOfMemory}
 use Rattle.tiff_base.specs.declared.io.IoKind.TheVariants.{Device}
@@ -31,6 +31,17 @@ pub record Decoding : Type 0 where
   pub failures : ℕ
   pub state : State
 
+-- a decoder from what it is made of
+abbrev pub decoding : List ℕ → FileKind → ByteOrder → ℕ → ℕ → Option IfdPointer → Bool → PageRecord → DirectoryRecord → ℕ → Limits → Decoding
+decoding bytes kind order first failures pointer more page directory place limits = record {
+  bytes = bytes;
+  kind = kind;
+  order = order;
+  first = first;
+  failures = failures;
+  state = record { pointer = pointer; more = more; page = page; directory = directory; place = place; limits = limits };
+}
+
 -- What a call gives: its answer, and where the decoder stands after it. The answer is never want of memory or a fault of
 -- the device.
 pub record Outcome (Y : Type 0) : Type 0 where
@@ -55,6 +66,12 @@ pub record Gives {Y : Type 0} (result : Result Y TiffError) (outcome : Outcome Y
 pub record ReadFailed (old new : Decoding) : Type 0 where
   pub grew : old.failures < new.failures
   pub at : StandsAt old.state old new
+
+-- the faults that leave a decoder where it stood: want of memory, and a fault of the device
+abbrev pub keeps_state : TiffError → Bool
+keeps_state OutOfMemory = true
+keeps_state (IoError Device) = true
+keeps_state e = false
 
 -- what a refused call leaves: want of memory, where that may be, and a fault of the device leave the decoder as it stood
 abbrev pub Refused : {Y : Type 0} → Type 0 → TiffError → Outcome Y → Decoding → Decoding → Type 0

@@ -1,26 +1,31 @@
 //! Files are read.
 
-ghost use Rattle.std.specs.Prelude.{◌≡◌, ◌≤◌, [], ◌∷◌, IfOk, is_some};
-ghost use Rattle.tiff_base.specs.Answers.{Answers, AnswersBut, FailsFrom, Gives, IsKept};
+ghost use Rattle.std.specs.Prelude.{◌≡◌, ◌<◌, ◌≤◌, ◌+◌, ◌++◌, ℕ, List, [], ◌∷◌, IfOk, IfErr, IfSome, IfNone, OnOk, OnErr, None, Some, Ok, true, false, if◌then◌else◌, is_some, option_map, length};
+ghost use Rattle.std.specs.List.{last_or, slice_get};
+ghost use Rattle.tiff_base.specs.Answers.{Answers, AnswersBut, FailsFrom, IsCause, IsKept};
+ghost use Rattle.tiff_base.specs.Directory.{directory_at};
 ghost use Rattle.tiff_base.specs.declared.color.ColorType.{ColorType};
 ghost use Rattle.tiff_page.specs.Layout.{colour_of};
-ghost use Rattle.tiff_ifd.specs.Chain.{unless_met};
-ghost use Rattle.tiff_decode.specs.Machine.{Decoding, Follows, FollowsOrFaults, FollowsPlainly, Tells};
+ghost use Rattle.tiff_page.specs.View.{page as page_record};
+ghost use Rattle.tiff_ifd.specs.Walk.{Begins, Ends};
+ghost use Rattle.tiff_decode.specs.Along.{IsAlong, IsAt};
+ghost use Rattle.tiff_decode.specs.Machine.{Decoding, Follows, FollowsOrFaults, FollowsPlainly, Tells, decoding, keeps_state};
 ghost use Rattle.tiff_decode.specs.Outcome as outcome;
-ghost use Rattle.tiff_decode.specs.Outcome.{begun, first_directory};
+ghost use Rattle.tiff_decode.specs.Outcome.{begun, first_directory, page_in};
 ghost use Rattle.tiff_decode.specs.Result.{decoded_as};
 
 use std::alloc::Global;
 use std::marker::Model;
 use tiff_base::color::ColorType;
 use tiff_base::directory::Directory;
-use tiff_base::error::{TiffFormatError, TiffResult};
-use tiff_base::io::Source;
+use tiff_base::error::{TiffError, TiffFormatError, TiffResult};
+use tiff_base::io::{IoKind, Source};
 use tiff_base::tags::{Bits16, Bits32, Bits64, ByteOrder, FileKind, IfdPointer};
 use tiff_ifd::decode::read_directory;
 use tiff_ifd::header::{FileHeader, read_header};
 use tiff_ifd::limits::Limits;
 use tiff_ifd::value_reader::ValueReader;
+use tiff_ifd::walk::Walk;
 use tiff_page::checks::read_page;
 use tiff_page::image::read_covered_image;
 use tiff_page::layout::colour_of as page_colour;
@@ -59,35 +64,209 @@ pub(crate) fn links_on(directory: &Directory) -> bool
     directory.next().is_some()
 }
 
-// A directory that is its own next one is none of a chain.
-fn unless_own(directory: &Directory, place: u64) -> TiffResult<()>
-    ensures { Gives (λ _. directory.now.next) result (unless_met (place ∷ []) directory.now.next) }
+// Whether a fault leaves the decoder where it stood.
+fn keeps_state(fault: &TiffError) -> bool
+    ensures { result ≡ keeps_state fault.now }
 {
-    match directory.next() {
-        Some(next) if next.0 == place => Err(TiffFormatError::CycleInOffsets.into()),
-        _ => Ok(()),
-    }
+    matches!(
+        fault,
+        TiffError::OutOfMemory | TiffError::IoError(IoKind::Device)
+    )
 }
 
-// The header and the first directory.
+// The header and the first directory, which begins the walk along the chain.
 #[tactic(auto, using(crate::proofs::Opening::headless))]
 fn read_first_directory<R: Source>(
     alloc: Global,
     source: &mut R,
-) -> TiffResult<(FileHeader, Directory)>
+) -> TiffResult<(FileHeader, Walk, Directory)>
     ensures kept { IsKept R.bytes R.failures source.old source.new }
-    ensures answer { Answers (λ r. (record { order = r.0.order; kind = r.0.kind; first = r.0.first }, r.0.first, r.1)) result (first_directory (R.bytes source.old)) (R.failures source.old) (R.failures source.new) }
+    ensures answer { Answers (λ r. (record { order = r.0.order; kind = r.0.kind; first = r.0.first }, r.0.first, r.2)) result (first_directory (R.bytes source.old)) (R.failures source.old) (R.failures source.new) }
+    ensures walk { IfOk result (λ r. IsAlong r.0.kind r.0.order (R.bytes source.old) r.0.first r.1 (Some (record { 0 = r.0.first })) 0 (is_some r.2.next)) }
 {
     let header = match read_header(source) {
         Ok(header) => header,
         Err(fault) => return Err(fault),
     };
-    let directory = match read_directory(alloc, source, header.first, header.kind, header.order) {
-        Ok(directory) => directory,
+    let mut walk = Walk::new(alloc, header.first);
+    match walk.enter_next(alloc, source, header.kind, header.order) {
+        Ok(Some(directory)) => return Ok((header, walk, directory)),
+        Ok(None) => return Err(TiffFormatError::ImageFileDirectoryNotFound.into()),
         Err(fault) => return Err(fault),
+    }
+}
+
+// The directory that a decoder entered last: its place, how many of the chain are before it, and whether another follows it.
+#[derive(Drop)]
+pub(crate) struct Standing {
+    pointer: Option<IfdPointer>,
+    at: usize,
+    more: bool,
+}
+
+// A place as a pointer.
+fn pointer_to(place: Option<u64>) -> Option<IfdPointer>
+    ensures { result ≡ option_map (λ p. record { 0 = p }) place }
+{
+    match place {
+        Some(place) => Some(IfdPointer(place)),
+        None => None,
+    }
+}
+
+impl Standing {
+    // At a directory that was read.
+    fn at_directory(at: usize, place: u64, directory: &Directory) -> Self
+        ensures { result ≡ record { pointer = Some (record { 0 = place }); at = at; more = is_some directory.now.next } }
+    {
+        Standing {
+            pointer: Some(IfdPointer(place)),
+            at,
+            more: links_on(directory),
+        }
+    }
+
+    // Past the chain, whose places are all entered: at its last place, or nowhere where the decoder wasn't open.
+    #[tactic(auto, using(crate::proofs::Along::last_pointed, crate::proofs::Along::stands_last))]
+    fn past(walk: &Walk, was_open: bool) -> Self
+        ensures pointer { result.pointer ≡ (if was_open then option_map (λ place. record { 0 = place }) (last_or None walk.now.places) else None) }
+        ensures more { result.more ≡ false }
+        ensures stands { IsAt walk.now.places result.pointer result.at false }
+    {
+        if !was_open {
+            return Standing {
+                pointer: None,
+                at: 0,
+                more: false,
+            };
+        }
+        return Standing {
+            pointer: pointer_to(walk.last()),
+            at: walk.len().saturating_sub(1),
+            more: false,
+        };
+    }
+
+    // The number of the directory behind that of an open decoder.
+    #[tactic(auto, using(crate::proofs::Along::within))]
+    fn following(&self, walk: &Walk) -> usize
+        requires stands { IsAt walk.now.places self.now.pointer self.now.at self.now.more }
+        requires more { self.now.more ≡ true }
+        ensures number { result ≡ self.now.at + 1 }
+        ensures entered { result ≤ length walk.now.places }
+    {
+        let _entered = walk.len();
+        self.at + 1
+    }
+}
+
+// The page of a directory that takes the place of the former one; that stays where its page has a fault.
+fn replace_directory<R: Source>(
+    alloc: Global,
+    tags: &mut ValueReader<R>,
+    directory: Directory,
+) -> TiffResult<Page>
+    ensures kept { IsKept R.bytes R.failures tags.old.source tags.new.source }
+    ensures kind { tags.new.kind ≡ tags.old.kind }
+    ensures order { tags.new.order ≡ tags.old.order }
+    ensures limits { tags.new.limits ≡ tags.old.limits }
+    ensures answer { Answers page_record result (page_in tags.old.kind tags.old.order (R.bytes tags.old.source) tags.old.limits directory) (R.failures tags.old.source) (R.failures tags.new.source) }
+    ensures replaced { OnOk result (tags.new.directory ≡ directory) }
+    ensures stays { OnErr result (tags.new.directory ≡ tags.old.directory) }
+{
+    let former = std::mem::replace(&mut tags.directory, directory);
+    match read_page(tags, alloc) {
+        Ok(page) => return Ok(page),
+        Err(fault) => {
+            tags.directory = former;
+            return Err(fault);
+        }
+    }
+}
+
+// Enters a directory that was read, the one of this number and place of the chain: the decoder stands at it, and its page is
+// read. The page that it had stays where the new one has a fault, and so does all of it after want of memory or a fault of the
+// device.
+fn enter_directory<R: Source>(
+    alloc: Global,
+    tags: &mut ValueReader<R>,
+    page: &mut Page,
+    standing: &mut Standing,
+    at: usize,
+    place: u64,
+    directory: Directory,
+) -> TiffResult<()>
+    ensures kept { IsKept R.bytes R.failures tags.old.source tags.new.source }
+    ensures kind { tags.new.kind ≡ tags.old.kind }
+    ensures order { tags.new.order ≡ tags.old.order }
+    ensures follows { (first here : ℕ) → Follows (λ x. x) (outcome.entered (decoding (R.bytes tags.old.source) tags.old.kind tags.old.order first (R.failures tags.old.source) standing.old.pointer standing.old.more (page_record page.old) tags.old.directory here tags.old.limits) place (Ok directory)) result (decoding (R.bytes tags.old.source) tags.old.kind tags.old.order first (R.failures tags.old.source) standing.old.pointer standing.old.more (page_record page.old) tags.old.directory here tags.old.limits) (decoding (R.bytes tags.new.source) tags.new.kind tags.new.order first (R.failures tags.new.source) standing.new.pointer standing.new.more (page_record page.new) tags.new.directory here tags.new.limits) }
+    ensures stands { (places : List ℕ) → IsAt places standing.old.pointer standing.old.at standing.old.more → slice_get places at ≡ Some place → IsAt places standing.new.pointer standing.new.at standing.new.more }
+{
+    let to = Standing::at_directory(at, place, &directory);
+    match replace_directory(alloc, tags, directory) {
+        Ok(found) => {
+            *page = found;
+            *standing = to;
+            return Ok(());
+        }
+        Err(fault) => {
+            if keeps_state(&fault) {
+                return Err(fault);
+            }
+            *standing = to;
+            return Err(fault);
+        }
+    }
+}
+
+// Reads the directory of this number and place of the chain, and enters it.
+#[tactic(auto, unfolding(crate::specs::Outcome::enter))]
+fn enter_place<R: Source>(
+    alloc: Global,
+    tags: &mut ValueReader<R>,
+    page: &mut Page,
+    standing: &mut Standing,
+    at: usize,
+    place: u64,
+) -> TiffResult<()>
+    ensures kept { IsKept R.bytes R.failures tags.old.source tags.new.source }
+    ensures kind { tags.new.kind ≡ tags.old.kind }
+    ensures order { tags.new.order ≡ tags.old.order }
+    ensures follows { (first here : ℕ) → Follows (λ x. x) (outcome.enter (decoding (R.bytes tags.old.source) tags.old.kind tags.old.order first (R.failures tags.old.source) standing.old.pointer standing.old.more (page_record page.old) tags.old.directory here tags.old.limits) place) result (decoding (R.bytes tags.old.source) tags.old.kind tags.old.order first (R.failures tags.old.source) standing.old.pointer standing.old.more (page_record page.old) tags.old.directory here tags.old.limits) (decoding (R.bytes tags.new.source) tags.new.kind tags.new.order first (R.failures tags.new.source) standing.new.pointer standing.new.more (page_record page.new) tags.new.directory here tags.new.limits) }
+    ensures stands { (places : List ℕ) → IsAt places standing.old.pointer standing.old.at standing.old.more → slice_get places at ≡ Some place → IsAt places standing.new.pointer standing.new.at standing.new.more }
+{
+    let (kind, order) = (tags.kind, tags.order);
+    match read_directory(alloc, &mut tags.source, place, kind, order) {
+        Ok(directory) => {
+            return enter_directory(alloc, tags, page, standing, at, place, directory);
+        }
+        Err(fault) => return Err(fault),
+    }
+}
+
+// Enters the next place of a walk: its directory, and the place.
+fn enter_behind<R: Source>(
+    alloc: Global,
+    walk: &mut Walk,
+    source: &mut R,
+    kind: FileKind,
+    order: ByteOrder,
+) -> TiffResult<Option<(u64, Directory)>>
+    ensures kept { IsKept R.bytes R.failures source.old source.new }
+    ensures begins { (first : ℕ) → Begins kind order (R.bytes source.old) first walk.old → Begins kind order (R.bytes source.old) first walk.new }
+    ensures entered { IfOk result (λ found. IfSome found (λ f. (walk.new.places ≡ walk.old.places ++ f.0 ∷ []) × (directory_at kind order (R.bytes source.old) f.0 ≡ Ok f.1))) }
+    ensures end { IfOk result (λ found. IfNone found ((walk.new ≡ walk.old) × ((first : ℕ) → Begins kind order (R.bytes source.old) first walk.old
+        → Ends kind order (R.bytes source.old) first walk.old None))) }
+    ensures stays { OnErr result (walk.new ≡ walk.old) }
+    ensures cut { IfErr result (λ e. IsCause (Unit {0}) (R.failures source.old < R.failures source.new) e
+        ((first : ℕ) → Begins kind order (R.bytes source.old) first walk.old → Ends kind order (R.bytes source.old) first walk.old (Some e))) }
+{
+    let Some(place) = walk.next() else {
+        return Ok(None);
     };
-    match unless_own(&directory, header.first) {
-        Ok(()) => return Ok((header, directory)),
+    match walk.enter_next(alloc, source, kind, order) {
+        Ok(Some(directory)) => return Ok(Some((place, directory))),
+        Ok(None) => return Ok(None),
         Err(fault) => return Err(fault),
     }
 }
@@ -99,8 +278,8 @@ pub struct Decoder<R: Source> {
     pub(crate) tags: ValueReader<R>,
     pub(crate) page: Page,
     pub(crate) first: u64,
-    pub(crate) pointer: Option<IfdPointer>,
-    pub(crate) more: bool,
+    pub(crate) walk: Walk,
+    pub(crate) standing: Standing,
     pub(crate) place: u64,
 }
 
@@ -108,6 +287,7 @@ impl<R: Source> Model for Decoder<R> {
     ghost use Rattle.std.specs.Coded.{codes};
     ghost use Rattle.std.specs.FinMap as map;
     ghost use Rattle.tiff_page.specs.View.{page as page_record};
+    ghost use Rattle.tiff_decode.specs.Along.{IsAlong};
     ghost use Rattle.tiff_decode.specs.Machine.{Decoding};
 
     ghost Value = { Decoding };
@@ -121,14 +301,16 @@ impl<R: Source> Model for Decoder<R> {
       first = d.first;
       failures = R.failures d.tags.source;
       state = record {
-        pointer = d.pointer;
-        more = d.more;
+        pointer = d.standing.pointer;
+        more = d.standing.more;
         page = page_record d.page;
         directory = d.tags.directory;
         place = d.place;
         limits = d.tags.limits;
       };
     } };
+
+    ghost invariant = { λ d. IsAlong d.tags.kind d.tags.order (R.bytes d.tags.source) d.first d.walk d.standing.pointer d.standing.at d.standing.more };
 }
 
 impl<R: Source + Drop> Decoder<R> {
@@ -139,7 +321,7 @@ impl<R: Source + Drop> Decoder<R> {
         ensures count { IfOk result (λ d. R.failures source ≤ d.failures) }
     {
         let mut source = source;
-        let (header, directory) = match read_first_directory(alloc, &mut source) {
+        let (header, walk, directory) = match read_first_directory(alloc, &mut source) {
             Ok(found) => found,
             Err(fault) => return Err(fault),
         };
@@ -158,8 +340,12 @@ impl<R: Source + Drop> Decoder<R> {
                     tags,
                     page,
                     first: header.first,
-                    pointer: Some(IfdPointer(header.first)),
-                    more,
+                    walk,
+                    standing: Standing {
+                        pointer: Some(IfdPointer(header.first)),
+                        at: 0,
+                        more,
+                    },
                     place: header_end(header.kind),
                 });
             }
@@ -208,14 +394,14 @@ impl<R: Source> Decoder<R> {
     pub fn ifd_pointer(&mut self) -> Option<IfdPointer>
         ensures { Tells (outcome.ifd_pointer self.old) result self.old self.new }
     {
-        self.pointer
+        self.standing.pointer
     }
 
     /// Whether another directory follows that which was entered last.
     pub fn more_images(&self) -> bool
         ensures { result ≡ self.now.state.more }
     {
-        self.more
+        self.standing.more
     }
 
     /// The byte order of the file.
@@ -231,6 +417,79 @@ impl<R: Source> Decoder<R> {
         ensures failures { R.failures result.now ≡ self.now.failures }
     {
         &self.tags.source
+    }
+
+    /// Enters the next directory of the file's chain and reads its page. `ImageFileDirectoryNotFound` where `more_images` is
+    /// false. Where the next directory is cut or its link leads back into the chain, that fault, and `more_images` is false
+    /// from then on; the rest stays. Where its page has a fault, that fault; the decoder is at the new directory and keeps
+    /// the page that it had. After `OutOfMemory` and `IoError(Device)` all is as it was.
+    #[tactic(auto, unfolding(crate::specs::Outcome::next_image))]
+    pub fn next_image(&mut self) -> TiffResult<()>
+        ensures { Follows (λ x. x) (outcome.next_image self.old) result self.old self.new }
+    {
+        if !self.standing.more {
+            return Err(TiffFormatError::ImageFileDirectoryNotFound.into());
+        }
+        let (alloc, kind, order) = (self.alloc, self.tags.kind, self.tags.order);
+        let at = self.standing.following(&self.walk);
+        let known = self.walk.get(at);
+        if let Some(place) = known {
+            let (tags, page) = (&mut self.tags, &mut self.page);
+            return enter_place(alloc, tags, page, &mut self.standing, at, place);
+        }
+        match enter_behind(alloc, &mut self.walk, &mut self.tags.source, kind, order) {
+            Ok(Some((place, directory))) => {
+                let (tags, page) = (&mut self.tags, &mut self.page);
+                let standing = &mut self.standing;
+                return enter_directory(alloc, tags, page, standing, at, place, directory);
+            }
+            Ok(None) => {
+                self.standing.more = false;
+                return Err(TiffFormatError::ImageFileDirectoryNotFound.into());
+            }
+            Err(fault) => {
+                if keeps_state(&fault) {
+                    return Err(fault);
+                }
+                self.standing.more = false;
+                return Err(fault);
+            }
+        }
+    }
+
+    /// Enters the directory of this number, from 0, in the file's chain, wherever the decoder is, and reads its page; the
+    /// pages before it aren't read. Where the chain is shorter: of a decoder whose `more_images` is true the fault that ends
+    /// the chain, or `ImageFileDirectoryNotFound`, and it is at the chain's last directory; of another one
+    /// `ImageFileDirectoryNotFound`, and its `ifd_pointer` is `None`; `more_images` is false then. Where the page has a fault,
+    /// that fault; the decoder is at that directory and keeps the page that it had. After `OutOfMemory` and
+    /// `IoError(Device)` all is as it was.
+    #[tactic(auto, unfolding(crate::specs::Outcome::seek_to_image))]
+    pub fn seek_to_image(&mut self, ifd_index: usize) -> TiffResult<()>
+        ensures { Follows (λ x. x) (outcome.seek_to_image self.old ifd_index) result self.old self.new }
+    {
+        let (alloc, kind, order) = (self.alloc, self.tags.kind, self.tags.order);
+        let source = &mut self.tags.source;
+        match self.walk.place_of(alloc, source, kind, order, ifd_index) {
+            Ok(Some(place)) => {
+                let (tags, page) = (&mut self.tags, &mut self.page);
+                return enter_place(alloc, tags, page, &mut self.standing, ifd_index, place);
+            }
+            Ok(None) => {
+                self.standing = Standing::past(&self.walk, self.standing.more);
+                return Err(TiffFormatError::ImageFileDirectoryNotFound.into());
+            }
+            Err(fault) => {
+                if keeps_state(&fault) {
+                    return Err(fault);
+                }
+                let was_open = self.standing.more;
+                self.standing = Standing::past(&self.walk, was_open);
+                if was_open {
+                    return Err(fault);
+                }
+                return Err(TiffFormatError::ImageFileDirectoryNotFound.into());
+            }
+        }
     }
 
     /// The directory at any place, as it stands there; the page and the pointer are untouched. Too few bytes:

@@ -13,14 +13,14 @@ returns-in-Err-clause-answer g c =
 pub returns-in-Err-read_page-clause-answer : goal.returns-in-Err-read_page-clause-answer
 returns-in-Err-read_page-clause-answer g c =
     let header : Header = record { order = c.in-Ok.found.0.order; kind = c.in-Ok.found.0.kind; first = c.in-Ok.found.0.first } in
-    begun_unpaged _ _ (g.R.Source.bytes c.args.source) _ _ _ header header.first c.in-Ok.found.1 c.in-Err-read_page.fault
+    begun_unpaged _ _ (g.R.Source.bytes c.args.source) _ _ _ header header.first c.in-Ok.found.2 c.in-Err-read_page.fault
     (λ grew. record { last = c.read_page.new.tags.source; grew = omega (arith, c.in-Ok.ensures.kept.failures, grew) })
     c.in-Ok.ensures.kept.told c.default.ensures c.in-Ok.ensures.answer c.in-Err-read_page.ensures.answer
 
 pub returns-in-Ok-read_page-clause-answer : goal.returns-in-Ok-read_page-clause-answer
 returns-in-Ok-read_page-clause-answer g c =
     let header : Header = record { order = c.in-Ok.found.0.order; kind = c.in-Ok.found.0.kind; first = c.in-Ok.found.0.first } in
-    begun_page (g.R.Source.bytes c.args.source) _ _ _ header header.first c.in-Ok.found.1 (view.page c.in-Ok-read_page.page)
+    begun_page (g.R.Source.bytes c.args.source) _ _ _ header header.first c.in-Ok.found.2 (view.page c.in-Ok-read_page.page)
     c.in-Ok.ensures.kept.told c.default.ensures c.in-Ok.ensures.answer c.in-Ok-read_page.ensures.answer
     ∙ (λ i. Ok (record {
       bytes = (sym c.in-Ok.ensures.kept.told ∙ ap (λ t. t.bytes) (sym c.in-Ok-read_page.ensures.kept.told)) i;

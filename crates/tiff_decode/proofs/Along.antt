@@ -1,0 +1,305 @@
+-- A decoder goes along the chain of its file.
+use Rattle.std.proofs.Common.{◌≡◌, ℕ, zero, suc, ◌+◌, ◌-◌, ◌<◌, ◌≤◌, List, [], ◌∷◌, ◌++◌, length, Option, None, Some, Bool, true, false, cond, Result, Ok, Err, refl, ap, sym, ◌∙◌, subst, arith, nat_eq}
+use Rattle.std.proofs.lemmas.Bool.Decides.{nat_tests}
+use Rattle.std.proofs.lemmas.Map.Keys.{IsDistinct-head, IsDistinct-tail}
+use Rattle.std.proofs.lemmas.Option.{slice_get_within, slice_get_past}
+use Rattle.std.specs.Prelude.{◌==◌, option_map}
+use Rattle.std.specs.List.{slice_get, last_or, IsDistinct, AllByRecursion}
+use Rattle.tiff_base.specs.declared.error.TiffError.{TiffError}
+use Rattle.tiff_base.specs.declared.error.TiffError.TheVariants.{FormatError, UnsupportedError, IoError, LimitsExceeded, IntSizeError, UsageError, OutOfMemory}
+use Rattle.tiff_base.specs.declared.io.IoKind.TheVariants.{UnexpectedEof, InvalidData, InvalidInput, WriteZero, Device}
+use Rattle.tiff_base.specs.declared.tags.ByteOrder.{ByteOrder}
+use Rattle.tiff_base.specs.declared.tags.FileKind.{FileKind}
+use Rattle.tiff_base.specs.declared.tags.IfdPointer.{IfdPointer}
+use Rattle.tiff_base.specs.Answers.{IsCause}
+use Rattle.tiff_base.specs.Directory.{directory_at}
+use Rattle.tiff_base.specs.Field.{DirectoryRecord}
+use Rattle.tiff_ifd.specs.Chain.{Chain, chain}
+use Rattle.tiff_ifd.specs.Walk.{Walked, Begins, Ends}
+use Rattle.tiff_ifd.proofs.Chain.{apart_chain}
+use Rattle.tiff_ifd.proofs.Begun.{place_begun}
+use Rattle.tiff_decode.specs.Along.{IsAt, IsAlong}
+use Rattle.tiff_decode.specs.Machine.{State, Decoding, Outcome, StandsAt, Gives, ReadFailed, Refused, Follows, keeps_state}
+use Rattle.tiff_decode.specs.Outcome.{chain_of, place_after, next_place, next_entered, next_image, enter, entered, seek_to_image, sought, closed, past, not_found}
+
+-- ---- where the pointer is
+
+pub within : (places : List ℕ) (pointer : Option IfdPointer) (at : ℕ) (more : Bool) → IsAt places pointer at more → more ≡ true → at < length places
+within places (Some p) at more h m = slice_get_within places at p.0 h
+within places None at more h m = (let e : false ≡ true = sym h ∙ m in absurd (cc))
+
+last_more : (x : ℕ) (xs : List ℕ) → last_or (Some x) xs ≡ slice_get (x ∷ xs) (length xs)
+last_more x [] = refl
+last_more x (y ∷ ys) = last_more y ys
+
+last_of : (places : List ℕ) → last_or None places ≡ slice_get places (length places - 1)
+last_of [] = refl
+last_of (x ∷ xs) = (let e : length (x ∷ xs) - 1 ≡ length xs = omega arith in last_more x xs ∙ ap (slice_get (x ∷ xs)) (sym e))
+
+abbrev pointed : Option ℕ → Option IfdPointer
+pointed = option_map (λ p. record { 0 = p })
+
+pub last_pointed : (places : List ℕ) (last : Option ℕ) → last ≡ slice_get places (length places - 1)
+    → pointed last ≡ pointed (last_or None places)
+last_pointed places last h = ap pointed (h ∙ sym (last_of places))
+
+stands_by : (places : List ℕ) (n : ℕ) (r : Option ℕ) → slice_get places n ≡ r → IsAt places (pointed r) n false
+stands_by places n (Some p) h = h
+stands_by places n None h = refl
+
+pub stands_last : (places : List ℕ) (last : Option ℕ) (pointer : Option IfdPointer) (n : ℕ) → last ≡ slice_get places (length places - 1)
+    → pointer ≡ option_map (λ p. record { 0 = p }) last → n ≡ length places - 1 → IsAt places pointer n false
+stands_last places last pointer n h e k =
+    let P : Option IfdPointer → Type 0 = λ x. IsAt places x n false in
+    subst P (sym e) (stands_by places n last (ap (slice_get places) k ∙ sym h))
+
+front : (xs ys : List ℕ) (k p : ℕ) → slice_get xs k ≡ Some p → slice_get (xs ++ ys) k ≡ Some p
+front [] ys k p h = absurd (cc)
+front (x ∷ xs) ys zero p h = h
+front (x ∷ xs) ys (suc k) p h = front xs ys k p h
+
+-- more places were entered
+pub stands_longer : (places longer more_places : List ℕ) (pointer : Option IfdPointer) (at : ℕ) (more : Bool) → longer ≡ places ++ more_places
+    → IsAt places pointer at more → IsAt longer pointer at more
+stands_longer places longer more_places (Some p) at more e h = ap (λ (ps : List ℕ). slice_get ps at) e ∙ front places more_places at p.0 h
+stands_longer places longer more_places None at more e h = h
+
+-- ---- the place behind it
+
+equal : (q p : ℕ) → q ≡ p → (q == p) ≡ true
+equal q p h = grind (arith, nat_tests)
+
+differ : (q p : ℕ) → nat_eq q p ≡ false → (q == p) ≡ false
+differ q p h = grind (arith, nat_tests)
+
+each_at : (P : ℕ → Type 0) (ps : List ℕ) (i p : ℕ) → AllByRecursion P ps → slice_get ps i ≡ Some p → P p
+each_at P [] i p a h = absurd (cc)
+each_at P (q ∷ ps) zero p a h = (let e : q ≡ p = cc in subst P e a.0)
+each_at P (q ∷ ps) (suc i) p a h = each_at P ps i p a.1 h
+
+after_is : (ps : List ℕ) (i p : ℕ) → IsDistinct nat_eq ps → slice_get ps i ≡ Some p → place_after p ps ≡ slice_get ps (suc i)
+after_is [] i p d h = absurd (cc)
+after_is (q ∷ ps) zero p d h =
+    let e : q ≡ p = cc in
+    ap (λ (b : Bool). cond b (slice_get ps 0) (place_after p ps)) (equal q p e)
+after_is (q ∷ ps) (suc i) p d h =
+    ap (λ (b : Bool). cond b (slice_get ps 0) (place_after p ps)) (differ q p (each_at (λ y. nat_eq q y ≡ false) ps i p (IsDistinct-head nat_eq q ps d) h))
+    ∙ after_is ps i p (IsDistinct-tail nat_eq q ps d) h
+
+pub next_is : (kind : FileKind) (order : ByteOrder) (bytes : List ℕ) (first : ℕ) (walk : Walked) (pointer : Option IfdPointer) (at : ℕ) (more : Bool)
+    → IsAlong kind order bytes first walk pointer at more → more ≡ true
+    → next_place pointer (chain kind order bytes first).places ≡ slice_get (chain kind order bytes first).places (at + 1)
+next_is kind order bytes first walk (Some p) at more a m =
+    let l : at < length walk.places = slice_get_within walk.places at p.0 a.stands in
+    let e : at + 1 ≡ suc at = omega arith in
+    after_is (chain kind order bytes first).places at p.0 (apart_chain kind order bytes first).differ
+    (place_begun kind order bytes first walk at l a.begins ∙ a.stands)
+    ∙ ap (slice_get (chain kind order bytes first).places) (sym e)
+next_is kind order bytes first walk None at more a m = (let e : false ≡ true = sym a.stands ∙ m in absurd (cc))
+
+-- ---- what the calls answer
+
+pub next_by : (d : Decoding) (r : Option ℕ) → d.state.more ≡ true → next_place d.state.pointer (chain_of d).places ≡ r → next_image d ≡ next_entered d r
+unfolding next_image
+next_by d r m h =
+    ap (λ (b : Bool). cond b (next_entered d (next_place d.state.pointer (chain_of d).places)) (record { answer = Err not_found; next = d.state })) m
+    ∙ ap (next_entered d) h
+
+pub sought_by : (d : Decoding) (k : ℕ) (r : Option ℕ) → slice_get (chain_of d).places k ≡ r → seek_to_image d k ≡ sought d r
+unfolding seek_to_image
+sought_by d k r h = ap (sought d) h
+
+closed_is : (d : Decoding) (places : List ℕ) (end : Option TiffError) → chain_of d ≡ record { places = places; end = end }
+    → closed d ≡ record { answer = Err (past end); next = record d.state { more = false } }
+closed_is d places end h = ap (λ (c : Chain). record { answer = Err (past c.end); next = record d.state { more = false } }) h
+
+-- ---- the same, from an earlier decoder on
+
+abbrev Call : Type 0
+Call = Outcome (Unit {0})
+
+stands_later : (s : State) (old mid new : Decoding) → mid ≡ record old { failures = mid.failures } → old.failures ≤ mid.failures → StandsAt s mid new → StandsAt s old new
+stands_later s old mid new e l h = record {
+  stands = h.stands ∙ ap (λ (d : Decoding). record d { failures = new.failures; state = s }) e;
+  failures = omega (arith, l, h.failures);
+}
+
+stays_later : (old mid new : Decoding) → mid ≡ record old { failures = mid.failures } → old.failures ≤ mid.failures → StandsAt mid.state mid new → StandsAt old.state old new
+stays_later old mid new e l h =
+    let P : State → Type 0 = λ s. StandsAt s old new in
+    let same : mid.state ≡ old.state = ap (λ (d : Decoding). d.state) e in
+    subst P same (stands_later mid.state old mid new e l h)
+
+given_later : (r : Result (Unit {0}) TiffError) (o : Call) (old mid new : Decoding) → mid ≡ record old { failures = mid.failures } → old.failures ≤ mid.failures
+    → Gives r o mid new → Gives r o old new
+given_later r o old mid new e l h = record { answer = h.answer; at = stands_later o.next old mid new e l h.at }
+
+failed_later : (old mid new : Decoding) → mid ≡ record old { failures = mid.failures } → old.failures ≤ mid.failures → ReadFailed mid new → ReadFailed old new
+failed_later old mid new e l h = record { grew = omega (arith, l, h.grew); at = stays_later old mid new e l h.at }
+
+refused_later : (f : TiffError) (o : Call) (old mid new : Decoding) → mid ≡ record old { failures = mid.failures } → old.failures ≤ mid.failures
+    → Refused (Unit {0}) f o mid new → Refused (Unit {0}) f o old new
+refused_later OutOfMemory o old mid new e l h = (tt, stays_later old mid new e l h.1)
+refused_later (IoError Device) o old mid new e l h = failed_later old mid new e l h
+refused_later (IoError UnexpectedEof) o old mid new e l h = given_later _ o old mid new e l h
+refused_later (IoError InvalidData) o old mid new e l h = given_later _ o old mid new e l h
+refused_later (IoError InvalidInput) o old mid new e l h = given_later _ o old mid new e l h
+refused_later (IoError WriteZero) o old mid new e l h = given_later _ o old mid new e l h
+refused_later (FormatError x) o old mid new e l h = given_later _ o old mid new e l h
+refused_later (UnsupportedError x) o old mid new e l h = given_later _ o old mid new e l h
+refused_later LimitsExceeded o old mid new e l h = given_later _ o old mid new e l h
+refused_later IntSizeError o old mid new e l h = given_later _ o old mid new e l h
+refused_later (UsageError x) o old mid new e l h = given_later _ o old mid new e l h
+
+-- what follows a decoder of which only the count of failed reads grew
+pub follows_later : (r : Result (Unit {0}) TiffError) (o : Call) (old mid new : Decoding) → mid ≡ record old { failures = mid.failures } → old.failures ≤ mid.failures
+    → Follows (λ x. x) o r mid new → Follows (λ x. x) o r old new
+follows_later (Ok u) o old mid new e l h = given_later _ o old mid new e l h
+follows_later (Err f) o old mid new e l h = refused_later f o old mid new e l h
+
+entered_same : (old mid : Decoding) (place : ℕ) (r : Result DirectoryRecord TiffError) → mid ≡ record old { failures = mid.failures } → entered mid place r ≡ entered old place r
+entered_same old mid place (Ok d) e = ap (λ (x : Decoding). entered x place (Ok d)) e
+entered_same old mid place (Err f) e = ap (λ (x : Decoding). entered x place (Err f)) e
+
+enter_same : (old mid : Decoding) (place : ℕ) → mid ≡ record old { failures = mid.failures } → enter mid place ≡ enter old place
+unfolding enter
+enter_same old mid place e =
+    entered_same old mid place (directory_at mid.kind mid.order mid.bytes place) e
+    ∙ ap (λ (x : Decoding). entered old place (directory_at x.kind x.order x.bytes place)) e
+
+same_outcome : (r : Result (Unit {0}) TiffError) (o o' : Call) (old new : Decoding) → o ≡ o' → Follows (λ x. x) o r old new → Follows (λ x. x) o' r old new
+same_outcome r o o' old new e h = (let P : Call → Type 0 = λ x. Follows (λ y. y) x r old new in subst P e h)
+
+-- a place that is known
+pub enters : (r : Result (Unit {0}) TiffError) (o : Call) (place : ℕ) (old mid new : Decoding) → mid ≡ record old { failures = mid.failures } → old.failures ≤ mid.failures
+    → o ≡ enter old place → Follows (λ x. x) (enter mid place) r mid new → Follows (λ x. x) o r old new
+enters r o place old mid new e l h f =
+    follows_later r o old mid new e l (same_outcome r (enter mid place) o mid new (enter_same old mid place e ∙ sym h) f)
+
+-- a directory that was read
+pub enters_read : (r : Result (Unit {0}) TiffError) (o : Call) (place : ℕ) (d : DirectoryRecord) (old mid new : Decoding) → mid ≡ record old { failures = mid.failures } → old.failures ≤ mid.failures
+    → o ≡ enter old place → directory_at old.kind old.order old.bytes place ≡ Ok d
+    → Follows (λ x. x) (entered mid place (Ok d)) r mid new → Follows (λ x. x) o r old new
+unfolding enter
+enters_read r o place d old mid new e l h k f =
+    follows_later r o old mid new e l
+    (same_outcome r (entered mid place (Ok d)) o mid new (entered_same old mid place (Ok d) e ∙ sym (h ∙ ap (entered old place) k)) f)
+
+-- ---- faults
+
+gives_by : (e : TiffError) (o : Call) (s : State) (old new : Decoding) → o ≡ record { answer = Err e; next = s } → StandsAt s old new → Gives (Err e) o old new
+gives_by e o s old new h a = record {
+  answer = ap (λ (x : Call). x.answer) h;
+  at = (let P : Call → Type 0 = λ x. StandsAt x.next old new in subst P (sym h) a);
+}
+
+-- one that is told
+pub answered : (W F G : Type 0) (e : TiffError) (o : Call) (s : State) (old new : Decoding) → keeps_state e ≡ false → IsCause W F e G
+    → (G → o ≡ record { answer = Err e; next = s }) → StandsAt s old new → Follows (λ x. x) o (Err e) old new
+answered W F G OutOfMemory o t old new k c g s = absurd (cc)
+answered W F G (IoError Device) o t old new k c g s = absurd (cc)
+answered W F G (IoError UnexpectedEof) o t old new k c g s = gives_by _ o t old new (g c) s
+answered W F G (IoError InvalidData) o t old new k c g s = gives_by _ o t old new (g c) s
+answered W F G (IoError InvalidInput) o t old new k c g s = gives_by _ o t old new (g c) s
+answered W F G (IoError WriteZero) o t old new k c g s = gives_by _ o t old new (g c) s
+answered W F G (FormatError x) o t old new k c g s = gives_by _ o t old new (g c) s
+answered W F G (UnsupportedError x) o t old new k c g s = gives_by _ o t old new (g c) s
+answered W F G LimitsExceeded o t old new k c g s = gives_by _ o t old new (g c) s
+answered W F G IntSizeError o t old new k c g s = gives_by _ o t old new (g c) s
+answered W F G (UsageError x) o t old new k c g s = gives_by _ o t old new (g c) s
+
+-- there is no such directory
+pub none_found : (e : TiffError) (o : Call) (s : State) (old new : Decoding) → e ≡ not_found → o ≡ record { answer = Err not_found; next = s } → StandsAt s old new
+    → Follows (λ x. x) o (Err e) old new
+none_found e o s old new f h a =
+    let P : TiffError → Type 0 = λ x. Follows (λ y. y) o (Err x) old new in
+    subst P (sym f) (gives_by not_found o s old new h a)
+
+-- ---- what is seen of a decoder
+
+-- the file tells the same
+pub told_same : (d : Decoding) (told : List ℕ) (failures : ℕ) → told ≡ d.bytes → record d { bytes = told; failures = failures } ≡ record d { failures = failures }
+told_same d told failures e = ap (λ (b : List ℕ). record d { bytes = b; failures = failures }) e
+
+pub stands_told : (s : State) (d : Decoding) (told : List ℕ) (failures : ℕ) → told ≡ d.bytes → d.failures ≤ failures
+    → StandsAt s d (record d { bytes = told; failures = failures; state = s })
+stands_told s d told failures e l = record {
+  stands = ap (λ (b : List ℕ). record d { bytes = b; failures = failures; state = s }) e;
+  failures = l;
+}
+
+pub shown : (o : Decoding → Call) (r : Result (Unit {0}) TiffError) (seen old new : Decoding) → seen ≡ old → Follows (λ x. x) (o seen) r seen new
+    → Follows (λ x. x) (o old) r old new
+shown o r seen old new e h = (let P : Decoding → Type 0 = λ d. Follows (λ x. x) (o d) r d new in subst P e h)
+
+pub along_on : (kind kind' : FileKind) (order order' : ByteOrder) (bytes bytes' : List ℕ) (first : ℕ) (walk : Walked) (pointer : Option IfdPointer) (at : ℕ) (more : Bool)
+    → kind' ≡ kind → order' ≡ order → bytes' ≡ bytes → Begins kind order bytes first walk → IsAt walk.places pointer at more
+    → IsAlong kind' order' bytes' first walk pointer at more
+along_on kind kind' order order' bytes bytes' first walk pointer at more k o b w s =
+    let K : FileKind → Type 0 = λ x. IsAlong x order' bytes' first walk pointer at more in
+    let O : ByteOrder → Type 0 = λ x. IsAlong kind x bytes' first walk pointer at more in
+    let B : List ℕ → Type 0 = λ x. IsAlong kind order x first walk pointer at more in
+    subst K (sym k) (subst O (sym o) (subst B (sym b) (record { begins = w; stands = s })))
+
+-- ---- next_image
+
+abbrev Along : Decoding → Walked → ℕ → Type 0
+Along d walk at = IsAlong d.kind d.order d.bytes d.first walk d.state.pointer at d.state.more
+
+-- the place behind the pointer, once it is entered
+behind : (d : Decoding) (walk longer : Walked) (at k place : ℕ) → Along d walk at → d.state.more ≡ true → k ≡ at + 1 → Begins d.kind d.order d.bytes d.first longer
+    → slice_get longer.places k ≡ Some place → next_image d ≡ enter d place
+behind d walk longer at k place a m e b h =
+    next_by d (Some place) m
+    (next_is d.kind d.order d.bytes d.first walk d.state.pointer at d.state.more a m
+    ∙ ap (slice_get (chain_of d).places) (sym e)
+    ∙ place_begun d.kind d.order d.bytes d.first longer k (slice_get_within longer.places k place h) b ∙ h)
+
+pub next_known : (r : Result (Unit {0}) TiffError) (d new : Decoding) (walk : Walked) (at k place : ℕ) → Along d walk at → d.state.more ≡ true → k ≡ at + 1
+    → slice_get walk.places k ≡ Some place → Follows (λ x. x) (enter d place) r d new → Follows (λ x. x) (next_image d) r d new
+next_known r d new walk at k place a m e h f = same_outcome r (enter d place) (next_image d) d new (sym (behind d walk walk at k place a m e a.begins h)) f
+
+at_end : (xs : List ℕ) (p : ℕ) → slice_get (xs ++ p ∷ []) (length xs) ≡ Some p
+at_end [] p = refl
+at_end (x ∷ xs) p = at_end xs p
+
+pub added_at : (places longer : List ℕ) (k p : ℕ) → longer ≡ places ++ p ∷ [] → k ≤ length places → length places ≤ k → slice_get longer k ≡ Some p
+added_at places longer k p e l m =
+    let n : k ≡ length places = omega arith in
+    ap (λ (ps : List ℕ). slice_get ps k) e ∙ ap (slice_get (places ++ p ∷ [])) n ∙ at_end places p
+
+pub next_read : (r : Result (Unit {0}) TiffError) (d mid new : Decoding) (walk longer : Walked) (at k place : ℕ) (directory : DirectoryRecord)
+    → Along d walk at → d.state.more ≡ true → k ≡ at + 1 → Begins d.kind d.order d.bytes d.first longer
+    → slice_get longer.places k ≡ Some place → directory_at d.kind d.order d.bytes place ≡ Ok directory
+    → mid ≡ record d { failures = mid.failures } → d.failures ≤ mid.failures
+    → Follows (λ x. x) (entered mid place (Ok directory)) r mid new → Follows (λ x. x) (next_image d) r d new
+next_read r d mid new walk longer at k place directory a m e b h t s l f =
+    enters_read r (next_image d) place directory d mid new s l (behind d walk longer at k place a m e b h) t f
+
+-- a place that isn't there
+pub past_end : (places : List ℕ) (k : ℕ) → slice_get places k ≡ None → length places ≤ k
+past_end [] k h = omega arith
+past_end (x ∷ xs) zero h = absurd (cc)
+past_end (x ∷ xs) (suc k) h = (let l : length xs ≤ k = past_end xs k h in omega (arith, l))
+
+pub next_closed : (d : Decoding) (walk : Walked) (at k : ℕ) (end : Option TiffError) → Along d walk at → d.state.more ≡ true → k ≡ at + 1 → length walk.places ≤ k
+    → Ends d.kind d.order d.bytes d.first walk end
+    → next_image d ≡ record { answer = Err (past end); next = record d.state { more = false } }
+next_closed d walk at k end a m e l h =
+    next_by d None m
+    (next_is d.kind d.order d.bytes d.first walk d.state.pointer at d.state.more a m
+    ∙ ap (slice_get (chain_of d).places) (sym e)
+    ∙ ap (λ (c : Chain). slice_get c.places k) h
+    ∙ slice_get_past walk.places k l)
+    ∙ closed_is d walk.places end h
+
+-- ---- seek_to_image
+
+pub seek_known : (r : Result (Unit {0}) TiffError) (d mid new : Decoding) (k place : ℕ) → slice_get (chain_of d).places k ≡ Some place
+    → mid ≡ record d { failures = mid.failures } → d.failures ≤ mid.failures → Follows (λ x. x) (enter mid place) r mid new → Follows (λ x. x) (seek_to_image d k) r d new
+seek_known r d mid new k place h e l f = enters r (seek_to_image d k) place d mid new e l (sought_by d k (Some place) h) f
+
+-- a number that isn't there
+pub none_of : (r : Option ℕ) → ((p : ℕ) → r ≡ Some p → ⊥) → r ≡ None
+none_of None h = refl
+none_of (Some p) h = absurd (h p refl)
