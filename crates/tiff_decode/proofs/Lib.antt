@@ -2,3 +2,5 @@ pub mod Opening
 mod Once
 pub mod Required
 pub mod Numbers
+pub mod Items
+pub mod TagList

@@ -7,3 +7,4 @@ pub mod Step
 pub mod Steps
 pub mod Once
 pub mod Reader
+pub mod Items
