@@ -5,11 +5,9 @@ ghost use Rattle.std.specs.FinMap.{entries};
 ghost use Rattle.std.specs.Iterator.{at_most};
 ghost use Rattle.tiff_base.specs.Answers.{IsKept};
 ghost use Rattle.tiff_base.specs.declared.error.TiffError.TheVariants.{OutOfMemory};
-ghost use Rattle.tiff_base.specs.Tags.{tag_of};
-ghost use Rattle.tiff_ifd.specs.FieldValue.{field_value};
 ghost use Rattle.tiff_decode.specs.Items.{fields_left, item_of, items_left, tags_left, NextItem};
 ghost use Rattle.tiff_decode.specs.Outcome as outcome;
-ghost use Rattle.tiff_decode.specs.Reader.{chosen, reading, IsHeld};
+ghost use Rattle.tiff_decode.specs.Reader.{reading, IsHeld};
 ghost use Rattle.tiff_decode.specs.Step.{ItemIs, Items};
 
 use crate::decoder::Decoder;
@@ -61,8 +59,8 @@ fn add<T: Drop>(items: &mut Vec<T>, item: T) -> TiffResult<()>
 }
 
 impl<R: Source> Decoder<R> {
-    // The next item of the tags of the page's directory, or of another one, after the field of a tag number.
-    #[tactic(auto, using(crate::proofs::Items::one_given, crate::proofs::Items::at_end))]
+    // The next item of the tags of the page's directory, or of another one, after the field of a tag number, or the first one. The
+    // number moves on to that field, whether or not its value is refused.
     pub(crate) fn next_item(
         &mut self,
         other: Option<&Directory>,
@@ -90,7 +88,7 @@ impl<R: Source> Decoder<R> {
     }
 
     // All tags of the page with their values, each or its fault.
-    #[tactic(auto, using(crate::proofs::TagList::begun, crate::proofs::TagList::one_more, crate::proofs::TagList::ended))]
+    #[tactic(auto, using(crate::proofs::TagList::begun, crate::proofs::TagList::ended))]
     pub(crate) fn all_tags(&mut self) -> TiffResult<Vec<TiffResult<(Tag, Value)>>>
         ensures { Items (outcome.tag_iter self.old) result self.old self.new }
     {
@@ -115,9 +113,9 @@ impl<R: Source> Decoder<R> {
 }
 
 impl<'a, R: Source> IfdDecoder<'a, R> {
-    /// The tags with their values, by ascending number. A tag of no name is `Unknown`. An item of a value that is refused is the
-    /// fault of `find_tag`, doesn't name its tag and doesn't end the iterator. The iterator takes no memory of its own; an item
-    /// takes a look-up and the read of its value.
+    /// The tags with their values, by ascending number. An item whose value is refused is a fault of `find_tag`; it doesn't name
+    /// its tag, and the items after it still come. The iterator takes no memory of its own; an item takes a look-up and the read
+    /// of its value.
     #[tactic(auto, unfolding(crate::specs::Outcome::tag_iter, tiff_ifd::specs::Ask::tag_items))]
     pub fn tag_iter(self) -> TagIter<'a, R>
         ensures same_reference { result.reader.decoder.ghost_name ≡ self.entry.decoder.ghost_name }
