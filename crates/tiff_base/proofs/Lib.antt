@@ -5,3 +5,4 @@ pub mod Turned
 mod Blocks
 mod Named
 mod Extended
+pub mod After

@@ -1,8 +1,8 @@
 -- Entries and directories of a file (TIFF 6.0 section 2; BigTIFF).
-use Rattle.std.specs.Prelude.{◌≡◌, ℕ, ◌+◌, ◌*◌, List, [], ◌∷◌, ◌++◌, map, reverse, Option, Some, None, Result, Ok, if◌then◌else◌, ◌==◌}
+use Rattle.std.specs.Prelude.{◌≡◌, ℕ, ◌+◌, ◌*◌, List, [], ◌∷◌, ◌++◌, map, reverse, nat_lt, Option, Some, None, Result, Ok, if◌then◌else◌, ◌==◌}
 use Rattle.std.specs.Option.{option_map}
 use Rattle.std.specs.Int.{Width, w16, w32, w64, byte_len}
-use Rattle.std.specs.List.{filter_map, fold, range_with_len}
+use Rattle.std.specs.List.{filter, filter_map, fold, range_with_len}
 use Rattle.std.specs.FinMap.{FinMap, empty, from_entries, insert}
 use Rattle.std.specs.Ordering.{nat_cmp}
 use Rattle.tiff_base.specs.declared.error.TiffError.{TiffError}
@@ -68,6 +68,10 @@ last_of_each entries = from_entries (reverse entries)
 -- a directory with fields set in turn, each under its tag's number: of a number that comes twice the last stands
 abbrev pub extended : DirectoryRecord → List (Tag × Field) → DirectoryRecord
 extended d items = record d { entries = fold (λ m item. insert m (tag_number item.0) item.1) d.entries items }
+
+-- the fields whose tag numbers are above a number
+abbrev pub fields_after : ℕ → List (ℕ × Field) → List (ℕ × Field)
+fields_after n fields = filter (λ e. nat_lt n e.0) fields
 
 -- a link of 0 is no next directory
 abbrev pub link : ℕ → Option ℕ

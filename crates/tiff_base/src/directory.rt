@@ -1,12 +1,12 @@
 //! Directories: a field for each of some tags.
 
-ghost use Rattle.std.specs.Prelude.{◌≡◌, ◌++◌, ◌∷◌, [], List, IfErr, IfOk, OnOk, OnErr, None, option_map, unwrap_or, ◌==◌};
+ghost use Rattle.std.specs.Prelude.{◌≡◌, ◌++◌, ◌∷◌, [], List, IfErr, IfOk, OnOk, OnErr, None, option_map, slice_get, unwrap_or, ◌==◌};
 ghost use Rattle.std.specs.FinMap as map;
 ghost use Rattle.std.specs.Iterator.{Drains, ExtendsWithItems, IsFinite, YieldsFirstBy, item_count};
 ghost use Rattle.tiff_base.specs.Tags.{tag_number};
 ghost use Rattle.tiff_base.specs.declared.tags.Tag.{Tag};
 ghost use Rattle.tiff_base.specs.declared.error.TiffError.TheVariants.{OutOfMemory};
-ghost use Rattle.tiff_base.specs.Directory.{extended, link};
+ghost use Rattle.tiff_base.specs.Directory.{extended, fields_after, link};
 ghost use Rattle.tiff_base.specs.Field.{Field};
 
 use crate::error::TiffResult;
@@ -14,6 +14,7 @@ use crate::tags::{IfdPointer, Tag, Type};
 use std::alloc::{AllocError, Global};
 use std::collections::{BTreeMap, btree_map};
 use std::marker::Model;
+use std::ops::Bound;
 
 /// A field of a directory: the type of its values, how many there are, and their bytes or their place.
 #[derive(Clone, Debug, Drop)]
@@ -164,6 +165,16 @@ impl Directory {
         Iter {
             inner: self.entries.iter(),
         }
+    }
+
+    /// The first field whose tag number is above a number, with its tag number (this project's). It takes a look-up.
+    #[tactic(auto, using(crate::proofs::After::first_of_tree, crate::proofs::After::none_of_tree))]
+    pub fn first_after(&self, number: u16) -> Option<(u16, &Entry)>
+        ensures { option_map (λ x. (x.0, x.1.now)) result ≡ slice_get (fields_after number (map.entries self.now.entries)) 0 }
+    {
+        let above = (Bound::Excluded(number), Bound::Unbounded);
+        let (next, entry) = self.entries.range(above).next()?;
+        Some((*next, entry))
     }
 
     /// Sets the field of a tag number.

@@ -3,3 +3,5 @@ mod Once
 pub mod Required
 pub mod Numbers
 pub mod Along
+pub mod Items
+pub mod TagList

@@ -8,3 +8,4 @@ pub mod Steps
 pub mod Once
 pub mod Reader
 pub mod Along
+pub mod Items

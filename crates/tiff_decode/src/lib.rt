@@ -5,4 +5,5 @@ pub mod decoder;
 pub mod laws;
 pub mod low_level;
 pub mod script;
+pub mod tag_iter;
 pub mod tags;

@@ -40,7 +40,7 @@ impl<R: Source> Drop for IfdDecoder<'_, R> {
 }
 
 // The other directory, or else this one.
-fn chosen<'x>(own: &'x Directory, other: Option<&'x Directory>) -> &'x Directory
+pub(crate) fn chosen<'x>(own: &'x Directory, other: Option<&'x Directory>) -> &'x Directory
     ensures { result.now ≡ chosen own.now (option_map (λ d. d.now) other.entry) }
 {
     match other {

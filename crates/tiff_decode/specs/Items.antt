@@ -1,0 +1,42 @@
+-- The items of a directory's tags, one by one (this project's).
+use Rattle.std.specs.Prelude.{◌≡◌, ℕ, List, [], ◌∷◌, Option, None, Some, Result, Ok, map, option_map}
+use Rattle.std.specs.Borrow.{Bor, MutBor}
+use Rattle.std.specs.FinMap.{entries}
+use Rattle.tiff_base.specs.declared.error.TiffError.{TiffError}
+use Rattle.tiff_base.specs.declared.tags.ByteOrder.{ByteOrder}
+use Rattle.tiff_base.specs.declared.tags.FileKind.{FileKind}
+use Rattle.tiff_base.specs.declared.tags.Tag.{Tag}
+use Rattle.tiff_base.specs.Answers.{◌>>=◌}
+use Rattle.tiff_base.specs.Directory.{fields_after}
+use Rattle.tiff_base.specs.Field.{Field, DirectoryRecord}
+use Rattle.tiff_base.specs.Tags.{tag_of}
+use Rattle.tiff_ifd.specs.Datum.{Datum}
+use Rattle.tiff_ifd.specs.FieldValue.{field_value}
+use Rattle.tiff_ifd.specs.declared.limits.Limits.{Limits}
+use Rattle.tiff_ifd.specs.declared.value.Value.{Value}
+use Rattle.tiff_decode.specs.Machine.{Decoding}
+use Rattle.tiff_decode.specs.Reader.{reading}
+use Rattle.tiff_decode.specs.Step.{ItemIs}
+
+-- the fields that come after a tag number, or all of them
+abbrev pub fields_left : Option ℕ → List (ℕ × Field) → List (ℕ × Field)
+fields_left None fields = fields
+fields_left (Some n) fields = fields_after n fields
+
+-- the item of a field: its tag and value, or the fault of its value
+abbrev pub item_of : FileKind → ByteOrder → List ℕ → Limits → ℕ × Field → Result (Tag × Datum) TiffError
+item_of kind order bytes limits e = field_value kind order bytes limits e.1 >>= λ value. Ok (tag_of e.0, value)
+
+-- the items of the directory's fields that come after a tag number, or of all of them
+abbrev pub items_left : Decoding → Option ℕ → List (Result (Tag × Datum) TiffError)
+items_left d last = map (item_of d.kind d.order d.bytes d.state.limits) (fields_left last (entries d.state.directory.entries))
+
+-- the items that are left of the tags that a borrowed decoder reads, of its page's directory or of another one
+abbrev pub tags_left : MutBor Decoding → Option (Bor DirectoryRecord) → Option ℕ → List (Result (Tag × Datum) TiffError)
+tags_left decoder other last = items_left (reading decoder.now (option_map (λ d. d.now) other)) last
+
+-- The next of some items, with those that are left after it and the counts of failed reads before and after it. At the end none
+-- is left, and nothing is read.
+abbrev pub NextItem : List (Result (Tag × Datum) TiffError) → Option (Result (Tag × Value) TiffError) → List (Result (Tag × Datum) TiffError) → ℕ → ℕ → Type 0
+NextItem given None left before after = (given ≡ []) × (left ≡ []) × (after ≡ before)
+NextItem given (Some item) left before after = (g : Result (Tag × Datum) TiffError) × (given ≡ g ∷ left) × ItemIs g item before after

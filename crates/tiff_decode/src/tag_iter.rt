@@ -1,0 +1,153 @@
+//! The tags of a directory, one by one.
+
+ghost use Rattle.std.specs.Prelude.{◌≡◌, ◌≤◌, ◌∷◌, ◌++◌, [], None, Ok, IfErr, OnOk, length, option_map, slice_get};
+ghost use Rattle.std.specs.FinMap.{entries};
+ghost use Rattle.std.specs.Iterator.{at_most};
+ghost use Rattle.tiff_base.specs.Answers.{IsKept};
+ghost use Rattle.tiff_base.specs.declared.error.TiffError.TheVariants.{OutOfMemory};
+ghost use Rattle.tiff_decode.specs.Items.{fields_left, item_of, items_left, tags_left, NextItem};
+ghost use Rattle.tiff_decode.specs.Outcome as outcome;
+ghost use Rattle.tiff_decode.specs.Reader.{reading, IsHeld};
+ghost use Rattle.tiff_decode.specs.Step.{ItemIs, Items};
+
+use crate::decoder::Decoder;
+use crate::tags::{IfdDecoder, chosen};
+use std::alloc::Global;
+use tiff_base::directory::{Directory, Entry};
+use tiff_base::error::TiffResult;
+use tiff_base::io::Source;
+use tiff_base::tags::{ByteOrder, FileKind, Tag};
+use tiff_ifd::limits::Limits;
+use tiff_ifd::read_value::read_value;
+use tiff_ifd::value::Value;
+
+// The field after a tag number, or the first one, with its tag number.
+fn next_field(directory: &Directory, last: Option<u16>) -> Option<(u16, &Entry)>
+    ensures { option_map (λ x. (x.0, x.1.now)) result ≡ slice_get (fields_left last (entries directory.now.entries)) 0 }
+{
+    match last {
+        None => directory.iter().next(),
+        Some(number) => directory.first_after(number),
+    }
+}
+
+// A tag with the value of its field.
+#[tactic(auto, using(crate::proofs::Items::item_refused))]
+fn read_item<R: Source>(
+    alloc: Global,
+    source: &mut R,
+    kind: FileKind,
+    order: ByteOrder,
+    limits: &Limits,
+    number: u16,
+    entry: &Entry,
+) -> TiffResult<(Tag, Value)>
+    ensures kept { IsKept R.bytes R.failures source.old source.new }
+    ensures item { ItemIs (item_of kind order (R.bytes source.old) limits.now (number, entry.now)) result (R.failures source.old) (R.failures source.new) }
+{
+    let value = read_value(alloc, source, kind, order, limits, entry)?;
+    Ok((Tag::from_u16_exhaustive(number), value))
+}
+
+// Puts an item behind the others of a list.
+fn add<T: Drop>(items: &mut Vec<T>, item: T) -> TiffResult<()>
+    ensures ok { OnOk result (items.new.items ≡ items.old.items ++ item ∷ []) }
+    ensures err { IfErr result (λ e. e ≡ OutOfMemory) }
+{
+    items.push(item)?;
+    Ok(())
+}
+
+impl<R: Source> Decoder<R> {
+    // The next item of the tags of the page's directory, or of another one, after the field of a tag number, or the first one. The
+    // number moves on to that field, whether or not its value is refused.
+    pub(crate) fn next_item(
+        &mut self,
+        other: Option<&Directory>,
+        last: &mut Option<u16>,
+    ) -> Option<TiffResult<(Tag, Value)>>
+        ensures state { self.new ≡ record self.old { failures = self.new.failures } }
+        ensures count { self.old.failures ≤ self.new.failures }
+        ensures item { NextItem (items_left (reading self.old (option_map (λ d. d.now) other.entry)) last.old) result (items_left (reading self.old (option_map (λ d. d.now) other.entry)) last.new) self.old.failures self.new.failures }
+    {
+        let alloc = self.alloc;
+        let tags = &mut self.tags;
+        let Some((number, entry)) = next_field(chosen(&tags.directory, other), *last) else {
+            return None;
+        };
+        *last = Some(number);
+        Some(read_item(
+            alloc,
+            &mut tags.source,
+            tags.kind,
+            tags.order,
+            &tags.limits,
+            number,
+            entry,
+        ))
+    }
+
+    // All tags of the page with their values, each or its fault.
+    #[tactic(auto, using(crate::proofs::TagList::begun, crate::proofs::TagList::ended))]
+    pub(crate) fn all_tags(&mut self) -> TiffResult<Vec<TiffResult<(Tag, Value)>>>
+        ensures { Items (outcome.tag_iter self.old) result self.old self.new }
+    {
+        let mut items = Vec::new(self.alloc);
+        let mut last = None;
+        while let Some(item) = self.next_item(None, &mut last) {
+            add(&mut items, item)?;
+        }
+        Ok(items)
+    }
+
+    /// The tags of the page with their values, by ascending number, each or its fault: `IfdDecoder::tag_iter`.
+    #[tactic(auto, unfolding(crate::specs::Outcome::tag_iter, tiff_ifd::specs::Ask::tag_items))]
+    pub fn tag_iter(&mut self) -> TagIter<'_, R>
+        ensures same_reference { result.reader.decoder.ghost_name ≡ self.entry.ghost_name }
+        ensures decoder { result.reader.decoder.now ≡ self.old }
+        ensures other { result.reader.other ≡ None }
+        ensures left { items_left self.old result.last ≡ outcome.tag_iter self.old }
+    {
+        self.image_ifd().tag_iter()
+    }
+}
+
+impl<'a, R: Source> IfdDecoder<'a, R> {
+    /// The tags with their values, by ascending number. An item whose value is refused is a fault of `find_tag`; it doesn't name
+    /// its tag, and the items after it still come. The iterator takes no memory of its own; an item takes a look-up and the read
+    /// of its value.
+    #[tactic(auto, unfolding(crate::specs::Outcome::tag_iter, tiff_ifd::specs::Ask::tag_items))]
+    pub fn tag_iter(self) -> TagIter<'a, R>
+        ensures same_reference { result.reader.decoder.ghost_name ≡ self.entry.decoder.ghost_name }
+        ensures decoder { result.reader.decoder.now ≡ self.entry.decoder.now }
+        ensures other { result.reader.other ≡ self.entry.other }
+        ensures left { items_left (reading self.entry.decoder.now (option_map (λ d. d.now) self.entry.other)) result.last ≡ outcome.tag_iter (reading self.entry.decoder.now (option_map (λ d. d.now) self.entry.other)) }
+    {
+        TagIter {
+            reader: self,
+            last: None,
+        }
+    }
+}
+
+/// The tags of a directory with their values, by ascending number: what `IfdDecoder::tag_iter` gives.
+#[derive(Drop)]
+pub struct TagIter<'a, R: Source> {
+    reader: IfdDecoder<'a, R>,
+    last: Option<u16>,
+}
+
+impl<'a, R: Source> Iterator for TagIter<'a, R> {
+    type Item = TiffResult<(Tag, Value)>;
+
+    // The same decoder is borrowed, the directory is the same, and the next item is given, if one is left.
+    ghost next_gives = { λ s r t. IsHeld s.reader.decoder t.reader.decoder × (t.reader.other ≡ s.reader.other) × NextItem (tags_left s.reader.decoder s.reader.other s.last) r (tags_left t.reader.decoder t.reader.other t.last) s.reader.decoder.now.failures t.reader.decoder.now.failures };
+
+    ghost remaining = { λ s. at_most (length (tags_left s.reader.decoder s.reader.other s.last)) };
+
+    fn next(&mut self) -> Option<TiffResult<(Tag, Value)>> {
+        let other = self.reader.other;
+        let decoder = &mut *self.reader.decoder;
+        decoder.next_item(other, &mut self.last)
+    }
+}
