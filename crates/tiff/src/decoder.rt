@@ -3,6 +3,7 @@
 pub use tiff_base::color::ChunkType;
 pub use tiff_decode::decoder::{Decoder, DecodingResult};
 pub use tiff_decode::script;
+pub use tiff_decode::tag_iter::TagIter;
 pub use tiff_decode::tags::IfdDecoder;
 pub use tiff_ifd::cycles;
 pub use tiff_ifd::limits::Limits;

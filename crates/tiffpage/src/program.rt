@@ -13,7 +13,7 @@ use tiff::decoder::{Decoder, DecodingResult};
 use tiff::encoder::TiffEncoder;
 use tiff::encoder::colortype::Gray8;
 use tiff::io::{MemorySink, MemorySource};
-use tiff::{TiffError, TiffFormatError, TiffResult, TiffUnsupportedError};
+use tiff::{TiffError, TiffResult, TiffUnsupportedError};
 
 /// Why a command was not done.
 #[derive(Drop)]
@@ -64,12 +64,10 @@ fn gray_file(alloc: Global, width: u32, height: u32, samples: &[u8]) -> TiffResu
     Ok(encoder.into_inner().into_vec())
 }
 
-// A file at a page. This version reads the first page alone.
+// A file at a page.
 fn open_page(alloc: Global, file: Vec<u8>, page: u32) -> TiffResult<Decoder<MemorySource>> {
-    let decoder = Decoder::new(alloc, MemorySource::new(file))?;
-    if page > 0 {
-        return Err(TiffFormatError::ImageFileDirectoryNotFound.into());
-    }
+    let mut decoder = Decoder::new(alloc, MemorySource::new(file))?;
+    decoder.seek_to_image(page as usize)?;
     Ok(decoder)
 }
 
