@@ -1,9 +1,10 @@
 -- The worked examples of Streams hold.
 use Rattle.std.specs.Prelude.{refl, ℤ, pos, negsuc}
-use Rattle.std.proofs.Common.{ℕ, Result, Ok, Err, ap, arith, lit<, lit≤}
+use Rattle.std.proofs.Common.{◌≡◌, ℕ, Result, Ok, Err, ap, arith, lit<, lit≤}
 use Rattle.std.specs.Str.{is_utf8, chars}
 use lib.Utf8.{encode}
 use Rattle.tiff_base.specs.declared.error.TiffError.{TiffError}
+use Rattle.tiff_base.specs.declared.tags.ByteOrder.TheVariants.{LittleEndian, BigEndian}
 use Rattle.tiff_base.specs.Number.{number}
 use Rattle.tiff_examples.specs.Streams as s
 
@@ -16,6 +17,9 @@ abbrev sign_of : Result ℤ TiffError → ℕ
 sign_of (Ok (negsuc n)) = 1
 sign_of (Ok (pos n)) = 2
 sign_of (Err e) = 0
+
+little_big : LittleEndian ≡ BigEndian → ⊥
+little_big h = cc
 
 pub behind_read : s.behind_read
 behind_read = refl
@@ -37,6 +41,9 @@ short_little = record { answer = refl; stands = refl; failures = lit≤ tt }
 
 pub short_stays : s.short_stays
 short_stays = λ r. omega (arith, ap (λ x. x.place) r.stands)
+
+pub short_reordered : s.short_reordered
+short_reordered = λ r. little_big (ap (λ x. x.order) r.stands)
 
 pub short_cut : s.short_cut
 unfolding number

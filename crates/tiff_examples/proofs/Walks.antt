@@ -5,6 +5,8 @@ use Rattle.std.specs.List.{list_any}
 use Rattle.std.specs.Ordering.{eq_by_cmp, is_eq, nat_cmp}
 use Rattle.std.specs.FinMap.{get}
 use Rattle.tiff_base.specs.declared.error.TiffError.{TiffError}
+use Rattle.tiff_base.specs.declared.error.TiffError.TheVariants.{FormatError}
+use Rattle.tiff_base.specs.declared.error.TiffFormatError.TheVariants.{CycleInOffsets}
 use Rattle.tiff_base.specs.declared.tags.ByteOrder.TheVariants.{LittleEndian}
 use Rattle.tiff_base.specs.declared.tags.FileKind.TheVariants.{Classic}
 use Rattle.tiff_base.specs.Directory.{directory_at, entries_from, last_of_each}
@@ -185,6 +187,10 @@ begins_one = record { rest = 14 ∷ 20 ∷ []; places = refl; goes_on = (refl, S
 pub begins_all : s.begins_all
 unfolding chain directory_at number entries_from last_of_each
 begins_all = record { rest = []; places = refl; goes_on = refl }
+
+pub begins_back : s.begins_back
+unfolding chain directory_at number entries_from last_of_each
+begins_back = record { rest = []; places = refl; goes_on = (FormatError CycleInOffsets, refl, refl) }
 
 pub begins_second : s.begins_second
 unfolding chain directory_at number entries_from last_of_each

@@ -43,6 +43,10 @@ short_little = Reads16 (Ok 0xfeff) (record (at 0) { order = LittleEndian }) (rec
 abbrev pub short_stays : Type 0
 short_stays = Reads16 (Ok 0xfffe) (at 0) (at 0) → ⊥
 
+-- and nothing else of the reader is changed
+abbrev pub short_reordered : Type 0
+short_reordered = Reads16 (Ok 0xfffe) (at 0) (record (at 2) { order = LittleEndian }) → ⊥
+
 -- of the last byte alone nothing is read, and the place stays
 abbrev pub short_cut : Type 0
 short_cut = Reads16 (Err (IoError UnexpectedEof)) (at 8) (at 8)

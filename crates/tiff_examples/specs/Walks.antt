@@ -143,6 +143,10 @@ begins_one = Begins three_file one_entered
 abbrev pub begins_all : Type 0
 begins_all = Begins three_file all_entered
 
+-- before a directory that links back
+abbrev pub begins_back : Type 0
+begins_back = Begins back_file one_entered
+
 -- not with the second, and not with one place where no link goes on from it
 abbrev pub begins_second : Type 0
 begins_second = Begins three_file (record { places = 14 ∷ []; next = Some 20 }) → ⊥

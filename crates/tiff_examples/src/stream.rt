@@ -5,8 +5,8 @@ ghost use Rattle.tiff_examples.specs.Streams as s;
 /// Numbers that are read one after another.
 pub fn numbers()
     ensures { s.behind_read × s.behind_refused × s.short_read × s.short_turned × s.short_little × s.short_stays ×
-        s.short_cut × s.short_cut_moved × s.short_refused × s.short_wanting × s.short_failed ×
-        s.short_not_failed × s.short_forgotten }
+        s.short_reordered × s.short_cut × s.short_cut_moved × s.short_refused × s.short_wanting ×
+        s.short_failed × s.short_not_failed × s.short_forgotten }
 {}
 
 /// Signed and floating numbers.

@@ -17,6 +17,6 @@ pub fn steps()
 
 /// Walks along a chain, and its end.
 pub fn chains()
-    ensures { s.begins_none × s.begins_one × s.begins_all × s.begins_second × s.begins_ended × s.ends_all ×
-        s.ends_early × s.ends_back × s.ends_plain }
+    ensures { s.begins_none × s.begins_one × s.begins_all × s.begins_back × s.begins_second × s.begins_ended ×
+        s.ends_all × s.ends_early × s.ends_back × s.ends_plain }
 {}

@@ -10,6 +10,7 @@ returns c = (
   p.short_turned,
   p.short_little,
   p.short_stays,
+  p.short_reordered,
   p.short_cut,
   p.short_cut_moved,
   p.short_refused,

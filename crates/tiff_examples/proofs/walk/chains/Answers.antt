@@ -7,6 +7,7 @@ returns c = (
   p.begins_none,
   p.begins_one,
   p.begins_all,
+  p.begins_back,
   p.begins_second,
   p.begins_ended,
   p.ends_all,
