@@ -1,6 +1,8 @@
 //! Sources and sinks that answer in pieces or fail, and tests that cross the crates.
 #![tactic(auto)]
 
+#[cfg(test)]
+mod chain;
 pub mod doubles;
 #[cfg(test)]
 mod files;
