@@ -39,15 +39,15 @@ fn three_pages(alloc: Global) -> TiffResult<Decoder<MemorySource>> {
 }
 
 // Whether this is the fault.
-fn is_fault<T: Drop>(result: TiffResult<T>, fault: &TiffFormatError) -> bool {
-    match result {
+fn is_fault<T: Drop>(given: TiffResult<T>, fault: &TiffFormatError) -> bool {
+    match given {
         Err(TiffError::FormatError(other)) => other == *fault,
         _ => false,
     }
 }
 
-fn is_cut<T: Drop>(result: TiffResult<T>) -> bool {
-    matches!(result, Err(TiffError::IoError(IoKind::UnexpectedEof)))
+fn is_cut<T: Drop>(given: TiffResult<T>) -> bool {
+    matches!(given, Err(TiffError::IoError(IoKind::UnexpectedEof)))
 }
 
 #[test]
