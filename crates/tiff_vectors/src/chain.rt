@@ -27,12 +27,20 @@ fn with_bare_directory(alloc: Global, link: u64) -> TiffResult<Decoder<MemorySou
     Decoder::new(alloc, MemorySource::new(file))
 }
 
+// Appends bytes, but for the first ones.
+fn append_rest(file: &mut Vec<u8>, bytes: &[u8], first: usize) -> TiffResult<()> {
+    for byte in bytes.iter().skip(first) {
+        file.push(*byte)?;
+    }
+    Ok(())
+}
+
 // The file of one sample with its directory three times, at 25, 199 and 373.
 fn three_pages(alloc: Global) -> TiffResult<Decoder<MemorySource>> {
     let mut file = one_sample(alloc, ByteOrder::LittleEndian)?;
     let directory = one_sample(alloc, ByteOrder::LittleEndian)?;
-    file.extend_from_slice(&directory.as_slice()[25..])?;
-    file.extend_from_slice(&directory.as_slice()[25..])?;
+    append_rest(&mut file, directory.as_slice(), 25)?;
+    append_rest(&mut file, directory.as_slice(), 25)?;
     patch(file.as_mut_slice(), 195, &[199, 0, 0, 0]);
     patch(file.as_mut_slice(), 369, &[117, 1, 0, 0]);
     Decoder::new(alloc, MemorySource::new(file))
