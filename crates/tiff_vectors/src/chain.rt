@@ -1,5 +1,6 @@
 //! The chain of a file's directories, and the numbers at a place.
 
+use crate::calls::{Reader, opened};
 use crate::files::one_sample;
 use crate::layout::{Layout, patch};
 use std::alloc::Global;
@@ -7,24 +8,22 @@ use std::test::Fail;
 use tiff_base::error::{TiffError, TiffFormatError, TiffResult};
 use tiff_base::io::{IoKind, MemorySource};
 use tiff_base::tags::{ByteOrder, FileKind, IfdPointer, Tag};
-use tiff_decode::decoder::Decoder;
 use tiff_ifd::cycles::IfdCycles;
 use tiff_ifd::stream::EndianReader;
 
-fn opened(alloc: Global, bytes: &[u8]) -> TiffResult<Decoder<MemorySource>> {
-    let mut file = Vec::new(alloc);
-    file.extend_from_slice(bytes)?;
-    Decoder::new(alloc, MemorySource::new(file))
+// A decoder of a file of these bytes.
+fn of_bytes(alloc: Global, bytes: &[u8]) -> TiffResult<Reader<MemorySource>> {
+    opened(alloc, Vec::from_slice(alloc, bytes)?)
 }
 
 // The file of one sample, with a second directory at 199 that has no entries and this link.
-fn with_bare_directory(alloc: Global, link: u64) -> TiffResult<Decoder<MemorySource>> {
+fn with_bare_directory(alloc: Global, link: u64) -> TiffResult<Reader<MemorySource>> {
     let mut file = one_sample(alloc, ByteOrder::LittleEndian)?;
     patch(file.as_mut_slice(), 195, &[0xc7, 0, 0, 0]);
     let mut bare = Layout::new(alloc, ByteOrder::LittleEndian, FileKind::Classic);
     bare.directory(&[], link)?;
     file.extend_from_slice(bare.into_vec().as_slice())?;
-    Decoder::new(alloc, MemorySource::new(file))
+    opened(alloc, file)
 }
 
 // Appends bytes, but for the first ones.
@@ -36,14 +35,14 @@ fn append_rest(file: &mut Vec<u8>, bytes: &[u8], first: usize) -> TiffResult<()>
 }
 
 // The file of one sample with its directory three times, at 25, 199 and 373.
-fn three_pages(alloc: Global) -> TiffResult<Decoder<MemorySource>> {
+fn three_pages(alloc: Global) -> TiffResult<Reader<MemorySource>> {
     let mut file = one_sample(alloc, ByteOrder::LittleEndian)?;
     let directory = one_sample(alloc, ByteOrder::LittleEndian)?;
     append_rest(&mut file, directory.as_slice(), 25)?;
     append_rest(&mut file, directory.as_slice(), 25)?;
     patch(file.as_mut_slice(), 195, &[199, 0, 0, 0]);
     patch(file.as_mut_slice(), 369, &[117, 1, 0, 0]);
-    Decoder::new(alloc, MemorySource::new(file))
+    opened(alloc, file)
 }
 
 // Whether this is the fault.
@@ -62,22 +61,22 @@ fn is_cut<T: Drop>(given: TiffResult<T>) -> bool {
 fn headers_are_refused_number_by_number(rt: HostRuntime) -> Result<(), Fail> {
     let alloc = rt.alloc();
     let none = TiffFormatError::TiffSignatureNotFound;
-    assert!(rt; is_fault(opened(alloc, b"XX"), &none));
-    assert!(rt; is_fault(opened(alloc, b""), &none));
-    assert!(rt; is_cut(opened(alloc, b"II")));
+    assert!(rt; is_fault(of_bytes(alloc, b"XX"), &none));
+    assert!(rt; is_fault(of_bytes(alloc, b""), &none));
+    assert!(rt; is_cut(of_bytes(alloc, b"II")));
     assert!(rt;
         is_fault(
-            opened(alloc, b"II,\0"),
+            of_bytes(alloc, b"II,\0"),
             &TiffFormatError::TiffSignatureInvalid
         )
     );
-    assert!(rt; is_fault(opened(alloc, b"II+\0\x04\0"), &none));
+    assert!(rt; is_fault(of_bytes(alloc, b"II+\0\x04\0"), &none));
     let own = b"II*\0\x08\0\0\0\0\0\x08\0\0\0";
-    assert!(rt; is_fault(opened(alloc, own), &TiffFormatError::CycleInOffsets));
+    assert!(rt; is_fault(of_bytes(alloc, own), &TiffFormatError::CycleInOffsets));
     let nowhere = b"II*\0\0\0\0\0";
     assert!(rt;
         is_fault(
-            opened(alloc, nowhere),
+            of_bytes(alloc, nowhere),
             &TiffFormatError::ImageFileDirectoryNotFound
         )
     );
@@ -153,7 +152,7 @@ fn links_that_close_a_cycle_are_refused(rt: HostRuntime) -> Result<(), Fail> {
 #[test]
 fn numbers_are_read_at_the_place(rt: HostRuntime) -> Result<(), Fail> {
     let file = one_sample(rt.alloc(), ByteOrder::LittleEndian)?;
-    let mut decoder = Decoder::new(rt.alloc(), MemorySource::new(file))?;
+    let mut decoder = opened(rt.alloc(), file)?;
     assert_eq!(rt; decoder.read_long()?, 1);
     decoder.goto_offset(24)?;
     assert_eq!(rt; decoder.read_byte()?, 7);

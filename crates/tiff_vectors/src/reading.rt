@@ -1,5 +1,6 @@
 //! Files that are read.
 
+use crate::calls::Reader;
 use crate::doubles::FailingSource;
 use std::alloc::Global;
 use std::test::Fail;
@@ -7,7 +8,6 @@ use tiff_base::color::ColorType;
 use tiff_base::error::{TiffError, TiffResult};
 use tiff_base::io::{IoKind, MemorySource};
 use tiff_base::tags::ByteOrder;
-use tiff_decode::decoder::{Decoder, DecodingResult};
 
 /// A page of 3 by 2 samples, laid out by hand.
 pub const PAGE: [u8; 204] = [
@@ -26,8 +26,8 @@ fn source(alloc: Global, bytes: &[u8]) -> TiffResult<MemorySource> {
 
 // The text of the fault that opening a file, or reading its image, answers; `read` where there is none.
 fn text(alloc: Global, bytes: &[u8]) -> TiffResult<String> {
-    let fault = match Decoder::new(alloc, source(alloc, bytes)?) {
-        Ok(mut decoder) => match decoder.read_image() {
+    let fault = match Reader::new(alloc, source(alloc, bytes)?) {
+        Ok(mut decoder) => match decoder.read_samples() {
             Ok(_) => return Ok(String::from_str(alloc, "read")?),
             Err(fault) => fault,
         },
@@ -38,16 +38,15 @@ fn text(alloc: Global, bytes: &[u8]) -> TiffResult<String> {
 
 #[test]
 fn a_page_is_read(rt: HostRuntime) -> Result<(), Fail> {
-    let mut decoder = Decoder::new(rt.alloc(), source(rt.alloc(), &PAGE)?)?;
+    let mut decoder = Reader::new(rt.alloc(), source(rt.alloc(), &PAGE)?)?;
     assert_eq!(rt; decoder.dimensions()?, (3, 2));
     assert_eq!(rt; decoder.colortype()?, ColorType::Gray(8));
     assert_eq!(rt; decoder.byte_order(), ByteOrder::LittleEndian);
-    match decoder.read_image()? {
-        DecodingResult::U8(samples) => {
-            assert_eq!(rt; samples.as_slice(), [1, 2, 3, 4, 5, 6].as_slice());
-        }
-        _ => assert!(rt; false),
-    }
+    let samples = decoder.read_samples()?;
+    assert_eq!(rt;
+        samples.as_ref().map(|s| s.as_slice()),
+        Some([1, 2, 3, 4, 5, 6].as_slice())
+    );
     Ok(())
 }
 
@@ -160,8 +159,8 @@ fn every_cut_is_told(rt: HostRuntime) -> Result<(), Fail> {
 // Whether a decoder of a source that fails after so many reads has read the page by then.
 fn is_read(rt: &impl std::process::Abort, alloc: Global, left: u64) -> TiffResult<bool> {
     let source = FailingSource::new(source(alloc, &PAGE)?, left);
-    let fault = match Decoder::new(alloc, source) {
-        Ok(mut decoder) => match decoder.read_image() {
+    let fault = match Reader::new(alloc, source) {
+        Ok(mut decoder) => match decoder.read_samples() {
             Ok(_) => return Ok(true),
             Err(fault) => fault,
         },

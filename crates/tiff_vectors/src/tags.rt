@@ -1,5 +1,6 @@
 //! The tags of a page.
 
+use crate::calls::{Reader, opened};
 use crate::files::{big_sample_with, one_sample, one_sample_with, unknown_entry};
 use crate::layout::{Field, LaidEntry};
 use std::alloc::Global;
@@ -7,7 +8,6 @@ use std::test::Fail;
 use tiff_base::error::{TiffError, TiffFormatError, TiffResult};
 use tiff_base::io::MemorySource;
 use tiff_base::tags::{Bits32, ByteOrder, Tag, Type};
-use tiff_decode::decoder::{Decoder, DecodingResult};
 use tiff_ifd::limits::Limits;
 use tiff_ifd::value::{AsciiText, Value, ValueList};
 use tiff_value::buffer::ValueBuffer;
@@ -30,11 +30,8 @@ fn decoder_of(
     alloc: Global,
     order: ByteOrder,
     entry: LaidEntry<'_>,
-) -> TiffResult<Decoder<MemorySource>> {
-    Decoder::new(
-        alloc,
-        MemorySource::new(one_sample_with(alloc, order, entry)?),
-    )
+) -> TiffResult<Reader<MemorySource>> {
+    opened(alloc, one_sample_with(alloc, order, entry)?)
 }
 
 // The value of this entry in a little-endian file.
@@ -138,8 +135,7 @@ fn a_count_past_every_length_is_refused(rt: HostRuntime) -> Result<(), Fail> {
     ];
     for (field_type, bytes, fault) in faults {
         let file = big_sample_with(rt.alloc(), laid(field_type, u64::MAX, Field::Long8(8)))?;
-        let decoder = Decoder::new(rt.alloc(), MemorySource::new(file))?;
-        let mut decoder = decoder.with_limits(limits_of(bytes));
+        let mut decoder = opened(rt.alloc(), file)?.with_limits(limits_of(bytes));
         let told = fault_text(rt.alloc(), decoder.find_tag(LAID))?;
         assert_eq!(rt; told.as_str(), fault, "{field_type}");
     }
@@ -148,10 +144,9 @@ fn a_count_past_every_length_is_refused(rt: HostRuntime) -> Result<(), Fail> {
 
 #[test]
 fn an_entry_of_unknown_type_is_skipped_whole(rt: HostRuntime) -> Result<(), Fail> {
-    let opened = Decoder::new(rt.alloc(), MemorySource::new(unknown_entry(rt.alloc())?));
     assert!(rt;
         matches!(
-            opened,
+            opened(rt.alloc(), unknown_entry(rt.alloc())?),
             Err(TiffError::FormatError(TiffFormatError::RequiredTagNotFound(Tag::ImageLength)))
         )
     );
@@ -215,13 +210,12 @@ const COPIES: [(u64, usize, [u8; 3]); 4] = [
 fn bytes_of_a_value_are_copied(rt: HostRuntime) -> Result<(), Fail> {
     let entry = laid(4, 2, Field::Long(8));
     let mut decoder = decoder_of(rt.alloc(), ByteOrder::LittleEndian, entry)?;
-    let mut tags = decoder.image_ifd();
     for (at, copied, bytes) in COPIES {
         let mut buf = [9; 3];
-        assert_eq!(rt; tags.find_tag_bytes(LAID, &mut buf, at)?, Some(copied));
+        assert_eq!(rt; decoder.find_tag_bytes(LAID, &mut buf, at)?, Some(copied));
         assert_eq!(rt; buf, bytes, "{at}");
     }
-    assert_eq!(rt; tags.find_tag_bytes(Tag::Artist, &mut [], 0)?, None);
+    assert_eq!(rt; decoder.find_tag_bytes(Tag::Artist, &mut [], 0)?, None);
     Ok(())
 }
 
@@ -229,15 +223,14 @@ fn bytes_of_a_value_are_copied(rt: HostRuntime) -> Result<(), Fail> {
 fn a_buffer_holds_the_bytes_of_a_field(rt: HostRuntime) -> Result<(), Fail> {
     let entry = laid(3, 3, Field::Long(196));
     let mut decoder = decoder_of(rt.alloc(), ByteOrder::BigEndian, entry)?;
-    let mut tags = decoder.image_ifd();
     let mut buf = ValueBuffer::empty(rt.alloc(), Type::BYTE);
-    assert!(rt; tags.find_tag_buf(Tag::ImageWidth, &mut buf)?.is_some());
+    assert!(rt; decoder.has_in_buffer(Tag::ImageWidth, &mut buf)?);
     assert_eq!(rt; buf.byte_order(), ByteOrder::BigEndian);
     assert_eq!(rt; buf.data_type(), Type::LONG);
     assert_eq!(rt; buf.as_bytes(), [0, 0, 0, 1].as_slice());
-    assert!(rt; tags.find_tag_buf(Tag::Artist, &mut buf)?.is_none());
+    assert!(rt; !decoder.has_in_buffer(Tag::Artist, &mut buf)?);
     assert_eq!(rt; buf.count(), 1);
-    assert!(rt; tags.find_tag_buf(LAID, &mut buf).is_err());
+    assert!(rt; decoder.has_in_buffer(LAID, &mut buf).is_err());
     assert_eq!(rt; buf.data_type(), Type::SHORT);
     assert_eq!(rt; buf.count(), 0);
     Ok(())
@@ -254,19 +247,17 @@ fn the_last_entry_of_a_tag_stands(rt: HostRuntime) -> Result<(), Fail> {
     let mut decoder = decoder_of(rt.alloc(), ByteOrder::LittleEndian, entry)?;
     assert_eq!(rt; decoder.dimensions()?, (5, 1));
     assert_eq!(rt; decoder.get_tag_u32(Tag::ImageWidth)?, 5);
-    assert_eq!(rt; decoder.image_ifd().directory().len(), 13);
+    assert_eq!(rt; decoder.entry_count(), 13);
     Ok(())
 }
 
 #[test]
 fn a_big_endian_page_is_read(rt: HostRuntime) -> Result<(), Fail> {
     let file = one_sample(rt.alloc(), ByteOrder::BigEndian)?;
-    let mut decoder = Decoder::new(rt.alloc(), MemorySource::new(file))?;
+    let mut decoder = opened(rt.alloc(), file)?;
     assert_eq!(rt; decoder.byte_order(), ByteOrder::BigEndian);
     assert_eq!(rt; decoder.get_tag_u32(Tag::RowsPerStrip)?, 1_000_000);
-    match decoder.read_image()? {
-        DecodingResult::U8(samples) => assert_eq!(rt; samples.as_slice(), [7].as_slice()),
-        _ => assert!(rt; false),
-    }
+    let samples = decoder.read_samples()?;
+    assert_eq!(rt; samples.as_ref().map(|s| s.as_slice()), Some([7].as_slice()));
     Ok(())
 }
