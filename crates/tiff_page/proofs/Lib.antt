@@ -4,3 +4,5 @@ pub mod Gray
 pub mod Placing
 pub mod Planes
 pub mod Chunks
+pub mod Rects
+pub mod Covering

@@ -9,4 +9,6 @@ pub mod Pixels
 pub mod Image
 pub mod Buffers
 pub mod PixelCalls
+pub mod Place
+pub mod Placing
 pub mod Laws

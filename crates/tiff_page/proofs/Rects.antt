@@ -1,0 +1,127 @@
+-- The rows of a rectangle of a buffer are written one after another.
+use Rattle.std.proofs.Common.{◌≡◌, ℕ, ◌+◌, ◌-◌, ◌*◌, ◌/◌, ◌%◌, ◌<◌, ◌≤◌, ◌⊎◌, List, ◌++◌, take, drop, get_or, length, refl, ap, sym, ◌∙◌, subst, inl, inr, ⊎_elim, arith}
+use Rattle.std.proofs.lemmas.Bool.{cases_lt}
+use Rattle.std.proofs.lemmas.List.{length-take-le, length-append, length-drop, get_or-take, get_or-drop, get_or_append_left, get_or-append_right, drop-drop}
+use Rattle.std.proofs.lemmas.Nat.{div-mul-add, mod-mul-add, mod_below, div-add-mod'}
+use Rattle.std.proofs.Math.Nat.{mul-le-mul_right}
+use borrow.Rule.Slice.PartMut.{put_mid}
+use Rattle.tiff_page.specs.Place.{Writes, IsIn, in_rect}
+use Rattle.tiff_page.specs.Placing as law
+
+-- new is old with these bytes at a place
+abbrev pub Holds : List ℕ → ℕ → List ℕ → List ℕ → Type 0
+Holds old at bytes new = new ≡ take at old ++ (bytes ++ drop (at + length bytes) old)
+
+-- as a goal shows a buffer after a write to a part of it
+pub holds_put_mid : (old part : List ℕ) (a n : ℕ) → length part ≡ n → Holds old a part (put_mid a (a + n - a) old part)
+holds_put_mid old part a n l =
+    let e : a + n - a ≡ n = omega arith in
+    rw (e, l, drop-drop) refl
+
+pub length_held : (old bytes new : List ℕ) (at : ℕ) → at + length bytes ≤ length old → Holds old at bytes new → length new ≡ length old
+length_held old bytes new at f h =
+    rw (h, length-append, length-append, length-drop, length-take-le at old (omega (arith, f))) (omega (arith, f))
+
+-- which places change
+pub copied : (old bytes new : List ℕ) (at : ℕ) → at + length bytes ≤ length old → Holds old at bytes new
+    → Writes (λ i. (at ≤ i) × (i < at + length bytes)) (λ i. get_or bytes (i - at) 0) old new
+copied old bytes new at f h =
+    (length_held old bytes new at f h, λ i l.
+    let t : length (take at old) ≡ at = length-take-le at old (omega arith) in
+    ⊎_elim
+    (λ a. inr (λ p. Prim.absurd (omega arith), rw (h, get_or_append_left (take at old) (bytes ++ drop (at + length bytes) old) 0 i (omega arith), get_or-take at old i 0 a) refl))
+    (λ a.
+    let r : get_or new i 0 ≡ get_or (bytes ++ drop (at + length bytes) old) (i - at) 0 = rw h (get_or-append_right (take at old) (bytes ++ drop (at + length bytes) old) at i 0 t a) in
+    ⊎_elim
+    (λ b. inl ((a, b), r ∙ get_or_append_left bytes (drop (at + length bytes) old) 0 (i - at) (omega arith)))
+    (λ b.
+    let e : at + length bytes + (i - at - length bytes) ≡ i = omega arith in
+    inr (λ p. Prim.absurd (omega arith), r ∙ (get_or-append_right bytes (drop (at + length bytes) old) (length bytes) (i - at) 0 refl (omega arith) ∙ (get_or-drop (at + length bytes) old (i - at - length bytes) 0 ∙ ap (λ (k : ℕ). get_or old k 0) e))))
+    (cases_lt i (at + length bytes)))
+    (cases_lt i at))
+
+-- one write after another
+pub writes_more : (P Q R : ℕ → Type 0) (value : ℕ → ℕ) (old mid new : List ℕ) → ((i : ℕ) → P i → R i) → ((i : ℕ) → Q i → R i)
+    → ((i : ℕ) → R i → P i ⊎ Q i) → Writes P value old mid → Writes Q value mid new → Writes R value old new
+writes_more P Q R value old mid new f g k a b =
+    (b.0 ∙ a.0, λ i l.
+    ⊎_elim
+    (λ q. inl (g i q.0, q.1))
+    (λ q. ⊎_elim
+    (λ p. inl (f i p.0, q.1 ∙ p.1))
+    (λ p. inr (λ r. ⊎_elim p.0 q.0 (k i r), q.1 ∙ p.1))
+    (a.1 i l))
+    (b.1 i (omega (arith, a.0, l))))
+
+-- the same values under another name
+pub writes_as : (P : ℕ → Type 0) (f g : ℕ → ℕ) (old new : List ℕ) → ((i : ℕ) → P i → f i ≡ g i) → Writes P f old new → Writes P g old new
+writes_as P f g old new e w = (w.0, λ i l. ⊎_elim (λ p. inl (p.0, p.1 ∙ e i p.0)) (λ p. inr p) (w.1 i l))
+
+-- the same places under another name
+pub writes_same : (P Q : ℕ → Type 0) (value : ℕ → ℕ) (old new : List ℕ) → ((i : ℕ) → P i → Q i) → ((i : ℕ) → Q i → P i)
+    → Writes P value old new → Writes Q value old new
+writes_same P Q value old new f g w = (w.0, λ i l. ⊎_elim (λ p. inl (f i p.0, p.1)) (λ p. inr (λ q. p.0 (g i q), p.1)) (w.1 i l))
+
+-- nothing is written
+pub writes_none : (P : ℕ → Type 0) (value : ℕ → ℕ) (old : List ℕ) → ((i : ℕ) → P i → ⊥) → Writes P value old old
+writes_none P value old n = (refl, λ i l. inr (n i, refl))
+
+-- a row lies in the buffer
+pub row_room : (stride top rows r left len size : ℕ) → r < rows → left + len ≤ stride → (top + rows) * stride ≤ size → (top + r) * stride + left + len ≤ size
+row_room stride top rows r left len size a b c =
+    let d : (top + r + 1) * stride ≤ (top + rows) * stride = mul-le-mul_right stride (omega (arith, a)) in
+    let e : (top + r + 1) * stride ≡ (top + r) * stride + stride = omega arith in
+    omega (arith, b, c, d, e)
+
+-- where a place of that row is
+pub in_row : (stride top r left len at i : ℕ) → left + len ≤ stride → at ≡ (top + r) * stride + left → at ≤ i → i < at + len
+    → (i / stride ≡ top + r) × (i % stride ≡ left + (i - at))
+in_row stride top r left len at i b e l h =
+    let d : i ≡ (top + r) * stride + (left + (i - at)) = omega (arith, e, l) in
+    let s : left + (i - at) < stride = omega (arith, b, e, l, h) in
+    (ap (λ (m : ℕ). m / stride) d ∙ div-mul-add (top + r) stride (left + (i - at)) s, ap (λ (m : ℕ). m % stride) d ∙ mod-mul-add (top + r) stride (left + (i - at)) s)
+
+pub of_row : (stride top r left len at i : ℕ) → at ≡ (top + r) * stride + left → i / stride ≡ top + r → left ≤ i % stride → i % stride < left + len
+    → (at ≤ i) × (i < at + len)
+of_row stride top r left len at i e q l h =
+    let d : i / stride * stride + i % stride ≡ i = div-add-mod' i stride in
+    let f : i / stride * stride ≡ (top + r) * stride = ap (λ z. z * stride) q in
+    (omega (arith, e, l, d, f), omega (arith, e, h, d, f))
+
+-- one more row of a rectangle is written
+pub row_written : (value : ℕ → ℕ → ℕ) (stride top r left len at : ℕ) (bytes old mid new : List ℕ) → left + len ≤ stride → at ≡ (top + r) * stride + left
+    → length bytes ≡ len → ((k : ℕ) → k < len → get_or bytes k 0 ≡ value r k) → at + len ≤ length mid
+    → Writes (IsIn stride top r left len) (in_rect value stride top left) old mid → Holds mid at bytes new
+    → Writes (IsIn stride top (r + 1) left len) (in_rect value stride top left) old new
+row_written value stride top r left len at bytes old mid new b e n v f w h =
+    let Q : ℕ → Type 0 = λ i. (at ≤ i) × (i < at + length bytes) in
+    let to : (i : ℕ) → Q i → (i / stride ≡ top + r) × (i % stride ≡ left + (i - at)) = λ i q. in_row stride top r left len at i b e q.0 (omega (arith, q.1, n)) in
+    writes_more (IsIn stride top r left len) Q (IsIn stride top (r + 1) left len) (in_rect value stride top left) old mid new
+    (λ i p. record { below = p.below; above = omega (arith, p.above); right = p.right; within = p.within })
+    (λ i q.
+    let t = to i q in
+    record { below = omega (arith, t.0); above = omega (arith, t.0); right = omega (arith, t.1); within = omega (arith, t.1, q.0, q.1, n) })
+    (λ i p. ⊎_elim
+    (λ (l : i / stride < top + r). inl (record { below = p.below; above = l; right = p.right; within = p.within }))
+    (λ (l : top + r ≤ i / stride).
+    let q : i / stride ≡ top + r = omega (arith, l, p.above) in
+    let s = of_row stride top r left len at i e q p.right p.within in
+    inr (s.0, omega (arith, s.1, n)))
+    (cases_lt (i / stride) (top + r)))
+    w
+    (writes_as Q (λ i. get_or bytes (i - at) 0) (in_rect value stride top left) mid new
+    (λ i q.
+    let t = to i q in
+    let y : i / stride - top ≡ r = omega (arith, t.0) in
+    let x : i % stride - left ≡ i - at = omega (arith, t.1) in
+    v (i - at) (omega (arith, q.0, q.1, n)) ∙ sym (ap (λ z. value z (i % stride - left)) y ∙ ap (λ z. value r z) x))
+    (copied mid bytes new at (omega (arith, n, f)) h))
+
+-- no row is written yet
+pub no_row : (value : ℕ → ℕ → ℕ) (stride top left len : ℕ) (old : List ℕ) → Writes (IsIn stride top 0 left len) (in_rect value stride top left) old old
+no_row value stride top left len old =
+    writes_none (IsIn stride top 0 left len) (in_rect value stride top left) old (λ i p. Prim.absurd (omega (arith, p.below, p.above)))
+
+pub row_put : law.RowWritten
+row_put value stride top r left len at bytes old mid b e n v f w =
+    row_written value stride top r left len at bytes old mid (put_mid at (at + len - at) mid bytes) b e n v f w (holds_put_mid mid bytes at len n)

@@ -1,0 +1,48 @@
+-- Laws of placing: the rows of a chunk fill its places of a buffer, and the chunks of an image all its places.
+use Rattle.std.specs.Prelude.{◌≡◌, ℕ, ◌+◌, ◌-◌, ◌*◌, ◌/◌, ◌%◌, ◌<◌, ◌≤◌, ◌⊎◌, List, length, slice_index}
+use borrow.Rule.Slice.PartMut.{put_mid}
+use Rattle.tiff_base.specs.declared.color.ColorType.{ColorType}
+use Rattle.tiff_base.specs.declared.tags.ByteOrder.{ByteOrder}
+use Rattle.tiff_page.specs.Page.{PageRecord}
+use Rattle.tiff_page.specs.Rect.{chunks_of_plane}
+use Rattle.tiff_page.specs.Layout.{row_bytes}
+use Rattle.tiff_page.specs.PixelCalls.{placed}
+use Rattle.tiff_page.specs.Pixels.{whole_image}
+use Rattle.tiff_page.specs.Laws.{HasSides, HasWholeRows}
+use Rattle.tiff_page.specs.Place.{Writes, IsIn, in_rect, chunk_byte, top_of, left_of, IsInChunk, IsOfChunk, IsBefore, image_byte}
+
+-- one more row of a rectangle
+abbrev pub RowWritten : Type 0
+RowWritten = (value : ℕ → ℕ → ℕ) (stride top r left len at : ℕ) (bytes old mid : List ℕ) → left + len ≤ stride → at ≡ (top + r) * stride + left
+    → length bytes ≡ len → ((k : ℕ) → k < len → slice_index bytes k ≡ value r k) → at + len ≤ length mid
+    → Writes (IsIn stride top r left len) (in_rect value stride top left) old mid
+    → Writes (IsIn stride top (r + 1) left len) (in_rect value stride top left) old (put_mid at (at + len - at) mid bytes)
+
+-- a chunk of an image
+abbrev pub ChunkWritten : Type 0
+ChunkWritten = (file : List ℕ) (order : ByteOrder) (p : PageRecord) (colour : ColorType) (stride plane j : ℕ) (old new : List ℕ)
+    → HasSides p → HasWholeRows p colour → row_bytes p colour p.width ≤ stride → j < chunks_of_plane p
+    → Writes (IsInChunk p colour stride plane j) (in_rect (chunk_byte file order p colour (plane * chunks_of_plane p + j)) stride (top_of p colour stride plane j) (left_of p colour stride plane j)) old new
+    → Writes (IsOfChunk p colour stride plane j) (image_byte p colour stride file order) old new
+
+-- one more chunk of an image, of the next plane
+abbrev pub ChunksWritten : Type 0
+ChunksWritten = (p : PageRecord) (colour : ColorType) (stride n j plane : ℕ) (value : ℕ → ℕ) (old mid new : List ℕ) → plane < n
+    → Writes (IsBefore p colour stride n j plane) value old mid → Writes (IsOfChunk p colour stride plane j) value mid new
+    → Writes (IsBefore p colour stride n j (plane + 1)) value old new
+
+-- the chunk of all planes
+abbrev pub PlanesWritten : Type 0
+PlanesWritten = (p : PageRecord) (colour : ColorType) (stride n j : ℕ) (value : ℕ → ℕ) (old new : List ℕ)
+    → Writes (IsBefore p colour stride n j n) value old new → Writes (IsBefore p colour stride n (j + 1) 0) value old new
+
+-- none yet
+abbrev pub NoneWritten : Type 0
+NoneWritten = (p : PageRecord) (colour : ColorType) (stride n : ℕ) (value : ℕ → ℕ) (old : List ℕ) → Writes (IsBefore p colour stride n 0 0) value old old
+
+-- all chunks of an image, in all planes
+abbrev pub ImageWritten : Type 0
+ImageWritten = (file : List ℕ) (order : ByteOrder) (p : PageRecord) (colour : ColorType) (stride n : ℕ) (old new : List ℕ)
+    → HasSides p → HasWholeRows p colour → row_bytes p colour p.width ≤ stride
+    → Writes (IsBefore p colour stride n (chunks_of_plane p) 0) (image_byte p colour stride file order) old new
+    → new ≡ placed file order p colour (whole_image file order p) stride n old
