@@ -3,6 +3,7 @@
 
 pub mod decoder;
 pub mod laws;
+pub mod layouts;
 pub mod low_level;
 pub mod script;
 pub mod tag_iter;
