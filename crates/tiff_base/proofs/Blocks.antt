@@ -10,34 +10,34 @@ use Rattle.tiff_base.specs.Blocks.{Block, Nothing, Literal, Repeated, IsBlock, p
 
 -- ---- `runs`, header by header
 
-runs_after_drop : (n : ℕ) (early : Bool) (P : List ℕ) → n ≤ length P → runs_after n early P ≡ runs early (drop n P)
+pub runs_after_drop : (n : ℕ) (early : Bool) (P : List ℕ) → n ≤ length P → runs_after n early P ≡ runs early (drop n P)
 unfolding runs_after
 runs_after_drop zero early P h = refl
 runs_after_drop (suc n) early [] h = absurd (omega (arith, h))
 runs_after_drop (suc n) early (b ∷ P) h = runs_after_drop n early P (omega (arith, h))
 
-runs_after_past : (n : ℕ) (early : Bool) (P : List ℕ) → length P < n → runs_after n early P ≡ record { out = []; end = Plain }
+pub runs_after_past : (n : ℕ) (early : Bool) (P : List ℕ) → length P < n → runs_after n early P ≡ record { out = []; end = Plain }
 unfolding runs_after
 runs_after_past zero early P h = absurd (omega (arith, h))
 runs_after_past (suc n) early [] h = refl
 runs_after_past (suc n) early (b ∷ P) h = runs_after_past n early P (omega (arith, h))
 
-runs_cons : (early : Bool) (h : ℕ) (P : List ℕ) → runs early (h ∷ P) ≡ cond (eqb h 128) (runs early P) (cond (ltb h 128) (before (take (h + 1) P) (runs_after (h + 1) early P)) (repeated (257 - h) P (runs_after 1 early P)))
+pub runs_cons : (early : Bool) (h : ℕ) (P : List ℕ) → runs early (h ∷ P) ≡ cond (eqb h 128) (runs early P) (cond (ltb h 128) (before (take (h + 1) P) (runs_after (h + 1) early P)) (repeated (257 - h) P (runs_after 1 early P)))
 unfolding runs_after
 runs_cons early h P = refl
 
-runs_no_op : (early : Bool) (P : List ℕ) → runs early (128 ∷ P) ≡ runs early P
+pub runs_no_op : (early : Bool) (P : List ℕ) → runs early (128 ∷ P) ≡ runs early P
 unfolding runs_after
 runs_no_op early P = refl
 
-runs_literal : (early : Bool) (h : ℕ) (P : List ℕ) → h < 128 → runs early (h ∷ P) ≡ before (take (h + 1) P) (runs_after (h + 1) early P)
+pub runs_literal : (early : Bool) (h : ℕ) (P : List ℕ) → h < 128 → runs early (h ∷ P) ≡ before (take (h + 1) P) (runs_after (h + 1) early P)
 runs_literal early h P a = runs_cons early h P ∙ grind (arith, nat_tests)
 
-runs_run : (early : Bool) (h v : ℕ) (P : List ℕ) → 128 < h → runs early (h ∷ v ∷ P) ≡ before (replicate (257 - h) v) (runs early P)
+pub runs_run : (early : Bool) (h v : ℕ) (P : List ℕ) → 128 < h → runs early (h ∷ v ∷ P) ≡ before (replicate (257 - h) v) (runs early P)
 unfolding runs_after
 runs_run early h v P a = runs_cons early h (v ∷ P) ∙ grind (arith, nat_tests)
 
-runs_broken : (early : Bool) (h : ℕ) → 128 < h → runs early (h ∷ []) ≡ record { out = []; end = Broken }
+pub runs_broken : (early : Bool) (h : ℕ) → 128 < h → runs early (h ∷ []) ≡ record { out = []; end = Broken }
 runs_broken early h a = runs_cons early h [] ∙ grind (arith, nat_tests)
 
 -- ---- nothing else than `runs` says

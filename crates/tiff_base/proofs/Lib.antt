@@ -2,7 +2,7 @@ pub mod Bytes
 pub mod Causes
 pub mod Maps
 pub mod Turned
-mod Blocks
+pub mod Blocks
 mod Named
 mod Extended
 pub mod After

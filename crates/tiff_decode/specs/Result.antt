@@ -3,8 +3,8 @@ use Rattle.std.specs.Prelude.{map}
 use Rattle.std.specs.Int.{w8, w16, w32, w64, cast_unsigned}
 use Rattle.tiff_page.specs.declared.layout.DecodingSampleType.TheVariants as type
 use Rattle.tiff_page.specs.Image.{Decoded}
-use Rattle.tiff_decode.specs.declared.decoder.DecodingResult.{DecodingResult}
-use Rattle.tiff_decode.specs.declared.decoder.DecodingResult.TheVariants as result
+use Rattle.tiff_decode.specs.declared.result.DecodingResult.{DecodingResult}
+use Rattle.tiff_decode.specs.declared.result.DecodingResult.TheVariants as result
 
 abbrev pub decoded_as : DecodingResult → Decoded
 decoded_as (result.U8 v) = record { sample_type = type.U8; numbers = v.items }

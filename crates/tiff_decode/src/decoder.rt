@@ -14,13 +14,14 @@ ghost use Rattle.tiff_decode.specs.Outcome as outcome;
 ghost use Rattle.tiff_decode.specs.Outcome.{begun, first_directory, page_in};
 ghost use Rattle.tiff_decode.specs.Result.{decoded_as};
 
+pub use crate::result::DecodingResult;
 use std::alloc::Global;
 use std::marker::Model;
 use tiff_base::color::ColorType;
 use tiff_base::directory::Directory;
 use tiff_base::error::{TiffError, TiffFormatError, TiffResult};
 use tiff_base::io::{IoKind, Source};
-use tiff_base::tags::{Bits16, Bits32, Bits64, ByteOrder, FileKind, IfdPointer};
+use tiff_base::tags::{ByteOrder, FileKind, IfdPointer};
 use tiff_ifd::decode::read_directory;
 use tiff_ifd::header::{FileHeader, read_header};
 use tiff_ifd::limits::Limits;
@@ -30,22 +31,6 @@ use tiff_page::checks::read_page;
 use tiff_page::image::read_covered_image;
 use tiff_page::layout::colour_of as page_colour;
 use tiff_page::page::Page;
-
-/// Decoded samples, row by row, by their number type.
-#[derive(Debug, Drop)]
-pub enum DecodingResult {
-    U8(Vec<u8>),
-    U16(Vec<u16>),
-    U32(Vec<u32>),
-    U64(Vec<u64>),
-    F16(Vec<Bits16>),
-    F32(Vec<Bits32>),
-    F64(Vec<Bits64>),
-    I8(Vec<i8>),
-    I16(Vec<i16>),
-    I32(Vec<i32>),
-    I64(Vec<i64>),
-}
 
 // Where the low-level reads begin: behind the header.
 fn header_end(kind: FileKind) -> u64

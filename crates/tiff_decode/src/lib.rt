@@ -3,7 +3,9 @@
 
 pub mod decoder;
 pub mod laws;
+pub mod layouts;
 pub mod low_level;
+pub mod result;
 pub mod script;
 pub mod tag_iter;
 pub mod tags;

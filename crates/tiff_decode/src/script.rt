@@ -1,6 +1,6 @@
 //! Lists of calls of a decoder, and their replies.
 
-use crate::decoder::DecodingResult;
+use crate::result::DecodingResult;
 use tiff_base::color::{ChunkType, ColorType};
 use tiff_base::directory::{Directory, Entry};
 use tiff_base::error::TiffResult;

@@ -13,7 +13,7 @@ use Rattle.tiff_ifd.specs.Datum.{DatumList, none, more, data_of, depth}
 use Rattle.tiff_ifd.specs.View.{datum, value, datum_list}
 use Rattle.tiff_ifd.specs.declared.value.Value.TheVariants as v
 use Rattle.tiff_page.specs.declared.layout.DecodingSampleType.TheVariants as type
-use Rattle.tiff_decode.specs.declared.decoder.DecodingResult.TheVariants as result
+use Rattle.tiff_decode.specs.declared.result.DecodingResult.TheVariants as result
 use Rattle.tiff_decode.specs.Result.{decoded_as}
 
 -- a number, and a list that holds a list

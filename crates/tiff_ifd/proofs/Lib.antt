@@ -9,3 +9,4 @@ pub mod Fitted
 mod Sames
 pub mod Followed
 pub mod Begun
+pub mod Unpacking

@@ -14,3 +14,4 @@ pub mod Fitted
 pub mod Ask
 pub mod Same
 pub mod Stream
+pub mod Unpacking

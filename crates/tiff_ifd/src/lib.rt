@@ -6,6 +6,7 @@ pub mod decode;
 pub mod header;
 pub mod laws;
 pub mod limits;
+pub mod packbits;
 pub mod read_bytes;
 pub mod read_value;
 pub mod stream;

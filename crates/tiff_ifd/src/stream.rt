@@ -1,9 +1,10 @@
-//! Numbers are read, one after the other.
+//! Numbers are read, one after the other; and packed bytes.
 
 ghost use Rattle.std.specs.Prelude.{◌≡◌, Ok};
 ghost use Rattle.std.specs.Int.{w16, w32, w64, cast_signed};
 ghost use Rattle.tiff_ifd.specs.Stream.{NumberRead, of_bits_32, of_bits_64};
 
+pub use crate::packbits::PackBitsReader;
 use std::marker::Model;
 use tiff_base::error::TiffResult;
 use tiff_base::io::Source;

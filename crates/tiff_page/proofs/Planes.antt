@@ -166,6 +166,15 @@ some_bytes p w h l wp hp d s e =
     let q : 1 ≤ row_bytes p l.colour w * h = one-le-mul r hp in
     (omega (arith, r, g.0.0), omega (arith, q, g.0.1))
 
+-- the rows of a page with samples of some bits
+pub some_row : (p : PageRecord) (c : ColorType) (w : ℕ) → 0 < p.depth → 0 < p.samples → colour_of p ≡ Ok c → 0 < w → 0 < row_bytes p c w
+some_row p c w d s e wp =
+    let k : 0 < num_samples c = subst Shows e (colour_shows p s) in
+    row_some p c w wp d k
+
+pub some_plane : (n h : ℕ) → 0 < n → 0 < h → 0 < n * h
+some_plane n h p q = one-le-mul p q
+
 -- ---- the image as its first plane
 
 pub each_same : (f g : ℕ → Result (Unit {0}) TiffError) (n : ℕ) → ((k : ℕ) → f k ≡ g k) → each_below f n ≡ each_below g n

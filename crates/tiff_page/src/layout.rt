@@ -1,6 +1,6 @@
 //! The colour of a page, the number type of its samples, where its chunks lie, and how planes are laid out.
 
-ghost use Rattle.std.specs.Prelude.{◌≡◌, ◌+◌, ◌-◌, ◌*◌, ◌/◌, ◌%◌, ◌<◌, ◌≤◌, ◌^◌, replicate, IfOk};
+ghost use Rattle.std.specs.Prelude.{◌≡◌, ◌+◌, ◌-◌, ◌*◌, ◌/◌, ◌%◌, ◌<◌, ◌≤◌, ◌^◌, replicate, IfOk, None};
 ghost use Rattle.tiff_base.specs.Answers.{AnswersHere, Gives};
 ghost use Rattle.tiff_base.specs.declared.error.TiffError.TheVariants as tiff;
 ghost use Rattle.tiff_base.specs.declared.error.TiffUnsupportedError.TheVariants as unsupported;
@@ -8,6 +8,7 @@ ghost use Rattle.tiff_page.specs.View as view;
 ghost use Rattle.tiff_base.specs.declared.color.ColorType.{ColorType};
 ghost use Rattle.tiff_page.specs.Rect as place;
 ghost use Rattle.tiff_page.specs.Layout as spec;
+ghost use Rattle.tiff_page.specs.Buffers.{type_known};
 
 use crate::page::Page;
 use std::alloc::Global;
@@ -197,43 +198,62 @@ pub fn colour_of(page: &Page, alloc: Global) -> TiffResult<ColorType>
 
 // ---- the sample type
 
-fn no_depth(depth: u8) -> TiffResult<DecodingSampleType>
-    ensures { result ≡ Err (tiff.UnsupportedError (unsupported.UnsupportedSampleDepth depth)) }
-{
-    Err(TiffError::UnsupportedError(TiffUnsupportedError::UnsupportedSampleDepth(depth)))
-}
-
-/// The number type of the samples of a page.
+/// The number type of the samples of a page, where there is one.
 #[tactic(auto, unfolding(crate::specs::Layout::sample_type_of))]
-pub fn sample_type_of(page: &Page, alloc: Global) -> TiffResult<DecodingSampleType>
-    ensures { AnswersHere (λ t. t) result (spec.sample_type_of (view.page page.now)) }
+pub fn known_sample_type(page: &Page) -> Option<DecodingSampleType>
+    ensures { result ≡ type_known (spec.sample_type_of (view.page page.now)) }
 {
     let depth = page.depth;
     match page.format {
         SampleFormat::Uint => match depth {
-            0..=8 => Ok(DecodingSampleType::U8),
-            9..=16 => Ok(DecodingSampleType::U16),
-            17..=32 => Ok(DecodingSampleType::U32),
-            33..=64 => Ok(DecodingSampleType::U64),
-            _ => no_depth(depth),
+            0..=8 => Some(DecodingSampleType::U8),
+            9..=16 => Some(DecodingSampleType::U16),
+            17..=32 => Some(DecodingSampleType::U32),
+            33..=64 => Some(DecodingSampleType::U64),
+            _ => None,
         },
         SampleFormat::Int => match depth {
-            0..=8 => Ok(DecodingSampleType::I8),
-            9..=16 => Ok(DecodingSampleType::I16),
-            17..=32 => Ok(DecodingSampleType::I32),
-            33..=64 => Ok(DecodingSampleType::I64),
-            _ => no_depth(depth),
+            0..=8 => Some(DecodingSampleType::I8),
+            9..=16 => Some(DecodingSampleType::I16),
+            17..=32 => Some(DecodingSampleType::I32),
+            33..=64 => Some(DecodingSampleType::I64),
+            _ => None,
         },
         SampleFormat::IEEEFP => match depth {
-            16 => Ok(DecodingSampleType::F16),
-            32 => Ok(DecodingSampleType::F32),
-            64 => Ok(DecodingSampleType::F64),
-            _ => no_depth(depth),
+            16 => Some(DecodingSampleType::F16),
+            32 => Some(DecodingSampleType::F32),
+            64 => Some(DecodingSampleType::F64),
+            _ => None,
         },
+        _ => None,
+    }
+}
+
+// Why there is no number type of the samples of a page.
+#[tactic(auto, unfolding(crate::specs::Layout::sample_type_of))]
+fn no_sample_type(page: &Page, alloc: Global) -> TiffResult<DecodingSampleType>
+    requires { type_known (spec.sample_type_of (view.page page.now)) ≡ None }
+    ensures { AnswersHere (λ t. t) result (spec.sample_type_of (view.page page.now)) }
+{
+    match page.format {
+        SampleFormat::Uint | SampleFormat::Int | SampleFormat::IEEEFP => Err(
+            TiffUnsupportedError::UnsupportedSampleDepth(page.depth).into(),
+        ),
         format => {
             let formats = SampleFormats::from_vec(vec![in alloc; format]?);
             Err(TiffUnsupportedError::UnsupportedSampleFormat(formats).into())
         }
+    }
+}
+
+/// The number type of the samples of a page. Of a depth for which its format has none: `UnsupportedSampleDepth`; of a format
+/// that isn't one of numbers: `UnsupportedSampleFormat`.
+pub fn sample_type_of(page: &Page, alloc: Global) -> TiffResult<DecodingSampleType>
+    ensures { AnswersHere (λ t. t) result (spec.sample_type_of (view.page page.now)) }
+{
+    match known_sample_type(page) {
+        Some(sample_type) => Ok(sample_type),
+        None => no_sample_type(page, alloc),
     }
 }
 
@@ -324,9 +344,11 @@ pub fn wide_product(a: usize, b: usize) -> TiffResult<usize>
 }
 
 /// The layout of a part of a page.
-#[tactic(auto, unfolding(crate::specs::Layout::layout_of))]
+#[tactic(auto, using(crate::proofs::Planes::some_row, crate::proofs::Planes::some_plane), unfolding(crate::specs::Layout::layout_of))]
 pub fn layout_of(page: &Page, alloc: Global, width: u32, height: u32) -> TiffResult<PlaneLayout>
-    ensures { AnswersHere (λ l. record { colour = l.colour; row_bytes = l.row_bytes; plane_stride = l.plane_stride }) result (spec.layout_of (view.page page.now) width height) }
+    ensures rows { 0 < width → IfOk result (λ l. 0 < l.row_bytes) }
+    ensures plane { 0 < width → 0 < height → IfOk result (λ l. 0 < l.plane_stride) }
+    ensures answer { AnswersHere (λ l. record { colour = l.colour; row_bytes = l.row_bytes; plane_stride = l.plane_stride }) result (spec.layout_of (view.page page.now) width height) }
 {
     let colour = colour_of(page, alloc)?;
     let row_bytes = (row_bits(page, colour, width) + 7) / 8;

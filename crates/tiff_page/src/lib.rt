@@ -1,7 +1,9 @@
 //! What the tags of a page say, how its samples are laid out, and its pixels.
 #![tactic(auto)]
 
+pub mod buffers;
 pub mod checks;
+pub mod counts;
 pub mod faults;
 pub mod image;
 pub mod laws;

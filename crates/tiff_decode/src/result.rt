@@ -1,0 +1,93 @@
+//! Lists of decoded samples.
+
+ghost use Rattle.std.specs.Prelude.{◌≡◌, replicate, IfOk, OnErr};
+ghost use Rattle.tiff_base.specs.Answers.{AnswersHere};
+ghost use Rattle.tiff_page.specs.Buffers.{resized};
+ghost use Rattle.tiff_decode.specs.Result.{decoded_as};
+
+use std::alloc::{AllocError, Global};
+use tiff_base::error::{TiffResult, TiffUnsupportedError};
+use tiff_base::tags::{Bits16, Bits32, Bits64};
+use tiff_ifd::limits::Limits;
+use tiff_page::faults::samples_fault;
+use tiff_page::layout::{BufferLayoutPreference, DecodingSampleType, size_of};
+
+/// Decoded samples, row by row, by their number type.
+#[derive(Debug, Drop)]
+pub enum DecodingResult {
+    U8(Vec<u8>),
+    U16(Vec<u16>),
+    U32(Vec<u32>),
+    U64(Vec<u64>),
+    F16(Vec<Bits16>),
+    F32(Vec<Bits32>),
+    F64(Vec<Bits64>),
+    I8(Vec<i8>),
+    I16(Vec<i16>),
+    I32(Vec<i32>),
+    I64(Vec<i64>),
+}
+
+// So many zeros of a number type.
+#[tactic(auto, using(crate::proofs::Zeros::zeros_mapped))]
+fn zeros(
+    alloc: Global,
+    sample_type: DecodingSampleType,
+    len: usize,
+) -> Result<DecodingResult, AllocError>
+    ensures { IfOk result (λ r. decoded_as r ≡ record { sample_type = sample_type; numbers = replicate len 0 }) }
+{
+    match sample_type {
+        DecodingSampleType::U8 => Ok(DecodingResult::U8(vec![in alloc; 0; len]?)),
+        DecodingSampleType::U16 => Ok(DecodingResult::U16(vec![in alloc; 0; len]?)),
+        DecodingSampleType::U32 => Ok(DecodingResult::U32(vec![in alloc; 0; len]?)),
+        DecodingSampleType::U64 => Ok(DecodingResult::U64(vec![in alloc; 0; len]?)),
+        DecodingSampleType::F16 => Ok(DecodingResult::F16(vec![in alloc; Bits16(0); len]?)),
+        DecodingSampleType::F32 => Ok(DecodingResult::F32(vec![in alloc; Bits32(0); len]?)),
+        DecodingSampleType::F64 => Ok(DecodingResult::F64(vec![in alloc; Bits64(0); len]?)),
+        DecodingSampleType::I8 => Ok(DecodingResult::I8(vec![in alloc; 0; len]?)),
+        DecodingSampleType::I16 => Ok(DecodingResult::I16(vec![in alloc; 0; len]?)),
+        DecodingSampleType::I32 => Ok(DecodingResult::I32(vec![in alloc; 0; len]?)),
+        DecodingSampleType::I64 => Ok(DecodingResult::I64(vec![in alloc; 0; len]?)),
+    }
+}
+
+impl DecodingResult {
+    // What its memory is taken from.
+    fn allocator(&self) -> Global {
+        match self {
+            DecodingResult::U8(samples) => *samples.allocator(),
+            DecodingResult::U16(samples) => *samples.allocator(),
+            DecodingResult::U32(samples) => *samples.allocator(),
+            DecodingResult::U64(samples) => *samples.allocator(),
+            DecodingResult::F16(samples) => *samples.allocator(),
+            DecodingResult::F32(samples) => *samples.allocator(),
+            DecodingResult::F64(samples) => *samples.allocator(),
+            DecodingResult::I8(samples) => *samples.allocator(),
+            DecodingResult::I16(samples) => *samples.allocator(),
+            DecodingResult::I32(samples) => *samples.allocator(),
+            DecodingResult::I64(samples) => *samples.allocator(),
+        }
+    }
+
+    /// Makes it zeros of a layout's number type for all the layout's bytes, in whole samples. A layout with no number type:
+    /// `UnknownInterpretation`; more samples than `decoding_buffer_size` bytes hold: `LimitsExceeded`. It stays as it was
+    /// after a refusal, `OutOfMemory` too.
+    #[tactic(auto, unfolding(tiff_page::specs::Buffers::resized))]
+    pub fn resize_to(&mut self, layout: &BufferLayoutPreference, limits: &Limits) -> TiffResult<()>
+        ensures resized { AnswersHere (λ _. decoded_as self.new) result (resized layout.now limits.now) }
+        ensures stays { OnErr result (self.new ≡ self.old) }
+    {
+        let Some(sample_type) = layout.sample_type else {
+            return Err(TiffUnsupportedError::UnknownInterpretation.into());
+        };
+        let size = size_of(sample_type);
+        samples_fault(limits, size, layout.complete_len)?;
+        *self = zeros(
+            self.allocator(),
+            sample_type,
+            layout.complete_len.div_ceil(size),
+        )?;
+        Ok(())
+    }
+}

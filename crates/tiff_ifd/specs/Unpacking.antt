@@ -1,0 +1,85 @@
+-- A reader of a packed list, and what it reads (TIFF 6.0 section 9).
+use Rattle.std.specs.Prelude.{◌≡◌, ℕ, ◌-◌, ◌≤◌, ◌<◌, Bool, nat_lt, List, [], length, take, drop, replicate, slice_index, Option, Some, None, Result, Ok, Err}
+use Rattle.tiff_base.specs.declared.error.TiffError.{TiffError}
+use Rattle.tiff_base.specs.declared.error.TiffError.TheVariants.{IoError}
+use Rattle.tiff_base.specs.declared.io.IoKind.TheVariants.{UnexpectedEof}
+use Rattle.tiff_base.specs.Answers.{IsCause}
+use Rattle.tiff_base.specs.Runs.{End, Plain, Broken, Unpacked, before, runs, runs_after}
+use Rattle.tiff_base.specs.Told.{bytes_at}
+use Rattle.tiff_ifd.specs.declared.packbits.Block.{Block}
+use Rattle.tiff_ifd.specs.declared.packbits.Block.TheVariants.{Literal, Run}
+use Rattle.tiff_ifd.specs.declared.packbits.Place.{Place}
+
+-- the bytes of its source, how many reads of it failed so far, and what the packed list still gives
+pub record Unpacking : Type 0 where
+  pub bytes : List ℕ
+  pub failures : ℕ
+  pub rest : Unpacked
+
+-- what so many packed bytes at a place unpack to; the source may end before them
+abbrev pub unpacked_at : List ℕ → ℕ → ℕ → Unpacked
+unpacked_at bytes at len = runs (nat_lt (length bytes - at) len) (bytes_at bytes at len)
+
+-- nothing is left
+abbrev pub ended : End → Unpacked
+ended end = record { out = []; end = end }
+
+-- The next n bytes of what was left stand at the front of a buffer that held old and holds new: at least one while
+-- there are any, but none in an empty buffer.
+pub record GivesNext (left : Unpacked) (old : List ℕ) (n : ℕ) (new : List ℕ) (rest : Unpacked) : Type 0 where
+  pub in_buffer : n ≤ length old
+  pub next : left ≡ before (take n new) rest
+  pub behind : drop n new ≡ drop n old
+  pub none : 0 < length old → n ≡ 0 → left ≡ ended Plain
+
+-- nothing is left of a list that is broken, and a byte was asked for
+pub record IsBroken (left : Unpacked) (wanted : ℕ) (e : TiffError) : Type 0 where
+  pub fault : e ≡ IoError UnexpectedEof
+  pub broken : left ≡ ended Broken
+  pub some : 0 < wanted
+
+-- A read into a buffer that held before and holds after: a refused one leaves all that was left.
+abbrev pub PieceReads : Result ℕ TiffError → Unpacking → Unpacking → List ℕ → List ℕ → Type 0
+PieceReads (Ok n) old new before after = GivesNext old.rest before n after new.rest
+PieceReads (Err e) old new before after = (new.rest ≡ old.rest) × IsCause ⊥ (old.failures < new.failures) e (IsBroken old.rest (length before) e)
+
+-- fewer bytes are left than are asked for
+pub record IsShort (left : Unpacked) (wanted : ℕ) (e : TiffError) : Type 0 where
+  pub fault : e ≡ IoError UnexpectedEof
+  pub short : length left.out < wanted
+
+-- A buffer was filled with the next bytes of what was left, or there are fewer.
+abbrev pub Fills : {X : Type 0} → Result X TiffError → Unpacking → Unpacking → List ℕ → Type 0
+Fills (Ok x) old new filled = old.rest ≡ before filled new.rest
+Fills (Err e) old new filled = (new.rest ≡ old.rest) × IsCause ⊥ (old.failures < new.failures) e (IsShort old.rest (length filled) e)
+
+-- ---- where a reader stands
+
+-- what a list of packed bytes gives behind a block of which a part is left
+abbrev pub left_in : Block → Bool → List ℕ → Unpacked
+left_in (Literal n) early packed = before (take n packed) (runs_after n early packed)
+left_in (Run value n) early packed = before (replicate n value) (runs early packed)
+
+abbrev pub left_at : List ℕ → Place → Unpacked
+left_at bytes place = left_in place.block (nat_lt (length bytes - place.at) place.len) (bytes_at bytes place.at place.len)
+
+-- how many bytes of a block are left
+abbrev pub count_of : Block → ℕ
+count_of (Literal n) = n
+count_of (Run value n) = n
+
+-- a byte was read at a place, or the source ends before it
+abbrev pub ReadsByte : List ℕ → ℕ → Type 0 → Result ℕ TiffError → Type 0
+ReadsByte bytes at failed (Ok byte) = (at < length bytes) × (byte ≡ slice_index bytes at)
+ReadsByte bytes at failed (Err e) = IsCause ⊥ failed e ((e ≡ IoError UnexpectedEof) × (length bytes ≤ at))
+
+-- where the next block of what is left stands, or that there is none
+abbrev pub Finds : List ℕ → Unpacked → Type 0 → Result (Option Place) TiffError → Type 0
+Finds bytes left failed (Ok (Some place)) = (0 < count_of place.block) × (left ≡ left_at bytes place)
+Finds bytes left failed (Ok None) = left ≡ ended Plain
+Finds bytes left failed (Err e) = IsCause ⊥ failed e (IsBroken left 1 e)
+
+-- bytes of a block were read into a buffer
+abbrev pub ReadsBlock : List ℕ → Place → Type 0 → List ℕ → List ℕ → Result (ℕ × Place) TiffError → Type 0
+ReadsBlock bytes place failed old new (Ok r) = GivesNext (left_at bytes place) old r.0 new (left_at bytes r.1)
+ReadsBlock bytes place failed old new (Err e) = IsCause ⊥ failed e ⊥

@@ -1,0 +1,258 @@
+//! A packed list is unpacked, in pieces of any size.
+
+ghost use Rattle.std.specs.Prelude.{◌≡◌, ℕ, ◌<◌, ◌≤◌, List, length, Ok, OnOk, IfErr};
+ghost use Rattle.tiff_base.specs.Answers.{IsCause, IsKept};
+ghost use Rattle.tiff_base.specs.Runs.{before};
+ghost use Rattle.tiff_ifd.specs.Unpacking.{unpacked_at, left_at, count_of, GivesNext, IsShort, ReadsByte, Finds, ReadsBlock, PieceReads, Fills};
+ghost use Rattle.tiff_ifd.specs.declared.packbits.Block.TheVariants.{Literal, Run};
+
+use std::marker::Model;
+use tiff_base::error::{TiffError, TiffResult};
+use tiff_base::io::{IoKind, Source};
+use tiff_base::read::read_exact_at;
+
+// What is left of a block: so many bytes as they stand, or one byte so many times.
+#[derive(Clone, Copy, Debug)]
+enum Block {
+    Literal(usize),
+    Run(u8, usize),
+}
+
+// A place in a packed list: what is left of its block, and where how many packed bytes follow.
+#[derive(Clone, Copy, Debug)]
+struct Place {
+    block: Block,
+    at: u64,
+    len: u64,
+}
+
+impl Block {
+    // How many bytes of it are left.
+    fn count(self) -> usize
+        ensures { result ≡ count_of self }
+    {
+        match self {
+            Block::Literal(count) | Block::Run(_, count) => count,
+        }
+    }
+}
+
+/// Unpacks PackBits data of a source (TIFF 6.0 section 9), in pieces of any size and without memory of its own.
+#[derive(Debug, Drop)]
+pub struct PackBitsReader<R: Source> {
+    source: R,
+    place: Place,
+}
+
+impl<R: Source> Model for PackBitsReader<R> {
+    ghost use Rattle.tiff_ifd.specs.Unpacking.{Unpacking, left_at};
+
+    ghost Value = { Unpacking };
+
+    ghost view = { λ r. record {
+      bytes = R.bytes r.source;
+      failures = R.failures r.source;
+      rest = left_at (R.bytes r.source) r.place;
+    } };
+}
+
+// The byte at a place.
+#[tactic(auto, using(crate::proofs::Unpacking::byte_there, crate::proofs::Unpacking::byte_missing))]
+fn read_byte<R: Source>(source: &mut R, at: u64) -> TiffResult<u8>
+    ensures kept { IsKept R.bytes R.failures source.old source.new }
+    ensures byte { ReadsByte (R.bytes source.old) at (R.failures source.old < R.failures source.new) result }
+{
+    let mut byte = [0u8; 1];
+    match read_exact_at(source, at, &mut byte) {
+        Ok(()) => Ok(byte[0]),
+        Err(fault) => Err(fault),
+    }
+}
+
+// The next block of packed bytes. Headers that stand for nothing are passed.
+fn next_block<R: Source>(source: &mut R, at: u64, len: u64) -> TiffResult<Option<Place>>
+    ensures kept { IsKept R.bytes R.failures source.old source.new }
+    ensures block { Finds (R.bytes source.old) (unpacked_at (R.bytes source.old) at len) (R.failures source.old < R.failures source.new) result }
+{
+    let mut at = at;
+    let mut len = len;
+    while len > 0 {
+        let header = match read_byte(source, at) {
+            Ok(header) => header,
+            Err(fault) => return Err(fault),
+        };
+        at += 1;
+        len -= 1;
+        if header < 128 {
+            let block = Block::Literal(usize::from(header) + 1);
+            return Ok(Some(Place { block, at, len }));
+        }
+        if header > 128 {
+            if len == 0 {
+                return Err(TiffError::IoError(IoKind::UnexpectedEof));
+            }
+            let value = match read_byte(source, at) {
+                Ok(value) => value,
+                Err(fault) => return Err(fault),
+            };
+            return Ok(Some(Place {
+                block: Block::Run(value, 257 - usize::from(header)),
+                at: at + 1,
+                len: len - 1,
+            }));
+        }
+    }
+    Ok(None)
+}
+
+// The block of the next byte: that of the place, or the next one where none of it is left.
+#[tactic(auto, using(crate::proofs::Unpacking::used_up))]
+fn begun_block<R: Source>(source: &mut R, place: Place) -> TiffResult<Option<Place>>
+    ensures kept { IsKept R.bytes R.failures source.old source.new }
+    ensures block { Finds (R.bytes source.old) (left_at (R.bytes source.old) place) (R.failures source.old < R.failures source.new) result }
+{
+    if place.block.count() > 0 {
+        return Ok(Some(place));
+    }
+    next_block(source, place.at, place.len)
+}
+
+// Bytes of a literal: as many as the source gives, none only where they end.
+fn read_literal<R: Source>(
+    source: &mut R,
+    place: Place,
+    count: usize,
+    buf: &mut [u8],
+) -> TiffResult<(usize, Place)>
+    requires literal { place.block ≡ Literal count }
+    requires begun { 0 < count }
+    requires some { 0 < length buf.old }
+    ensures kept { IsKept R.bytes R.failures source.old source.new }
+    ensures bytes { ReadsBlock (R.bytes source.old) place (R.failures source.old < R.failures source.new) buf.old buf.new result }
+{
+    let most = (count.min(buf.len()) as u64).min(place.len) as usize;
+    let n = match source.read_at(place.at, &mut buf[..most]) {
+        Ok(n) => n,
+        Err(fault) => return Err(fault.into()),
+    };
+    Ok((
+        n,
+        Place {
+            block: Block::Literal(count - n),
+            at: place.at + n as u64,
+            len: place.len - n as u64,
+        },
+    ))
+}
+
+// Bytes of a run.
+fn repeat(place: Place, value: u8, count: usize, buf: &mut [u8]) -> (usize, Place)
+    requires run { place.block ≡ Run value count }
+    requires begun { 0 < count }
+    requires some { 0 < length buf.old }
+    ensures { (bytes : List ℕ) → GivesNext (left_at bytes place) buf.old result.0 buf.new (left_at bytes result.1) }
+{
+    let n = count.min(buf.len());
+    buf[..n].fill(value);
+    (
+        n,
+        Place {
+            block: Block::Run(value, count - n),
+            at: place.at,
+            len: place.len,
+        },
+    )
+}
+
+// Bytes of a block of which some are left.
+fn read_block<R: Source>(source: &mut R, place: Place, buf: &mut [u8]) -> TiffResult<(usize, Place)>
+    requires begun { 0 < count_of place.block }
+    requires some { 0 < length buf.old }
+    ensures kept { IsKept R.bytes R.failures source.old source.new }
+    ensures bytes { ReadsBlock (R.bytes source.old) place (R.failures source.old < R.failures source.new) buf.old buf.new result }
+{
+    match place.block {
+        Block::Literal(count) => read_literal(source, place, count, buf),
+        Block::Run(value, count) => Ok(repeat(place, value, count, buf)),
+    }
+}
+
+impl<R: Source> PackBitsReader<R> {
+    /// Reads the `length` packed bytes from `at` on; the source may end before them.
+    pub fn new(source: R, at: u64, length: u64) -> Self
+        ensures { result ≡ record { bytes = R.bytes source; failures = R.failures source; rest = unpacked_at (R.bytes source) at length } }
+    {
+        PackBitsReader {
+            source,
+            place: Place {
+                block: Block::Literal(0),
+                at,
+                len: length,
+            },
+        }
+    }
+
+    /// Reads the next bytes to the front of the buffer, and answers how many: at least one while there are any, but none
+    /// for an empty buffer. What stands behind them in the buffer stays. Behind the last byte: 0, or `IoError(UnexpectedEof)`
+    /// where the source ends before the packed bytes do, or a header has no byte behind it; so again at each further
+    /// read. After a refused read the reader gives the same bytes next.
+    pub fn read(&mut self, buf: &mut [u8]) -> TiffResult<usize>
+        ensures empty { length buf.old ≡ 0 → (result ≡ Ok 0) × (self.new ≡ self.old) }
+        ensures bytes { self.new.bytes ≡ self.old.bytes }
+        ensures failures { self.old.failures ≤ self.new.failures }
+        ensures piece { PieceReads result self.old self.new buf.old buf.new }
+    {
+        if buf.is_empty() {
+            return Ok(0);
+        }
+        let place = match begun_block(&mut self.source, self.place) {
+            Ok(Some(place)) => place,
+            Ok(None) => return Ok(0),
+            Err(fault) => return Err(fault),
+        };
+        match read_block(&mut self.source, place, buf) {
+            Ok((n, rest)) => {
+                self.place = rest;
+                Ok(n)
+            }
+            Err(fault) => Err(fault),
+        }
+    }
+
+    // Fills the buffer with the next bytes; after a fault some of them may have been passed.
+    #[tactic(auto, using(crate::proofs::Unpacking::more_read, crate::proofs::Unpacking::short_by, crate::proofs::Unpacking::short_cause))]
+    fn fill(&mut self, buf: &mut [u8]) -> TiffResult<()>
+        ensures bytes { self.new.bytes ≡ self.old.bytes }
+        ensures failures { self.old.failures ≤ self.new.failures }
+        ensures ok { OnOk result (self.old.rest ≡ before buf.new self.new.rest) }
+        ensures err { IfErr result (λ e. IsCause ⊥ (self.old.failures < self.new.failures) e (IsShort self.old.rest (length buf.old) e)) }
+    {
+        let mut done = 0;
+        while done < buf.len() {
+            let n = match self.read(&mut buf[done..]) {
+                Ok(n) => n,
+                Err(fault) => return Err(fault),
+            };
+            if n == 0 {
+                return Err(TiffError::IoError(IoKind::UnexpectedEof));
+            }
+            done += n;
+        }
+        Ok(())
+    }
+
+    /// Fills the buffer with the next bytes. Fewer are left, however the packed bytes end: `IoError(UnexpectedEof)`. After a
+    /// refused read the reader gives the same bytes next.
+    pub fn read_exact(&mut self, buf: &mut [u8]) -> TiffResult<()>
+        ensures bytes { self.new.bytes ≡ self.old.bytes }
+        ensures failures { self.old.failures ≤ self.new.failures }
+        ensures filled { Fills result self.old self.new buf.new }
+    {
+        let place = self.place;
+        if let Err(fault) = self.fill(buf) {
+            self.place = place;
+            return Err(fault);
+        }
+        Ok(())
+    }
+}

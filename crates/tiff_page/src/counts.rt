@@ -1,0 +1,52 @@
+//! How many chunks a page has, and how large they are.
+
+ghost use Rattle.std.specs.Prelude.{◌≡◌};
+ghost use Rattle.tiff_base.specs.Answers.{Gives};
+ghost use Rattle.tiff_page.specs.Counts as counts;
+ghost use Rattle.tiff_page.specs.View as view;
+
+use crate::page::Page;
+use tiff_base::color::ChunkType;
+use tiff_base::error::{TiffError, TiffResult, UsageError};
+
+/// The strips of all planes. A page of tiles: `InvalidChunkType(Strip, Tile)`; the height and the rows of a strip, less one,
+/// past `u32::MAX` together: `IntSizeError`.
+#[tactic(auto, unfolding(crate::specs::Counts::strip_count))]
+pub fn strip_count(page: &Page) -> TiffResult<u32>
+    ensures { Gives (λ n. n) result (counts.strip_count (view.page page.now)) }
+{
+    match page.chunk_type {
+        ChunkType::Strip => {
+            let (height, rows) = (page.height, page.chunk_height);
+            match height.checked_add(rows - 1) {
+                Some(_) => Ok(page.offsets.len() as u32),
+                None => Err(TiffError::IntSizeError),
+            }
+        }
+        ChunkType::Tile => Err(UsageError::InvalidChunkType(
+            ChunkType::Strip,
+            ChunkType::Tile,
+        ).into()),
+    }
+}
+
+/// The tiles of all planes. A page of strips: `InvalidChunkType(Tile, Strip)`.
+#[tactic(auto, unfolding(crate::specs::Counts::tile_count))]
+pub fn tile_count(page: &Page) -> TiffResult<u32>
+    ensures { Gives (λ n. n) result (counts.tile_count (view.page page.now)) }
+{
+    match page.chunk_type {
+        ChunkType::Tile => Ok(page.offsets.len() as u32),
+        ChunkType::Strip => Err(UsageError::InvalidChunkType(
+            ChunkType::Tile,
+            ChunkType::Strip,
+        ).into()),
+    }
+}
+
+/// The width and the height of a chunk as the tags tell them: those at the edges of the image aren't cut.
+pub fn chunk_dimensions(page: &Page) -> (u32, u32)
+    ensures { result ≡ counts.chunk_dimensions (view.page page.now) }
+{
+    (page.chunk_width, page.chunk_height)
+}
