@@ -83,3 +83,8 @@ Finds bytes left failed (Err e) = IsCause ⊥ failed e (IsBroken left 1 e)
 abbrev pub ReadsBlock : List ℕ → Place → Type 0 → List ℕ → List ℕ → Result (ℕ × Place) TiffError → Type 0
 ReadsBlock bytes place failed old new (Ok r) = GivesNext (left_at bytes place) old r.0 new (left_at bytes r.1)
 ReadsBlock bytes place failed old new (Err e) = IsCause ⊥ failed e ⊥
+
+-- bytes were read into a buffer of what a place gives
+abbrev pub ReadsNext : List ℕ → Place → Type 0 → List ℕ → List ℕ → Result (ℕ × Place) TiffError → Type 0
+ReadsNext bytes place failed old new (Ok r) = GivesNext (left_at bytes place) old r.0 new (left_at bytes r.1)
+ReadsNext bytes place failed old new (Err e) = IsCause ⊥ failed e (IsBroken (left_at bytes place) (length old) e)

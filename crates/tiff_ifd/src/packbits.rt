@@ -1,9 +1,9 @@
 //! A packed list is unpacked, in pieces of any size.
 
-ghost use Rattle.std.specs.Prelude.{◌≡◌, ℕ, ◌<◌, ◌≤◌, List, length, Ok, OnOk, IfErr};
+ghost use Rattle.std.specs.Prelude.{◌≡◌, ℕ, ◌<◌, ◌≤◌, List, length, Ok, IfOk, IfErr};
 ghost use Rattle.tiff_base.specs.Answers.{IsCause, IsKept};
 ghost use Rattle.tiff_base.specs.Runs.{before};
-ghost use Rattle.tiff_ifd.specs.Unpacking.{unpacked_at, left_at, count_of, GivesNext, IsShort, ReadsByte, Finds, ReadsBlock, PieceReads, Fills};
+ghost use Rattle.tiff_ifd.specs.Unpacking.{unpacked_at, left_at, count_of, GivesNext, IsShort, ReadsByte, Finds, ReadsBlock, ReadsNext, PieceReads, Fills};
 ghost use Rattle.tiff_ifd.specs.declared.packbits.Block.TheVariants.{Literal, Run};
 
 use std::marker::Model;
@@ -11,19 +11,32 @@ use tiff_base::error::{TiffError, TiffResult};
 use tiff_base::io::{IoKind, Source};
 use tiff_base::read::read_exact_at;
 
-// What is left of a block: so many bytes as they stand, or one byte so many times.
+/// What is left of a block: so many bytes as they stand, or one byte so many times.
 #[derive(Clone, Copy, Debug)]
-enum Block {
+pub enum Block {
     Literal(usize),
     Run(u8, usize),
 }
 
-// A place in a packed list: what is left of its block, and where how many packed bytes follow.
+/// A place in a packed list: what is left of its block, and where how many packed bytes follow.
 #[derive(Clone, Copy, Debug)]
-struct Place {
+pub struct Place {
     block: Block,
     at: u64,
     len: u64,
+}
+
+impl Place {
+    /// The front of so many packed bytes.
+    pub fn new(at: u64, len: u64) -> Self
+        ensures { (bytes : List ℕ) → left_at bytes result ≡ unpacked_at bytes at len }
+    {
+        Place {
+            block: Block::Literal(0),
+            at,
+            len,
+        }
+    }
 }
 
 impl Block {
@@ -177,6 +190,49 @@ fn read_block<R: Source>(source: &mut R, place: Place, buf: &mut [u8]) -> TiffRe
     }
 }
 
+// The next bytes of what a place gives, to the front of the buffer; how many, and the place behind them.
+fn read_next<R: Source>(source: &mut R, place: Place, buf: &mut [u8]) -> TiffResult<(usize, Place)>
+    ensures kept { IsKept R.bytes R.failures source.old source.new }
+    ensures bytes { ReadsNext (R.bytes source.old) place (R.failures source.old < R.failures source.new) buf.old buf.new result }
+{
+    if buf.is_empty() {
+        return Ok((0, place));
+    }
+    let begun = match begun_block(source, place) {
+        Ok(Some(begun)) => begun,
+        Ok(None) => return Ok((0, place)),
+        Err(fault) => return Err(fault),
+    };
+    match read_block(source, begun, buf) {
+        Ok(read) => Ok(read),
+        Err(fault) => Err(fault),
+    }
+}
+
+/// Fills the buffer with the next bytes that a place in packed data gives, and answers the place behind them. Fewer are left,
+/// however the packed bytes end: `IoError(UnexpectedEof)`.
+#[tactic(auto, using(crate::proofs::Unpacking::more_read, crate::proofs::Unpacking::short_by, crate::proofs::Unpacking::short_cause))]
+pub fn unpack_exact<R: Source>(source: &mut R, place: Place, buf: &mut [u8]) -> TiffResult<Place>
+    ensures kept { IsKept R.bytes R.failures source.old source.new }
+    ensures ok { IfOk result (λ rest. left_at (R.bytes source.old) place ≡ before buf.new (left_at (R.bytes source.old) rest)) }
+    ensures err { IfErr result (λ e. IsCause ⊥ (R.failures source.old < R.failures source.new) e (IsShort (left_at (R.bytes source.old) place) (length buf.old) e)) }
+{
+    let mut place = place;
+    let mut done = 0;
+    while done < buf.len() {
+        let (n, rest) = match read_next(source, place, &mut buf[done..]) {
+            Ok(read) => read,
+            Err(fault) => return Err(fault),
+        };
+        if n == 0 {
+            return Err(TiffError::IoError(IoKind::UnexpectedEof));
+        }
+        place = rest;
+        done += n;
+    }
+    Ok(place)
+}
+
 impl<R: Source> PackBitsReader<R> {
     /// Reads the `length` packed bytes from `at` on; the source may end before them.
     pub fn new(source: R, at: u64, length: u64) -> Self
@@ -184,11 +240,7 @@ impl<R: Source> PackBitsReader<R> {
     {
         PackBitsReader {
             source,
-            place: Place {
-                block: Block::Literal(0),
-                at,
-                len: length,
-            },
+            place: Place::new(at, length),
         }
     }
 
@@ -205,40 +257,13 @@ impl<R: Source> PackBitsReader<R> {
         if buf.is_empty() {
             return Ok(0);
         }
-        let place = match begun_block(&mut self.source, self.place) {
-            Ok(Some(place)) => place,
-            Ok(None) => return Ok(0),
-            Err(fault) => return Err(fault),
-        };
-        match read_block(&mut self.source, place, buf) {
+        match read_next(&mut self.source, self.place, buf) {
             Ok((n, rest)) => {
                 self.place = rest;
                 Ok(n)
             }
             Err(fault) => Err(fault),
         }
-    }
-
-    // Fills the buffer with the next bytes; after a fault some of them may have been passed.
-    #[tactic(auto, using(crate::proofs::Unpacking::more_read, crate::proofs::Unpacking::short_by, crate::proofs::Unpacking::short_cause))]
-    fn fill(&mut self, buf: &mut [u8]) -> TiffResult<()>
-        ensures bytes { self.new.bytes ≡ self.old.bytes }
-        ensures failures { self.old.failures ≤ self.new.failures }
-        ensures ok { OnOk result (self.old.rest ≡ before buf.new self.new.rest) }
-        ensures err { IfErr result (λ e. IsCause ⊥ (self.old.failures < self.new.failures) e (IsShort self.old.rest (length buf.old) e)) }
-    {
-        let mut done = 0;
-        while done < buf.len() {
-            let n = match self.read(&mut buf[done..]) {
-                Ok(n) => n,
-                Err(fault) => return Err(fault),
-            };
-            if n == 0 {
-                return Err(TiffError::IoError(IoKind::UnexpectedEof));
-            }
-            done += n;
-        }
-        Ok(())
     }
 
     /// Fills the buffer with the next bytes. Fewer are left, however the packed bytes end: `IoError(UnexpectedEof)`. After a
@@ -248,11 +273,12 @@ impl<R: Source> PackBitsReader<R> {
         ensures failures { self.old.failures ≤ self.new.failures }
         ensures filled { Fills result self.old self.new buf.new }
     {
-        let place = self.place;
-        if let Err(fault) = self.fill(buf) {
-            self.place = place;
-            return Err(fault);
+        match unpack_exact(&mut self.source, self.place, buf) {
+            Ok(rest) => {
+                self.place = rest;
+                Ok(())
+            }
+            Err(fault) => Err(fault),
         }
-        Ok(())
     }
 }
