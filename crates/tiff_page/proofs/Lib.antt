@@ -6,3 +6,4 @@ pub mod Planes
 pub mod Chunks
 pub mod Rects
 pub mod Covering
+pub mod Data

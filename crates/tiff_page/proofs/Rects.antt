@@ -25,33 +25,37 @@ length_held old bytes new at f h =
 -- which places change
 pub copied : (old bytes new : List ℕ) (at : ℕ) → at + length bytes ≤ length old → Holds old at bytes new
     → Writes (λ i. (at ≤ i) × (i < at + length bytes)) (λ i. get_or bytes (i - at) 0) old new
-copied old bytes new at f h =
-    (length_held old bytes new at f h, λ i l.
-    let t : length (take at old) ≡ at = length-take-le at old (omega arith) in
-    ⊎_elim
-    (λ a. inr (λ p. Prim.absurd (omega arith), rw (h, get_or_append_left (take at old) (bytes ++ drop (at + length bytes) old) 0 i (omega arith), get_or-take at old i 0 a) refl))
-    (λ a.
-    let r : get_or new i 0 ≡ get_or (bytes ++ drop (at + length bytes) old) (i - at) 0 = rw h (get_or-append_right (take at old) (bytes ++ drop (at + length bytes) old) at i 0 t a) in
-    ⊎_elim
-    (λ b. inl ((a, b), r ∙ get_or_append_left bytes (drop (at + length bytes) old) 0 (i - at) (omega arith)))
-    (λ b.
-    let e : at + length bytes + (i - at - length bytes) ≡ i = omega arith in
-    inr (λ p. Prim.absurd (omega arith), r ∙ (get_or-append_right bytes (drop (at + length bytes) old) (length bytes) (i - at) 0 refl (omega arith) ∙ (get_or-drop (at + length bytes) old (i - at - length bytes) 0 ∙ ap (λ (k : ℕ). get_or old k 0) e))))
-    (cases_lt i (at + length bytes)))
-    (cases_lt i at))
+copied old bytes new at f h = (
+  length_held old bytes new at f h,
+  λ i l.
+      let t : length (take at old) ≡ at = length-take-le at old (omega arith) in
+      ⊎_elim
+      (λ a. inr (λ p. Prim.absurd (omega arith), rw (h, get_or_append_left (take at old) (bytes ++ drop (at + length bytes) old) 0 i (omega arith), get_or-take at old i 0 a) refl))
+      (λ a.
+      let r : get_or new i 0 ≡ get_or (bytes ++ drop (at + length bytes) old) (i - at) 0 = rw h (get_or-append_right (take at old) (bytes ++ drop (at + length bytes) old) at i 0 t a) in
+      ⊎_elim
+      (λ b. inl ((a, b), r ∙ get_or_append_left bytes (drop (at + length bytes) old) 0 (i - at) (omega arith)))
+      (λ b.
+      let e : at + length bytes + (i - at - length bytes) ≡ i = omega arith in
+      inr (λ p. Prim.absurd (omega arith), r ∙ (get_or-append_right bytes (drop (at + length bytes) old) (length bytes) (i - at) 0 refl (omega arith) ∙ (get_or-drop (at + length bytes) old (i - at - length bytes) 0 ∙ ap (λ (k : ℕ). get_or old k 0) e))))
+      (cases_lt i (at + length bytes)))
+      (cases_lt i at),
+)
 
 -- one write after another
 pub writes_more : (P Q R : ℕ → Type 0) (value : ℕ → ℕ) (old mid new : List ℕ) → ((i : ℕ) → P i → R i) → ((i : ℕ) → Q i → R i)
     → ((i : ℕ) → R i → P i ⊎ Q i) → Writes P value old mid → Writes Q value mid new → Writes R value old new
-writes_more P Q R value old mid new f g k a b =
-    (b.0 ∙ a.0, λ i l.
-    ⊎_elim
-    (λ q. inl (g i q.0, q.1))
-    (λ q. ⊎_elim
-    (λ p. inl (f i p.0, q.1 ∙ p.1))
-    (λ p. inr (λ r. ⊎_elim p.0 q.0 (k i r), q.1 ∙ p.1))
-    (a.1 i l))
-    (b.1 i (omega (arith, a.0, l))))
+writes_more P Q R value old mid new f g k a b = (
+  b.0 ∙ a.0,
+  λ i l.
+      ⊎_elim
+      (λ q. inl (g i q.0, q.1))
+      (λ q. ⊎_elim
+      (λ p. inl (f i p.0, q.1 ∙ p.1))
+      (λ p. inr (λ r. ⊎_elim p.0 q.0 (k i r), q.1 ∙ p.1))
+      (a.1 i l))
+      (b.1 i (omega (arith, a.0, l))),
+)
 
 -- the same values under another name
 pub writes_as : (P : ℕ → Type 0) (f g : ℕ → ℕ) (old new : List ℕ) → ((i : ℕ) → P i → f i ≡ g i) → Writes P f old new → Writes P g old new

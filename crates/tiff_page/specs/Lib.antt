@@ -11,4 +11,5 @@ pub mod Buffers
 pub mod PixelCalls
 pub mod Place
 pub mod Placing
+pub mod Stored
 pub mod Laws

@@ -11,3 +11,4 @@ pub mod layout;
 pub mod lists;
 pub mod page;
 pub mod place;
+pub mod stored;

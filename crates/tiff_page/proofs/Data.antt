@@ -1,0 +1,33 @@
+-- What is left of the data of a chunk.
+use Rattle.std.proofs.Common.{◌≡◌, ℕ, ◌+◌, ◌-◌, ◌<◌, ◌≤◌, ◌^◌, List, [], ◌++◌, length, take, drop, ap, sym, ◌∙◌, arith, drop-drop, length-drop}
+use Rattle.std.proofs.lemmas.List.{drop_all, drop-append-le, length-append}
+use Rattle.tiff_base.specs.Runs.{Unpacked, before}
+use Rattle.tiff_ifd.specs.Unpacking.{left_at, unpacked_at}
+use Rattle.tiff_ifd.specs.declared.packbits.Place.{Place}
+
+pub unpacked_out : (bytes : List ℕ) (place : Place) (at len : ℕ) → left_at bytes place ≡ unpacked_at bytes at len → (left_at bytes place).out ≡ (unpacked_at bytes at len).out
+unpacked_out bytes place at len e = ap (λ (u : Unpacked). u.out) e
+
+-- nothing stands behind the last byte of a source
+pub passed_end : (bytes : List ℕ) (at n : ℕ) → length bytes < 2 ^ 64 → 2 ^ 64 ≤ at + n → [] ≡ drop n (drop at bytes)
+passed_end bytes at n l h = sym (drop_all n (drop at bytes) (omega (arith, length-drop at bytes, l, h)))
+
+-- the bytes behind a front
+pub behind_front : (front rest : List ℕ) (k : ℕ) → length front ≡ k → rest ≡ drop k (front ++ rest)
+behind_front front rest k e =
+    sym (drop-append-le k front rest (omega (arith, e)) ∙ ap (λ (z : List ℕ). z ++ rest) (drop_all k front (omega (arith, e))))
+
+-- some more bytes are passed
+pub more_passed : (first mid last : Unpacked) (piece : List ℕ) (n left k : ℕ) → left ≤ n → k ≤ left → length piece ≡ k
+    → mid.out ≡ drop (n - left) first.out → mid ≡ before piece last → last.out ≡ drop (n - (left - k)) first.out
+more_passed first mid last piece n left k h l e a b =
+    behind_front piece last.out k e
+    ∙ ap (drop k) (sym (ap (λ (u : Unpacked). u.out) b) ∙ a)
+    ∙ drop-drop k (n - left) first.out
+    ∙ ap (λ (z : ℕ). drop z first.out) (omega (arith, h, l))
+
+-- all that are left, where there are fewer
+pub all_passed : (first mid : Unpacked) (n left k : ℕ) → left ≤ n → k ≤ left → mid.out ≡ drop (n - left) first.out → length mid.out < k → [] ≡ drop n first.out
+all_passed first mid n left k h l a s =
+    let e : length mid.out ≡ length first.out - (n - left) = ap (λ (z : List ℕ). length z) a ∙ length-drop (n - left) first.out in
+    sym (drop_all n first.out (omega (arith, e, h, l, s)))
