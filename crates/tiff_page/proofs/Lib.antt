@@ -4,3 +4,4 @@ pub mod Gray
 pub mod Placing
 pub mod Planes
 pub mod Chunks
+pub mod Rows

@@ -8,3 +8,4 @@ pub mod laws;
 pub mod layout;
 pub mod lists;
 pub mod page;
+pub mod undo;
