@@ -7,3 +7,4 @@ pub mod Chunks
 pub mod Rects
 pub mod Covering
 pub mod Data
+pub mod Rows

@@ -6,6 +6,7 @@ pub mod Rect
 pub mod Layout
 pub mod PixelFault
 pub mod Pixels
+pub mod Row
 pub mod Image
 pub mod Buffers
 pub mod PixelCalls

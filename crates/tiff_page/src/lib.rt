@@ -12,3 +12,4 @@ pub mod lists;
 pub mod page;
 pub mod place;
 pub mod stored;
+pub mod undo;

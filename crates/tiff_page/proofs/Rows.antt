@@ -1,0 +1,395 @@
+-- Numbers of a row, and their sums.
+use Rattle.std.proofs.Common.{◌≡◌, inl, inr, ℕ, zero, suc, ◌+◌, ◌-◌, ◌*◌, ◌/◌, ◌%◌, ◌^◌, ◌<◌, ◌≤◌, List, [], ◌∷◌, ◌++◌, length, take, drop, get_or, map, refl, ap, sym, ◌∙◌, subst, arith, ⊎_elim, add-one}
+use Rattle.std.proofs.lemmas.Bool.{cases_lt}
+use Rattle.std.proofs.lemmas.List.Sums.{sum_by_push, sum_by-cons}
+use Rattle.std.proofs.lemmas.List.{ext_get_or, get_or_past, get_or-reverse, length-reverse, get_or_append_left, get_or-append_right, get_or-take, get_or-drop, length-take-le, length-drop, length-append, take_at, drop_at, get_or-set_same, get_or-set_other}
+use Rattle.std.proofs.lemmas.Slice.{take-put_mid_below, drop-put_mid}
+use Rattle.std.proofs.Math.ListN.{set}
+use borrow.Rule.Slice.PartMut.{put_mid, post_of}
+use Rattle.std.proofs.lemmas.List.FromFn.{length-map-range_with_len, get_or-map-range_with_len}
+use Rattle.std.proofs.lemmas.Nat.{mod-mul-add, div-mul-add, div-add-mod', mod_below, le-div, from_le_bytes-to_le_bytes_2, from_le_bytes-to_le_bytes_4, from_le_bytes-to_le_bytes_8}
+use Rattle.std.proofs.Math.Nat.{div-mul-le_self, mul-le-mul_right, mul-le-mul_left, pow-suc, mod-add-mod, mod-eq_of_lt, div-eq_of_lt, mul_comm}
+use Rattle.std.specs.Prelude.{sum_by, reverse}
+use Rattle.std.specs.List.{range_with_len}
+use Rattle.std.specs.Int.{Width, w16, w32, w64, from_le_bytes, to_le_bytes}
+use Rattle.tiff_base.specs.declared.tags.ByteOrder.{ByteOrder}
+use Rattle.tiff_base.specs.declared.tags.ByteOrder.TheVariants.{LittleEndian, BigEndian}
+use Rattle.tiff_base.specs.Number.{number}
+use Rattle.tiff_base.specs.Told.{bytes_at}
+use Rattle.tiff_base.specs.declared.tags.«Type».{«Type»}
+use Rattle.tiff_base.specs.Turned.{unit_size, turned_units, turned, convert}
+use Rattle.tiff_page.specs.Pixels.{each_to, width_of}
+use Rattle.tiff_page.specs.Row.{IsSize, row_number, summed_number, summed_byte_in, joined_number, Became, AddsNumber}
+
+-- ---- bytes of a number
+
+each_from : {A : Type 0} (n a : ℕ) (f g : ℕ → A) → ((j : ℕ) → a ≤ j → j < a + n → f j ≡ g j) → map f (range_with_len a n) ≡ map g (range_with_len a n)
+each_from zero a f g e = refl
+each_from (suc n) a f g e = λ i. e a (omega arith) (omega arith) i ∷ each_from n (a + 1) f g (λ j h l. e j (omega (arith, h)) (omega (arith, l))) i
+
+pub each_same : {A : Type 0} (n : ℕ) (f g : ℕ → A) → ((j : ℕ) → j < n → f j ≡ g j) → each_to n f ≡ each_to n g
+each_same n f g e = each_from n 0 f g (λ j h l. e j (omega (arith, l)))
+
+-- numbers of the same bytes are the same
+pub number_same : (order : ByteOrder) (size : ℕ) (new old : List ℕ) (k : ℕ) → ((i : ℕ) → k * size ≤ i → i < k * size + size → get_or new i 0 ≡ get_or old i 0)
+    → row_number order size new k ≡ row_number order size old k
+number_same order size new old k e =
+    ap (number order (width_of size)) (each_same size (λ j. get_or new (k * size + j) 0) (λ j. get_or old (k * size + j) 0) (λ j h. e (k * size + j) (omega arith) (omega (arith, h))))
+
+-- the bytes of a number as a part of the row
+pub each_at : (size k : ℕ) (row : List ℕ) → (k + 1) * size ≤ length row → each_to size (λ j. get_or row (k * size + j) 0) ≡ bytes_at row (k * size) size
+each_at size k row h =
+    let l : length (bytes_at row (k * size) size) ≡ size = length-take-le size (drop (k * size) row) (omega (arith, h, length-drop (k * size) row)) in
+    let m : length (each_to size (λ j. get_or row (k * size + j) 0)) ≡ size = length-map-range_with_len (λ j. get_or row (k * size + j) 0) 0 size in
+    ext_get_or 0 (each_to size (λ j. get_or row (k * size + j) 0)) (bytes_at row (k * size) size) (m ∙ sym l)
+    (λ i b. let c : i < size = omega (arith, b, m) in
+    get_or-map-range_with_len (λ j. get_or row (k * size + j) 0) 0 size i i 0 c (omega arith)
+    ∙ sym (get_or-take size (drop (k * size) row) i 0 c ∙ get_or-drop (k * size) row i 0))
+
+-- ---- the four sizes
+
+-- the number of n digits, the least first
+abbrev digits : (ℕ → ℕ) → ℕ → ℕ
+digits f zero = 0
+digits f (suc n) = digits f n + 256 ^ n * f n
+
+-- what holds of the four sizes
+by_size : (P : ℕ → Type 0) (size : ℕ) → P 1 → P 2 → P 4 → P 8 → IsSize size → P size
+by_size P size a b c d (inl e) = subst P (sym e) a
+by_size P size a b c d (inr (inl e)) = subst P (sym e) b
+by_size P size a b c d (inr (inr (inl e))) = subst P (sym e) c
+by_size P size a b c d (inr (inr (inr e))) = subst P (sym e) d
+
+little_digits : (size : ℕ) (f : ℕ → ℕ) → IsSize size → number LittleEndian (width_of size) (each_to size f) ≡ digits f size
+unfolding number
+little_digits size f s =
+    by_size (λ n. number LittleEndian (width_of n) (each_to n f) ≡ digits f n) size (omega arith) (omega arith) (omega arith) (omega arith) s
+
+-- the most significant first is the least first the other way round
+big_as_little : (size : ℕ) (f : ℕ → ℕ) → IsSize size → number BigEndian (width_of size) (each_to size f) ≡ number LittleEndian (width_of size) (each_to size (λ j. f (size - 1 - j)))
+unfolding number
+big_as_little size f s =
+    by_size (λ n. number BigEndian (width_of n) (each_to n f) ≡ number LittleEndian (width_of n) (each_to n (λ j. f (n - 1 - j)))) size (omega arith) (omega arith) (omega arith) (omega arith) s
+
+digits_lt : (f : ℕ → ℕ) (n : ℕ) → ((j : ℕ) → f j < 256) → digits f n < 256 ^ n
+digits_lt f zero b = omega arith
+digits_lt f (suc n) b =
+    let h : 256 ^ n * f n ≤ 256 ^ n * 255 = mul-le-mul_left (256 ^ n) (omega (arith, b n)) in
+    omega (arith, digits_lt f n b, h, pow-suc 256 n)
+
+pub number_lt : (size : ℕ) (row : List ℕ) (k : ℕ) → IsSize size → ((i : ℕ) → get_or row i 0 < 256) → row_number LittleEndian size row k < 256 ^ size
+number_lt size row k s b =
+    subst (λ (n : ℕ). n < 256 ^ size) (sym (little_digits size (λ j. get_or row (k * size + j) 0) s)) (digits_lt (λ j. get_or row (k * size + j) 0) size (λ j. b (k * size + j)))
+
+one_number : (row : List ℕ) (k : ℕ) → row_number LittleEndian 1 row k ≡ get_or row k 0
+unfolding number
+one_number row k = let e : k * 1 + 0 ≡ k = omega arith in ap (λ (i : ℕ). get_or row i 0) e
+
+-- ---- one number is added to another
+
+number_in : (size : ℕ) (row : List ℕ) (k : ℕ) → (k + 1) * size ≤ length row → row_number LittleEndian size row k ≡ number LittleEndian (width_of size) (bytes_at row (k * size) size)
+number_in size row k h = ap (number LittleEndian (width_of size)) (each_at size k row h)
+
+put_there : (row part : List ℕ) (at k : ℕ) → at + k ≤ length row → length part ≡ k → bytes_at (put_mid at k row part) at k ≡ part
+put_there row part at k h l =
+    ap (take k) (drop_at (take at row) (part ++ post_of at k row) at (length-take-le at row (omega (arith, h)))) ∙ take_at part (post_of at k row) k l
+
+put_below : (row part : List ℕ) (at k i : ℕ) → at ≤ length row → i < at → get_or (put_mid at k row part) i 0 ≡ get_or row i 0
+put_below row part at k i h a =
+    sym (get_or-take at (put_mid at k row part) i 0 a)
+    ∙ ap (λ (xs : List ℕ). get_or xs i 0) (take-put_mid_below at k row part at (omega arith) h)
+    ∙ get_or-take at row i 0 a
+
+put_above : (row part : List ℕ) (at k i : ℕ) → at ≤ length row → length part ≡ k → at + k ≤ i → get_or (put_mid at k row part) i 0 ≡ get_or row i 0
+put_above row part at k i h l a =
+    let e : i ≡ at + k + (i - (at + k)) = omega (arith, a) in
+    ap (λ (m : ℕ). get_or (put_mid at k row part) m 0) e
+    ∙ sym (get_or-drop (at + k) (put_mid at k row part) (i - (at + k)) 0)
+    ∙ ap (λ (xs : List ℕ). get_or xs (i - (at + k)) 0) (drop-put_mid at k row part (at + k) (omega arith) h l)
+    ∙ get_or-drop (at + k) row (i - (at + k)) 0
+    ∙ sym (ap (λ (m : ℕ). get_or row m 0) e)
+
+length_put : (row part : List ℕ) (at k : ℕ) → at + k ≤ length row → length part ≡ k → length (put_mid at k row part) ≡ length row
+length_put row part at k h l =
+    length-append (take at row) (part ++ post_of at k row) ∙ omega (arith, length-append part (post_of at k row), length-take-le at row (omega (arith, h)), length-drop at row, length-drop k (drop at row), l, h)
+
+adds : (size : ℕ) (old part : List ℕ) (from to a b n k : ℕ) → k ≡ size → length part ≡ size → from < to → (to + 1) * size ≤ length old
+    → number LittleEndian (width_of size) part ≡ n → n ≡ (a + b) % 256 ^ size
+    → a ≡ number LittleEndian (width_of size) (bytes_at old (from * size) size) → b ≡ number LittleEndian (width_of size) (bytes_at old (to * size) size)
+    → AddsNumber size old from to (put_mid (to * size) k old part)
+adds size old part from to a b n k e l f w p q x y =
+    let g : (from + 1) * size ≤ to * size = mul-le-mul_right size (omega (arith, f)) in
+    let z : length part ≡ k = omega (arith, l, e) in
+    let v : to * size + k ≤ length old = omega (arith, w, e) in
+    let there : bytes_at (put_mid (to * size) k old part) (to * size) size ≡ part =
+    ap (λ (m : ℕ). bytes_at (put_mid (to * size) k old part) (to * size) m) (sym e) ∙ put_there old part (to * size) k v z in
+    record {
+      sum = number_in size (put_mid (to * size) k old part) to (omega (arith, w, length_put old part (to * size) k v z))
+          ∙ ap (number LittleEndian (width_of size)) there ∙ p ∙ q
+          ∙ ap (λ (m : ℕ). (m + b) % 256 ^ size) (x ∙ sym (number_in size old from (omega (arith, g, w))))
+          ∙ ap (λ (m : ℕ). (row_number LittleEndian size old from + m) % 256 ^ size) (y ∙ sym (number_in size old to w));
+      below = λ i h. put_below old part (to * size) k i (omega (arith, v)) h;
+      above = λ i h. put_above old part (to * size) k i (omega (arith, v)) z (omega (arith, h, e));
+    }
+
+as_bytes : (w : Width) (part : List ℕ) → number LittleEndian w part ≡ from_le_bytes w part
+unfolding number
+as_bytes w part = refl
+
+pub adds_1 : (old : List ℕ) (from to : ℕ) → (to + 1) * 1 ≤ length old → AddsNumber 1 old from to (set old to ((get_or old from 0 + get_or old to 0) % 256))
+adds_1 old from to w =
+    let l : to < length old = omega (arith, w) in
+    record {
+      sum = one_number (set old to ((get_or old from 0 + get_or old to 0) % 256)) to ∙ get_or-set_same old to ((get_or old from 0 + get_or old to 0) % 256) 0 l
+          ∙ ap (λ (m : ℕ). (m + get_or old to 0) % 256) (sym (one_number old from)) ∙ ap (λ (m : ℕ). (row_number LittleEndian 1 old from + m) % 256) (sym (one_number old to));
+      below = λ i h. get_or-set_other old to i ((get_or old from 0 + get_or old to 0) % 256) 0 (λ d. omega (arith, h, d));
+      above = λ i h. get_or-set_other old to i ((get_or old from 0 + get_or old to 0) % 256) 0 (λ d. omega (arith, h, d));
+    }
+
+pub adds_2 : (old part : List ℕ) (from to a b k : ℕ) → k ≡ 2 → from < to → (to + 1) * 2 ≤ length old → part ≡ to_le_bytes w16 ((a + b) % 2 ^ 16)
+    → a ≡ number LittleEndian w16 (bytes_at old (from * 2) 2) → b ≡ number LittleEndian w16 (bytes_at old (to * 2) 2) → AddsNumber 2 old from to (put_mid (to * 2) k old part)
+adds_2 old part from to a b k e f w p x y =
+    adds 2 old part from to a b ((a + b) % 2 ^ 16) k e (ap length p) f w
+    (as_bytes w16 part ∙ ap (from_le_bytes w16) p ∙ from_le_bytes-to_le_bytes_2 ((a + b) % 2 ^ 16) (mod_below (a + b) (2 ^ 16) (omega arith))) refl x y
+
+pub adds_4 : (old part : List ℕ) (from to a b k : ℕ) → k ≡ 4 → from < to → (to + 1) * 4 ≤ length old → part ≡ to_le_bytes w32 ((a + b) % 2 ^ 32)
+    → a ≡ number LittleEndian w32 (bytes_at old (from * 4) 4) → b ≡ number LittleEndian w32 (bytes_at old (to * 4) 4) → AddsNumber 4 old from to (put_mid (to * 4) k old part)
+adds_4 old part from to a b k e f w p x y =
+    adds 4 old part from to a b ((a + b) % 2 ^ 32) k e (ap length p) f w
+    (as_bytes w32 part ∙ ap (from_le_bytes w32) p ∙ from_le_bytes-to_le_bytes_4 ((a + b) % 2 ^ 32) (mod_below (a + b) (2 ^ 32) (omega arith))) refl x y
+
+pub adds_8 : (old part : List ℕ) (from to a b k : ℕ) → k ≡ 8 → from < to → (to + 1) * 8 ≤ length old → part ≡ to_le_bytes w64 ((a + b) % 2 ^ 64)
+    → a ≡ number LittleEndian w64 (bytes_at old (from * 8) 8) → b ≡ number LittleEndian w64 (bytes_at old (to * 8) 8) → AddsNumber 8 old from to (put_mid (to * 8) k old part)
+adds_8 old part from to a b k e f w p x y =
+    adds 8 old part from to a b ((a + b) % 2 ^ 64) k e (ap length p) f w
+    (as_bytes w64 part ∙ ap (from_le_bytes w64) p ∙ from_le_bytes-to_le_bytes_8 ((a + b) % 2 ^ 64) (mod_below (a + b) (2 ^ 64) (omega arith))) refl x y
+
+-- ---- sums along a row
+
+range_more : (a n : ℕ) → range_with_len a (suc n) ≡ range_with_len a n ++ (a + n) ∷ []
+range_more a zero = let e : a ≡ a + 0 = omega arith in ap (λ (k : ℕ). k ∷ []) e
+range_more a (suc n) =
+    let e : (a + 1) + n ≡ a + suc n = omega arith in
+    ap (λ (l : List ℕ). a ∷ l) (range_more (a + 1) n) ∙ ap (λ (k : ℕ). a ∷ (range_with_len (a + 1) n ++ k ∷ [])) e
+
+sum_more : (g : ℕ → ℕ) (n : ℕ) → sum_by g (range_with_len 0 (n + 1)) ≡ sum_by g (range_with_len 0 n) + g n
+sum_more g n =
+    ap (λ (m : ℕ). sum_by g (range_with_len 0 m)) (add-one n) ∙ ap (sum_by g) (range_more 0 n) ∙ sum_by_push g (range_with_len 0 n) (0 + n)
+    ∙ (let z : 0 + n ≡ n = omega arith in ap (λ (m : ℕ). sum_by g (range_with_len 0 n) + g m) z)
+
+-- f k, with those by whole pixels before it
+abbrev strided : (ℕ → ℕ) → ℕ → ℕ → ℕ
+strided f s k = sum_by (λ c. f (c * s + k % s)) (range_with_len 0 (k / s + 1))
+
+strided_first : (f : ℕ → ℕ) (s k : ℕ) → k < s → strided f s k ≡ f k
+strided_first f s k h =
+    let d : k / s ≡ 0 = div-eq_of_lt h in
+    let m : k % s ≡ k = mod-eq_of_lt h in
+    let z : 0 * s + k ≡ k = omega arith in
+    rw (d, m, z) (omega arith)
+
+next_column : (k s : ℕ) → 0 < s → s ≤ k → (k / s ≡ (k - s) / s + 1) × (k % s ≡ (k - s) % s)
+next_column k s p h =
+    let e : k ≡ ((k - s) / s + 1) * s + (k - s) % s = omega (arith, div-add-mod' (k - s) s) in
+    (ap (λ (m : ℕ). m / s) e ∙ div-mul-add ((k - s) / s + 1) s ((k - s) % s) (mod_below (k - s) s p), ap (λ (m : ℕ). m % s) e ∙ mod-mul-add ((k - s) / s + 1) s ((k - s) % s) (mod_below (k - s) s p))
+
+strided_next : (f : ℕ → ℕ) (s k : ℕ) → 0 < s → s ≤ k → strided f s k ≡ strided f s (k - s) + f k
+strided_next f s k p h =
+    let e = next_column k s p h in
+    let w : ((k - s) / s + 1) * s + (k - s) % s ≡ k = omega (arith, div-add-mod' (k - s) s) in
+    rw (e.0, e.1) (sum_more (λ c. f (c * s + (k - s) % s)) ((k - s) / s + 1) ∙ ap (λ (m : ℕ). strided f s (k - s) + f m) w)
+
+pub first_summed : (size s : ℕ) (old : List ℕ) (k : ℕ) → IsSize size → ((i : ℕ) → get_or old i 0 < 256) → k < s → row_number LittleEndian size old k ≡ summed_number size s old k
+first_summed size s old k z b h =
+    sym (ap (λ (m : ℕ). m % 256 ^ size) (strided_first (row_number LittleEndian size old) s k h) ∙ mod-eq_of_lt (number_lt size old k z b))
+
+next_summed : (size s : ℕ) (old : List ℕ) (k : ℕ) → 0 < s → s ≤ k
+    → summed_number size s old k ≡ (summed_number size s old (k - s) + row_number LittleEndian size old k) % 256 ^ size
+next_summed size s old k p h =
+    ap (λ (m : ℕ). m % 256 ^ size) (strided_next (row_number LittleEndian size old) s k p h)
+    ∙ sym (mod-add-mod (strided (row_number LittleEndian size old) s (k - s)) (256 ^ size) (row_number LittleEndian size old k))
+
+-- one more number of a row is summed
+pub summed_more : (size s : ℕ) (old mid new : List ℕ) (k : ℕ) → 0 < s → s ≤ k → AddsNumber size mid (k - s) k new
+    → ((j : ℕ) → j < k → row_number LittleEndian size mid j ≡ summed_number size s old j) → ((j : ℕ) → k ≤ j → row_number LittleEndian size mid j ≡ row_number LittleEndian size old j)
+    → (j : ℕ) → j < k + 1 → row_number LittleEndian size new j ≡ summed_number size s old j
+summed_more size s old mid new k p h a done rest j l =
+    ⊎_elim
+    (λ q.
+    let m : (j + 1) * size ≤ k * size = mul-le-mul_right size (omega (arith, q)) in
+    number_same LittleEndian size new mid j (λ i u v. a.below i (omega (arith, m, v))) ∙ done j q)
+    (λ q.
+    let e : k ≡ j = omega (arith, q, l) in
+    subst (λ (i : ℕ). row_number LittleEndian size new i ≡ summed_number size s old i) e
+    (a.sum ∙ ap (λ (m : ℕ). (m + row_number LittleEndian size mid k) % 256 ^ size) (done (k - s) (omega (arith, p, h)))
+    ∙ ap (λ (m : ℕ). (summed_number size s old (k - s) + m) % 256 ^ size) (rest k (omega arith)) ∙ sym (next_summed size s old k p h)))
+    (cases_lt j k)
+
+pub rest_more : (size s : ℕ) (old mid new : List ℕ) (k : ℕ) → AddsNumber size mid (k - s) k new
+    → ((j : ℕ) → k ≤ j → row_number LittleEndian size mid j ≡ row_number LittleEndian size old j)
+    → (j : ℕ) → k + 1 ≤ j → row_number LittleEndian size new j ≡ row_number LittleEndian size old j
+rest_more size s old mid new k a rest j l =
+    let m : (k + 1) * size ≤ j * size = mul-le-mul_right size l in
+    number_same LittleEndian size new mid j (λ i u v. a.above i (omega (arith, m, u))) ∙ rest j (omega (arith, l))
+
+pub behind_more : (size s count : ℕ) (old mid new : List ℕ) (k : ℕ) → AddsNumber size mid (k - s) k new → k < count → ((i : ℕ) → count * size ≤ i → get_or mid i 0 ≡ get_or old i 0)
+    → (i : ℕ) → count * size ≤ i → get_or new i 0 ≡ get_or old i 0
+behind_more size s count old mid new k a h rest i l =
+    let m : (k + 1) * size ≤ count * size = mul-le-mul_right size (omega (arith, h)) in
+    a.above i (omega (arith, m, l)) ∙ rest i l
+
+pub number_within : (k size len : ℕ) → k < len / size → (k + 1) * size ≤ len
+number_within k size len h = let m : (k + 1) * size ≤ len / size * size = mul-le-mul_right size (omega (arith, h)) in omega (arith, m, div-mul-le_self len size)
+
+pub number_before : (k size len : ℕ) → 0 < size → (k + 1) * size ≤ len → k < len / size
+number_before k size len p h = omega (arith, le-div (k + 1) len size p h)
+
+pub some_size : (size : ℕ) → IsSize size → 0 < size
+some_size size s = by_size (λ n. 0 < n) size (omega arith) (omega arith) (omega arith) (omega arith) s
+
+-- ---- the byte-plane predictor
+
+sum_from : (n a : ℕ) (f g : ℕ → ℕ) → ((j : ℕ) → f j ≡ g (j + 1)) → sum_by g (range_with_len (a + 1) n) ≡ sum_by f (range_with_len a n)
+sum_from zero a f g e = refl
+sum_from (suc n) a f g e =
+    sum_by-cons g (a + 1) (range_with_len (a + 1 + 1) n) ∙ (λ i. sym (e a) i + sum_from n (a + 1) f g e i) ∙ sym (sum_by-cons f a (range_with_len (a + 1) n))
+
+sum_same : (n a : ℕ) (f g : ℕ → ℕ) → ((j : ℕ) → a ≤ j → j < a + n → f j ≡ g j) → sum_by f (range_with_len a n) ≡ sum_by g (range_with_len a n)
+sum_same zero a f g e = refl
+sum_same (suc n) a f g e =
+    sum_by-cons f a (range_with_len (a + 1) n) ∙ (λ i. e a (omega arith) (omega arith) i + sum_same n (a + 1) f g (λ j h l. e j (omega (arith, h)) (omega (arith, l))) i)
+    ∙ sym (sum_by-cons g a (range_with_len (a + 1) n))
+
+-- the same sum from its last number back
+back : (f : ℕ → ℕ) (s r c : ℕ) → sum_by (λ n. f (c * s + r - n * s)) (range_with_len 0 (suc c)) ≡ sum_by (λ n. f (n * s + r)) (range_with_len 0 (suc c))
+back f s r zero = sum_same 1 0 (λ n. f (0 * s + r - n * s)) (λ n. f (n * s + r)) (λ j h l. (let z : j ≡ 0 = omega (arith, l) in let y : 0 * s + r - 0 * s ≡ 0 * s + r = omega arith in subst (λ (n : ℕ). f (0 * s + r - n * s) ≡ f (n * s + r)) (sym z) (ap f y)))
+back f s r (suc c) =
+    let here : suc c * s + r - 0 * s ≡ suc c * s + r = omega arith in
+    let first : sum_by (λ n. f (suc c * s + r - n * s)) (range_with_len (0 + 1) (suc c)) ≡ sum_by (λ n. f (c * s + r - n * s)) (range_with_len 0 (suc c)) =
+    sum_from (suc c) 0 (λ n. f (c * s + r - n * s)) (λ n. f (suc c * s + r - n * s)) (λ j. (let e : c * s + r - j * s ≡ suc c * s + r - (j + 1) * s = omega arith in ap f e)) in
+    let a : sum_by (λ n. f (suc c * s + r - n * s)) (range_with_len 0 (suc (suc c))) ≡ f (suc c * s + r) + sum_by (λ n. f (n * s + r)) (range_with_len 0 (suc c)) =
+    sum_by-cons (λ n. f (suc c * s + r - n * s)) 0 (range_with_len (0 + 1) (suc c)) ∙ (λ i. f (here i) + (first ∙ back f s r c) i) in
+    let b : sum_by (λ n. f (n * s + r)) (range_with_len 0 (suc (suc c))) ≡ sum_by (λ n. f (n * s + r)) (range_with_len 0 (suc c)) + f (suc c * s + r) =
+    ap (sum_by (λ n. f (n * s + r))) (range_more 0 (suc c)) ∙ sum_by_push (λ n. f (n * s + r)) (range_with_len 0 (suc c)) (0 + suc c)
+    ∙ (let z : 0 + suc c ≡ suc c = omega arith in ap (λ (m : ℕ). sum_by (λ n. f (n * s + r)) (range_with_len 0 (suc c)) + f (m * s + r)) z) in
+    omega (arith, a, b)
+
+pub summed_is : (s : ℕ) (old : List ℕ) (k : ℕ) → summed_number 1 s old k ≡ summed_byte_in s old k
+summed_is s old k =
+    let e : k / s * s + k % s ≡ k = div-add-mod' k s in
+    let bytes : sum_by (λ c. row_number LittleEndian 1 old (c * s + k % s)) (range_with_len 0 (k / s + 1)) ≡ sum_by (λ c. get_or old (c * s + k % s) 0) (range_with_len 0 (k / s + 1)) =
+    sum_same (k / s + 1) 0 (λ c. row_number LittleEndian 1 old (c * s + k % s)) (λ c. get_or old (c * s + k % s) 0) (λ c h l. one_number old (c * s + k % s)) in
+    ap (λ (m : ℕ). m % 256)
+    (bytes
+    ∙ ap (λ (n : ℕ). sum_by (λ c. get_or old (c * s + k % s) 0) (range_with_len 0 n)) (add-one (k / s))
+    ∙ sym (back (λ m. get_or old m 0) s (k % s) (k / s))
+    ∙ ap (λ (n : ℕ). sum_by (λ c. get_or old (k / s * s + k % s - c * s) 0) (range_with_len 0 n)) (sym (add-one (k / s)))
+    ∙ ap (λ (m : ℕ). sum_by (λ c. get_or old (m - c * s) 0) (range_with_len 0 (k / s + 1))) e)
+
+-- the numbers of planes that are joined
+joined : (size s : ℕ) (old mid new : List ℕ) → IsSize size → length old / size * size ≡ length old → length mid ≡ length old → length new ≡ length old
+    → ((k : ℕ) → (k + 1) * 1 ≤ length old → row_number LittleEndian 1 mid k ≡ summed_number 1 s old k)
+    → ((i : ℕ) → i < length new → i < length mid / size * size → get_or new i 0 ≡ get_or mid ((size - 1 - i % size) * (length mid / size) + i / size) 0)
+    → Became size (joined_number size s (length old / size) old) old new
+joined size s old mid new z whole l m sums each =
+    let count = length old / size in
+    let p : 0 < size = some_size size z in
+    let mids : length mid / size ≡ count = ap (λ (n : ℕ). n / size) l in
+    let at_number : (k : ℕ) → (k + 1) * size ≤ length old → (j : ℕ) → j < size → get_or new (k * size + j) 0 ≡ summed_byte_in s old ((size - 1 - j) * count + k) =
+    λ k h j b.
+    let c : k < count = number_before k size (length old) p h in
+    let q : (k * size + j) / size ≡ k = div-mul-add k size j b in
+    let r : (k * size + j) % size ≡ j = mod-mul-add k size j b in
+    let w : k * size + j < length old = omega (arith, h, b) in
+    let n : (size - 1 - j) * count ≤ (size - 1) * count = mul-le-mul_right count (omega arith) in
+    let o : size * count ≡ length old = mul_comm size count ∙ whole in
+    let t : (size - 1) * count + count ≡ size * count = (let u : size ≡ (size - 1) + 1 = omega (arith, p) in sym (ap (λ (x : ℕ). x * count) u ∙ omega arith)) in
+    let v : (size - 1 - j) * count + k < length old = omega (arith, n, o, t, c) in
+    each (k * size + j) (omega (arith, w, m)) (omega (arith, w, whole, ap (λ (x : ℕ). x * size) mids))
+    ∙ (λ i. get_or mid ((size - 1 - r i) * mids i + q i) 0)
+    ∙ sym (one_number mid ((size - 1 - j) * count + k)) ∙ sums ((size - 1 - j) * count + k) (omega (arith, v)) ∙ summed_is s old ((size - 1 - j) * count + k) in
+    record {
+      numbers = λ k h.
+          ap (number LittleEndian (width_of size)) (each_same size (λ j. get_or new (k * size + j) 0) (λ j. summed_byte_in s old ((size - 1 - j) * count + k)) (λ j b. at_number k h j b))
+          ∙ sym (big_as_little size (λ j. summed_byte_in s old (j * count + k)) z);
+      behind = λ i h. get_or_past new i 0 (omega (arith, h, whole, m)) ∙ sym (get_or_past old i 0 (omega (arith, h, whole)));
+    }
+
+-- the same where the planes were copied
+pub joined_copy : (size s : ℕ) (old mid planes new : List ℕ) → IsSize size → length old / size * size ≡ length old → length mid ≡ length old → length new ≡ length old
+    → ((k : ℕ) → (k + 1) * 1 ≤ length old → row_number LittleEndian 1 mid k ≡ summed_number 1 s old k) → planes ≡ mid
+    → ((i : ℕ) → i < length new → i < length planes / size * size → get_or new i 0 ≡ get_or planes ((size - 1 - i % size) * (length planes / size) + i / size) 0)
+    → Became size (joined_number size s (length old / size) old) old new
+joined_copy size s old mid planes new z whole l m sums e each =
+    joined size s old mid new z whole l m sums
+    (subst (λ (xs : List ℕ). (i : ℕ) → i < length new → i < length xs / size * size → get_or new i 0 ≡ get_or xs ((size - 1 - i % size) * (length xs / size) + i / size) 0) e each)
+
+-- ---- numbers the other way round
+
+turned_at : (size count : ℕ) (bytes : List ℕ) (k j : ℕ) → k < count → j < size → count * size ≤ length bytes
+    → get_or (turned_units size count bytes) (k * size + j) 0 ≡ get_or bytes (k * size + (size - 1 - j)) 0
+turned_at size zero bytes k j a b h = absurd (omega (arith, a))
+turned_at size (suc count) bytes zero j a b h =
+    let t : length (take size bytes) ≡ size = length-take-le size bytes (omega (arith, h)) in
+    let l : length (reverse (take size bytes)) ≡ size = length-reverse (take size bytes) ∙ t in
+    let e : zero * size + j ≡ j = omega arith in
+    let f : length (take size bytes) - 1 - j ≡ zero * size + (size - 1 - j) = omega (arith, t) in
+    ap (λ (m : ℕ). get_or (reverse (take size bytes) ++ turned_units size count (drop size bytes)) m 0) e
+    ∙ get_or_append_left (reverse (take size bytes)) (turned_units size count (drop size bytes)) 0 j (omega (arith, l, b))
+    ∙ get_or-reverse (take size bytes) j 0 (omega (arith, t, b))
+    ∙ ap (λ (m : ℕ). get_or (take size bytes) m 0) f
+    ∙ get_or-take size bytes (zero * size + (size - 1 - j)) 0 (omega (arith, b))
+turned_at size (suc count) bytes (suc k) j a b h =
+    let l : length (reverse (take size bytes)) ≡ size = length-reverse (take size bytes) ∙ length-take-le size bytes (omega (arith, h)) in
+    let e : suc k * size + j - size ≡ k * size + j = omega arith in
+    let f : size + (k * size + (size - 1 - j)) ≡ suc k * size + (size - 1 - j) = omega arith in
+    get_or-append_right (reverse (take size bytes)) (turned_units size count (drop size bytes)) size (suc k * size + j) 0 l (omega arith)
+    ∙ ap (λ (m : ℕ). get_or (turned_units size count (drop size bytes)) m 0) e
+    ∙ turned_at size count (drop size bytes) k j (omega (arith, a)) b (omega (arith, h, length-drop size bytes))
+    ∙ get_or-drop size bytes (k * size + (size - 1 - j)) 0
+    ∙ ap (λ (m : ℕ). get_or bytes m 0) f
+
+turned_behind : (size count : ℕ) (bytes : List ℕ) (i : ℕ) → count * size ≤ i → count * size ≤ length bytes → get_or (turned_units size count bytes) i 0 ≡ get_or bytes i 0
+turned_behind size zero bytes i a h = refl
+turned_behind size (suc count) bytes i a h =
+    let l : length (reverse (take size bytes)) ≡ size = length-reverse (take size bytes) ∙ length-take-le size bytes (omega (arith, h)) in
+    let f : size + (i - size) ≡ i = omega (arith, a) in
+    get_or-append_right (reverse (take size bytes)) (turned_units size count (drop size bytes)) size i 0 l (omega (arith, a))
+    ∙ turned_behind size count (drop size bytes) (i - size) (omega (arith, a)) (omega (arith, h, length-drop size bytes))
+    ∙ get_or-drop size bytes (i - size) 0
+    ∙ ap (λ (m : ℕ). get_or bytes m 0) f
+
+turned_became : (size : ℕ) (old : List ℕ) → IsSize size → Became size (row_number BigEndian size old) old (turned_units size (length old / size) old)
+turned_became size old z =
+    let p : 0 < size = some_size size z in
+    let count = length old / size in
+    let w : count * size ≤ length old = div-mul-le_self (length old) size in
+    record {
+      numbers = λ k h.
+          ap (number LittleEndian (width_of size))
+          (each_same size (λ j. get_or (turned_units size count old) (k * size + j) 0) (λ j. get_or old (k * size + (size - 1 - j)) 0)
+          (λ j b. turned_at size count old k j (number_before k size (length old) p h) b w))
+          ∙ sym (big_as_little size (λ j. get_or old (k * size + j) 0) z);
+      behind = λ i h. turned_behind size count old i h w;
+    }
+
+pub stayed : (size : ℕ) (old : List ℕ) → Became size (row_number LittleEndian size old) old old
+stayed size old = record { numbers = λ k h. refl; behind = λ i h. refl }
+
+pub converted : (type : «Type») (order : ByteOrder) (size : ℕ) (old new : List ℕ) → unit_size type ≡ size → IsSize size → new ≡ convert type order old LittleEndian
+    → Became size (row_number order size old) old new
+unfolding turned
+converted type LittleEndian size old new u z e = subst (λ (xs : List ℕ). Became size (row_number LittleEndian size old) old xs) (sym e) (stayed size old)
+converted type BigEndian size old new u z e =
+    let f : new ≡ turned_units size (length old / size) old = e ∙ ap (λ (n : ℕ). turned_units n (length old / n) old) u in
+    subst (λ (xs : List ℕ). Became size (row_number BigEndian size old) old xs) (sym f) (turned_became size old z)
+
+-- a number of one byte is the same in either order
+one_byte : (order : ByteOrder) (old : List ℕ) (k : ℕ) → row_number LittleEndian 1 old k ≡ row_number order 1 old k
+unfolding number
+one_byte LittleEndian old k = refl
+one_byte BigEndian old k = refl
+
+pub bytes_stayed : (order : ByteOrder) (size : ℕ) (old : List ℕ) → size ≡ 1 → Became size (row_number order size old) old old
+bytes_stayed order size old e =
+    subst (λ (n : ℕ). Became n (row_number order n old) old old) (sym e) (record { numbers = λ k h. one_byte order old k; behind = λ i h. refl })

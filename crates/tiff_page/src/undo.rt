@@ -1,0 +1,131 @@
+//! The rows of a chunk, undone in place: numbers to little-endian, predictors, complements.
+
+ghost use Rattle.std.specs.Prelude.{◌≡◌, ◌+◌, ◌-◌, ◌*◌, ◌/◌, ◌%◌, ◌<◌, ◌≤◌, length, slice_index, EachIndex};
+ghost use Rattle.tiff_base.specs.declared.tags.ByteOrder.TheVariants.{LittleEndian};
+ghost use Rattle.tiff_page.specs.Row.{IsSize, row_number, summed_number, joined_number, Became, AddsNumber};
+
+use tiff_base::read::{u16_in, u32_in, u64_in};
+use tiff_base::tags::{ByteOrder, Type};
+
+/// Turns the numbers of a row, of `size` bytes each, into little-endian ones. A ragged end stays.
+pub fn to_little(row: &mut [u8], order: ByteOrder, size: usize)
+    requires { IsSize size }
+    ensures { Became size (row_number order size row.old) row.old row.new }
+{
+    match size {
+        2 => order.convert(Type::SHORT, row, ByteOrder::LittleEndian),
+        4 => order.convert(Type::LONG, row, ByteOrder::LittleEndian),
+        8 => order.convert(Type::LONG8, row, ByteOrder::LittleEndian),
+        _ => {}
+    }
+}
+
+// The additions of numbers of one, two, four and eight bytes.
+#[tactic(auto, using(crate::proofs::Rows::adds_1))]
+fn add_byte(row: &mut [u8], from: usize, to: usize)
+    requires before { from < to }
+    requires within { (to + 1) * 1 ≤ length row.old }
+    ensures { AddsNumber 1 row.old from to row.new }
+{
+    row[to] = row[from].wrapping_add(row[to]);
+}
+
+#[tactic(auto, using(crate::proofs::Rows::adds_2))]
+fn add_u16(row: &mut [u8], from: usize, to: usize)
+    requires before { from < to }
+    requires within { (to + 1) * 2 ≤ length row.old }
+    ensures { AddsNumber 2 row.old from to row.new }
+{
+    let at = to * 2;
+    let before = u16_in(ByteOrder::LittleEndian, row, from * 2);
+    let sum = before.wrapping_add(u16_in(ByteOrder::LittleEndian, row, at));
+    row[at..at + 2].copy_from_slice(&sum.to_le_bytes());
+}
+
+#[tactic(auto, using(crate::proofs::Rows::adds_4))]
+fn add_u32(row: &mut [u8], from: usize, to: usize)
+    requires before { from < to }
+    requires within { (to + 1) * 4 ≤ length row.old }
+    ensures { AddsNumber 4 row.old from to row.new }
+{
+    let at = to * 4;
+    let before = u32_in(ByteOrder::LittleEndian, row, from * 4);
+    let sum = before.wrapping_add(u32_in(ByteOrder::LittleEndian, row, at));
+    row[at..at + 4].copy_from_slice(&sum.to_le_bytes());
+}
+
+#[tactic(auto, using(crate::proofs::Rows::adds_8))]
+fn add_u64(row: &mut [u8], from: usize, to: usize)
+    requires before { from < to }
+    requires within { (to + 1) * 8 ≤ length row.old }
+    ensures { AddsNumber 8 row.old from to row.new }
+{
+    let at = to * 8;
+    let before = u64_in(ByteOrder::LittleEndian, row, from * 8);
+    let sum = before.wrapping_add(u64_in(ByteOrder::LittleEndian, row, at));
+    row[at..at + 8].copy_from_slice(&sum.to_le_bytes());
+}
+
+// Adds number `from` of a row to number `to`, modulo what their bytes hold.
+fn add_number(row: &mut [u8], from: usize, to: usize, size: usize)
+    requires size { IsSize size }
+    requires before { from < to }
+    requires within { (to + 1) * size ≤ length row.old }
+    ensures { AddsNumber size row.old from to row.new }
+{
+    match size {
+        1 => add_byte(row, from, to),
+        2 => add_u16(row, from, to),
+        4 => add_u32(row, from, to),
+        _ => add_u64(row, from, to),
+    }
+}
+
+/// Undoes the horizontal predictor over a row of little-endian numbers of `size` bytes, of which a pixel has `stored`.
+pub fn undo_horizontal(row: &mut [u8], size: usize, stored: usize)
+    requires size { IsSize size }
+    requires stored { 0 < stored }
+    ensures { Became size (summed_number size stored row.old) row.old row.new }
+{
+    let count = row.len() / size;
+    let mut k = stored;
+    while k < count {
+        add_number(row, k - stored, k, size);
+        k += 1;
+    }
+}
+
+// Puts the numbers of a row of planes together: the most significant bytes of all numbers stand first.
+fn join_planes(planes: &[u8], size: usize, row: &mut [u8])
+    requires size { 0 < size }
+    requires same { length planes.now ≡ length row.old }
+    ensures { EachIndex row.new (λ i. (i < length planes.now / size * size) → slice_index row.new i ≡ slice_index planes.now ((size - 1 - i % size) * (length planes.now / size) + i / size)) }
+{
+    let count = planes.len() / size;
+    for i in 0..count * size {
+        row[i] = planes[(size - 1 - i % size) * count + i / size];
+    }
+}
+
+/// Undoes the byte-plane predictor over a row of numbers of `size` bytes, of which a pixel has `stored`, into little-endian
+/// ones. `room` has the row's length; what stands there afterwards is open.
+pub fn undo_byte_plane(row: &mut [u8], room: &mut [u8], size: usize, stored: usize)
+    requires size { IsSize size }
+    requires stored { 0 < stored }
+    requires whole { length row.old / size * size ≡ length row.old }
+    requires room { length room.old ≡ length row.old }
+    ensures { Became size (joined_number size stored (length row.old / size) row.old) row.old row.new }
+{
+    undo_horizontal(row, 1, stored);
+    room.copy_from_slice(row);
+    join_planes(room, size, row);
+}
+
+/// Complements each byte of a row, and so each number of it.
+pub fn invert(row: &mut [u8])
+    ensures { EachIndex row.new (λ i. slice_index row.new i ≡ 255 - slice_index row.old i) }
+{
+    for byte in row.iter_mut() {
+        *byte = 255 - *byte;
+    }
+}
