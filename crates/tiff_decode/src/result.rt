@@ -29,7 +29,7 @@ pub enum DecodingResult {
 }
 
 // So many zeros of a number type.
-#[tactic(auto, using(crate::proofs::Zeros::zeros_mapped))]
+#[tactic(auto, using(crate::proofs::Samples::zeros_mapped))]
 fn zeros(
     alloc: Global,
     sample_type: DecodingSampleType,

@@ -1,4 +1,4 @@
--- Lists of zeros.
+-- Lists of samples by their bits.
 use Rattle.std.proofs.Common.{◌≡◌, ℕ, zero, suc, List, ◌∷◌, map, refl, ap, ◌∙◌}
 use Rattle.std.specs.Prelude.{replicate}
 
