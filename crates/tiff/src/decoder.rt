@@ -1,6 +1,7 @@
 //! Files are read.
 
 pub use tiff_base::color::ChunkType;
+pub use tiff_decode::buffer::DecodingBuffer;
 pub use tiff_decode::decoder::{Decoder, DecodingResult};
 pub use tiff_decode::script;
 pub use tiff_decode::tag_iter::TagIter;

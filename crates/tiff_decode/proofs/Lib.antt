@@ -5,4 +5,4 @@ pub mod Numbers
 pub mod Along
 pub mod Items
 pub mod TagList
-pub mod Zeros
+pub mod Samples

@@ -1,6 +1,7 @@
 //! Files are read: the decoder of pages.
 #![tactic(auto)]
 
+pub mod buffer;
 pub mod decoder;
 pub mod laws;
 pub mod layouts;

@@ -1,10 +1,11 @@
 //! Lists of decoded samples.
 
-ghost use Rattle.std.specs.Prelude.{◌≡◌, replicate, IfOk, OnErr};
+ghost use Rattle.std.specs.Prelude.{◌≡◌, ◌≤◌, length, drop, replicate, IfOk, OnErr};
 ghost use Rattle.tiff_base.specs.Answers.{AnswersHere};
 ghost use Rattle.tiff_page.specs.Buffers.{resized};
-ghost use Rattle.tiff_decode.specs.Result.{decoded_as};
+ghost use Rattle.tiff_decode.specs.Result.{buffered_as, decoded_as};
 
+use crate::buffer::DecodingBuffer;
 use std::alloc::{AllocError, Global};
 use tiff_base::error::{TiffResult, TiffUnsupportedError};
 use tiff_base::tags::{Bits16, Bits32, Bits64};
@@ -29,7 +30,7 @@ pub enum DecodingResult {
 }
 
 // So many zeros of a number type.
-#[tactic(auto, using(crate::proofs::Zeros::zeros_mapped))]
+#[tactic(auto, using(crate::proofs::Samples::zeros_mapped))]
 fn zeros(
     alloc: Global,
     sample_type: DecodingSampleType,
@@ -89,5 +90,26 @@ impl DecodingResult {
             layout.complete_len.div_ceil(size),
         )?;
         Ok(())
+    }
+    /// Its samples from one on, to be written in place; `start` is at most their number.
+    #[tactic(auto, using(crate::proofs::Samples::length_mapped, crate::proofs::Samples::drop_mapped))]
+    pub fn as_buffer(&mut self, start: usize) -> DecodingBuffer<'_>
+        requires { start ≤ length (decoded_as self.old).numbers }
+        ensures sample_type { (buffered_as result).sample_type ≡ (decoded_as self.old).sample_type }
+        ensures numbers { (buffered_as result).numbers ≡ drop start (decoded_as self.old).numbers }
+    {
+        match self {
+            DecodingResult::U8(samples) => DecodingBuffer::U8(&mut samples[start..]),
+            DecodingResult::U16(samples) => DecodingBuffer::U16(&mut samples[start..]),
+            DecodingResult::U32(samples) => DecodingBuffer::U32(&mut samples[start..]),
+            DecodingResult::U64(samples) => DecodingBuffer::U64(&mut samples[start..]),
+            DecodingResult::F16(samples) => DecodingBuffer::F16(&mut samples[start..]),
+            DecodingResult::F32(samples) => DecodingBuffer::F32(&mut samples[start..]),
+            DecodingResult::F64(samples) => DecodingBuffer::F64(&mut samples[start..]),
+            DecodingResult::I8(samples) => DecodingBuffer::I8(&mut samples[start..]),
+            DecodingResult::I16(samples) => DecodingBuffer::I16(&mut samples[start..]),
+            DecodingResult::I32(samples) => DecodingBuffer::I32(&mut samples[start..]),
+            DecodingResult::I64(samples) => DecodingBuffer::I64(&mut samples[start..]),
+        }
     }
 }
