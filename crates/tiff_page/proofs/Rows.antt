@@ -254,7 +254,7 @@ sum_from zero a f g e = refl
 sum_from (suc n) a f g e =
     sum_by-cons g (a + 1) (range_with_len (a + 1 + 1) n) ∙ (λ i. sym (e a) i + sum_from n (a + 1) f g e i) ∙ sym (sum_by-cons f a (range_with_len (a + 1) n))
 
-sum_same : (n a : ℕ) (f g : ℕ → ℕ) → ((j : ℕ) → a ≤ j → j < a + n → f j ≡ g j) → sum_by f (range_with_len a n) ≡ sum_by g (range_with_len a n)
+pub sum_same : (n a : ℕ) (f g : ℕ → ℕ) → ((j : ℕ) → a ≤ j → j < a + n → f j ≡ g j) → sum_by f (range_with_len a n) ≡ sum_by g (range_with_len a n)
 sum_same zero a f g e = refl
 sum_same (suc n) a f g e =
     sum_by-cons f a (range_with_len (a + 1) n) ∙ (λ i. e a (omega arith) (omega arith) i + sum_same n (a + 1) f g (λ j h l. e j (omega (arith, h)) (omega (arith, l))) i)

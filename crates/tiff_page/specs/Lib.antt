@@ -13,4 +13,5 @@ pub mod PixelCalls
 pub mod Place
 pub mod Placing
 pub mod Stored
+pub mod Handed
 pub mod Laws
