@@ -7,4 +7,6 @@ pub mod Chunks
 pub mod Rects
 pub mod Covering
 pub mod Data
+pub mod Handing
+pub mod Units
 pub mod Rows

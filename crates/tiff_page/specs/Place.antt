@@ -63,3 +63,16 @@ module _ (p : PageRecord) (colour : ColorType) (stride : ℕ) where
   -- the byte of the image at a place
   abbrev pub image_byte : List ℕ → ByteOrder → ℕ → ℕ
   image_byte file order i = region_byte file order p colour (whole_image file order p) (plane_of i) (i / stride % p.height) (i % stride)
+
+-- a chunk in a buffer, and those of further planes behind it, each of so many rows of so many bytes
+pub record IsInPlanes (stride rows len n i : ℕ) : Type 0 where
+  pub byte : i % stride < len
+  pub of_plane : i / stride / rows < n
+
+abbrev pub IsInUnit : PageRecord → ColorType → ℕ → ℕ → ℕ → ℕ → Type 0
+IsInUnit p colour stride k n i = IsInPlanes stride (rect p k).height (row_bytes p colour (rect p k).width) n i
+
+-- the byte of these chunks at a place
+abbrev pub unit_byte : List ℕ → ByteOrder → PageRecord → ColorType → ℕ → ℕ → ℕ → ℕ
+unit_byte file order p colour stride k i =
+    region_byte file order p colour (chunk_region file order p k) ((rect p k).plane + i / stride / (rect p k).height) (i / stride % (rect p k).height) (i % stride)

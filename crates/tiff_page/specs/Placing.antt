@@ -4,12 +4,12 @@ use borrow.Rule.Slice.PartMut.{put_mid}
 use Rattle.tiff_base.specs.declared.color.ColorType.{ColorType}
 use Rattle.tiff_base.specs.declared.tags.ByteOrder.{ByteOrder}
 use Rattle.tiff_page.specs.Page.{PageRecord}
-use Rattle.tiff_page.specs.Rect.{chunks_of_plane}
+use Rattle.tiff_page.specs.Rect.{rect, chunks_of_plane}
 use Rattle.tiff_page.specs.Layout.{row_bytes}
 use Rattle.tiff_page.specs.PixelCalls.{placed}
-use Rattle.tiff_page.specs.Pixels.{whole_image}
+use Rattle.tiff_page.specs.Pixels.{whole_image, chunk_region}
 use Rattle.tiff_page.specs.Laws.{HasSides, HasWholeRows}
-use Rattle.tiff_page.specs.Place.{Writes, IsIn, in_rect, chunk_byte, top_of, left_of, IsInChunk, IsOfChunk, IsBefore, image_byte}
+use Rattle.tiff_page.specs.Place.{Writes, IsIn, in_rect, chunk_byte, top_of, left_of, IsInChunk, IsOfChunk, IsBefore, image_byte, IsInUnit, unit_byte}
 
 -- one more row of a rectangle
 abbrev pub RowWritten : Type 0
@@ -46,3 +46,24 @@ ImageWritten = (file : List ℕ) (order : ByteOrder) (p : PageRecord) (colour : 
     → HasSides p → HasWholeRows p colour → row_bytes p colour p.width ≤ stride
     → Writes (IsBefore p colour stride n (chunks_of_plane p) 0) (image_byte p colour stride file order) old new
     → new ≡ placed file order p colour (whole_image file order p) stride n old
+
+-- ---- one chunk, or that of each plane
+
+-- the chunk of one more plane
+abbrev pub UnitPlaneWritten : Type 0
+UnitPlaneWritten = (file : List ℕ) (order : ByteOrder) (p : PageRecord) (colour : ColorType) (stride k plane : ℕ) (old mid new : List ℕ)
+    → HasSides p → (plane ≡ 0) ⊎ (k < chunks_of_plane p) → Writes (IsInUnit p colour stride k plane) (unit_byte file order p colour stride k) old mid
+    → Writes (IsIn stride (plane * (rect p k).height) (rect p k).height 0 (row_bytes p colour (rect p k).width))
+    (in_rect (chunk_byte file order p colour (plane * chunks_of_plane p + k)) stride (plane * (rect p k).height) 0) mid new
+    → Writes (IsInUnit p colour stride k (plane + 1)) (unit_byte file order p colour stride k) old new
+
+-- none yet
+abbrev pub NoPlaneWritten : Type 0
+NoPlaneWritten = (p : PageRecord) (colour : ColorType) (stride k : ℕ) (value : ℕ → ℕ) (old : List ℕ) → Writes (IsInUnit p colour stride k 0) value old old
+
+-- in all planes
+abbrev pub UnitWritten : Type 0
+UnitWritten = (file : List ℕ) (order : ByteOrder) (p : PageRecord) (colour : ColorType) (stride k n : ℕ) (old new : List ℕ)
+    → HasSides p → row_bytes p colour (rect p k).width ≤ stride
+    → Writes (IsInUnit p colour stride k n) (unit_byte file order p colour stride k) old new
+    → new ≡ placed file order p colour (chunk_region file order p k) stride n old

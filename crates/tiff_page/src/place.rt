@@ -1,6 +1,7 @@
 //! Chunks are placed in a buffer.
 
-ghost use Rattle.tiff_page.specs.Placing.{RowWritten, ChunkWritten, ChunksWritten, PlanesWritten, NoneWritten, ImageWritten};
+ghost use Rattle.tiff_page.specs.Handed.{RowHanded};
+ghost use Rattle.tiff_page.specs.Placing.{RowWritten, ChunkWritten, ChunksWritten, PlanesWritten, NoneWritten, ImageWritten, UnitPlaneWritten, NoPlaneWritten, UnitWritten};
 
 /// A row of a rectangle is written after those above it.
 pub fn row_written()
@@ -30,4 +31,24 @@ pub fn none_written()
 /// The chunks of an image fill its places.
 pub fn image_written()
     ensures { ImageWritten }
+{}
+
+/// The bytes of a row of a chunk are told by the row's stored bytes.
+pub fn row_handed()
+    ensures { RowHanded }
+{}
+
+/// The chunk of a plane is written behind those of the planes before it.
+pub fn unit_plane_written()
+    ensures { UnitPlaneWritten }
+{}
+
+/// No plane is written.
+pub fn no_plane_written()
+    ensures { NoPlaneWritten }
+{}
+
+/// A chunk, or that of each plane, fills its places.
+pub fn unit_written()
+    ensures { UnitWritten }
 {}

@@ -1,0 +1,5 @@
+use Rattle.tiff_page.proofs.Handing.{row_handed}
+use Rattle.tiff_page.proofs.place.row_handed.Goals as goal
+
+pub returns : goal.returns
+returns c = row_handed
