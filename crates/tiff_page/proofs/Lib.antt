@@ -5,3 +5,4 @@ pub mod Placing
 pub mod Planes
 pub mod Chunks
 pub mod Rows
+pub mod RowLaws

@@ -49,29 +49,29 @@ each_at size k row h =
 -- ---- the four sizes
 
 -- the number of n digits, the least first
-abbrev digits : (ℕ → ℕ) → ℕ → ℕ
+abbrev pub digits : (ℕ → ℕ) → ℕ → ℕ
 digits f zero = 0
 digits f (suc n) = digits f n + 256 ^ n * f n
 
 -- what holds of the four sizes
-by_size : (P : ℕ → Type 0) (size : ℕ) → P 1 → P 2 → P 4 → P 8 → IsSize size → P size
+pub by_size : (P : ℕ → Type 0) (size : ℕ) → P 1 → P 2 → P 4 → P 8 → IsSize size → P size
 by_size P size a b c d (inl e) = subst P (sym e) a
 by_size P size a b c d (inr (inl e)) = subst P (sym e) b
 by_size P size a b c d (inr (inr (inl e))) = subst P (sym e) c
 by_size P size a b c d (inr (inr (inr e))) = subst P (sym e) d
 
-little_digits : (size : ℕ) (f : ℕ → ℕ) → IsSize size → number LittleEndian (width_of size) (each_to size f) ≡ digits f size
+pub little_digits : (size : ℕ) (f : ℕ → ℕ) → IsSize size → number LittleEndian (width_of size) (each_to size f) ≡ digits f size
 unfolding number
 little_digits size f s =
     by_size (λ n. number LittleEndian (width_of n) (each_to n f) ≡ digits f n) size (omega arith) (omega arith) (omega arith) (omega arith) s
 
 -- the most significant first is the least first the other way round
-big_as_little : (size : ℕ) (f : ℕ → ℕ) → IsSize size → number BigEndian (width_of size) (each_to size f) ≡ number LittleEndian (width_of size) (each_to size (λ j. f (size - 1 - j)))
+pub big_as_little : (size : ℕ) (f : ℕ → ℕ) → IsSize size → number BigEndian (width_of size) (each_to size f) ≡ number LittleEndian (width_of size) (each_to size (λ j. f (size - 1 - j)))
 unfolding number
 big_as_little size f s =
     by_size (λ n. number BigEndian (width_of n) (each_to n f) ≡ number LittleEndian (width_of n) (each_to n (λ j. f (n - 1 - j)))) size (omega arith) (omega arith) (omega arith) (omega arith) s
 
-digits_lt : (f : ℕ → ℕ) (n : ℕ) → ((j : ℕ) → f j < 256) → digits f n < 256 ^ n
+pub digits_lt : (f : ℕ → ℕ) (n : ℕ) → ((j : ℕ) → f j < 256) → digits f n < 256 ^ n
 digits_lt f zero b = omega arith
 digits_lt f (suc n) b =
     let h : 256 ^ n * f n ≤ 256 ^ n * 255 = mul-le-mul_left (256 ^ n) (omega (arith, b n)) in
@@ -81,7 +81,7 @@ pub number_lt : (size : ℕ) (row : List ℕ) (k : ℕ) → IsSize size → ((i 
 number_lt size row k s b =
     subst (λ (n : ℕ). n < 256 ^ size) (sym (little_digits size (λ j. get_or row (k * size + j) 0) s)) (digits_lt (λ j. get_or row (k * size + j) 0) size (λ j. b (k * size + j)))
 
-one_number : (row : List ℕ) (k : ℕ) → row_number LittleEndian 1 row k ≡ get_or row k 0
+pub one_number : (row : List ℕ) (k : ℕ) → row_number LittleEndian 1 row k ≡ get_or row k 0
 unfolding number
 one_number row k = let e : k * 1 + 0 ≡ k = omega arith in ap (λ (i : ℕ). get_or row i 0) e
 
@@ -254,7 +254,7 @@ sum_from zero a f g e = refl
 sum_from (suc n) a f g e =
     sum_by-cons g (a + 1) (range_with_len (a + 1 + 1) n) ∙ (λ i. sym (e a) i + sum_from n (a + 1) f g e i) ∙ sym (sum_by-cons f a (range_with_len (a + 1) n))
 
-sum_same : (n a : ℕ) (f g : ℕ → ℕ) → ((j : ℕ) → a ≤ j → j < a + n → f j ≡ g j) → sum_by f (range_with_len a n) ≡ sum_by g (range_with_len a n)
+pub sum_same : (n a : ℕ) (f g : ℕ → ℕ) → ((j : ℕ) → a ≤ j → j < a + n → f j ≡ g j) → sum_by f (range_with_len a n) ≡ sum_by g (range_with_len a n)
 sum_same zero a f g e = refl
 sum_same (suc n) a f g e =
     sum_by-cons f a (range_with_len (a + 1) n) ∙ (λ i. e a (omega arith) (omega arith) i + sum_same n (a + 1) f g (λ j h l. e j (omega (arith, h)) (omega (arith, l))) i)
