@@ -16,7 +16,7 @@ use Rattle.tiff_base.proofs.Bytes.{missing}
 use Rattle.tiff_base.proofs.Causes.{cause_along}
 use Rattle.tiff_ifd.specs.declared.packbits.Block.{Block}
 use Rattle.tiff_ifd.specs.declared.packbits.Block.TheVariants.{Literal, Run}
-use Rattle.tiff_ifd.specs.declared.packbits.Place.{Place}
+use Rattle.tiff_ifd.specs.declared.packbits.PackedPlace.{PackedPlace}
 use Rattle.tiff_ifd.specs.Unpacking.{unpacked_at, ended, left_in, left_at, count_of, GivesNext, IsBroken, IsShort}
 
 -- ---- a byte of the source
@@ -124,7 +124,7 @@ used_in : (block : Block) (early : Bool) (P : List ℕ) → count_of block ≡ 0
 used_in (Literal n) early P e = ap (λ (m : ℕ). left_in (Literal m) early P) e
 used_in (Run value n) early P e = ap (λ (m : ℕ). left_in (Run value m) early P) e
 
-pub used_up : (s : List ℕ) (place : Place) → count_of place.block ≡ 0 → left_at s place ≡ unpacked_at s place.at place.len
+pub used_up : (s : List ℕ) (place : PackedPlace) → count_of place.block ≡ 0 → left_at s place ≡ unpacked_at s place.at place.len
 used_up s place e = used_in place.block (ltb (length s - place.at) place.len) (bytes_at s place.at place.len) e
 
 literal_nil : (n : ℕ) (early : Bool) → 0 < n → left_in (Literal n) early [] ≡ ended Plain
@@ -168,7 +168,7 @@ gives left rest old xs part n most a b p l g z =
       none = λ _ h. z h;
     }
 
-block_is : (s : List ℕ) (place : Place) (block : Block) → place.block ≡ block → left_at s place ≡ left_at s (record place { block = block })
+block_is : (s : List ℕ) (place : PackedPlace) (block : Block) → place.block ≡ block → left_at s place ≡ left_at s (record place { block = block })
 block_is s place block e = ap (λ (b : Block). left_in b (ltb (length s - place.at) place.len) (bytes_at s place.at place.len)) e
 
 no_byte : (s old part : List ℕ) (at len most n : ℕ) → 0 < length old → most ≤ length old → (most ≡ 0 → len ≡ 0) → Reads s at (take most old) n part → n ≡ 0
@@ -179,7 +179,7 @@ no_byte s old part at len most n o b z r e (inl h) =
     (λ (m : 1 ≤ most). absurd (let f : 0 < n = r.some (omega (arith, length-take-le most old b, m)) h in omega (arith, f, e)))
     (cases_lt most 1)
 
-pub literal_gives : (s old part : List ℕ) (place : Place) (count most n : ℕ) → place.block ≡ Literal count → 0 < count → 0 < length old
+pub literal_gives : (s old part : List ℕ) (place : PackedPlace) (count most n : ℕ) → place.block ≡ Literal count → 0 < count → 0 < length old
     → most ≤ count → most ≤ length old → most ≤ place.len → (most ≡ 0 → place.len ≡ 0) → Reads s place.at (take most old) n part
     → GivesNext (left_at s place) old n (part ++ drop most old) (left_at s (record { block = Literal (count - n); at = place.at + n; len = place.len - n }))
 literal_gives s old part place count most n e c o a b d z r =
@@ -189,7 +189,7 @@ literal_gives s old part place count most n e c o a b d z r =
     (block_is s place (Literal count) e ∙ literal_part s place.at place.len count n (omega (arith, l, a)) (omega (arith, l, d)) r.in_bytes)
     (λ h. block_is s place (Literal count) e ∙ literal_cut s place.at place.len count c (no_byte s old part place.at place.len most n o b z r h (cases_lt place.at (length s))))
 
-run_part : (s : List ℕ) (place : Place) (value c n : ℕ) → n ≤ c
+run_part : (s : List ℕ) (place : PackedPlace) (value c n : ℕ) → n ≤ c
     → left_at s (record place { block = Run value c }) ≡ before (replicate n value) (left_at s (record place { block = Run value (c - n) }))
 run_part s place value c n a =
     let f : c ≡ n + (c - n) = omega (arith, a) in
@@ -197,7 +197,7 @@ run_part s place value c n a =
     ∙ rw (← replicate-append-replicate n (c - n) value)
     (sym (before_before (replicate n value) (replicate (c - n) value) (unpacked_at s place.at place.len)))
 
-pub run_gives : (s old part : List ℕ) (place : Place) (value count n : ℕ) → place.block ≡ Run value count → n ≤ count → n ≤ length old → 0 < n → part ≡ replicate n value
+pub run_gives : (s old part : List ℕ) (place : PackedPlace) (value count n : ℕ) → place.block ≡ Run value count → n ≤ count → n ≤ length old → 0 < n → part ≡ replicate n value
     → GivesNext (left_at s place) old n (part ++ drop n old) (left_at s (record { block = Run value (count - n); at = place.at; len = place.len }))
 run_gives s old part place value count n e a b o p =
     let w : n ≤ n = omega arith in
@@ -216,11 +216,20 @@ read_behind buf part done k n h g =
     ap (λ (m : ℕ). take (m + n) (put_mid done k buf part)) (sym l)
     ∙ (take-append-add (take done buf) (part ++ post_of done k buf) n ∙ ap (λ (x : List ℕ). take done buf ++ x) (take-append-le n part (post_of done k buf) g))
 
-pub more_read : (first mid last : Unpacked) (buf part old : List ℕ) (done k n : ℕ) → done ≤ length buf → length part ≡ length old → first ≡ before (take done buf) mid
+more_read : (first mid last : Unpacked) (buf part old : List ℕ) (done k n : ℕ) → done ≤ length buf → length part ≡ length old → first ≡ before (take done buf) mid
     → GivesNext mid old n part last → first ≡ before (take (done + n) (put_mid done k buf part)) last
 more_read first mid last buf part old done k n h l e r =
     e ∙ ap (before (take done buf)) r.next ∙ before_before (take done buf) (take n part) last
     ∙ ap (λ (xs : List ℕ). before xs last) (sym (read_behind buf part done k n h (omega (arith, r.in_buffer, l))))
+
+-- the same of a source that tells the same before and after
+pub more_read_at : (s t u : List ℕ) (first mid last : PackedPlace) (buf part old : List ℕ) (done k n : ℕ) → t ≡ s → u ≡ s → done ≤ length buf → length part ≡ length old
+    → left_at s first ≡ before (take done buf) (left_at s mid) → GivesNext (left_at t mid) old n part (left_at u last)
+    → left_at s first ≡ before (take (done + n) (put_mid done k buf part)) (left_at s last)
+more_read_at s t u first mid last buf part old done k n e f h l g r =
+    let R : List ℕ → Type 0 = λ xs. GivesNext (left_at xs mid) old n part (left_at u last) in
+    let Q : List ℕ → Type 0 = λ xs. GivesNext (left_at s mid) old n part (left_at xs last) in
+    more_read (left_at s first) (left_at s mid) (left_at s last) buf part old done k n h l g (subst Q f (subst R e r))
 
 pub room_behind : (buf part old : List ℕ) (done k n : ℕ) → done ≤ length buf → length part ≡ length old → n ≤ length old → done + n ≤ length (put_mid done k buf part)
 room_behind buf part old done k n h l g =

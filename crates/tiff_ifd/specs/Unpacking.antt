@@ -8,7 +8,7 @@ use Rattle.tiff_base.specs.Runs.{End, Plain, Broken, Unpacked, before, runs, run
 use Rattle.tiff_base.specs.Told.{bytes_at}
 use Rattle.tiff_ifd.specs.declared.packbits.Block.{Block}
 use Rattle.tiff_ifd.specs.declared.packbits.Block.TheVariants.{Literal, Run}
-use Rattle.tiff_ifd.specs.declared.packbits.Place.{Place}
+use Rattle.tiff_ifd.specs.declared.packbits.PackedPlace.{PackedPlace}
 
 -- the bytes of its source, how many reads of it failed so far, and what the packed list still gives
 pub record Unpacking : Type 0 where
@@ -60,8 +60,13 @@ abbrev pub left_in : Block → Bool → List ℕ → Unpacked
 left_in (Literal n) early packed = before (take n packed) (runs_after n early packed)
 left_in (Run value n) early packed = before (replicate n value) (runs early packed)
 
-abbrev pub left_at : List ℕ → Place → Unpacked
+abbrev pub left_at : List ℕ → PackedPlace → Unpacked
 left_at bytes place = left_in place.block (nat_lt (length bytes - place.at) place.len) (bytes_at bytes place.at place.len)
+
+-- a source, and a place in its packed bytes, of which those tell the bytes and the failed reads
+abbrev pub unpacking : {S : Type 0} → (S → List ℕ) → (S → ℕ) → S → PackedPlace → Unpacking
+unpacking bytes_of failures_of source place =
+    record { bytes = bytes_of source; failures = failures_of source; rest = left_at (bytes_of source) place }
 
 -- how many bytes of a block are left
 abbrev pub count_of : Block → ℕ
@@ -74,17 +79,12 @@ ReadsByte bytes at failed (Ok byte) = (at < length bytes) × (byte ≡ slice_ind
 ReadsByte bytes at failed (Err e) = IsCause ⊥ failed e ((e ≡ IoError UnexpectedEof) × (length bytes ≤ at))
 
 -- where the next block of what is left stands, or that there is none
-abbrev pub Finds : List ℕ → Unpacked → Type 0 → Result (Option Place) TiffError → Type 0
+abbrev pub Finds : List ℕ → Unpacked → Type 0 → Result (Option PackedPlace) TiffError → Type 0
 Finds bytes left failed (Ok (Some place)) = (0 < count_of place.block) × (left ≡ left_at bytes place)
 Finds bytes left failed (Ok None) = left ≡ ended Plain
 Finds bytes left failed (Err e) = IsCause ⊥ failed e (IsBroken left 1 e)
 
 -- bytes of a block were read into a buffer
-abbrev pub ReadsBlock : List ℕ → Place → Type 0 → List ℕ → List ℕ → Result (ℕ × Place) TiffError → Type 0
+abbrev pub ReadsBlock : List ℕ → PackedPlace → Type 0 → List ℕ → List ℕ → Result (ℕ × PackedPlace) TiffError → Type 0
 ReadsBlock bytes place failed old new (Ok r) = GivesNext (left_at bytes place) old r.0 new (left_at bytes r.1)
 ReadsBlock bytes place failed old new (Err e) = IsCause ⊥ failed e ⊥
-
--- bytes were read into a buffer of what a place gives
-abbrev pub ReadsNext : List ℕ → Place → Type 0 → List ℕ → List ℕ → Result (ℕ × Place) TiffError → Type 0
-ReadsNext bytes place failed old new (Ok r) = GivesNext (left_at bytes place) old r.0 new (left_at bytes r.1)
-ReadsNext bytes place failed old new (Err e) = IsCause ⊥ failed e (IsBroken (left_at bytes place) (length old) e)

@@ -1,9 +1,9 @@
 //! A packed list is unpacked, in pieces of any size.
 
-ghost use Rattle.std.specs.Prelude.{◌≡◌, ℕ, ◌<◌, ◌≤◌, List, length, Ok, IfOk, IfErr};
+ghost use Rattle.std.specs.Prelude.{◌≡◌, ℕ, ◌<◌, ◌≤◌, List, length, Ok, OnOk, IfErr};
 ghost use Rattle.tiff_base.specs.Answers.{IsCause, IsKept};
 ghost use Rattle.tiff_base.specs.Runs.{before};
-ghost use Rattle.tiff_ifd.specs.Unpacking.{unpacked_at, left_at, count_of, GivesNext, IsShort, ReadsByte, Finds, ReadsBlock, ReadsNext, PieceReads, Fills};
+ghost use Rattle.tiff_ifd.specs.Unpacking.{unpacked_at, left_at, unpacking, count_of, GivesNext, IsShort, ReadsByte, Finds, ReadsBlock, PieceReads, Fills};
 ghost use Rattle.tiff_ifd.specs.declared.packbits.Block.TheVariants.{Literal, Run};
 
 use std::marker::Model;
@@ -11,32 +11,20 @@ use tiff_base::error::{TiffError, TiffResult};
 use tiff_base::io::{IoKind, Source};
 use tiff_base::read::read_exact_at;
 
-/// What is left of a block: so many bytes as they stand, or one byte so many times.
+// What is left of a block: so many bytes as they stand, or one byte so many times.
 #[derive(Clone, Copy, Debug)]
-pub enum Block {
+enum Block {
     Literal(usize),
     Run(u8, usize),
 }
 
-/// A place in a packed list: what is left of its block, and where how many packed bytes follow.
+/// A place in packed bytes: what is left of a block, and where how many packed bytes follow. It is a [`PackBitsReader`] without
+/// its source, which each call of it is lent, the same each time.
 #[derive(Clone, Copy, Debug)]
-pub struct Place {
+pub struct PackedPlace {
     block: Block,
     at: u64,
     len: u64,
-}
-
-impl Place {
-    /// The front of so many packed bytes.
-    pub fn new(at: u64, len: u64) -> Self
-        ensures { (bytes : List ℕ) → left_at bytes result ≡ unpacked_at bytes at len }
-    {
-        Place {
-            block: Block::Literal(0),
-            at,
-            len,
-        }
-    }
 }
 
 impl Block {
@@ -48,25 +36,6 @@ impl Block {
             Block::Literal(count) | Block::Run(_, count) => count,
         }
     }
-}
-
-/// Unpacks PackBits data of a source (TIFF 6.0 section 9), in pieces of any size and without memory of its own.
-#[derive(Debug, Drop)]
-pub struct PackBitsReader<R: Source> {
-    source: R,
-    place: Place,
-}
-
-impl<R: Source> Model for PackBitsReader<R> {
-    ghost use Rattle.tiff_ifd.specs.Unpacking.{Unpacking, left_at};
-
-    ghost Value = { Unpacking };
-
-    ghost view = { λ r. record {
-      bytes = R.bytes r.source;
-      failures = R.failures r.source;
-      rest = left_at (R.bytes r.source) r.place;
-    } };
 }
 
 // The byte at a place.
@@ -83,7 +52,7 @@ fn read_byte<R: Source>(source: &mut R, at: u64) -> TiffResult<u8>
 }
 
 // The next block of packed bytes. Headers that stand for nothing are passed.
-fn next_block<R: Source>(source: &mut R, at: u64, len: u64) -> TiffResult<Option<Place>>
+fn next_block<R: Source>(source: &mut R, at: u64, len: u64) -> TiffResult<Option<PackedPlace>>
     ensures kept { IsKept R.bytes R.failures source.old source.new }
     ensures block { Finds (R.bytes source.old) (unpacked_at (R.bytes source.old) at len) (R.failures source.old < R.failures source.new) result }
 {
@@ -98,7 +67,7 @@ fn next_block<R: Source>(source: &mut R, at: u64, len: u64) -> TiffResult<Option
         len -= 1;
         if header < 128 {
             let block = Block::Literal(usize::from(header) + 1);
-            return Ok(Some(Place { block, at, len }));
+            return Ok(Some(PackedPlace { block, at, len }));
         }
         if header > 128 {
             if len == 0 {
@@ -108,7 +77,7 @@ fn next_block<R: Source>(source: &mut R, at: u64, len: u64) -> TiffResult<Option
                 Ok(value) => value,
                 Err(fault) => return Err(fault),
             };
-            return Ok(Some(Place {
+            return Ok(Some(PackedPlace {
                 block: Block::Run(value, 257 - usize::from(header)),
                 at: at + 1,
                 len: len - 1,
@@ -120,7 +89,7 @@ fn next_block<R: Source>(source: &mut R, at: u64, len: u64) -> TiffResult<Option
 
 // The block of the next byte: that of the place, or the next one where none of it is left.
 #[tactic(auto, using(crate::proofs::Unpacking::used_up))]
-fn begun_block<R: Source>(source: &mut R, place: Place) -> TiffResult<Option<Place>>
+fn begun_block<R: Source>(source: &mut R, place: PackedPlace) -> TiffResult<Option<PackedPlace>>
     ensures kept { IsKept R.bytes R.failures source.old source.new }
     ensures block { Finds (R.bytes source.old) (left_at (R.bytes source.old) place) (R.failures source.old < R.failures source.new) result }
 {
@@ -133,10 +102,10 @@ fn begun_block<R: Source>(source: &mut R, place: Place) -> TiffResult<Option<Pla
 // Bytes of a literal: as many as the source gives, none only where they end.
 fn read_literal<R: Source>(
     source: &mut R,
-    place: Place,
+    place: PackedPlace,
     count: usize,
     buf: &mut [u8],
-) -> TiffResult<(usize, Place)>
+) -> TiffResult<(usize, PackedPlace)>
     requires literal { place.block ≡ Literal count }
     requires begun { 0 < count }
     requires some { 0 < length buf.old }
@@ -150,7 +119,7 @@ fn read_literal<R: Source>(
     };
     Ok((
         n,
-        Place {
+        PackedPlace {
             block: Block::Literal(count - n),
             at: place.at + n as u64,
             len: place.len - n as u64,
@@ -159,7 +128,7 @@ fn read_literal<R: Source>(
 }
 
 // Bytes of a run.
-fn repeat(place: Place, value: u8, count: usize, buf: &mut [u8]) -> (usize, Place)
+fn repeat(place: PackedPlace, value: u8, count: usize, buf: &mut [u8]) -> (usize, PackedPlace)
     requires run { place.block ≡ Run value count }
     requires begun { 0 < count }
     requires some { 0 < length buf.old }
@@ -169,7 +138,7 @@ fn repeat(place: Place, value: u8, count: usize, buf: &mut [u8]) -> (usize, Plac
     buf[..n].fill(value);
     (
         n,
-        Place {
+        PackedPlace {
             block: Block::Run(value, count - n),
             at: place.at,
             len: place.len,
@@ -178,7 +147,11 @@ fn repeat(place: Place, value: u8, count: usize, buf: &mut [u8]) -> (usize, Plac
 }
 
 // Bytes of a block of which some are left.
-fn read_block<R: Source>(source: &mut R, place: Place, buf: &mut [u8]) -> TiffResult<(usize, Place)>
+fn read_block<R: Source>(
+    source: &mut R,
+    place: PackedPlace,
+    buf: &mut [u8],
+) -> TiffResult<(usize, PackedPlace)>
     requires begun { 0 < count_of place.block }
     requires some { 0 < length buf.old }
     ensures kept { IsKept R.bytes R.failures source.old source.new }
@@ -190,47 +163,89 @@ fn read_block<R: Source>(source: &mut R, place: Place, buf: &mut [u8]) -> TiffRe
     }
 }
 
-// The next bytes of what a place gives, to the front of the buffer; how many, and the place behind them.
-fn read_next<R: Source>(source: &mut R, place: Place, buf: &mut [u8]) -> TiffResult<(usize, Place)>
-    ensures kept { IsKept R.bytes R.failures source.old source.new }
-    ensures bytes { ReadsNext (R.bytes source.old) place (R.failures source.old < R.failures source.new) buf.old buf.new result }
-{
-    if buf.is_empty() {
-        return Ok((0, place));
+impl PackedPlace {
+    /// Before the `length` packed bytes from `at` on; a source may end before them.
+    pub fn new(at: u64, length: u64) -> Self
+        ensures { (bytes : List ℕ) → left_at bytes result ≡ unpacked_at bytes at length }
+    {
+        PackedPlace {
+            block: Block::Literal(0),
+            at,
+            len: length,
+        }
     }
-    let begun = match begun_block(source, place) {
-        Ok(Some(begun)) => begun,
-        Ok(None) => return Ok((0, place)),
-        Err(fault) => return Err(fault),
-    };
-    match read_block(source, begun, buf) {
-        Ok(read) => Ok(read),
-        Err(fault) => Err(fault),
+
+    /// What [`PackBitsReader::read`] reads, from a source that is lent.
+    pub fn read<R: Source>(&mut self, source: &mut R, buf: &mut [u8]) -> TiffResult<usize>
+        ensures empty { length buf.old ≡ 0 → (result ≡ Ok 0) × ((self.new ≡ self.old) × (source.new ≡ source.old)) }
+        ensures kept { IsKept R.bytes R.failures source.old source.new }
+        ensures piece { PieceReads result (unpacking R.bytes R.failures source.old self.old) (unpacking R.bytes R.failures source.new self.new) buf.old buf.new }
+    {
+        if buf.is_empty() {
+            return Ok(0);
+        }
+        let place = match begun_block(source, *self) {
+            Ok(Some(place)) => place,
+            Ok(None) => return Ok(0),
+            Err(fault) => return Err(fault),
+        };
+        match read_block(source, place, buf) {
+            Ok((n, rest)) => {
+                *self = rest;
+                Ok(n)
+            }
+            Err(fault) => Err(fault),
+        }
+    }
+
+    // Fills the buffer with the next bytes; after a fault some of them may have been passed.
+    #[tactic(auto, using(crate::proofs::Unpacking::short_by, crate::proofs::Unpacking::short_cause))]
+    fn fill<R: Source>(&mut self, source: &mut R, buf: &mut [u8]) -> TiffResult<()>
+        ensures kept { IsKept R.bytes R.failures source.old source.new }
+        ensures ok { OnOk result (left_at (R.bytes source.old) self.old ≡ before buf.new (left_at (R.bytes source.old) self.new)) }
+        ensures err { IfErr result (λ e. IsCause ⊥ (R.failures source.old < R.failures source.new) e (IsShort (left_at (R.bytes source.old) self.old) (length buf.old) e)) }
+    {
+        let mut done = 0;
+        while done < buf.len() {
+            let n = match self.read(source, &mut buf[done..]) {
+                Ok(n) => n,
+                Err(fault) => return Err(fault),
+            };
+            if n == 0 {
+                return Err(TiffError::IoError(IoKind::UnexpectedEof));
+            }
+            done += n;
+        }
+        Ok(())
+    }
+
+    /// What [`PackBitsReader::read_exact`] reads, from a source that is lent.
+    pub fn read_exact<R: Source>(&mut self, source: &mut R, buf: &mut [u8]) -> TiffResult<()>
+        ensures kept { IsKept R.bytes R.failures source.old source.new }
+        ensures filled { Fills result (unpacking R.bytes R.failures source.old self.old) (unpacking R.bytes R.failures source.new self.new) buf.new }
+    {
+        let place = *self;
+        if let Err(fault) = self.fill(source, buf) {
+            *self = place;
+            return Err(fault);
+        }
+        Ok(())
     }
 }
 
-/// Fills the buffer with the next bytes that a place in packed data gives, and answers the place behind them. Fewer are left,
-/// however the packed bytes end: `IoError(UnexpectedEof)`.
-#[tactic(auto, using(crate::proofs::Unpacking::more_read, crate::proofs::Unpacking::short_by, crate::proofs::Unpacking::short_cause))]
-pub fn unpack_exact<R: Source>(source: &mut R, place: Place, buf: &mut [u8]) -> TiffResult<Place>
-    ensures kept { IsKept R.bytes R.failures source.old source.new }
-    ensures ok { IfOk result (λ rest. left_at (R.bytes source.old) place ≡ before buf.new (left_at (R.bytes source.old) rest)) }
-    ensures err { IfErr result (λ e. IsCause ⊥ (R.failures source.old < R.failures source.new) e (IsShort (left_at (R.bytes source.old) place) (length buf.old) e)) }
-{
-    let mut place = place;
-    let mut done = 0;
-    while done < buf.len() {
-        let (n, rest) = match read_next(source, place, &mut buf[done..]) {
-            Ok(read) => read,
-            Err(fault) => return Err(fault),
-        };
-        if n == 0 {
-            return Err(TiffError::IoError(IoKind::UnexpectedEof));
-        }
-        place = rest;
-        done += n;
-    }
-    Ok(place)
+/// Unpacks PackBits data of a source (TIFF 6.0 section 9), in pieces of any size and without memory of its own.
+#[derive(Debug, Drop)]
+pub struct PackBitsReader<R: Source> {
+    source: R,
+    place: PackedPlace,
+}
+
+impl<R: Source> Model for PackBitsReader<R> {
+    ghost use Rattle.tiff_ifd.specs.Unpacking.{Unpacking, unpacking};
+
+    ghost Value = { Unpacking };
+
+    ghost view = { λ r. unpacking R.bytes R.failures r.source r.place };
 }
 
 impl<R: Source> PackBitsReader<R> {
@@ -240,7 +255,7 @@ impl<R: Source> PackBitsReader<R> {
     {
         PackBitsReader {
             source,
-            place: Place::new(at, length),
+            place: PackedPlace::new(at, length),
         }
     }
 
@@ -254,16 +269,7 @@ impl<R: Source> PackBitsReader<R> {
         ensures failures { self.old.failures ≤ self.new.failures }
         ensures piece { PieceReads result self.old self.new buf.old buf.new }
     {
-        if buf.is_empty() {
-            return Ok(0);
-        }
-        match read_next(&mut self.source, self.place, buf) {
-            Ok((n, rest)) => {
-                self.place = rest;
-                Ok(n)
-            }
-            Err(fault) => Err(fault),
-        }
+        self.place.read(&mut self.source, buf)
     }
 
     /// Fills the buffer with the next bytes. Fewer are left, however the packed bytes end: `IoError(UnexpectedEof)`. After a
@@ -273,12 +279,6 @@ impl<R: Source> PackBitsReader<R> {
         ensures failures { self.old.failures ≤ self.new.failures }
         ensures filled { Fills result self.old self.new buf.new }
     {
-        match unpack_exact(&mut self.source, self.place, buf) {
-            Ok(rest) => {
-                self.place = rest;
-                Ok(())
-            }
-            Err(fault) => Err(fault),
-        }
+        self.place.read_exact(&mut self.source, buf)
     }
 }

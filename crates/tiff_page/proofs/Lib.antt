@@ -10,3 +10,4 @@ pub mod Data
 pub mod Handing
 pub mod Units
 pub mod Rows
+pub mod RowLaws

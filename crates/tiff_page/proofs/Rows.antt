@@ -49,29 +49,29 @@ each_at size k row h =
 -- ---- the four sizes
 
 -- the number of n digits, the least first
-abbrev digits : (ℕ → ℕ) → ℕ → ℕ
+abbrev pub digits : (ℕ → ℕ) → ℕ → ℕ
 digits f zero = 0
 digits f (suc n) = digits f n + 256 ^ n * f n
 
 -- what holds of the four sizes
-by_size : (P : ℕ → Type 0) (size : ℕ) → P 1 → P 2 → P 4 → P 8 → IsSize size → P size
+pub by_size : (P : ℕ → Type 0) (size : ℕ) → P 1 → P 2 → P 4 → P 8 → IsSize size → P size
 by_size P size a b c d (inl e) = subst P (sym e) a
 by_size P size a b c d (inr (inl e)) = subst P (sym e) b
 by_size P size a b c d (inr (inr (inl e))) = subst P (sym e) c
 by_size P size a b c d (inr (inr (inr e))) = subst P (sym e) d
 
-little_digits : (size : ℕ) (f : ℕ → ℕ) → IsSize size → number LittleEndian (width_of size) (each_to size f) ≡ digits f size
+pub little_digits : (size : ℕ) (f : ℕ → ℕ) → IsSize size → number LittleEndian (width_of size) (each_to size f) ≡ digits f size
 unfolding number
 little_digits size f s =
     by_size (λ n. number LittleEndian (width_of n) (each_to n f) ≡ digits f n) size (omega arith) (omega arith) (omega arith) (omega arith) s
 
 -- the most significant first is the least first the other way round
-big_as_little : (size : ℕ) (f : ℕ → ℕ) → IsSize size → number BigEndian (width_of size) (each_to size f) ≡ number LittleEndian (width_of size) (each_to size (λ j. f (size - 1 - j)))
+pub big_as_little : (size : ℕ) (f : ℕ → ℕ) → IsSize size → number BigEndian (width_of size) (each_to size f) ≡ number LittleEndian (width_of size) (each_to size (λ j. f (size - 1 - j)))
 unfolding number
 big_as_little size f s =
     by_size (λ n. number BigEndian (width_of n) (each_to n f) ≡ number LittleEndian (width_of n) (each_to n (λ j. f (n - 1 - j)))) size (omega arith) (omega arith) (omega arith) (omega arith) s
 
-digits_lt : (f : ℕ → ℕ) (n : ℕ) → ((j : ℕ) → f j < 256) → digits f n < 256 ^ n
+pub digits_lt : (f : ℕ → ℕ) (n : ℕ) → ((j : ℕ) → f j < 256) → digits f n < 256 ^ n
 digits_lt f zero b = omega arith
 digits_lt f (suc n) b =
     let h : 256 ^ n * f n ≤ 256 ^ n * 255 = mul-le-mul_left (256 ^ n) (omega (arith, b n)) in
@@ -81,7 +81,7 @@ pub number_lt : (size : ℕ) (row : List ℕ) (k : ℕ) → IsSize size → ((i 
 number_lt size row k s b =
     subst (λ (n : ℕ). n < 256 ^ size) (sym (little_digits size (λ j. get_or row (k * size + j) 0) s)) (digits_lt (λ j. get_or row (k * size + j) 0) size (λ j. b (k * size + j)))
 
-one_number : (row : List ℕ) (k : ℕ) → row_number LittleEndian 1 row k ≡ get_or row k 0
+pub one_number : (row : List ℕ) (k : ℕ) → row_number LittleEndian 1 row k ≡ get_or row k 0
 unfolding number
 one_number row k = let e : k * 1 + 0 ≡ k = omega arith in ap (λ (i : ℕ). get_or row i 0) e
 
@@ -286,27 +286,50 @@ summed_is s old k =
     ∙ ap (λ (n : ℕ). sum_by (λ c. get_or old (k / s * s + k % s - c * s) 0) (range_with_len 0 n)) (sym (add-one (k / s)))
     ∙ ap (λ (m : ℕ). sum_by (λ c. get_or old (m - c * s) 0) (range_with_len 0 (k / s + 1))) e)
 
+-- where a byte of a plane stands
+pub plane_within : (size count j k len : ℕ) → j < size → k < count → size * count ≤ len → (size - 1 - j) * count + k < len
+plane_within size count j k len a b h =
+    let n : (size - 1 - j) * count ≤ (size - 1) * count = mul-le-mul_right count (omega arith) in
+    let t : (size - 1) * count + count ≡ size * count = (let u : size ≡ (size - 1) + 1 = omega (arith, a) in sym (ap (λ (x : ℕ). x * count) u ∙ omega arith)) in
+    omega (arith, n, t, b, h)
+
+pub planes_within : (size len : ℕ) → size * (len / size) ≤ len
+planes_within size len = omega (arith, div-mul-le_self len size, mul_comm size (len / size))
+
+put_at : (row part : List ℕ) (at k j : ℕ) → at + k ≤ length row → length part ≡ k → j < k → get_or (put_mid at k row part) (at + j) 0 ≡ get_or part j 0
+put_at row part at k j h l b =
+    sym (get_or-drop at (put_mid at k row part) j 0) ∙ sym (get_or-take k (drop at (put_mid at k row part)) j 0 b) ∙ ap (λ (xs : List ℕ). get_or xs j 0) (put_there row part at k h l)
+
+-- one more number of planes is put together
+pub join_more : (size count k n m : ℕ) (planes row part : List ℕ) → n ≡ size → m ≡ size → length part ≡ size → (k + 1) * size ≤ length row
+    → ((j : ℕ) → j < length part → get_or part j 0 ≡ get_or planes ((m - 1 - j) * count + k) 0)
+    → ((i : ℕ) → i < k → (j : ℕ) → j < size → get_or row (i * size + j) 0 ≡ get_or planes ((size - 1 - j) * count + i) 0)
+    → (i : ℕ) → i < k + 1 → (j : ℕ) → j < size → get_or (put_mid (k * size) n row part) (i * size + j) 0 ≡ get_or planes ((size - 1 - j) * count + i) 0
+join_more size count k n m planes row part e f l w next done i b j c =
+    let v : k * size + n ≤ length row = omega (arith, w, e) in
+    ⊎_elim
+    (λ q. (let u : (i + 1) * size ≤ k * size = mul-le-mul_right size (omega (arith, q)) in
+    put_below row part (k * size) n (i * size + j) (omega (arith, v)) (omega (arith, u, c)) ∙ done i q j c))
+    (λ q. (let g : k ≡ i = omega (arith, q, b) in
+    subst (λ (x : ℕ). get_or (put_mid (k * size) n row part) (x * size + j) 0 ≡ get_or planes ((size - 1 - j) * count + x) 0) g
+    (put_at row part (k * size) n j v (omega (arith, l, e)) (omega (arith, c, e)) ∙ next j (omega (arith, c, l)) ∙ ap (λ (x : ℕ). get_or planes ((x - 1 - j) * count + k) 0) f)))
+    (cases_lt i k)
+
 -- the numbers of planes that are joined
-joined : (size s : ℕ) (old mid new : List ℕ) → IsSize size → length old / size * size ≡ length old → length mid ≡ length old → length new ≡ length old
-    → ((k : ℕ) → (k + 1) * 1 ≤ length old → row_number LittleEndian 1 mid k ≡ summed_number 1 s old k)
-    → ((i : ℕ) → i < length new → i < length mid / size * size → get_or new i 0 ≡ get_or mid ((size - 1 - i % size) * (length mid / size) + i / size) 0)
+pub joined : (size s : ℕ) (old mid planes new : List ℕ) → IsSize size → length old / size * size ≡ length old → length mid ≡ length old → length new ≡ length old
+    → ((k : ℕ) → (k + 1) * 1 ≤ length old → row_number LittleEndian 1 mid k ≡ summed_number 1 s old k) → planes ≡ mid
+    → ((k : ℕ) → k < length planes / size → (j : ℕ) → j < size → get_or new (k * size + j) 0 ≡ get_or planes ((size - 1 - j) * (length planes / size) + k) 0)
     → Became size (joined_number size s (length old / size) old) old new
-joined size s old mid new z whole l m sums each =
+joined size s old mid planes new z whole l m sums e each =
     let count = length old / size in
     let p : 0 < size = some_size size z in
-    let mids : length mid / size ≡ count = ap (λ (n : ℕ). n / size) l in
+    let counts : length planes / size ≡ count = ap (λ (n : ℕ). n / size) (ap length e ∙ l) in
     let at_number : (k : ℕ) → (k + 1) * size ≤ length old → (j : ℕ) → j < size → get_or new (k * size + j) 0 ≡ summed_byte_in s old ((size - 1 - j) * count + k) =
     λ k h j b.
     let c : k < count = number_before k size (length old) p h in
-    let q : (k * size + j) / size ≡ k = div-mul-add k size j b in
-    let r : (k * size + j) % size ≡ j = mod-mul-add k size j b in
-    let w : k * size + j < length old = omega (arith, h, b) in
-    let n : (size - 1 - j) * count ≤ (size - 1) * count = mul-le-mul_right count (omega arith) in
-    let o : size * count ≡ length old = mul_comm size count ∙ whole in
-    let t : (size - 1) * count + count ≡ size * count = (let u : size ≡ (size - 1) + 1 = omega (arith, p) in sym (ap (λ (x : ℕ). x * count) u ∙ omega arith)) in
-    let v : (size - 1 - j) * count + k < length old = omega (arith, n, o, t, c) in
-    each (k * size + j) (omega (arith, w, m)) (omega (arith, w, whole, ap (λ (x : ℕ). x * size) mids))
-    ∙ (λ i. get_or mid ((size - 1 - r i) * mids i + q i) 0)
+    let v : (size - 1 - j) * count + k < length old = plane_within size count j k (length old) b c (planes_within size (length old)) in
+    each k (omega (arith, c, counts)) j b
+    ∙ (λ i. get_or (e i) ((size - 1 - j) * counts i + k) 0)
     ∙ sym (one_number mid ((size - 1 - j) * count + k)) ∙ sums ((size - 1 - j) * count + k) (omega (arith, v)) ∙ summed_is s old ((size - 1 - j) * count + k) in
     record {
       numbers = λ k h.
@@ -314,15 +337,6 @@ joined size s old mid new z whole l m sums each =
           ∙ sym (big_as_little size (λ j. summed_byte_in s old (j * count + k)) z);
       behind = λ i h. get_or_past new i 0 (omega (arith, h, whole, m)) ∙ sym (get_or_past old i 0 (omega (arith, h, whole)));
     }
-
--- the same where the planes were copied
-pub joined_copy : (size s : ℕ) (old mid planes new : List ℕ) → IsSize size → length old / size * size ≡ length old → length mid ≡ length old → length new ≡ length old
-    → ((k : ℕ) → (k + 1) * 1 ≤ length old → row_number LittleEndian 1 mid k ≡ summed_number 1 s old k) → planes ≡ mid
-    → ((i : ℕ) → i < length new → i < length planes / size * size → get_or new i 0 ≡ get_or planes ((size - 1 - i % size) * (length planes / size) + i / size) 0)
-    → Became size (joined_number size s (length old / size) old) old new
-joined_copy size s old mid planes new z whole l m sums e each =
-    joined size s old mid new z whole l m sums
-    (subst (λ (xs : List ℕ). (i : ℕ) → i < length new → i < length xs / size * size → get_or new i 0 ≡ get_or xs ((size - 1 - i % size) * (length xs / size) + i / size) 0) e each)
 
 -- ---- numbers the other way round
 

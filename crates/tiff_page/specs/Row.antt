@@ -4,7 +4,10 @@ use Rattle.std.specs.List.{range_with_len}
 use Rattle.tiff_base.specs.declared.tags.ByteOrder.{ByteOrder}
 use Rattle.tiff_base.specs.declared.tags.ByteOrder.TheVariants.{LittleEndian, BigEndian}
 use Rattle.tiff_base.specs.Number.{number}
-use Rattle.tiff_page.specs.Pixels.{each_to, width_of}
+use Rattle.tiff_base.specs.declared.tags.Predictor.TheVariants as predictor
+use Rattle.tiff_base.specs.Told.{AreOctets}
+use Rattle.tiff_page.specs.Page.{PageRecord}
+use Rattle.tiff_page.specs.Pixels.{each_to, width_of, stored_samples, stored_byte, number_size, in_row, raw_number, number_by}
 
 -- how many bytes a number has
 abbrev pub IsSize : ℕ → Type 0
@@ -39,3 +42,43 @@ pub record AddsNumber (size : ℕ) (old : List ℕ) (from to : ℕ) (new : List 
   pub sum : row_number LittleEndian size new to ≡ (row_number LittleEndian size old from + row_number LittleEndian size old to) % 256 ^ size
   pub below : (i : ℕ) → i < to * size → slice_index new i ≡ slice_index old i
   pub above : (i : ℕ) → to * size + size ≤ i → slice_index new i ≡ slice_index old i
+
+-- ---- its laws
+
+-- a list holds the first bytes of a row of a chunk
+abbrev pub HoldsRow : List ℕ → ByteOrder → PageRecord → ℕ → ℕ → List ℕ → Type 0
+HoldsRow file order p i r row = (k : ℕ) → k < length row → slice_index row k ≡ stored_byte file order p i r k
+
+-- the number of a sample has all its bytes in a row
+abbrev pub IsInRow : List ℕ → ByteOrder → PageRecord → List ℕ → ℕ → ℕ → Type 0
+IsInRow file order p row column sample = (in_row file order p column sample + 1) * number_size file order p ≤ length row
+
+-- The numbers of a row are those of the chunk's row.
+abbrev pub NumbersAreRaw : Type 0
+NumbersAreRaw = (file : List ℕ) (order : ByteOrder) (p : PageRecord) (i r : ℕ) (row : List ℕ) (column sample : ℕ) → HoldsRow file order p i r row
+    → IsInRow file order p row column sample
+    → row_number order (number_size file order p) row (in_row file order p column sample) ≡ raw_number file order p i r column sample
+
+-- The sums along a row, of numbers that are turned to little-endian, are what the horizontal predictor says.
+abbrev pub SumsAreHorizontal : Type 0
+SumsAreHorizontal = (file : List ℕ) (order : ByteOrder) (p : PageRecord) (i r : ℕ) (row little : List ℕ) (column sample : ℕ) → HoldsRow file order p i r row
+    → IsSize (number_size file order p) → p.depth ≡ 8 * number_size file order p → Became (number_size file order p) (row_number order (number_size file order p) row) row little
+    → sample < stored_samples p → IsInRow file order p row column sample
+    → summed_number (number_size file order p) (stored_samples p) little (in_row file order p column sample) ≡ number_by file order p predictor.Horizontal i r column sample
+
+-- The numbers that are joined of a whole row are what the byte-plane predictor says.
+abbrev pub JoinsArePlanes : Type 0
+JoinsArePlanes = (file : List ℕ) (order : ByteOrder) (p : PageRecord) (i r : ℕ) (row : List ℕ) (column sample : ℕ) → HoldsRow file order p i r row
+    → IsSize (number_size file order p) → length row ≡ p.chunk_width * stored_samples p * number_size file order p
+    → column < p.chunk_width → sample < stored_samples p
+    → joined_number (number_size file order p) (stored_samples p) (length row / number_size file order p) row (in_row file order p column sample)
+    ≡ number_by file order p predictor.FloatingPoint i r column sample
+
+-- A row whose bytes are complemented has each number less than what its bytes hold by the number that it was, and one.
+abbrev pub ComplementsInvert : Type 0
+ComplementsInvert = (size : ℕ) (old new : List ℕ) (k : ℕ) → IsSize size → AreOctets old → ((i : ℕ) → i < length old → slice_index new i ≡ 255 - slice_index old i)
+    → (k + 1) * size ≤ length old → row_number LittleEndian size new k ≡ 256 ^ size - 1 - row_number LittleEndian size old k
+
+-- A byte of a row of little-endian numbers is that byte of its number.
+abbrev pub BytesOfNumbers : Type 0
+BytesOfNumbers = (size : ℕ) (row : List ℕ) (k j : ℕ) → IsSize size → AreOctets row → j < size → slice_index row (k * size + j) ≡ row_number LittleEndian size row k / 256 ^ j % 256

@@ -1,6 +1,6 @@
 //! The rows of a chunk, undone in place: numbers to little-endian, predictors, complements.
 
-ghost use Rattle.std.specs.Prelude.{◌≡◌, ◌+◌, ◌-◌, ◌*◌, ◌/◌, ◌%◌, ◌<◌, ◌≤◌, length, slice_index, EachIndex};
+ghost use Rattle.std.specs.Prelude.{◌≡◌, ℕ, ◌+◌, ◌-◌, ◌*◌, ◌/◌, ◌%◌, ◌<◌, ◌≤◌, length, slice_index, EachIndex};
 ghost use Rattle.tiff_base.specs.declared.tags.ByteOrder.TheVariants.{LittleEndian};
 ghost use Rattle.tiff_page.specs.Row.{IsSize, row_number, summed_number, joined_number, Became, AddsNumber};
 
@@ -95,15 +95,29 @@ pub fn undo_horizontal(row: &mut [u8], size: usize, stored: usize)
     }
 }
 
+// Puts the bytes of one number together: in planes of `count` bytes, the most significant first, it has number `k`.
+fn join_number(planes: &[u8], count: usize, k: usize, number: &mut [u8])
+    requires k { k < count }
+    requires within { length number.old * count ≤ length planes.now }
+    ensures { EachIndex number.new (λ j. slice_index number.new j ≡ slice_index planes.now ((length number.old - 1 - j) * count + k)) }
+{
+    let size = number.len();
+    for j in 0..size {
+        number[j] = planes[(size - 1 - j) * count + k];
+    }
+}
+
 // Puts the numbers of a row of planes together: the most significant bytes of all numbers stand first.
 fn join_planes(planes: &[u8], size: usize, row: &mut [u8])
     requires size { 0 < size }
     requires same { length planes.now ≡ length row.old }
-    ensures { EachIndex row.new (λ i. (i < length planes.now / size * size) → slice_index row.new i ≡ slice_index planes.now ((size - 1 - i % size) * (length planes.now / size) + i / size)) }
+    ensures { (k : ℕ) → k < length planes.now / size → (j : ℕ) → j < size
+        → slice_index row.new (k * size + j) ≡ slice_index planes.now ((size - 1 - j) * (length planes.now / size) + k) }
 {
     let count = planes.len() / size;
-    for i in 0..count * size {
-        row[i] = planes[(size - 1 - i % size) * count + i / size];
+    for k in 0..count {
+        let at = k * size;
+        join_number(planes, count, k, &mut row[at..at + size]);
     }
 }
 

@@ -17,6 +17,8 @@ mod reading;
 #[cfg(test)]
 mod tags;
 #[cfg(test)]
+mod undone;
+#[cfg(test)]
 mod values;
 #[cfg(test)]
 mod writing;

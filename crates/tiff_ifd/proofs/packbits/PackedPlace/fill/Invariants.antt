@@ -1,7 +1,7 @@
 use Rattle.std.proofs.Common.{◌≡◌, ◌-◌, ◌≤◌, length, take}
 use Rattle.tiff_base.specs.Runs.{before}
 use Rattle.tiff_ifd.specs.Unpacking.{left_at}
-use Rattle.tiff_ifd.proofs.packbits.unpack_exact.Given as goal
+use Rattle.tiff_ifd.proofs.packbits.PackedPlace.fill.Given as goal
 
 -- what was read, then what is left, is what was left
 abbrev pub invariant-loop-done : goal.invariant-loop-done
@@ -11,7 +11,7 @@ invariant-loop-done g l =
       within : l.done ≤ length l.buf;
       same_bytes : g.R.Source.bytes l.source ≡ bytes;
       count : g.R.Source.failures l.fn.source ≤ g.R.Source.failures l.source;
-      read : left_at bytes l.fn.place ≡ before (take l.done l.buf) (left_at bytes l.place);
+      read : left_at bytes l.fn.self ≡ before (take l.done l.buf) (left_at bytes l.self);
     }
 
 abbrev pub decreases-loop-done : goal.decreases-loop-done
