@@ -3,9 +3,9 @@ use Rattle.std.proofs.Common.{◌≡◌, ℕ, ◌+◌, ◌-◌, ◌<◌, ◌≤�
 use Rattle.std.proofs.lemmas.List.{drop_all, drop-append-le, length-append}
 use Rattle.tiff_base.specs.Runs.{Unpacked, before}
 use Rattle.tiff_ifd.specs.Unpacking.{left_at, unpacked_at}
-use Rattle.tiff_ifd.specs.declared.packbits.Place.{Place}
+use Rattle.tiff_ifd.specs.declared.packbits.PackedPlace.{PackedPlace}
 
-pub unpacked_out : (bytes : List ℕ) (place : Place) (at len : ℕ) → left_at bytes place ≡ unpacked_at bytes at len → (left_at bytes place).out ≡ (unpacked_at bytes at len).out
+pub unpacked_out : (bytes : List ℕ) (place : PackedPlace) (at len : ℕ) → left_at bytes place ≡ unpacked_at bytes at len → (left_at bytes place).out ≡ (unpacked_at bytes at len).out
 unpacked_out bytes place at len e = ap (λ (u : Unpacked). u.out) e
 
 -- nothing stands behind the last byte of a source

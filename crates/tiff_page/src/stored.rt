@@ -13,13 +13,13 @@ use tiff_base::error::{TiffError, TiffResult};
 use tiff_base::io::{IoKind, Source};
 use tiff_base::read::read_exact_at;
 use tiff_base::tags::CompressionMethod;
-use tiff_ifd::packbits::{Place, unpack_exact};
+use tiff_ifd::packbits::PackedPlace;
 
 /// A place in the data of a chunk: in the file, in packed data, or behind the last byte of these.
 #[derive(Clone, Copy, Debug)]
 pub enum Stored {
     Plain(u64),
-    Packed(Place),
+    Packed(PackedPlace),
     Ended,
 }
 
@@ -27,7 +27,7 @@ pub enum Stored {
 const PIECE: usize = 65536;
 
 // Passes so many bytes of packed data, or all that are left.
-fn pass_packed<R: Source>(source: &mut R, place: Place, n: u64) -> TiffResult<Stored>
+fn pass_packed<R: Source>(source: &mut R, place: PackedPlace, n: u64) -> TiffResult<Stored>
     ensures kept { IsKept R.bytes R.failures source.old source.new }
     ensures passed { Passes (R.bytes source.old) (Packed place) (R.failures source.old < R.failures source.new) n result }
 {
@@ -36,8 +36,8 @@ fn pass_packed<R: Source>(source: &mut R, place: Place, n: u64) -> TiffResult<St
     let mut left = n;
     while left > 0 {
         let len = left.min(512);
-        match unpack_exact(source, place, &mut piece[..len as usize]) {
-            Ok(rest) => place = rest,
+        match place.read_exact(source, &mut piece[..len as usize]) {
+            Ok(()) => {}
             Err(TiffError::IoError(IoKind::UnexpectedEof)) => return Ok(Stored::Ended),
             Err(fault) => return Err(fault),
         }
@@ -54,7 +54,7 @@ impl Stored {
         ensures { (file : List ℕ) (order : ByteOrder) (p : PageRecord) → left_of file result ≡ data_by file order p method at count }
     {
         match method {
-            CompressionMethod::PackBits => Stored::Packed(Place::new(at, count)),
+            CompressionMethod::PackBits => Stored::Packed(PackedPlace::new(at, count)),
             _ => Stored::Plain(at),
         }
     }
@@ -69,8 +69,8 @@ impl Stored {
                 Ok(()) => Ok(Stored::Plain(at + buf.len() as u64)),
                 Err(fault) => Err(fault),
             },
-            Stored::Packed(place) => match unpack_exact(source, place, buf) {
-                Ok(rest) => Ok(Stored::Packed(rest)),
+            Stored::Packed(mut place) => match place.read_exact(source, buf) {
+                Ok(()) => Ok(Stored::Packed(place)),
                 Err(fault) => Err(fault),
             },
             Stored::Ended => {
