@@ -7,7 +7,8 @@ pub mod Chunks
 pub mod Rects
 pub mod Covering
 pub mod Data
-pub mod Handing
+pub mod ChunkRows
 pub mod Units
+pub mod ChunkRead
 pub mod Rows
 pub mod RowLaws

@@ -14,4 +14,6 @@ pub mod Place
 pub mod Placing
 pub mod Stored
 pub mod Handed
+pub mod Read
+pub mod Reading
 pub mod Laws

@@ -101,17 +101,17 @@ fn white_fault(page: &Page, colour: ColorType) -> TiffResult<()>
 /// a predictor, a method or an inversion that isn't supported: its `UnsupportedError`; more bytes in the file than
 /// `intermediate_buffer_size`: `LimitsExceeded`.
 #[tactic(auto, unfolding(crate::specs::PixelFault::form_fault))]
-pub fn form_fault(page: &Page, limits: &Limits, colour: ColorType, index: u32) -> TiffResult<()>
+pub fn form_fault(page: &Page, limits: &Limits, colour: ColorType, index: usize) -> TiffResult<()>
     ensures answer { AnswersHere (λ _. tt) result (spec.form_fault (view.page page.now) limits.now colour index) }
     ensures within { OnOk result (index < length page.now.offsets) }
 {
     let byte_counts = page.byte_counts.as_slice();
-    if index as usize >= byte_counts.len() {
+    if index >= byte_counts.len() {
         return Err(TiffFormatError::InconsistentSizesEncountered.into());
     }
     depth_fault(page, colour)?;
     predictor_fault(page, colour)?;
-    if byte_counts[index as usize] > limits.intermediate_buffer_size as u64 {
+    if byte_counts[index] > limits.intermediate_buffer_size as u64 {
         return Err(TiffError::LimitsExceeded);
     }
     method_fault(page.method)?;

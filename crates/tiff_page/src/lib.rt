@@ -3,8 +3,10 @@
 
 pub mod buffers;
 pub mod checks;
+pub mod chunk;
 pub mod counts;
 pub mod faults;
+pub mod handed;
 pub mod image;
 pub mod laws;
 pub mod layout;

@@ -1,4 +1,4 @@
-use Rattle.tiff_page.proofs.Handing.{row_handed}
+use Rattle.tiff_page.proofs.ChunkRows.{row_handed}
 use Rattle.tiff_page.proofs.place.row_handed.Goals as goal
 
 pub returns : goal.returns

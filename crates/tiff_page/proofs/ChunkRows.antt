@@ -20,7 +20,7 @@ use Rattle.tiff_page.specs.Page.{PageRecord}
 use Rattle.tiff_page.specs.Counts.{all_chunks, planes_of, parts}
 use Rattle.tiff_page.specs.Rect.{rect, across, chunks_of_plane}
 use Rattle.tiff_page.specs.Layout.{row_bits, row_bytes, shown}
-use Rattle.tiff_page.specs.Pixels.{each_to, width_of, planar_or, stored_samples, stored_row_bytes, chunk_data, stored_byte, is_byte_plane, needed_of_last, inverted, number_by, chunk_at, packed_byte, number_byte, region_byte, chunk_region, shown_sample}
+use Rattle.tiff_page.specs.Pixels.{each_to, width_of, planar_or, stored_samples, stored_row_bytes, chunk_data, stored_byte, is_byte_plane, needs_whole_rows, needed_of_last, inverted, number_by, chunk_at, packed_byte, number_byte, region_byte, chunk_region, shown_sample}
 use Rattle.tiff_page.specs.Laws.{HasSides}
 use Rattle.tiff_page.specs.Row.{row_number, summed_byte_in, joined_number}
 use Rattle.tiff_page.specs.Place.{chunk_byte}
@@ -140,9 +140,9 @@ module _ (file : List ℕ) (order : ByteOrder) (p : PageRecord) (colour : ColorT
   pub needed_more : row_bytes p colour (rect p k).width ≤ need
   needed_more =
       ⊎_elim
-      (λ (e : (is_byte_plane file order p p.predictor || nat_lt s t) ≡ true). rw e stored_more)
-      (λ (e : (is_byte_plane file order p p.predictor || nat_lt s t) ≡ false). rw e (omega arith))
-      (cases_Bool (is_byte_plane file order p p.predictor || nat_lt s t))
+      (λ (e : needs_whole_rows p colour ≡ true). rw e stored_more)
+      (λ (e : needs_whole_rows p colour ≡ false). rw e (omega arith))
+      (cases_Bool (needs_whole_rows p colour))
 
   -- ---- depths below 8
 
@@ -204,14 +204,14 @@ module _ (file : List ℕ) (order : ByteOrder) (p : PageRecord) (colour : ColorT
         let f = bytes_stored in
         let w = width_below in
         ⊎_elim
-        (λ (h : (is_byte_plane file order p p.predictor || nat_lt s t) ≡ true).
+        (λ (h : needs_whole_rows p colour ≡ true).
         let m : (rect p k).width * t * size ≤ p.chunk_width * t * size = mul-le-mul_right size (mul-le-mul_right t w) in
         rw h (omega (arith, m, f)))
-        (λ (h : (is_byte_plane file order p p.predictor || nat_lt s t) ≡ false).
-        let l : t ≤ s = none_dropped (is_byte_plane file order p p.predictor) s t h in
+        (λ (h : needs_whole_rows p colour ≡ false).
+        let l : t ≤ s = none_dropped (is_byte_plane p.predictor) s t h in
         let m : (rect p k).width * t * size ≤ (rect p k).width * s * size = mul-le-mul_right size (mul-le-mul_left (rect p k).width l) in
         rw h (omega (arith, m, e)))
-        (cases_Bool (is_byte_plane file order p p.predictor || nat_lt s t))
+        (cases_Bool (needs_whole_rows p colour))
 
     pub raw_is : (c : ℕ) → c ≤ col → number order (width_of size) (each_to size (λ i. stored_byte file order p k r ((c * t + sample) * size + i)))
         ≡ row_number order size row (c * t + sample)
@@ -224,7 +224,7 @@ module _ (file : List ℕ) (order : ByteOrder) (p : PageRecord) (colour : ColorT
         (each_same size (λ i. stored_byte file order p k r ((c * t + sample) * size + i)) (λ i. slice_index row ((c * t + sample) * size + i))
         (λ i il. sym (byte_of_row ((c * t + sample) * size + i) (omega (arith, il, m, q)))))
 
-    pub plane_byte_is : is_byte_plane file order p p.predictor ≡ true → (q : ℕ) → q < stored_row_bytes p
+    pub plane_byte_is : is_byte_plane p.predictor ≡ true → (q : ℕ) → q < stored_row_bytes p
         → sum_by (λ m. stored_byte file order p k r (q - m * t)) (range_with_len 0 (q / t + 1)) % 256 ≡ summed_byte_in t row q
     plane_byte_is e q l =
         let f : need ≡ stored_row_bytes p = rw e refl in
@@ -239,7 +239,7 @@ module _ (file : List ℕ) (order : ByteOrder) (p : PageRecord) (colour : ColorT
         (sum_same (col + 1) 0 (λ c. number order (width_of size) (each_to size (λ i. stored_byte file order p k r ((c * t + sample) * size + i)))) (λ c. row_number order size row (c * t + sample))
         (λ c h l. raw_is c (omega (arith, l))))
     number_is predictor.FloatingPoint e =
-        let f : is_byte_plane file order p p.predictor ≡ true = ap (is_byte_plane file order p) (sym e) in
+        let f : is_byte_plane p.predictor ≡ true = ap is_byte_plane (sym e) in
         let l : n / s * t + n % s + 1 ≤ (rect p k).width * t = number_in_row n s t (rect p k).width stored.shows stored.stores number_below in
         let w : (rect p k).width * t ≤ p.chunk_width * t = mul-le-mul_right t width_below in
         let g = bytes_stored in

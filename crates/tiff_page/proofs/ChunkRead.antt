@@ -1,0 +1,106 @@
+-- The rows of a chunk are read one after another.
+use Rattle.std.proofs.Common.{rules, ◌≡◌, ℕ, ◌+◌, ◌-◌, ◌*◌, ◌/◌, ◌<◌, ◌≤◌, ◌⊎◌, true, false, List, take, drop, length, Ok, Err, refl, ap, sym, ◌∙◌, subst, ⊎_elim, arith, drop-drop, length-drop}
+use Rattle.std.specs.Prelude.{nat_lt, slice_index, Result}
+use Rattle.std.proofs.lemmas.Bool.{cases_Bool, cases_lt, lt-ltb, le-ltb}
+use Rattle.std.proofs.Math.Nat.{le-mul_of_pos_right, mul-le-mul_right}
+use Rattle.tiff_base.specs.declared.color.ColorType.{ColorType}
+use Rattle.tiff_base.specs.declared.error.TiffError.{TiffError}
+use Rattle.tiff_base.specs.declared.error.TiffError.TheVariants.{IoError}
+use Rattle.tiff_base.specs.declared.io.IoKind.TheVariants.{UnexpectedEof}
+use Rattle.tiff_base.specs.declared.tags.ByteOrder.{ByteOrder}
+use Rattle.tiff_base.specs.Answers.{IsCause}
+use Rattle.tiff_base.proofs.Causes.{cause_along}
+use Rattle.tiff_page.specs.Page.{PageRecord}
+use Rattle.tiff_page.specs.Counts.{all_chunks}
+use Rattle.tiff_page.specs.Rect.{rect}
+use Rattle.tiff_page.specs.Layout.{row_bits, row_bytes, shown}
+use Rattle.tiff_page.specs.PixelFault.{unless}
+use Rattle.tiff_page.specs.Pixels.{chunk_data, stored_row_bytes, needs_whole_rows, is_short}
+use Rattle.tiff_page.specs.Laws.{HasSides}
+use Rattle.tiff_page.specs.Place.{chunk_byte}
+use Rattle.tiff_page.specs.Handed.{IsStored, handed_byte}
+use Rattle.tiff_page.specs.Reading.{needed_of_row, TakesRow}
+use Rattle.tiff_page.specs.Stored.{IsTooShort}
+use Rattle.tiff_page.proofs.Sizes.{product_some}
+use Rattle.tiff_page.proofs.ChunkRows.{row_handed, stored_more, needed_more}
+
+-- a row lies in the buffer
+pub row_below : (top h stride len row : ℕ) → 0 < stride → (top + h) * stride ≤ len → row < h → top + row < len
+row_below top h stride len row s l r =
+    let e : top + h ≤ (top + h) * stride = le-mul_of_pos_right (top + h) s in
+    omega (arith, e, l, r)
+
+-- a row is of some bytes
+pub row_some : (p : PageRecord) (colour : ColorType) (w : ℕ) → 0 < w → 0 < p.depth → 0 < shown p.planar colour → 0 < row_bytes p colour w
+unfolding row_bits
+row_some p colour w a b s = product_some w p.depth (shown p.planar colour) a b s
+
+module _ (file : List ℕ) (order : ByteOrder) (p : PageRecord) (colour : ColorType) (k : ℕ) (sides : HasSides p) (stored : IsStored p colour) (listed : k < all_chunks p) where
+  abbrev pub h : ℕ
+  h = (rect p k).height
+
+  abbrev pub len : ℕ
+  len = row_bytes p colour (rect p k).width
+
+  abbrev pub need : ℕ
+  need = needed_of_row p colour len
+
+  abbrev pub bytes : List ℕ
+  bytes = chunk_data file order p k
+
+  -- the bytes of a row that was read are those of the chunk's row
+  pub row_bytes_are : (r : ℕ) (left rest out : List ℕ) → r < h → length out ≡ len → left ≡ drop (r * stored_row_bytes p) bytes → TakesRow order p colour left rest out
+      → (b : ℕ) → b < len → slice_index out b ≡ chunk_byte file order p colour k r b
+  row_bytes_are r left rest out rl e d t b bl =
+      t.handed b (omega (arith, bl, e))
+      ∙ (λ z. handed_byte order p (take (needed_of_row p colour (e z)) (d z)) colour b)
+      ∙ sym (row_handed file order p colour k r b sides stored listed rl bl)
+
+  -- the data hold the rows so far
+  pub row_held : (r : ℕ) (left rest out : List ℕ) → 0 < len → r < h → length out ≡ len → left ≡ drop (r * stored_row_bytes p) bytes → TakesRow order p colour left rest out
+      → r * stored_row_bytes p + need ≤ length bytes
+  row_held r left rest out some rl e d t =
+      let a : need ≤ length left = subst (λ (n : ℕ). needed_of_row p colour n ≤ length left) e t.enough in
+      let f : length left ≡ length bytes - r * stored_row_bytes p = ap (λ (z : List ℕ). length z) d ∙ length-drop (r * stored_row_bytes p) bytes in
+      let g : len ≤ need = needed_more file order p colour k r 0 sides stored listed rl some in
+      omega (arith, a, f, g, some)
+
+  pub need_within : 0 < len → 0 < h → need ≤ stored_row_bytes p
+  need_within some rows =
+      let l : len ≤ stored_row_bytes p = stored_more file order p colour k 0 0 sides stored listed rows some in
+      ⊎_elim
+      (λ (e : needs_whole_rows p colour ≡ true). rw e (omega arith))
+      (λ (e : needs_whole_rows p colour ≡ false). rw e (omega (arith, l)))
+      (cases_Bool (needs_whole_rows p colour))
+
+  -- where the next row stands
+  pub next_row : (r gap : ℕ) (left rest next out : List ℕ) → 0 < len → r + 1 < h → length out ≡ len → left ≡ drop (r * stored_row_bytes p) bytes → TakesRow order p colour left rest out
+      → gap ≡ stored_row_bytes p - need → next ≡ drop gap rest → next ≡ drop ((r + 1) * stored_row_bytes p) bytes
+  next_row r gap left rest next out some rl e d t g n =
+      let w : need ≤ stored_row_bytes p = need_within some (omega (arith, rl)) in
+      let a : rest ≡ drop need left = subst (λ (m : ℕ). rest ≡ drop (needed_of_row p colour m) left) e t.behind in
+      let b : next ≡ drop gap (drop need (drop (r * stored_row_bytes p) bytes)) = n ∙ ap (drop gap) (a ∙ ap (drop need) d) in
+      b
+      ∙ ap (drop gap) (drop-drop need (r * stored_row_bytes p) bytes)
+      ∙ drop-drop gap (r * stored_row_bytes p + need) bytes
+      ∙ ap (λ (m : ℕ). drop m bytes) (omega (arith, g, w))
+
+  -- too few bytes for a row are too few for the chunk
+  pub short_row : (r : ℕ) (left : List ℕ) → r < h → left ≡ drop (r * stored_row_bytes p) bytes → length left < need → is_short file order p colour k ≡ true
+  short_row r left rl d l =
+      let f : length left ≡ length bytes - r * stored_row_bytes p = ap (λ (z : List ℕ). length z) d ∙ length-drop (r * stored_row_bytes p) bytes in
+      let m : r * stored_row_bytes p ≤ (h - 1) * stored_row_bytes p = mul-le-mul_right (stored_row_bytes p) (omega (arith, rl)) in
+      lt-ltb (length bytes) ((h - 1) * stored_row_bytes p + need) (omega (arith, f, m, l))
+
+  pub whole_chunk : (h - 1) * stored_row_bytes p + need ≤ length bytes → is_short file order p colour k ≡ false
+  whole_chunk l = le-ltb (length bytes) ((h - 1) * stored_row_bytes p + need) l
+
+  pub too_short : (failed failed' : Type 0) (r : ℕ) (left out : List ℕ) (e : TiffError) → (failed → failed') → r < h → length out ≡ len → left ≡ drop (r * stored_row_bytes p) bytes
+      → IsCause (Unit {0}) failed e (IsTooShort left (needed_of_row p colour (length out)) e)
+      → IsCause (Unit {0}) failed' e (unless (is_short file order p colour k) (IoError UnexpectedEof) ≡ Err e)
+  too_short failed failed' r left out e f rl n d c =
+      cause_along e (λ w. w) f
+      (λ t.
+      let s : is_short file order p colour k ≡ true = short_row r left rl d (subst (λ (m : ℕ). length left < needed_of_row p colour m) n t.short) in
+      rw (s, t.fault) refl)
+      c

@@ -1,0 +1,24 @@
+use Rattle.std.proofs.Common.{◌≡◌, ◌+◌, ◌-◌, ◌*◌, ◌<◌, ◌≤◌, length, drop}
+use Rattle.tiff_page.specs.Layout.{row_bytes}
+use Rattle.tiff_page.specs.Pixels.{chunk_data, stored_row_bytes}
+use Rattle.tiff_page.specs.Place.{Writes, IsIn, in_rect, chunk_byte}
+use Rattle.tiff_page.specs.Reading.{needed_of_row}
+use Rattle.tiff_page.specs.Rect.{rect}
+use Rattle.tiff_page.specs.Stored.{left_of}
+use Rattle.tiff_page.specs.View as view
+use Rattle.tiff_page.proofs.chunk.read_rows.Given as goal
+
+-- the rows so far are in the buffer, and the data hold them; the next one stands at the place
+abbrev pub invariant-loop-row : goal.invariant-loop-row
+invariant-loop-row g l =
+    let bytes = g.R.Source.bytes l.fn.source in
+    let p = view.page l.page in
+    let stored = chunk_data bytes l.order p l.index in
+    let len = row_bytes p l.colour (rect p l.index).width in
+    record {
+      same_bytes : g.R.Source.bytes l.source ≡ bytes;
+      count : g.R.Source.failures l.fn.source ≤ g.R.Source.failures l.source;
+      place : l.row < (rect p l.index).height → left_of bytes l.place ≡ drop (l.row * stored_row_bytes p) stored;
+      enough : 0 < l.row → (l.row - 1) * stored_row_bytes p + needed_of_row p l.colour len ≤ length stored;
+      written : Writes (IsIn l.corner.stride l.corner.top l.row l.corner.left len) (in_rect (chunk_byte bytes l.order p l.colour l.index) l.corner.stride l.corner.top l.corner.left) l.fn.buf l.buf;
+    }

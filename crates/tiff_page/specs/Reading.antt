@@ -1,0 +1,27 @@
+-- What is read of a row of a chunk.
+use Rattle.std.specs.Prelude.{◌≡◌, ℕ, ◌<◌, ◌≤◌, if◌then◌else◌, List, length, take, drop, slice_index, Result, Ok, Err}
+use Rattle.tiff_base.specs.declared.color.ColorType.{ColorType}
+use Rattle.tiff_base.specs.declared.error.TiffError.{TiffError}
+use Rattle.tiff_base.specs.declared.tags.ByteOrder.{ByteOrder}
+use Rattle.tiff_base.specs.Answers.{IsCause}
+use Rattle.tiff_page.specs.declared.stored.Stored.{Stored}
+use Rattle.tiff_page.specs.Page.{PageRecord}
+use Rattle.tiff_page.specs.Pixels.{stored_row_bytes, needs_whole_rows}
+use Rattle.tiff_page.specs.Handed.{handed_byte}
+use Rattle.tiff_page.specs.Stored.{left_of, IsTooShort}
+
+-- the bytes that are read of a row of which so many are handed out: with the byte-plane predictor, or where samples are
+-- dropped, all
+abbrev pub needed_of_row : PageRecord → ColorType → ℕ → ℕ
+needed_of_row p colour len = if needs_whole_rows p colour then stored_row_bytes p else len
+
+-- A row was read and handed out: what is left stands behind it.
+pub record TakesRow (order : ByteOrder) (p : PageRecord) (colour : ColorType) (left rest out : List ℕ) : Type 0 where
+  pub enough : needed_of_row p colour (length out) ≤ length left
+  pub behind : rest ≡ drop (needed_of_row p colour (length out)) left
+  pub handed : (b : ℕ) → b < length out → slice_index out b ≡ handed_byte order p (take (needed_of_row p colour (length out)) left) colour b
+
+-- the answer of a call that reads a row into a buffer
+abbrev pub RowRead : List ℕ → ByteOrder → PageRecord → ColorType → Stored → Type 0 → Type 0 → List ℕ → Result Stored TiffError → Type 0
+RowRead file order p colour place wanting failed out (Ok rest) = TakesRow order p colour (left_of file place) (left_of file rest) out
+RowRead file order p colour place wanting failed out (Err e) = IsCause wanting failed e (IsTooShort (left_of file place) (needed_of_row p colour (length out)) e)

@@ -1,0 +1,139 @@
+//! The rows of a chunk are read into a buffer.
+
+ghost use Rattle.std.specs.Prelude.{◌≡◌, ◌+◌, ◌-◌, ◌*◌, Ok, ◌<◌, ◌≤◌, ◌^◌, length, OnOk};
+ghost use Rattle.tiff_base.specs.Answers.{Answers, IsKept};
+ghost use Rattle.tiff_base.specs.declared.error.TiffError.TheVariants as tiff;
+ghost use Rattle.tiff_base.specs.declared.io.IoKind.TheVariants as io;
+ghost use Rattle.tiff_page.specs.Layout.{row_bytes};
+ghost use Rattle.tiff_page.specs.PixelFault.{method_fault, unless};
+ghost use Rattle.tiff_page.specs.Pixels.{is_short, stored_row_bytes};
+ghost use Rattle.tiff_page.specs.Place.{Writes, IsIn, in_rect, chunk_byte};
+ghost use Rattle.tiff_page.specs.Read.{IsRead};
+ghost use Rattle.tiff_page.specs.Reading.{RowRead, needed_of_row};
+ghost use Rattle.tiff_page.specs.Rect.{rect};
+ghost use Rattle.tiff_page.specs.View as view;
+
+use crate::handed::{needs_whole_rows, row_len, stored_row_bytes};
+use crate::layout::chunk_data_dimensions;
+use crate::page::Page;
+use crate::stored::Stored;
+use std::alloc::Global;
+use tiff_base::color::ColorType;
+use tiff_base::error::{TiffError, TiffResult};
+use tiff_base::io::Source;
+use tiff_base::tags::ByteOrder;
+
+/// Where the rows of a chunk go in a buffer whose rows are a stride apart: their first row, and its first byte.
+#[derive(Clone, Copy, Debug)]
+pub struct Corner {
+    pub top: usize,
+    pub left: usize,
+    pub stride: usize,
+}
+
+// Rooms for a whole stored row, and for its bytes before its byte planes are joined.
+#[derive(Drop)]
+struct RowRoom {
+    row: Vec<u8>,
+    planes: Vec<u8>,
+}
+
+impl RowRoom {
+    // No room yet.
+    fn new(alloc: Global) -> Self {
+        RowRoom {
+            row: Vec::new(alloc),
+            planes: Vec::new(alloc),
+        }
+    }
+}
+
+// Reads the next row of a chunk into a buffer, as it is handed out.
+fn read_row<R: Source>(
+    source: &mut R,
+    order: ByteOrder,
+    page: &Page,
+    colour: ColorType,
+    place: Stored,
+    room: &mut RowRoom,
+    out: &mut [u8],
+) -> TiffResult<Stored>
+    requires read { IsRead (view.page page.now) colour }
+    ensures kept { IsKept R.bytes R.failures source.old source.new }
+    ensures row { RowRead (R.bytes source.old) order (view.page page.now) colour place (Unit {0}) (R.failures source.old < R.failures source.new) out.new result }
+{
+    Err(TiffError::OutOfMemory)
+}
+
+// The bytes of a stored row that aren't read.
+fn gap_of(page: &Page, colour: ColorType, len: usize) -> u64
+    ensures { result ≡ stored_row_bytes (view.page page.now) - needed_of_row (view.page page.now) colour len }
+{
+    if needs_whole_rows(page, colour) {
+        return 0;
+    }
+    stored_row_bytes(page).saturating_sub(len) as u64
+}
+
+// Those behind a row: there are none to be passed behind the last.
+fn gap_behind(gap: u64, row: usize, rows: usize) -> u64
+    requires { row < rows }
+    ensures { row + 1 < rows → result ≡ gap }
+{
+    if row + 1 < rows { gap } else { 0 }
+}
+
+// Reads the rows of a chunk.
+fn read_rows<R: Source>(
+    alloc: Global,
+    source: &mut R,
+    order: ByteOrder,
+    page: &Page,
+    colour: ColorType,
+    index: u32,
+    buf: &mut [u8],
+    corner: Corner,
+) -> TiffResult<()>
+    requires read { IsRead (view.page page.now) colour }
+    requires formed { method_fault page.now.method ≡ Ok tt }
+    requires listed { index < length page.now.offsets }
+    requires some { 0 < corner.stride }
+    requires columns { corner.left + row_bytes (view.page page.now) colour (rect (view.page page.now) index).width ≤ corner.stride }
+    requires rows { (corner.top + (rect (view.page page.now) index).height) * corner.stride ≤ length buf.old }
+    ensures kept { IsKept R.bytes R.failures source.old source.new }
+    ensures ok { OnOk result (Writes (IsIn corner.stride corner.top (rect (view.page page.now) index).height corner.left (row_bytes (view.page page.now) colour (rect (view.page page.now) index).width)) (in_rect (chunk_byte (R.bytes source.old) order (view.page page.now) colour index) corner.stride corner.top corner.left) buf.old buf.new) }
+    ensures answer { Answers (λ _. tt) result (unless (is_short (R.bytes source.old) order (view.page page.now) colour index) (tiff.IoError io.UnexpectedEof)) (R.failures source.old) (R.failures source.new) }
+{
+    let (width, height) = chunk_data_dimensions(page, index);
+    let rows = height as usize;
+    let len = row_len(page, colour, width);
+    let gap = gap_of(page, colour, len);
+    let chunk = index as usize;
+    let mut place = Stored::new(
+        page.method,
+        page.offsets.as_slice()[chunk],
+        page.byte_counts.as_slice()[chunk],
+    );
+    let mut room = RowRoom::new(alloc);
+    for row in 0..rows {
+        let at = (corner.top + row) * corner.stride + corner.left;
+        let rest = match read_row(
+            source,
+            order,
+            page,
+            colour,
+            place,
+            &mut room,
+            &mut buf[at..at + len],
+        ) {
+            Ok(rest) => rest,
+            Err(fault) => return Err(fault),
+        };
+        let behind = gap_behind(gap, row, rows);
+        place = match rest.pass(source, behind) {
+            Ok(next) => next,
+            Err(fault) => return Err(fault),
+        };
+    }
+    Ok(())
+}
