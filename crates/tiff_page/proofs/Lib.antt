@@ -8,3 +8,5 @@ pub mod Rects
 pub mod Covering
 pub mod Data
 pub mod Rows
+pub mod Reading
+pub mod Handing

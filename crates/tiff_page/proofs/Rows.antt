@@ -54,7 +54,7 @@ digits f zero = 0
 digits f (suc n) = digits f n + 256 ^ n * f n
 
 -- what holds of the four sizes
-by_size : (P : ℕ → Type 0) (size : ℕ) → P 1 → P 2 → P 4 → P 8 → IsSize size → P size
+pub by_size : (P : ℕ → Type 0) (size : ℕ) → P 1 → P 2 → P 4 → P 8 → IsSize size → P size
 by_size P size a b c d (inl e) = subst P (sym e) a
 by_size P size a b c d (inr (inl e)) = subst P (sym e) b
 by_size P size a b c d (inr (inr (inl e))) = subst P (sym e) c

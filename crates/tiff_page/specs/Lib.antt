@@ -14,4 +14,5 @@ pub mod Place
 pub mod Placing
 pub mod Stored
 pub mod Handed
+pub mod Read
 pub mod Laws

@@ -5,6 +5,7 @@ pub mod buffers;
 pub mod checks;
 pub mod counts;
 pub mod faults;
+pub mod handed;
 pub mod image;
 pub mod laws;
 pub mod layout;
