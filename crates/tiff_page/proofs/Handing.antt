@@ -1,8 +1,9 @@
 -- The bytes of a row as they are handed out: of the numbers that the row became.
-use Rattle.std.proofs.Common.{◌≡◌, ℕ, zero, suc, ◌+◌, ◌-◌, ◌*◌, ◌/◌, ◌%◌, ◌^◌, ◌<◌, ◌≤◌, ◌⊎◌, true, false, List, length, get_or, refl, ap, sym, ◌∙◌, arith, ⊎_elim}
+use Rattle.std.proofs.Common.{take, drop, mul_assoc, ◌≡◌, ℕ, zero, suc, ◌+◌, ◌-◌, ◌*◌, ◌/◌, ◌%◌, ◌^◌, ◌<◌, ◌≤◌, ◌⊎◌, true, false, List, length, get_or, refl, ap, sym, ◌∙◌, arith, ⊎_elim}
 use Rattle.std.specs.Prelude.{sum_by, nat_lt}
 use Rattle.std.specs.List.{range_with_len}
-use Rattle.std.proofs.lemmas.List.{get_or_past}
+use Rattle.std.proofs.lemmas.List.{get_or_past, get_or-take, get_or-drop, length-take-le, length-drop}
+use borrow.Rule.Slice.PartMut.{put_mid}
 use Rattle.std.proofs.lemmas.Bool.{cases_Bool, cases_lt, lt-ltb, le-ltb, ltb-false}
 use Rattle.std.proofs.lemmas.Nat.{div-add-mod', div-mul-add, mod-mul-add, mod_below, div_below}
 use Rattle.std.proofs.Math.Nat.{pow-succ', div-div-eq-div-mul, div-one, mul-le-mul_right, mul_comm}
@@ -13,13 +14,13 @@ use Rattle.tiff_base.specs.declared.tags.PhotometricInterpretation.{PhotometricI
 use Rattle.tiff_base.specs.declared.tags.PhotometricInterpretation.TheVariants as meaning
 use Rattle.tiff_base.specs.declared.tags.Predictor.TheVariants as predictor
 use Rattle.tiff_base.specs.Number.{number}
-use Rattle.tiff_page.specs.Layout.{shown}
+use Rattle.tiff_page.specs.Layout.{shown, row_bits, row_bytes}
 use Rattle.tiff_page.specs.Page.{PageRecord}
-use Rattle.tiff_page.specs.Pixels.{each_to, width_of, stored_samples, is_byte_plane, needs_whole_rows}
-use Rattle.tiff_page.specs.Row.{IsSize, row_number, summed_number, Became}
+use Rattle.tiff_page.specs.Pixels.{each_to, width_of, stored_samples, stored_row_bytes, is_byte_plane, needs_whole_rows}
+use Rattle.tiff_page.specs.Row.{IsSize, row_number, summed_number, joined_number, Became}
 use Rattle.tiff_page.specs.Handed.{complemented, number_in, handed_byte}
 use Rattle.tiff_page.specs.Read.{IsRead, number_of_row}
-use Rattle.tiff_page.proofs.Rows.{by_size, some_size, sum_same}
+use Rattle.tiff_page.proofs.Rows.{put_below, put_there, by_size, some_size, sum_same}
 
 -- ---- bytes of a number
 
@@ -95,7 +96,7 @@ module _ (size : ℕ) (z : IsSize size) (row : List ℕ) (octets : (i : ℕ) →
 bytes_limit : (size : ℕ) → IsSize size → 2 ^ (size * 8) ≡ 256 ^ size
 bytes_limit size z = by_size (λ n. 2 ^ (n * 8) ≡ 256 ^ n) size (omega arith) (omega arith) (omega arith) (omega arith) z
 
-whole : (p : PageRecord) (c : ColorType) → IsRead p c → 8 ≤ p.depth → IsSize (p.depth / 8) × (p.depth ≡ p.depth / 8 * 8)
+pub whole : (p : PageRecord) (c : ColorType) → IsRead p c → 8 ≤ p.depth → IsSize (p.depth / 8) × (p.depth ≡ p.depth / 8 * 8)
 whole p c r d = (
   ⊎_elim (λ (l : p.depth < 8). Prim.absurd (omega (arith, l, d))) (λ z. z) r.size,
   ⊎_elim (λ (l : p.depth < 8). Prim.absurd (omega (arith, l, d))) (λ e. e) r.stored.depth,
@@ -199,3 +200,109 @@ row_handed order p c old mid b r w numbers same within_mid rows l =
     ap (λ (x : ℕ). complemented p.interpretation 256 (get_or mid x 0)) (sym there)
     ∙ handed_at order p c old mid b k r d (numbers d) octets at (omega (arith, within, even)))
     (cases_lt p.depth 8)
+
+-- ---- whole rows
+
+-- pixels of which the first bytes are kept
+pub kept_more : (row cur part : List ℕ) (column whole kept width n m : ℕ) → n ≡ kept → m ≡ kept → kept ≤ whole → column < width → width * whole ≤ length row
+    → length cur ≡ width * kept → part ≡ take m (drop (column * whole) row)
+    → ((i : ℕ) → i < column * kept → get_or cur i 0 ≡ get_or row (i / kept * whole + i % kept) 0)
+    → (i : ℕ) → i < (column + 1) * kept → get_or (put_mid (column * kept) n cur part) i 0 ≡ get_or row (i / kept * whole + i % kept) 0
+kept_more row cur part column whole kept width n m en em w c long lens p before i h =
+    let f : (column + 1) * whole ≤ width * whole = mul-le-mul_right whole (omega (arith, c)) in
+    let g : (column + 1) * kept ≤ width * kept = mul-le-mul_right kept (omega (arith, c)) in
+    let there : column * kept + n ≤ length cur = omega (arith, g, lens, en) in
+    let size : length part ≡ n = ap length p ∙ length-take-le m (drop (column * whole) row) (omega (arith, length-drop (column * whole) row, f, w, em, long)) ∙ em ∙ sym en in
+    ⊎_elim
+    (λ (a : i < column * kept). put_below cur part (column * kept) n i (omega (arith, there)) a ∙ before i a)
+    (λ (a : column * kept ≤ i).
+    let j : ℕ = i - column * kept in
+    let b : j < kept = omega (arith, a, h) in
+    let e : column * kept + j ≡ i = omega (arith, a) in
+    let q : i / kept ≡ column = ap (λ (x : ℕ). x / kept) (sym e) ∙ div-mul-add column kept j b in
+    let r : i % kept ≡ j = ap (λ (x : ℕ). x % kept) (sym e) ∙ mod-mul-add column kept j b in
+    ap (λ (x : ℕ). get_or (put_mid (column * kept) n cur part) x 0) (sym e)
+    ∙ sym (get_or-drop (column * kept) (put_mid (column * kept) n cur part) j 0)
+    ∙ sym (get_or-take n (drop (column * kept) (put_mid (column * kept) n cur part)) j 0 (omega (arith, b, en)))
+    ∙ ap (λ (xs : List ℕ). get_or xs j 0) (put_there cur part (column * kept) n there size ∙ p)
+    ∙ get_or-take m (drop (column * whole) row) j 0 (omega (arith, b, em)) ∙ get_or-drop (column * whole) row j 0
+    ∙ sym (λ t. get_or row (q t * whole + r t) 0))
+    (cases_lt i (column * kept))
+
+-- the numbers of byte planes
+pub joined_numbers : (order : ByteOrder) (p : PageRecord) (old new : List ℕ) → p.predictor ≡ predictor.FloatingPoint → length old / (p.depth / 8) ≡ p.chunk_width * stored_samples p
+    → Became (p.depth / 8) (joined_number (p.depth / 8) (stored_samples p) (length old / (p.depth / 8)) old) old new
+    → Became (p.depth / 8) (number_of_row order p old) old new
+joined_numbers order p old new e l b =
+    record {
+      numbers = λ k h. b.numbers k h ∙ (rw e (λ i. joined_number (p.depth / 8) (stored_samples p) (l i) old (sym (div-add-mod' k (stored_samples p)) i)));
+      behind = b.behind;
+    }
+
+-- the bytes of so many samples of whole bytes
+sample_bytes : (n d s : ℕ) → d ≡ d / 8 * 8 → (n * d * s + 7) / 8 ≡ n * s * (d / 8)
+sample_bytes n d s e =
+    let k : n * (d / 8 * 8) * s ≡ n * s * (d / 8) * 8 = omega arith in
+    let g : n * d * s ≡ n * s * (d / 8) * 8 = ap (λ (x : ℕ). n * x * s) e ∙ k in
+    omega (arith, g)
+
+pub stored_bytes : (p : PageRecord) → p.depth ≡ p.depth / 8 * 8 → stored_row_bytes p ≡ p.chunk_width * stored_samples p * (p.depth / 8)
+stored_bytes p e = sample_bytes p.chunk_width p.depth (stored_samples p) e
+
+pub shown_bytes : (p : PageRecord) (c : ColorType) (width : ℕ) → p.depth ≡ p.depth / 8 * 8 → row_bytes p c width ≡ width * (shown p.planar c * (p.depth / 8))
+unfolding row_bits
+shown_bytes p c width e = sample_bytes width p.depth (shown p.planar c) e ∙ mul_assoc width (shown p.planar c) (p.depth / 8)
+
+pub stored_count : (p : PageRecord) (n : ℕ) → IsSize (p.depth / 8) → p.depth ≡ p.depth / 8 * 8 → n ≡ stored_row_bytes p → n / (p.depth / 8) ≡ p.chunk_width * stored_samples p
+stored_count p n z e l =
+    let f : n ≡ p.chunk_width * stored_samples p * (p.depth / 8) + 0 = omega (arith, l, stored_bytes p e) in
+    ap (λ (x : ℕ). x / (p.depth / 8)) f ∙ div-mul-add (p.chunk_width * stored_samples p) (p.depth / 8) 0 (some_size (p.depth / 8) z)
+
+pub whole_deep : (p : PageRecord) (c : ColorType) → IsRead p c → needs_whole_rows p c ≡ true → 8 ≤ p.depth
+whole_deep p c r h =
+    ⊎_elim
+    (λ (l : p.depth < 8).
+    let e : p.predictor ≡ predictor.None = r.unpredicted l in
+    let f : nat_lt (shown p.planar c) (stored_samples p) ≡ false = le-ltb (shown p.planar c) (stored_samples p) (omega (arith, r.all l)) in
+    let k : false ≡ true = rw (e, f) at h in cc)
+    (λ (d : 8 ≤ p.depth). d) (cases_lt p.depth 8)
+
+pub stored_fill : (p : PageRecord) (c : ColorType) (width whole_pixel n : ℕ) → IsRead p c → needs_whole_rows p c ≡ true → width ≤ p.chunk_width → n ≡ stored_row_bytes p
+    → whole_pixel ≡ stored_samples p * (p.depth / 8) → width * whole_pixel ≤ n
+stored_fill p c width whole_pixel n r w few e ew =
+    let f : width * whole_pixel ≤ p.chunk_width * whole_pixel = mul-le-mul_right whole_pixel few in
+    let g : p.chunk_width * whole_pixel ≡ p.chunk_width * stored_samples p * (p.depth / 8) =
+    ap (λ (x : ℕ). p.chunk_width * x) ew ∙ sym (mul_assoc p.chunk_width (stored_samples p) (p.depth / 8)) in
+    omega (arith, f, g, e, stored_bytes p (whole p c r (whole_deep p c r w)).1)
+
+-- a row of which pixels are kept
+pub whole_handed : (order : ByteOrder) (p : PageRecord) (c : ColorType) (old mid : List ℕ) (width kept whole_pixel b x : ℕ) → IsRead p c → needs_whole_rows p c ≡ true
+    → width ≤ p.chunk_width → length old ≡ stored_row_bytes p → kept ≡ shown p.planar c * (p.depth / 8) → whole_pixel ≡ stored_samples p * (p.depth / 8)
+    → Became (p.depth / 8) (number_of_row order p old) old mid → ((i : ℕ) → i < length mid → get_or mid i 0 < 256)
+    → b < width * kept → x ≡ get_or mid (b / kept * whole_pixel + b % kept) 0
+    → complemented p.interpretation 256 x ≡ handed_byte order p old c b
+whole_handed order p c old mid width kept whole_pixel b x r w few long ek ew became within_mid l ex =
+    let d : 8 ≤ p.depth = whole_deep p c r w in
+    let size : ℕ = p.depth / 8 in
+    let s : ℕ = shown p.planar c in
+    let n : ℕ = b / size in
+    let u : 0 < size = some_size size (whole p c r d).0 in
+    let k : ℕ = n / s * stored_samples p + n % s in
+    let e : n / s * kept + (n % s * size + b % size) ≡ b =
+    ap (λ (y : ℕ). n / s * y + (n % s * size + b % size)) ek
+    ∙ (let f : n / s * (s * size) + (n % s * size + b % size) ≡ (n / s * s + n % s) * size + b % size = omega arith in f)
+    ∙ ap (λ (y : ℕ). y * size + b % size) (div-add-mod' n s) ∙ div-add-mod' b size in
+    let o : (n % s + 1) * size ≤ s * size = mul-le-mul_right size (omega (arith, mod_below n s r.stored.shows)) in
+    let m : n % s * size + b % size < kept = omega (arith, o, mod_below b size u, ek) in
+    let q : b / kept ≡ n / s = ap (λ (y : ℕ). y / kept) (sym e) ∙ div-mul-add (n / s) kept (n % s * size + b % size) m in
+    let t : b % kept ≡ n % s * size + b % size = ap (λ (y : ℕ). y % kept) (sym e) ∙ mod-mul-add (n / s) kept (n % s * size + b % size) m in
+    let at : n / s * (stored_samples p * size) + (n % s * size + b % size) ≡ k * size + b % size = omega arith in
+    let column : n / s < width = ⊎_elim (λ a. a)
+    (λ (a : width ≤ n / s). (let g : width * kept ≤ n / s * kept = mul-le-mul_right kept a in Prim.absurd (omega (arith, g, e, l)))) (cases_lt (n / s) width) in
+    let g : (n / s + 1) * stored_samples p ≤ p.chunk_width * stored_samples p = mul-le-mul_right (stored_samples p) (omega (arith, column, few)) in
+    let v : (k + 1) * size ≤ p.chunk_width * stored_samples p * size =
+    mul-le-mul_right size (omega (arith, g, mod_below n s r.stored.shows, r.stored.stores)) in
+    let within : (k + 1) * size ≤ length old = omega (arith, v, long, stored_bytes p (whole p c r d).1) in
+    ap (complemented p.interpretation 256)
+    (ex ∙ (λ i. get_or mid (q i * ew i + t i) 0) ∙ ap (λ (y : ℕ). get_or mid y 0) at)
+    ∙ handed_at order p c old mid b k r d became (each_octet mid within_mid) refl within
