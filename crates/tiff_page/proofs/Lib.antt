@@ -12,3 +12,5 @@ pub mod Units
 pub mod ChunkRead
 pub mod Rows
 pub mod RowLaws
+pub mod Reading
+pub mod Handing

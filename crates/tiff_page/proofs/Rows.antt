@@ -90,11 +90,11 @@ one_number row k = let e : k * 1 + 0 ≡ k = omega arith in ap (λ (i : ℕ). ge
 number_in : (size : ℕ) (row : List ℕ) (k : ℕ) → (k + 1) * size ≤ length row → row_number LittleEndian size row k ≡ number LittleEndian (width_of size) (bytes_at row (k * size) size)
 number_in size row k h = ap (number LittleEndian (width_of size)) (each_at size k row h)
 
-put_there : (row part : List ℕ) (at k : ℕ) → at + k ≤ length row → length part ≡ k → bytes_at (put_mid at k row part) at k ≡ part
+pub put_there : (row part : List ℕ) (at k : ℕ) → at + k ≤ length row → length part ≡ k → bytes_at (put_mid at k row part) at k ≡ part
 put_there row part at k h l =
     ap (take k) (drop_at (take at row) (part ++ post_of at k row) at (length-take-le at row (omega (arith, h)))) ∙ take_at part (post_of at k row) k l
 
-put_below : (row part : List ℕ) (at k i : ℕ) → at ≤ length row → i < at → get_or (put_mid at k row part) i 0 ≡ get_or row i 0
+pub put_below : (row part : List ℕ) (at k i : ℕ) → at ≤ length row → i < at → get_or (put_mid at k row part) i 0 ≡ get_or row i 0
 put_below row part at k i h a =
     sym (get_or-take at (put_mid at k row part) i 0 a)
     ∙ ap (λ (xs : List ℕ). get_or xs i 0) (take-put_mid_below at k row part at (omega arith) h)

@@ -39,6 +39,14 @@ stored_samples p = planar_or p.planar 1 p.samples
 abbrev pub stored_row_bytes : PageRecord → ℕ
 stored_row_bytes p = (p.chunk_width * p.depth * stored_samples p + 7) / 8
 
+abbrev pub is_byte_plane : Predictor → Bool
+is_byte_plane predictor.FloatingPoint = true
+is_byte_plane _ = false
+
+-- whether the shown samples are read from whole rows: with the byte-plane predictor, or where samples are dropped
+abbrev pub needs_whole_rows : PageRecord → ColorType → Bool
+needs_whole_rows p colour = is_byte_plane p.predictor || nat_lt (shown p.planar colour) (stored_samples p)
+
 -- a file, its byte order, and a page of it
 module _ (file : List ℕ) (order : ByteOrder) (p : PageRecord) where
   -- the data at a place: the file from there on, or what the bytes unpack to; other methods are not unpacked
@@ -55,16 +63,11 @@ module _ (file : List ℕ) (order : ByteOrder) (p : PageRecord) where
   abbrev pub stored_byte : ℕ → ℕ → ℕ → ℕ
   stored_byte i row k = slice_index (chunk_data i) (row * stored_row_bytes p + k)
 
-  abbrev pub is_byte_plane : Predictor → Bool
-  is_byte_plane predictor.FloatingPoint = true
-  is_byte_plane _ = false
-
-  -- the bytes that are needed of a chunk: all rows of its part of the image, of the last one the shown bytes, or the
-  -- whole row with the byte-plane predictor or where samples are dropped
+  -- the bytes that are needed of a chunk: all rows of its part of the image, of the last one the shown bytes or the whole
+  -- row
   abbrev pub needed_of_last : ColorType → ℕ → ℕ
   needed_of_last colour i =
-      if is_byte_plane p.predictor || nat_lt (shown p.planar colour) (stored_samples p)
-      then stored_row_bytes p else row_bytes p colour (rect p i).width
+      if needs_whole_rows p colour then stored_row_bytes p else row_bytes p colour (rect p i).width
 
   abbrev pub needed : ColorType → ℕ → ℕ
   needed colour i = ((rect p i).height - 1) * stored_row_bytes p + needed_of_last colour i

@@ -281,7 +281,7 @@ pub struct PlaneLayout {
     pub plane_stride: usize,
 }
 
-fn shown(page: &Page, colour: ColorType) -> u16
+pub(crate) fn shown(page: &Page, colour: ColorType) -> u16
     ensures { result ≡ spec.shown page.now.planar colour }
 {
     match page.planar {
@@ -300,15 +300,15 @@ pub fn planes(page: &Page, colour: ColorType) -> u16
 }
 
 #[tactic(auto, using(crate::proofs::Sizes::bits_few, crate::proofs::Sizes::bits_fit))]
-fn bits(width: u32, depth: u8, shown: u16) -> usize
-    ensures value { result ≡ width * depth * shown }
+pub(crate) fn bits(width: u32, depth: u8, samples: u16) -> usize
+    ensures value { result ≡ width * depth * samples }
     ensures few { result < 2 ^ 56 }
 {
-    width as usize * usize::from(depth) * usize::from(shown)
+    width as usize * usize::from(depth) * usize::from(samples)
 }
 
 #[tactic(auto, unfolding(crate::specs::Layout::row_bits))]
-fn row_bits(page: &Page, colour: ColorType, width: u32) -> usize
+pub(crate) fn row_bits(page: &Page, colour: ColorType, width: u32) -> usize
     ensures value { result ≡ spec.row_bits (view.page page.now) colour width }
     ensures few { result < 2 ^ 56 }
 {

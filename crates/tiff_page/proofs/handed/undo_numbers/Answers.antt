@@ -1,0 +1,20 @@
+use Rattle.std.proofs.Common.{◌≡◌, ◌∙◌, ◌<◌, ◌*◌, ◌/◌, arith, subst, ⊎_elim, ℕ}
+use Rattle.tiff_page.specs.View as view
+use Rattle.tiff_page.specs.Row.{IsSize, row_number, summed_number, Became}
+use Rattle.tiff_page.specs.Pixels.{stored_samples}
+use Rattle.tiff_page.proofs.Handing.{summed_numbers}
+use Rattle.tiff_page.proofs.handed.undo_numbers.Goals as goal
+
+pub returns-in-Horizontal-clause-numbers : goal.returns-in-Horizontal-clause-numbers
+returns-in-Horizontal-clause-numbers c d =
+    let z : IsSize (c.args.page.now.depth / 8) = ⊎_elim (λ (l : c.args.page.now.depth < 8). Prim.absurd (omega (arith, l, d))) (λ q. q) c.requires.sizes in
+    let w : c.args.page.now.depth ≡ c.args.page.now.depth / 8 * 8 = ⊎_elim (λ (l : c.args.page.now.depth < 8). Prim.absurd (omega (arith, l, d))) (λ q. q) c.requires.deep in
+    let e : c.from-size.result ≡ c.args.page.now.depth / 8 = c.from-size.ensures in
+    let s : c.from.result ≡ stored_samples (view.page c.args.page.now) = c.from.ensures ∙ c.stored_samples-stored.ensures.count in
+    let a : Became (c.args.page.now.depth / 8) (row_number c.args.order (c.args.page.now.depth / 8) c.args.row.now) c.args.row.now c.to_little.new.row =
+    subst (λ (n : ℕ). Became n (row_number c.args.order n c.args.row.now) c.args.row.now c.to_little.new.row) e c.to_little.ensures in
+    let b : Became (c.args.page.now.depth / 8) (summed_number (c.args.page.now.depth / 8) c.from.result c.to_little.new.row) c.to_little.new.row c.undo_horizontal.new.row =
+    subst (λ (n : ℕ). Became n (summed_number n c.from.result c.to_little.new.row) c.to_little.new.row c.undo_horizontal.new.row) e c.undo_horizontal.ensures in
+    let k : Became (c.args.page.now.depth / 8) (summed_number (c.args.page.now.depth / 8) (stored_samples (view.page c.args.page.now)) c.to_little.new.row) c.to_little.new.row c.undo_horizontal.new.row =
+    subst (λ (n : ℕ). Became (c.args.page.now.depth / 8) (summed_number (c.args.page.now.depth / 8) n c.to_little.new.row) c.to_little.new.row c.undo_horizontal.new.row) s b in
+    summed_numbers c.args.order (view.page c.args.page.now) c.args.row.now c.to_little.new.row c.undo_horizontal.new.row c.in-Horizontal.is z w (omega arith) a k

@@ -1,0 +1,18 @@
+use Rattle.std.proofs.Common.{◌≡◌, ◌∙◌, ◌/◌, ℕ, length, subst}
+use Rattle.tiff_page.specs.View as view
+use Rattle.tiff_page.specs.Pixels.{stored_samples}
+use Rattle.tiff_page.specs.Row.{Became, joined_number}
+use Rattle.tiff_page.proofs.Handing.{joined_numbers, stored_count}
+use Rattle.tiff_page.proofs.handed.undo_whole.Goals as goal
+
+pub returns-in-FloatingPoint-clause-numbers : goal.returns-in-FloatingPoint-clause-numbers
+returns-in-FloatingPoint-clause-numbers c =
+    let e : c.from.result ≡ c.args.page.now.depth / 8 = c.from.ensures in
+    let s : c.from-in-FloatingPoint.result ≡ stored_samples (view.page c.args.page.now) = c.from-in-FloatingPoint.ensures ∙ c.stored_samples-stored.ensures.count in
+    let b : Became (c.args.page.now.depth / 8) (joined_number (c.args.page.now.depth / 8) c.from-in-FloatingPoint.result (length c.args.row.now / (c.args.page.now.depth / 8)) c.args.row.now)
+    c.args.row.now c.undo_byte_plane.new.row =
+    subst (λ (n : ℕ). Became n (joined_number n c.from-in-FloatingPoint.result (length c.args.row.now / n) c.args.row.now) c.args.row.now c.undo_byte_plane.new.row) e c.undo_byte_plane.ensures in
+    joined_numbers c.args.order (view.page c.args.page.now) c.args.row.now c.undo_byte_plane.new.row c.in-FloatingPoint.is
+    (stored_count (view.page c.args.page.now) (length c.args.row.now) c.requires.size c.requires.deep c.requires.row)
+    (subst (λ (n : ℕ). Became (c.args.page.now.depth / 8) (joined_number (c.args.page.now.depth / 8) n (length c.args.row.now / (c.args.page.now.depth / 8)) c.args.row.now)
+    c.args.row.now c.undo_byte_plane.new.row) s b)
