@@ -30,6 +30,10 @@ row_below top h stride len row s l r =
     let e : top + h ≤ (top + h) * stride = le-mul_of_pos_right (top + h) s in
     omega (arith, e, l, r)
 
+pub width_within : (p : PageRecord) (k : ℕ) → (rect p k).width ≤ p.chunk_width
+unfolding rect
+width_within p k = omega arith
+
 -- a row is of some bytes
 pub row_some : (p : PageRecord) (colour : ColorType) (w : ℕ) → 0 < w → 0 < p.depth → 0 < shown p.planar colour → 0 < row_bytes p colour w
 unfolding row_bits

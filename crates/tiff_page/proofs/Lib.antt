@@ -10,6 +10,7 @@ pub mod Data
 pub mod ChunkRows
 pub mod Units
 pub mod ChunkRead
+pub mod RowRead
 pub mod Rows
 pub mod RowLaws
 pub mod Reading

@@ -1,27 +1,27 @@
 //! The rows of a chunk are read into a buffer.
 
-ghost use Rattle.std.specs.Prelude.{◌≡◌, ◌+◌, ◌-◌, ◌*◌, Ok, ◌<◌, ◌≤◌, ◌^◌, length, OnOk};
+ghost use Rattle.std.specs.Prelude.{◌≡◌, ◌+◌, ◌-◌, ◌*◌, Ok, true, ◌<◌, ◌≤◌, ◌^◌, length, OnOk};
 ghost use Rattle.tiff_base.specs.Answers.{Answers, IsKept};
 ghost use Rattle.tiff_base.specs.declared.error.TiffError.TheVariants as tiff;
 ghost use Rattle.tiff_base.specs.declared.io.IoKind.TheVariants as io;
 ghost use Rattle.tiff_page.specs.Layout.{row_bytes};
 ghost use Rattle.tiff_page.specs.PixelFault.{method_fault, unless};
-ghost use Rattle.tiff_page.specs.Pixels.{is_short, stored_row_bytes};
+ghost use Rattle.tiff_page.specs.Pixels.{is_short, needs_whole_rows, stored_row_bytes};
 ghost use Rattle.tiff_page.specs.Place.{Writes, IsIn, in_rect, chunk_byte};
 ghost use Rattle.tiff_page.specs.Read.{IsRead};
 ghost use Rattle.tiff_page.specs.Reading.{RowRead, needed_of_row};
 ghost use Rattle.tiff_page.specs.Rect.{rect};
 ghost use Rattle.tiff_page.specs.View as view;
 
-use crate::handed::{needs_whole_rows, row_len, stored_row_bytes};
+use crate::handed::{hand_row, hand_whole_row, needs_whole_rows, row_len, stored_row_bytes};
 use crate::layout::chunk_data_dimensions;
 use crate::page::Page;
 use crate::stored::Stored;
 use std::alloc::Global;
 use tiff_base::color::ColorType;
-use tiff_base::error::{TiffError, TiffResult};
+use tiff_base::error::TiffResult;
 use tiff_base::io::Source;
-use tiff_base::tags::ByteOrder;
+use tiff_base::tags::{ByteOrder, Predictor};
 
 /// Where the rows of a chunk go in a buffer whose rows are a stride apart: their first row, and its first byte.
 #[derive(Clone, Copy, Debug)]
@@ -48,21 +48,71 @@ impl RowRoom {
     }
 }
 
-// Reads the next row of a chunk into a buffer, as it is handed out.
-fn read_row<R: Source>(
+// Reads the next row of a chunk into a buffer, where a whole stored row has to be read for it.
+#[tactic(auto, using(crate::proofs::RowRead::whole_taken, crate::proofs::RowRead::whole_cause))]
+fn read_whole_row<R: Source>(
     source: &mut R,
     order: ByteOrder,
     page: &Page,
     colour: ColorType,
+    width: u32,
     place: Stored,
     room: &mut RowRoom,
     out: &mut [u8],
 ) -> TiffResult<Stored>
     requires read { IsRead (view.page page.now) colour }
+    requires whole { needs_whole_rows (view.page page.now) colour ≡ true }
+    requires width { width ≤ page.now.chunk_width }
+    requires out { length out.old ≡ row_bytes (view.page page.now) colour width }
     ensures kept { IsKept R.bytes R.failures source.old source.new }
     ensures row { RowRead (R.bytes source.old) order (view.page page.now) colour place (Unit {0}) (R.failures source.old < R.failures source.new) out.new result }
 {
-    Err(TiffError::OutOfMemory)
+    let rest = match place.read_grown(source, &mut room.row, stored_row_bytes(page)) {
+        Ok(rest) => rest,
+        Err(fault) => return Err(fault),
+    };
+    if matches!(page.predictor, Predictor::FloatingPoint) {
+        room.planes.resize(room.row.len(), 0)?;
+    }
+    hand_whole_row(
+        page,
+        order,
+        colour,
+        width,
+        &mut room.row,
+        &mut room.planes,
+        out,
+    );
+    Ok(rest)
+}
+
+// Reads the next row of a chunk into a buffer, as it is handed out.
+#[tactic(auto, using(crate::proofs::RowRead::row_taken, crate::proofs::RowRead::row_cause))]
+fn read_row<R: Source>(
+    source: &mut R,
+    order: ByteOrder,
+    page: &Page,
+    colour: ColorType,
+    width: u32,
+    place: Stored,
+    room: &mut RowRoom,
+    out: &mut [u8],
+) -> TiffResult<Stored>
+    requires read { IsRead (view.page page.now) colour }
+    requires width { width ≤ page.now.chunk_width }
+    requires out { length out.old ≡ row_bytes (view.page page.now) colour width }
+    ensures kept { IsKept R.bytes R.failures source.old source.new }
+    ensures row { RowRead (R.bytes source.old) order (view.page page.now) colour place (Unit {0}) (R.failures source.old < R.failures source.new) out.new result }
+{
+    if needs_whole_rows(page, colour) {
+        return read_whole_row(source, order, page, colour, width, place, room, out);
+    }
+    let rest = match place.read(source, out) {
+        Ok(rest) => rest,
+        Err(fault) => return Err(fault),
+    };
+    hand_row(page, order, colour, out);
+    Ok(rest)
 }
 
 // The bytes of a stored row that aren't read.
@@ -122,6 +172,7 @@ fn read_rows<R: Source>(
             order,
             page,
             colour,
+            width,
             place,
             &mut room,
             &mut buf[at..at + len],

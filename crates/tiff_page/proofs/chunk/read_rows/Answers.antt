@@ -14,7 +14,7 @@ use Rattle.tiff_page.specs.Place.{Writes, IsIn, in_rect, chunk_byte}
 use Rattle.tiff_page.specs.Reading.{needed_of_row}
 use Rattle.tiff_page.specs.Stored.{left_of}
 use Rattle.tiff_page.specs.View as view
-use Rattle.tiff_page.proofs.ChunkRead.{row_below, row_some, row_bytes_are, row_held, next_row, whole_chunk, too_short}
+use Rattle.tiff_page.proofs.ChunkRead.{row_below, width_within, row_some, row_bytes_are, row_held, next_row, whole_chunk, too_short}
 use Rattle.tiff_page.proofs.Rects.{no_row, row_put, row_room}
 use Rattle.tiff_page.proofs.chunk.read_rows.Goals as goal
 
@@ -40,6 +40,11 @@ overflow_add-at g c =
     let h = ap (λ z. z.1) c.chunk_data_dimensions-width.ensures.size in
     let l = row_below c.args.corner.top (rect (view.page c.args.page.now) c.args.index).height c.args.corner.stride (length c.args.buf.now) c.loop-row.row c.requires.some c.requires.rows (omega (arith, h, c.loop-row-test.true)) in
     omega (arith, l, c.loop-row.auto.buf)
+
+pub read_row-requires-clause-width : goal.read_row-requires-clause-width
+read_row-requires-clause-width g c =
+    let w = ap (λ z. z.0) c.chunk_data_dimensions-width.ensures.size in
+    omega (arith, w, width_within (view.page c.args.page.now) c.args.index)
 
 pub returns-in-Err-clause-answer : goal.returns-in-Err-clause-answer
 returns-in-Err-clause-answer g c =
