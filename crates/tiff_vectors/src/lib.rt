@@ -11,6 +11,8 @@ mod files;
 #[cfg(test)]
 mod layout;
 #[cfg(test)]
+mod pages;
+#[cfg(test)]
 mod reading;
 #[cfg(test)]
 mod tags;
