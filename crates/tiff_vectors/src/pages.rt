@@ -129,16 +129,13 @@ fn open_fault(alloc: Global, at: usize, bytes: &[u8]) -> TiffResult<String> {
     fault(alloc, reader_with(alloc, at, bytes))
 }
 
+// An entry of one number, or of several from a place on; in a little-endian file a SHORT stands as a LONG does.
 fn entry(tag: u16, field_type: u16, count: u64, n: u32) -> LaidEntry<'static> {
-    let field = match field_type {
-        3 if count == 1 => Field::Short(n as u16),
-        _ => Field::Long(n),
-    };
     LaidEntry {
         tag,
         field_type,
         count,
-        field,
+        field: Field::Long(n),
     }
 }
 
