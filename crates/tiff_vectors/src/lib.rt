@@ -12,6 +12,7 @@ mod files;
 mod layout;
 #[cfg(test)]
 mod packed;
+mod pages;
 #[cfg(test)]
 mod reading;
 #[cfg(test)]
