@@ -108,7 +108,7 @@ fn tag_numbers(alloc: Global, directory: &Directory) -> Result<Vec<u16>, AllocEr
 
 /// A line for each entry of the page, in ascending tag number: the numbers of its tag and its type, how many values it
 /// has, and their bytes in the file's order. More bytes than `decoding_buffer_size`: `LimitsExceeded`; bytes past the end of
-/// the source: `IoError(UnexpectedEof)`.
+/// the source: `IoError(UnexpectedEof)`. The decoder stays where it is.
 pub fn list_entries<R: Source>(alloc: Global, decoder: &mut Decoder<R>) -> TiffResult<String>
     ensures answer { Answers string_bytes result (listing decoder.old) decoder.old.failures decoder.new.failures }
     ensures state { decoder.new ≡ record decoder.old { failures = decoder.new.failures } }
