@@ -1,9 +1,10 @@
 -- One line more.
-use Rattle.std.proofs.Common.{rules, ◌≡◌, ◌+◌, ◌<◌, ◌≤◌, ℕ, List, [], ◌∷◌, drop, length, get_or, Option, Ok, Err, Result, refl, ap, sym, ◌∙◌, append_assoc}
+use Rattle.std.proofs.Common.{rules, ◌≡◌, ◌+◌, ◌<◌, ◌≤◌, ℕ, List, [], ◌∷◌, drop, length, get_or, Option, Ok, Err, Result, refl, ap, sym, ◌∙◌, append_assoc, arith}
 use Rattle.std.proofs.Math.Seq.{drop-cons}
 use Rattle.std.proofs.lemmas.List.{drop_all}
 use Rattle.tiff_base.specs.declared.error.TiffError.{TiffError}
-use Rattle.tiff.specs.Answers.{◌>>=◌}
+use Rattle.tiff_base.proofs.Causes.{cause_along}
+use Rattle.tiff.specs.Answers.{IsCause, ◌>>=◌}
 use Rattle.tiff.specs.Field.{DirectoryRecord}
 use Rattle.tiff.specs.Machine.{Decoding}
 use Rattle.tiff.specs.Reader.{reading}
@@ -36,6 +37,26 @@ lines_more now d o p tags text more i x h s t e f =
     more_by (field_line r (get_or tags i x)) (lines r (drop (i + 1) tags)) (lines r tags) text more
     (ap (λ l. after text (lines r l)) (sym (next_and_rest tags i x h)) ∙ e)
     (ap (after text) (sym (same_line now d o p (get_or tags i x) s t)) ∙ f)
+
+-- a line's fault is that of what it begins
+cut_by : (line rest whole : Result (List ℕ) TiffError) (text : List ℕ) (x : TiffError)
+    → after text (line >>= λ first. after first rest) ≡ whole → after text line ≡ Err x → whole ≡ Err x
+cut_by (Ok first) rest whole text x e f = search rules
+cut_by (Err y) rest whole text x e f = sym e ∙ f
+
+-- The fault of a line.
+pub lines_cut : (now d : Decoding) (o p : Option DirectoryRecord) (tags text : List ℕ) (i x failures : ℕ) (fault : TiffError) → i < length tags
+    → now ≡ record d { failures = now.failures } → o ≡ p → d.failures ≤ now.failures
+    → after text (lines (reading d p) (drop i tags)) ≡ lines (reading d p) tags
+    → IsCause (Unit {0}) (now.failures < failures) fault (after text (field_line (reading now o) (get_or tags i x)) ≡ Err fault)
+    → IsCause (Unit {0}) (d.failures < failures) fault (lines (reading d p) tags ≡ Err fault)
+lines_cut now d o p tags text i x failures fault h s t l e c =
+    let r = reading d p in
+    cause_along fault (λ w. w) (λ g. omega (arith, l, g))
+    (λ f. cut_by (field_line r (get_or tags i x)) (lines r (drop (i + 1) tags)) (lines r tags) text fault
+    (ap (λ m. after text (lines r m)) (sym (next_and_rest tags i x h)) ∙ e)
+    (ap (after text) (sym (same_line now d o p (get_or tags i x) s t)) ∙ f))
+    c
 
 -- nothing before a text
 none_before : (r : Result (List ℕ) TiffError) → after [] r ≡ r

@@ -1,6 +1,6 @@
 //! The entries of a page as lines.
 
-ghost use Rattle.std.specs.Prelude.{◌≡◌, ◌++◌, IfOk, Ok, OnOk, flat_map, map, option_map, string_bytes};
+ghost use Rattle.std.specs.Prelude.{◌≡◌, ◌≤◌, ◌++◌, IfOk, Ok, OnOk, flat_map, map, option_map, string_bytes};
 ghost use Rattle.std.specs.FinMap.{entries};
 ghost use Rattle.tiff.specs.Tags.{type_number};
 ghost use Rattle.tiff.specs.Answers.{Answers};
@@ -75,18 +75,22 @@ fn push_entry<R: Source>(
 }
 
 // A line for the field of each tag number.
-#[tactic(auto, using(crate::proofs::Lines::lines_none, crate::proofs::Lines::lines_more, crate::proofs::Lines::lines_all))]
+#[tactic(auto, using(crate::proofs::Lines::lines_none, crate::proofs::Lines::lines_more, crate::proofs::Lines::lines_all, crate::proofs::Lines::lines_cut))]
 fn list_tags<R: Source>(
     alloc: Global,
     tags: &mut IfdDecoder<'_, R>,
     numbers: &[u16],
 ) -> TiffResult<String>
-    ensures { IfOk result (λ text. lines (reading tags.old.decoder.now (option_map (λ d. d.now) tags.old.other)) numbers.now ≡ Ok (string_bytes text)) }
+    ensures held { IsHeld tags.old.decoder tags.new.decoder }
+    ensures answer { Answers string_bytes result (lines (reading tags.old.decoder.now (option_map (λ d. d.now) tags.old.other)) numbers.now) tags.old.decoder.now.failures tags.new.decoder.now.failures }
 {
     let mut values = ValueBuffer::empty(alloc, Type::BYTE);
     let mut text = String::new(alloc);
     for number in numbers {
-        push_entry(&mut text, tags, *number, &mut values)?;
+        match push_entry(&mut text, tags, *number, &mut values) {
+            Ok(()) => {}
+            Err(fault) => return Err(fault),
+        }
     }
     Ok(text)
 }
@@ -104,9 +108,11 @@ fn tag_numbers(alloc: Global, directory: &Directory) -> Result<Vec<u16>, AllocEr
 
 /// A line for each entry of the page, in ascending tag number: the numbers of its tag and its type, how many values it
 /// has, and their bytes in the file's order. More bytes than `decoding_buffer_size`: `LimitsExceeded`; bytes past the end of
-/// the source: `IoError(UnexpectedEof)`.
+/// the source: `IoError(UnexpectedEof)`. The decoder stays where it is.
 pub fn list_entries<R: Source>(alloc: Global, decoder: &mut Decoder<R>) -> TiffResult<String>
-    ensures { IfOk result (λ text. listing decoder.old ≡ Ok (string_bytes text)) }
+    ensures answer { Answers string_bytes result (listing decoder.old) decoder.old.failures decoder.new.failures }
+    ensures state { decoder.new ≡ record decoder.old { failures = decoder.new.failures } }
+    ensures count { decoder.old.failures ≤ decoder.new.failures }
 {
     let mut tags = decoder.image_ifd();
     let numbers = tag_numbers(alloc, tags.directory())?;

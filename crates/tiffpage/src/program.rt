@@ -1,6 +1,6 @@
 //! What the program does.
 
-ghost use Rattle.std.specs.Prelude.{◌≤◌, IfOk};
+ghost use Rattle.std.specs.Prelude.{◌≡◌, ◌≤◌, IfOk};
 ghost use Rattle.tiff.specs.Shows.{ShowsOnePage};
 
 use crate::command::{Command, parse};
@@ -34,6 +34,10 @@ impl fmt::Display for Failure<'_> {
 }
 
 impl<'a> From<TiffError> for Failure<'a> {
+    ghost use Rattle.tiffpage.specs.declared.program.Failure.TheVariants as failure;
+
+    ghost from_gives = { λ fault f. f ≡ failure.Tiff fault };
+
     fn from(fault: TiffError) -> Failure<'a> {
         Failure::Tiff(fault)
     }
