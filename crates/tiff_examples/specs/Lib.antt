@@ -37,3 +37,5 @@ pub mod Tasks
 pub mod Fits
 pub mod Streams
 pub mod Walks
+pub mod Pieces
+pub mod Undone

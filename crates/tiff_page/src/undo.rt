@@ -88,10 +88,8 @@ pub fn undo_horizontal(row: &mut [u8], size: usize, stored: usize)
     ensures { Became size (summed_number size stored row.old) row.old row.new }
 {
     let count = row.len() / size;
-    let mut k = stored;
-    while k < count {
+    for k in stored..count {
         add_number(row, k - stored, k, size);
-        k += 1;
     }
 }
 

@@ -4,7 +4,6 @@ use Rattle.tiff_page.proofs.undo.undo_horizontal.Goals as goal
 
 pub loop-k-init : goal.loop-k-init
 loop-k-init c = record {
-  from = omega arith;
   done = λ j h. first_summed c.args.size c.args.stored c.args.row.now j c.requires.size (λ i. omega (arith, c.type_inv.row i)) h;
   rest = λ j h. refl;
   behind = λ i h. refl;
@@ -12,8 +11,7 @@ loop-k-init c = record {
 
 pub loop-k-preserved : goal.loop-k-preserved
 loop-k-preserved c = record {
-  from = omega (arith, c.loop-k.invariant.from);
-  done = summed_more c.args.size c.args.stored c.args.row.now c.loop-k.row c.add_number.new.row c.loop-k.k c.requires.stored c.loop-k.invariant.from c.add_number.ensures
+  done = summed_more c.args.size c.args.stored c.args.row.now c.loop-k.row c.add_number.new.row c.loop-k.k c.requires.stored c.loop-k.auto.k c.add_number.ensures
       c.loop-k.invariant.done c.loop-k.invariant.rest;
   rest = rest_more c.args.size c.args.stored c.args.row.now c.loop-k.row c.add_number.new.row c.loop-k.k c.add_number.ensures c.loop-k.invariant.rest;
   behind = behind_more c.args.size c.args.stored _ c.args.row.now c.loop-k.row c.add_number.new.row c.loop-k.k c.add_number.ensures c.loop-k-test.true c.loop-k.invariant.behind;

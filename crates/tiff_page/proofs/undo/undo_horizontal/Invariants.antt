@@ -1,4 +1,4 @@
-use Rattle.std.proofs.Common.{◌≡◌, ℕ, ◌-◌, ◌*◌, ◌/◌, ◌<◌, ◌≤◌, length, get_or}
+use Rattle.std.proofs.Common.{◌≡◌, ℕ, ◌*◌, ◌/◌, ◌<◌, ◌≤◌, length, get_or}
 use Rattle.tiff_base.specs.declared.tags.ByteOrder.TheVariants.{LittleEndian}
 use Rattle.tiff_page.specs.Row.{row_number, summed_number}
 use Rattle.tiff_page.proofs.undo.undo_horizontal.Given as goal
@@ -6,11 +6,7 @@ use Rattle.tiff_page.proofs.undo.undo_horizontal.Given as goal
 -- the numbers before the next are summed, and the rest is as it was
 abbrev pub invariant-loop-k : goal.invariant-loop-k
 invariant-loop-k l = record {
-  from : l.stored ≤ l.k;
   done : (j : ℕ) → j < l.k → row_number LittleEndian l.size l.row j ≡ summed_number l.size l.stored l.fn.row j;
   rest : (j : ℕ) → l.k ≤ j → row_number LittleEndian l.size l.row j ≡ row_number LittleEndian l.size l.fn.row j;
   behind : (i : ℕ) → length l.fn.row / l.size * l.size ≤ i → get_or l.row i 0 ≡ get_or l.fn.row i 0;
 }
-
-abbrev pub decreases-loop-k : goal.decreases-loop-k
-decreases-loop-k l = l.count - l.k
