@@ -1,5 +1,5 @@
 -- The bytes of a row as they are handed out: of the numbers that the row became.
-use Rattle.std.proofs.Common.{take, drop, mul_assoc, ◌≡◌, ℕ, zero, suc, ◌+◌, ◌-◌, ◌*◌, ◌/◌, ◌%◌, ◌^◌, ◌<◌, ◌≤◌, ◌⊎◌, true, false, List, length, get_or, refl, ap, sym, ◌∙◌, arith, ⊎_elim}
+use Rattle.std.proofs.Common.{inl, inr, take, drop, mul_assoc, ◌≡◌, ℕ, zero, suc, ◌+◌, ◌-◌, ◌*◌, ◌/◌, ◌%◌, ◌^◌, ◌<◌, ◌≤◌, ◌⊎◌, true, false, List, length, get_or, refl, ap, sym, ◌∙◌, arith, ⊎_elim}
 use Rattle.std.specs.Prelude.{sum_by, nat_lt}
 use Rattle.std.specs.List.{range_with_len}
 use Rattle.std.proofs.lemmas.List.{get_or_past, get_or-take, get_or-drop, length-take-le, length-drop}
@@ -266,6 +266,18 @@ whole_deep p c r h =
     let f : nat_lt (shown p.planar c) (stored_samples p) ≡ false = le-ltb (shown p.planar c) (stored_samples p) (omega (arith, r.all l)) in
     let k : false ≡ true = rw (e, f) at h in cc)
     (λ (d : 8 ≤ p.depth). d) (cases_lt p.depth 8)
+
+-- a row of shown samples is of whole numbers
+pub row_even : (p : PageRecord) (c : ColorType) (width n : ℕ) → IsRead p c → n ≡ row_bytes p c width → (p.depth < 8) ⊎ (n / (p.depth / 8) * (p.depth / 8) ≡ n)
+row_even p c width n r e =
+    ⊎_elim (λ (l : p.depth < 8). inl l)
+    (λ (d : 8 ≤ p.depth).
+    let size : ℕ = p.depth / 8 in
+    let k : ℕ = width * shown p.planar c in
+    let f : n ≡ k * size + 0 = omega (arith, e, shown_bytes p c width (whole p c r d).1, mul_assoc width (shown p.planar c) size) in
+    let q : n / size ≡ k = ap (λ (x : ℕ). x / size) f ∙ div-mul-add k size 0 (some_size size (whole p c r d).0) in
+    inr (ap (λ (x : ℕ). x * size) q ∙ omega (arith, f)))
+    (cases_lt p.depth 8)
 
 pub stored_fill : (p : PageRecord) (c : ColorType) (width whole_pixel n : ℕ) → IsRead p c → needs_whole_rows p c ≡ true → width ≤ p.chunk_width → n ≡ stored_row_bytes p
     → whole_pixel ≡ stored_samples p * (p.depth / 8) → width * whole_pixel ≤ n

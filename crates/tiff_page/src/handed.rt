@@ -64,9 +64,8 @@ fn undo_numbers(page: &Page, order: ByteOrder, row: &mut [u8])
     }
     let size = usize::from(depth / 8);
     to_little(row, order, size);
-    match page.predictor {
-        Predictor::Horizontal => undo_horizontal(row, size, usize::from(stored)),
-        _ => {}
+    if matches!(page.predictor, Predictor::Horizontal) {
+        undo_horizontal(row, size, usize::from(stored));
     }
 }
 
@@ -74,9 +73,8 @@ fn undo_numbers(page: &Page, order: ByteOrder, row: &mut [u8])
 fn complement(page: &Page, row: &mut [u8])
     ensures { EachIndex row.new (λ b. slice_index row.new b ≡ complemented page.now.interpretation 256 (slice_index row.old b)) }
 {
-    match page.interpretation {
-        PhotometricInterpretation::WhiteIsZero => invert(row),
-        _ => {}
+    if matches!(page.interpretation, PhotometricInterpretation::WhiteIsZero) {
+        invert(row);
     }
 }
 
