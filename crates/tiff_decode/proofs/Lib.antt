@@ -6,3 +6,4 @@ pub mod Along
 pub mod Items
 pub mod TagList
 pub mod Samples
+pub mod Pieces

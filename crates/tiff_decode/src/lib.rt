@@ -10,3 +10,4 @@ pub mod result;
 pub mod script;
 pub mod tag_iter;
 pub mod tags;
+mod typed;
