@@ -12,6 +12,7 @@ pub mod laws;
 pub mod layout;
 pub mod lists;
 pub mod page;
+pub mod pixels;
 pub mod place;
 pub mod stored;
 pub mod undo;

@@ -60,8 +60,8 @@ returns-in-Err-clause-answer g c =
     let fits = row_room c.args.corner.stride c.args.corner.top (rect p c.args.index).height c.loop-row.row c.args.corner.left len (length c.loop-row.buf) rl c.requires.columns (omega (arith, c.requires.rows, c.loop-row.auto.buf)) in
     let out : length c.read_row.new.out ≡ c.row_len-len.result = c.read_row.auto.out ∙ (length-between c.loop-row.buf ((c.args.corner.top + c.loop-row.row) * c.args.corner.stride + c.args.corner.left) ((c.args.corner.top + c.loop-row.row) * c.args.corner.stride + c.args.corner.left + c.row_len-len.result) (omega (arith, fits, n)) ∙ omega arith) in
     too_short bytes c.args.order p c.args.colour c.args.index (sides_of c.args.page.now) c.requires.read.stored listed _ _ c.loop-row.row _ c.read_row.new.out c.in-Err.fault (λ f. omega (arith, f, c.loop-row.invariant.count)) rl
-      (out ∙ n)
-      (c.loop-row.invariant.place rl) given
+    (out ∙ n)
+    (c.loop-row.invariant.place rl) given
 
 pub loop-row-preserved : goal.loop-row-preserved
 loop-row-preserved g c =
@@ -98,14 +98,14 @@ loop-row-preserved g c =
     let value = chunk_byte bytes order p colour k in
     let before = subst (λ (m : ℕ). Writes (IsIn corner.stride corner.top row corner.left m) (in_rect value corner.stride corner.top corner.left) c.args.buf.now c.loop-row.buf) (sym n) c.loop-row.invariant.written in
     let after = row_put value corner.stride corner.top row corner.left c.row_len-len.result at c.read_row.new.out c.args.buf.now c.loop-row.buf
-      (omega (arith, c.requires.columns, n)) refl out
-      (λ b bl. row_bytes_are bytes order p colour k sides stored listed row left rest c.read_row.new.out rl (out ∙ n) from given b (omega (arith, bl, n)))
-      (omega (arith, fits, n)) before in
+    (omega (arith, c.requires.columns, n)) refl out
+    (λ b bl. row_bytes_are bytes order p colour k sides stored listed row left rest c.read_row.new.out rl (out ∙ n) from given b (omega (arith, bl, n)))
+    (omega (arith, fits, n)) before in
     record {
       same_bytes = c.in-Ok-pass.ensures.kept.told ∙ told;
       count = omega (arith, c.in-Ok-pass.ensures.kept.failures, c.in-Ok.ensures.kept.failures, c.loop-row.invariant.count);
       place = λ z. next_row bytes order p colour k sides stored listed row c.gap_behind-behind.result left rest next c.read_row.new.out some z (out ∙ n) from given
-        (c.gap_behind-behind.ensures (omega (arith, z, h)) ∙ (c.gap_of-gap.ensures ∙ ap (λ (m : ℕ). stored_row_bytes p - needed_of_row p colour m) n)) passed;
+          (c.gap_behind-behind.ensures (omega (arith, z, h)) ∙ (c.gap_of-gap.ensures ∙ ap (λ (m : ℕ). stored_row_bytes p - needed_of_row p colour m) n)) passed;
       enough = λ z. omega (arith, held, now);
       written = subst (λ (m : ℕ). Writes (IsIn corner.stride corner.top (row + 1) corner.left m) (in_rect value corner.stride corner.top corner.left) c.args.buf.now (put_mid at (at + c.row_len-len.result - at) c.loop-row.buf c.read_row.new.out)) n after;
     }
