@@ -11,6 +11,7 @@ pub mod ChunkRows
 pub mod Units
 pub mod ChunkRead
 pub mod RowRead
+pub mod Filling
 pub mod Rows
 pub mod RowLaws
 pub mod Reading
