@@ -1,11 +1,29 @@
 -- The chunks of an image are read one after another, each in all planes.
 use Rattle.std.proofs.Common.{rules, ◌≡◌, ℕ, ◌+◌, ◌-◌, ◌*◌, ◌/◌, ◌%◌, ◌<◌, ◌≤◌, ◌^◌, ◌⊎◌, min, true, false, List, take, drop, length, Ok, Err, Fits, w64, refl, ap, sym, ◌∙◌, subst, ⊎_elim, arith}
 use Rattle.std.proofs.lemmas.Nat.{mod-mul-add}
-use Rattle.std.proofs.Math.Nat.{mul-le-mul_right, mod-eq_of_lt}
+use Rattle.std.proofs.Math.Nat.{mul-le-mul_right, mod-eq_of_lt, mul_assoc, mul_comm}
+use Rattle.std.specs.Prelude.{Result}
+use Rattle.std.proofs.lemmas.Bool.{cases_lt}
+use Rattle.tiff_base.specs.declared.color.ColorType.{ColorType}
+use Rattle.tiff_base.specs.declared.error.TiffError.{TiffError}
+use Rattle.tiff_base.specs.declared.error.TiffError.TheVariants.{IoError}
+use Rattle.tiff_base.specs.declared.io.IoKind.TheVariants.{UnexpectedEof}
+use Rattle.tiff_base.specs.declared.tags.ByteOrder.{ByteOrder}
+use Rattle.tiff_base.specs.Answers.{IsCause, ◌>>=◌}
+use Rattle.tiff_base.proofs.Causes.{cause_along}
+use Rattle.tiff_ifd.specs.declared.limits.Limits.{Limits}
+use Rattle.tiff_page.specs.Layout.{LayoutRecord, layout_of, colour_of, row_bytes}
+use Rattle.tiff_page.specs.PixelFault.{unless, form_fault, chunk_fault, each_below}
+use Rattle.tiff_page.specs.Pixels.{is_short}
+use Rattle.tiff_page.specs.Place.{Writes, IsIn, in_rect, chunk_byte, top_of, left_of, IsBefore, image_byte}
+use Rattle.tiff_page.specs.Read.{IsRead}
+use Rattle.tiff_page.proofs.Planes.{layout_gives, some_bytes, whole_rows}
+use Rattle.tiff_page.proofs.Reading.{depth_passed, form_read}
+use Rattle.tiff_page.proofs.Covering.{row_in_stride, chunk_written, chunks_written}
 use Rattle.tiff_page.specs.Page.{PageRecord}
 use Rattle.tiff_page.specs.Rect.{rect, across, chunks_of_plane}
-use Rattle.tiff_page.specs.Laws.{HasSides}
-use Rattle.tiff_page.proofs.Placing.{chunks_within}
+use Rattle.tiff_page.specs.Laws.{HasSides, HasWholeRows}
+use Rattle.tiff_page.proofs.Placing.{chunks_within, all_ok, ok_all, of_first}
 
 -- the chunks of one number lie upon each other
 module _ (p : PageRecord) (plane j : ℕ) (l : j < chunks_of_plane p) where
@@ -27,3 +45,111 @@ module _ (p : PageRecord) (plane j : ℕ) (l : j < chunks_of_plane p) where
   pub same_width : (rect p (plane * chunks_of_plane p + j)).width ≡ (rect p j).width
   unfolding rect
   same_width = ap (λ m. min p.chunk_width (p.width - m % across p * p.chunk_width)) index
+
+-- where a fault is the first of several
+pub first_at : (fault : ℕ → Result (Unit {0}) TiffError) (n k : ℕ) (e : TiffError) → k < n → each_below fault k ≡ Ok tt → fault k ≡ Err e → each_below fault n ≡ Err e
+first_at fault n k e l none h = of_first fault n e k l (record { found = h; none = all_ok fault k none })
+
+pub one_more : (fault : ℕ → Result (Unit {0}) TiffError) (k : ℕ) → each_below fault k ≡ Ok tt → fault k ≡ Ok tt → each_below fault (k + 1) ≡ Ok tt
+one_more fault k none h = ok_all fault (k + 1) (λ m l. ⊎_elim (λ (b : m < k). all_ok fault k none m b) (λ (b : k ≤ m). let e : m ≡ k = omega (arith, l, b) in ap fault e ∙ h) (cases_lt m k))
+
+-- a buffer has room for the chunks of its planes
+pub plane_room : (plane planes height y h stride len : ℕ) → plane < planes → y + h ≤ height → planes * (stride * height) ≤ len → (plane * height + y + h) * stride ≤ len
+plane_room plane planes height y h stride len l f r =
+    let a : (plane + 1) * height ≤ planes * height = mul-le-mul_right height (omega (arith, l)) in
+    let b : (plane * height + y + h) * stride ≤ planes * height * stride = mul-le-mul_right stride (omega (arith, a, f)) in
+    let c : planes * height * stride ≡ planes * (stride * height) = mul_assoc planes height stride ∙ ap (λ m. planes * m) (mul_comm height stride) in
+    omega (arith, b, c, r)
+
+module _ (file : List ℕ) (order : ByteOrder) (p : PageRecord) (limits : Limits) (l : LayoutRecord) (sides : HasSides p) (samples : 0 < p.samples) (deep : 0 < p.depth) (laid : layout_of p p.width p.height ≡ Ok l) where
+  abbrev pub fault_of : ℕ → Result (Unit {0}) TiffError
+  fault_of i = chunk_fault p limits (is_short file order p l.colour) l.colour i
+
+  pub row_is : l.row_bytes ≡ row_bytes p l.colour p.width
+  row_is = (layout_gives p p.width p.height l laid).0.0
+
+  pub plane_is : l.plane_stride ≡ l.row_bytes * p.height
+  plane_is = (layout_gives p p.width p.height l laid).0.1 ∙ ap (λ m. m * p.height) (sym row_is)
+
+  pub colour_is : colour_of p ≡ Ok l.colour
+  colour_is = (layout_gives p p.width p.height l laid).1.0
+
+  pub stride_some : 0 < l.row_bytes
+  stride_some = (some_bytes p p.width p.height l sides.wide sides.high deep samples laid).0
+
+  pub is_whole : (i : ℕ) → form_fault p limits l.colour i ≡ Ok tt → HasWholeRows p l.colour
+  is_whole i h = whole_rows p l laid (depth_passed p limits l.colour i h)
+
+  pub is_formed : (i : ℕ) → form_fault p limits l.colour i ≡ Ok tt → IsRead p l.colour
+  is_formed i h = form_read p limits l.colour i samples colour_is h
+
+  module _ (planes j : ℕ) (in_plane : j < chunks_of_plane p) where
+    abbrev pub at : ℕ → ℕ
+    at plane = plane * chunks_of_plane p + j
+
+    abbrev pub of_plane : ℕ → Result (Unit {0}) TiffError
+    of_plane plane = fault_of (plane * chunks_of_plane p + (0 + j))
+
+    pub from_first : (plane : ℕ) → of_plane plane ≡ fault_of (at plane)
+    from_first plane = let e : plane * chunks_of_plane p + (0 + j) ≡ plane * chunks_of_plane p + j = omega arith in ap fault_of e
+
+    pub form_cause : (failed : Type 0) (plane i : ℕ) (e : TiffError) → i ≡ at plane → plane < planes → each_below of_plane plane ≡ Ok tt
+        → IsCause (Unit {0}) ⊥ e (form_fault p limits l.colour i ≡ Err e) → IsCause (Unit {0}) failed e (each_below of_plane planes ≡ Err e)
+    form_cause failed plane i e q below none c =
+        cause_along e (λ w. w) (λ z. Prim.absurd z)
+        (λ h.
+        let f : form_fault p limits l.colour (at plane) ≡ Err e = subst (λ (m : ℕ). form_fault p limits l.colour m ≡ Err e) q h in
+        first_at of_plane planes plane e below none (from_first plane ∙ rw f refl))
+        c
+
+    pub rows_cause : (failed failed' : Type 0) (plane i : ℕ) (e : TiffError) → i ≡ at plane → (failed → failed') → plane < planes → each_below of_plane plane ≡ Ok tt
+        → form_fault p limits l.colour i ≡ Ok tt
+        → IsCause (Unit {0}) failed e (unless (is_short file order p l.colour i) (IoError UnexpectedEof) ≡ Err e) → IsCause (Unit {0}) failed' e (each_below of_plane planes ≡ Err e)
+    rows_cause failed failed' plane i e q grew below none formed c =
+        cause_along e (λ w. w) grew
+        (λ h.
+        let f : fault_of i ≡ Err e = rw formed h in
+        first_at of_plane planes plane e below none (from_first plane ∙ subst (λ (m : ℕ). fault_of m ≡ Err e) q f))
+        c
+
+    pub plane_none : (plane i : ℕ) → i ≡ at plane → each_below of_plane plane ≡ Ok tt → form_fault p limits l.colour i ≡ Ok tt
+        → unless (is_short file order p l.colour i) (IoError UnexpectedEof) ≡ Ok tt → each_below of_plane (plane + 1) ≡ Ok tt
+    plane_none plane i q none formed whole =
+        let f : fault_of i ≡ Ok tt = rw formed whole in
+        one_more of_plane plane none (from_first plane ∙ subst (λ (m : ℕ). fault_of m ≡ Ok tt) q f)
+
+    pub columns_in : (plane i : ℕ) → i ≡ at plane → form_fault p limits l.colour i ≡ Ok tt
+        → left_of p l.colour l.row_bytes plane j + row_bytes p l.colour (rect p i).width ≤ l.row_bytes
+    columns_in plane i q formed =
+        let a = row_in_stride p l.colour l.row_bytes plane j sides (is_whole i formed) (omega (arith, row_is)) in_plane in
+        subst (λ (m : ℕ). left_of p l.colour l.row_bytes plane j + row_bytes p l.colour (rect p m).width ≤ l.row_bytes) (sym q) a
+
+    pub rows_in : (plane i len : ℕ) → i ≡ at plane → plane < planes → planes * l.plane_stride ≤ len
+        → (top_of p l.colour l.row_bytes plane j + (rect p i).height) * l.row_bytes ≤ len
+    rows_in plane i len q below room =
+        let w : (rect p (at plane)).y + (rect p (at plane)).height ≤ p.height = (chunks_within p (at plane) sides).rows in
+        let r : planes * (l.row_bytes * p.height) ≤ len = subst (λ (m : ℕ). planes * m ≤ len) plane_is room in
+        let a = plane_room plane planes p.height (rect p (at plane)).y (rect p (at plane)).height l.row_bytes len below w r in
+        subst (λ (m : ℕ). (top_of p l.colour l.row_bytes plane j + (rect p m).height) * l.row_bytes ≤ len) (sym q) a
+
+    pub plane_written : (plane i : ℕ) (before mid new : List ℕ) → i ≡ at plane → plane < planes → form_fault p limits l.colour i ≡ Ok tt
+        → Writes (IsBefore p l.colour l.row_bytes planes j plane) (image_byte p l.colour l.row_bytes file order) before mid
+        → Writes (IsIn l.row_bytes (top_of p l.colour l.row_bytes plane j) (rect p i).height (left_of p l.colour l.row_bytes plane j) (row_bytes p l.colour (rect p i).width))
+        (in_rect (chunk_byte file order p l.colour i) l.row_bytes (top_of p l.colour l.row_bytes plane j) (left_of p l.colour l.row_bytes plane j)) mid new
+        → Writes (IsBefore p l.colour l.row_bytes planes j (plane + 1)) (image_byte p l.colour l.row_bytes file order) before new
+    plane_written plane i before mid new q below formed a b =
+        let d = subst
+        (λ (m : ℕ).
+        Writes (IsIn l.row_bytes (top_of p l.colour l.row_bytes plane j) (rect p m).height (left_of p l.colour l.row_bytes plane j) (row_bytes p l.colour (rect p m).width))
+        (in_rect (chunk_byte file order p l.colour m) l.row_bytes (top_of p l.colour l.row_bytes plane j) (left_of p l.colour l.row_bytes plane j)) mid new) q b in
+        chunks_written p l.colour l.row_bytes planes j plane (image_byte p l.colour l.row_bytes file order) before mid new below a
+        (chunk_written file order p l.colour l.row_bytes plane j mid new sides (is_whole i formed) (omega (arith, row_is)) in_plane d)
+
+-- the same rows under other names
+pub moved : (order : ByteOrder) (p : PageRecord) (colour : ColorType) (i h n : ℕ) (mid new f f' : List ℕ) (a a' b b' d d' : ℕ) → f ≡ f' → a ≡ a' → b ≡ b' → d ≡ d'
+    → Writes (IsIn a b h d n) (in_rect (chunk_byte f order p colour i) a b d) mid new → Writes (IsIn a' b' h d' n) (in_rect (chunk_byte f' order p colour i) a' b' d') mid new
+moved order p colour i h n mid new f f' a a' b b' d d' ef ea eb ed w =
+    subst (λ (z : ℕ). Writes (IsIn a' b' h z n) (in_rect (chunk_byte f' order p colour i) a' b' z) mid new) ed
+    (subst (λ (z : ℕ). Writes (IsIn a' z h d n) (in_rect (chunk_byte f' order p colour i) a' z d) mid new) eb
+    (subst (λ (z : ℕ). Writes (IsIn z b h d n) (in_rect (chunk_byte f' order p colour i) z b d) mid new) ea
+    (subst (λ (z : List ℕ). Writes (IsIn a b h d n) (in_rect (chunk_byte z order p colour i) a b d) mid new) ef w)))
