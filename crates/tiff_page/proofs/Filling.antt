@@ -14,16 +14,18 @@ use Rattle.tiff_base.proofs.Causes.{cause_along}
 use Rattle.tiff_ifd.specs.declared.limits.Limits.{Limits}
 use Rattle.tiff_page.specs.Layout.{LayoutRecord, layout_of, colour_of, row_bytes}
 use Rattle.tiff_page.specs.PixelFault.{unless, form_fault, chunk_fault, each_below}
-use Rattle.tiff_page.specs.Pixels.{is_short}
+use Rattle.tiff_page.specs.Pixels.{is_short, whole_image}
 use Rattle.tiff_page.specs.Place.{Writes, IsIn, in_rect, chunk_byte, top_of, left_of, IsBefore, image_byte}
 use Rattle.tiff_page.specs.Read.{IsRead}
 use Rattle.tiff_page.proofs.Planes.{layout_gives, some_bytes, whole_rows}
 use Rattle.tiff_page.proofs.Reading.{depth_passed, form_read}
-use Rattle.tiff_page.proofs.Covering.{row_in_stride, chunk_written, chunks_written}
+use Rattle.tiff_page.proofs.Covering.{row_in_stride, chunk_written, chunks_written, image_written}
 use Rattle.tiff_page.specs.Page.{PageRecord}
 use Rattle.tiff_page.specs.Rect.{rect, across, chunks_of_plane}
 use Rattle.tiff_page.specs.Laws.{HasSides, HasWholeRows}
-use Rattle.tiff_page.proofs.Placing.{chunks_within, all_ok, ok_all, of_first}
+use Rattle.tiff_page.proofs.Placing.{chunks_within, cases_fault, all_ok, ok_all, of_first}
+use Rattle.tiff_page.proofs.Sizes.{plane_some}
+use Rattle.tiff_page.specs.PixelCalls.{filled, placed, image_part}
 
 -- the chunks of one number lie upon each other
 module _ (p : PageRecord) (plane j : ℕ) (l : j < chunks_of_plane p) where
@@ -153,3 +155,32 @@ moved order p colour i h n mid new f f' a a' b b' d d' ef ea eb ed w =
     (subst (λ (z : ℕ). Writes (IsIn a' z h d n) (in_rect (chunk_byte f' order p colour i) a' z d) mid new) eb
     (subst (λ (z : ℕ). Writes (IsIn z b h d n) (in_rect (chunk_byte f' order p colour i) z b d) mid new) ea
     (subst (λ (z : List ℕ). Writes (IsIn a b h d n) (in_rect (chunk_byte z order p colour i) a b d) mid new) ef w)))
+
+module _ (file : List ℕ) (order : ByteOrder) (p : PageRecord) (limits : Limits) (l : LayoutRecord) (sides : HasSides p) (samples : 0 < p.samples) (deep : 0 < p.depth) (laid : layout_of p p.width p.height ≡ Ok l) (planes : ℕ) where
+  -- the first fault of a chunk in all planes
+  abbrev pub of_chunk : ℕ → Result (Unit {0}) TiffError
+  of_chunk j =
+      each_below (λ plane. chunk_fault p limits (is_short file order p l.colour) l.colour (plane * chunks_of_plane p + (0 + j))) planes
+
+  pub chunk_cause : (failed failed' : Type 0) (j : ℕ) (old : List ℕ) (e : TiffError) → (failed → failed') → j < chunks_of_plane p → each_below of_chunk j ≡ Ok tt
+      → IsCause (Unit {0}) failed e (of_chunk j ≡ Err e) → IsCause (Unit {0}) failed' e (filled file order p limits l.colour (image_part file order p planes l.row_bytes) old ≡ Err e)
+  unfolding filled
+  chunk_cause failed failed' j old e grew below none c =
+      cause_along e (λ w. w) grew (λ h. let f : each_below of_chunk (chunks_of_plane p) ≡ Err e = first_at of_chunk (chunks_of_plane p) j e below none h in rw f refl) c
+
+  pub form_of : (i : ℕ) → chunk_fault p limits (is_short file order p l.colour) l.colour i ≡ Ok tt → form_fault p limits l.colour i ≡ Ok tt
+  form_of i h = ⊎_elim (λ ok. ok) (λ er. let g : Err er.0 ≡ Ok tt = rw (er.1) at h in cc) (cases_fault (form_fault p limits l.colour i))
+
+  pub image_filled : (old new : List ℕ) → 0 < planes → each_below of_chunk (chunks_of_plane p) ≡ Ok tt
+      → Writes (IsBefore p l.colour l.row_bytes planes (chunks_of_plane p) 0) (image_byte p l.colour l.row_bytes file order) old new
+      → filled file order p limits l.colour (image_part file order p planes l.row_bytes) old ≡ Ok new
+  unfolding filled
+  image_filled old new some none w =
+      let o : 0 < chunks_of_plane p = plane_some p.width p.height p.chunk_width p.chunk_height sides.wide sides.high sides.chunk_wide sides.chunk_high in
+      let first : of_chunk 0 ≡ Ok tt = all_ok of_chunk (chunks_of_plane p) none 0 o in
+      let fault = all_ok (λ plane. chunk_fault p limits (is_short file order p l.colour) l.colour (plane * chunks_of_plane p + (0 + 0))) planes first 0 some in
+      let form = form_of (0 * chunks_of_plane p + (0 + 0)) fault in
+      let whole = is_whole file order p limits l sides samples deep laid (0 * chunks_of_plane p + (0 + 0)) form in
+      let e : new ≡ placed file order p l.colour (whole_image file order p) l.row_bytes planes old =
+      image_written file order p l.colour l.row_bytes planes old new sides whole (omega (arith, row_is file order p limits l sides samples deep laid)) w in
+      rw none (ap (λ (z : List ℕ). Ok z) (sym e))

@@ -99,7 +99,15 @@ pub fn fill_image<R: Source>(
     ensures kept { IsKept R.bytes R.failures source.old source.new }
     ensures answer { Answers (λ _. buf.new) result (filled (R.bytes source.old) order (view.page page.now) limits.now layout.colour (image_part (R.bytes source.old) order (view.page page.now) planes layout.row_bytes) buf.old) (R.failures source.old) (R.failures source.new) }
 {
-    Err(TiffError::OutOfMemory)
+    for chunk in 0..chunks_of_plane(page) {
+        match fill_chunk(
+            alloc, source, order, page, limits, layout, planes, chunk, buf,
+        ) {
+            Ok(()) => {}
+            Err(fault) => return Err(fault),
+        }
+    }
+    Ok(())
 }
 
 /// Reads a chunk into a buffer, its rows a stride apart, or that of each of so many planes one behind the other; or answers

@@ -82,15 +82,15 @@ loop-plane-preserved g c =
     let same = c.loop-plane.invariant.same_bytes in
     let given = subst (λ (bytes : List ℕ). unless (is_short bytes c.args.order (view.page p) c.args.layout.colour i) (IoError UnexpectedEof) ≡ Ok tt) same c.in-Ok-read_rows.ensures.answer in
     let wrote = moved c.args.order (view.page p) c.args.layout.colour i (rect (view.page p) i).height (row_bytes (view.page p) c.args.layout.colour (rect (view.page p) i).width) c.loop-plane.buf c.read_rows.new.buf (g.R.Source.bytes c.loop-plane.source) (g.R.Source.bytes c.args.source.now)
-      c.image_corner-corner.result.stride c.args.layout.row_bytes c.image_corner-corner.result.top (top_of (view.page p) c.args.layout.colour c.args.layout.row_bytes c.loop-plane.plane c.args.chunk)
-      c.image_corner-corner.result.left (left_of (view.page p) c.args.layout.colour c.args.layout.row_bytes c.loop-plane.plane c.args.chunk)
-      same c.image_corner-corner.ensures.stride c.image_corner-corner.ensures.top c.image_corner-corner.ensures.left c.in-Ok-read_rows.ensures.ok in
+    c.image_corner-corner.result.stride c.args.layout.row_bytes c.image_corner-corner.result.top (top_of (view.page p) c.args.layout.colour c.args.layout.row_bytes c.loop-plane.plane c.args.chunk)
+    c.image_corner-corner.result.left (left_of (view.page p) c.args.layout.colour c.args.layout.row_bytes c.loop-plane.plane c.args.chunk)
+    same c.image_corner-corner.ensures.stride c.image_corner-corner.ensures.top c.image_corner-corner.ensures.left c.in-Ok-read_rows.ensures.ok in
     record {
       same_bytes = c.in-Ok-read_rows.ensures.kept.told ∙ same;
       count = omega (arith, c.in-Ok-read_rows.ensures.kept.failures, c.loop-plane.invariant.count);
       none = plane_none (g.R.Source.bytes c.args.source.now) c.args.order (view.page p) c.args.limits.now (layout c.args.layout) (sides_of p) p.sampled p.deep c.requires.laid c.args.planes c.args.chunk c.requires.chunk c.loop-plane.plane i q c.loop-plane.invariant.none c.in-Ok.ensures.answer given;
       written = λ before a. plane_written (g.R.Source.bytes c.args.source.now) c.args.order (view.page p) c.args.limits.now (layout c.args.layout) (sides_of p) p.sampled p.deep c.requires.laid c.args.planes c.args.chunk c.requires.chunk c.loop-plane.plane i before c.loop-plane.buf c.read_rows.new.buf q c.loop-plane-test.true c.in-Ok.ensures.answer
-      (c.loop-plane.invariant.written before a) wrote;
+          (c.loop-plane.invariant.written before a) wrote;
     }
 
 pub returns-clause-ok : goal.returns-clause-ok
