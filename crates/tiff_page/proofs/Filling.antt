@@ -1,5 +1,5 @@
 -- The chunks of an image are read one after another, each in all planes.
-use Rattle.std.proofs.Common.{rules, ◌≡◌, ℕ, ◌+◌, ◌-◌, ◌*◌, ◌/◌, ◌%◌, ◌<◌, ◌≤◌, ◌^◌, ◌⊎◌, min, true, false, List, take, drop, length, Ok, Err, Fits, w64, refl, ap, sym, ◌∙◌, subst, ⊎_elim, arith}
+use Rattle.std.proofs.Common.{rules, ◌≡◌, ℕ, ◌+◌, ◌-◌, ◌*◌, ◌/◌, ◌%◌, ◌<◌, ◌≤◌, ◌^◌, ◌⊎◌, min, true, false, List, take, drop, length, Ok, Err, Fits, w64, refl, ap, sym, ◌∙◌, subst, inl, inr, ⊎_elim, arith}
 use Rattle.std.proofs.lemmas.Nat.{mod-mul-add}
 use Rattle.std.proofs.Math.Nat.{mul-le-mul_right, mod-eq_of_lt, mul_assoc, mul_comm}
 use Rattle.std.specs.Prelude.{Result}
@@ -14,18 +14,20 @@ use Rattle.tiff_base.proofs.Causes.{cause_along}
 use Rattle.tiff_ifd.specs.declared.limits.Limits.{Limits}
 use Rattle.tiff_page.specs.Layout.{LayoutRecord, layout_of, colour_of, row_bytes}
 use Rattle.tiff_page.specs.PixelFault.{unless, form_fault, chunk_fault, each_below}
-use Rattle.tiff_page.specs.Pixels.{is_short, whole_image}
-use Rattle.tiff_page.specs.Place.{Writes, IsIn, in_rect, chunk_byte, top_of, left_of, IsBefore, image_byte}
+use Rattle.tiff_page.specs.Pixels.{is_short, whole_image, chunk_region}
+use Rattle.tiff_page.specs.Place.{Writes, IsIn, in_rect, chunk_byte, top_of, left_of, IsBefore, image_byte, IsInUnit, unit_byte}
 use Rattle.tiff_page.specs.Read.{IsRead}
 use Rattle.tiff_page.proofs.Planes.{layout_gives, some_bytes, whole_rows}
 use Rattle.tiff_page.proofs.Reading.{depth_passed, form_read}
+use Rattle.tiff_page.proofs.ChunkRead.{row_some}
+use Rattle.tiff_page.proofs.Units.{unit_plane_written, unit_written}
 use Rattle.tiff_page.proofs.Covering.{row_in_stride, chunk_written, chunks_written, image_written}
 use Rattle.tiff_page.specs.Page.{PageRecord}
 use Rattle.tiff_page.specs.Rect.{rect, across, chunks_of_plane}
 use Rattle.tiff_page.specs.Laws.{HasSides, HasWholeRows}
 use Rattle.tiff_page.proofs.Placing.{chunks_within, cases_fault, all_ok, ok_all, of_first}
 use Rattle.tiff_page.proofs.Sizes.{plane_some}
-use Rattle.tiff_page.specs.PixelCalls.{filled, placed, image_part}
+use Rattle.tiff_page.specs.PixelCalls.{filled, placed, image_part, chunk_part}
 
 -- the chunks of one number lie upon each other
 module _ (p : PageRecord) (plane j : ℕ) (l : j < chunks_of_plane p) where
@@ -183,4 +185,119 @@ module _ (file : List ℕ) (order : ByteOrder) (p : PageRecord) (limits : Limits
       let whole = is_whole file order p limits l sides samples deep laid (0 * chunks_of_plane p + (0 + 0)) form in
       let e : new ≡ placed file order p l.colour (whole_image file order p) l.row_bytes planes old =
       image_written file order p l.colour l.row_bytes planes old new sides whole (omega (arith, row_is file order p limits l sides samples deep laid)) w in
+      rw none (ap (λ (z : List ℕ). Ok z) (sym e))
+
+-- ---- one chunk, or that of each plane
+
+pub plane_is_first : (planes plane k chunks : ℕ) → plane < planes → (planes ≡ 1) ⊎ (k < chunks) → (plane ≡ 0) ⊎ (k < chunks)
+plane_is_first planes plane k chunks l w = ⊎_elim (λ (e : planes ≡ 1). inl (omega (arith, l, e))) (λ (b : k < chunks). inr b) w
+
+pub first_index : (plane k chunks : ℕ) → plane ≡ 0 → plane * chunks + k ≡ k
+first_index plane k chunks z = let e : plane * chunks ≡ 0 * chunks = ap (λ m. m * chunks) z in omega (arith, e)
+
+module _ (file : List ℕ) (order : ByteOrder) (p : PageRecord) (limits : Limits) (colour : ColorType) (sides : HasSides p) (samples : 0 < p.samples) (deep : 0 < p.depth) (coloured : colour_of p ≡ Ok colour) (stride k planes : ℕ) (which : (planes ≡ 1) ⊎ (k < chunks_of_plane p)) where
+  abbrev pub h : ℕ
+  h = (rect p k).height
+
+  abbrev pub len : ℕ
+  len = row_bytes p colour (rect p k).width
+
+  abbrev pub place : ℕ → ℕ
+  place plane = plane * chunks_of_plane p + k
+
+  abbrev pub fault_at : ℕ → Result (Unit {0}) TiffError
+  fault_at i = chunk_fault p limits (is_short file order p colour) colour i
+
+  abbrev pub in_unit : ℕ → Result (Unit {0}) TiffError
+  in_unit plane = fault_at (plane * chunks_of_plane p + (k + 0))
+
+  pub unit_at : (plane : ℕ) → in_unit plane ≡ fault_at (place plane)
+  unit_at plane = let e : plane * chunks_of_plane p + (k + 0) ≡ plane * chunks_of_plane p + k = omega arith in ap fault_at e
+
+  pub unit_height : (plane : ℕ) → plane < planes → (rect p (place plane)).height ≡ h
+  unit_height plane l =
+      ⊎_elim
+      (λ (z : plane ≡ 0). ap (λ m. (rect p m).height) (first_index plane k (chunks_of_plane p) z))
+      (λ (b : k < chunks_of_plane p). same_height p plane k b)
+      (plane_is_first planes plane k (chunks_of_plane p) l which)
+
+  pub unit_width : (plane : ℕ) → plane < planes → (rect p (place plane)).width ≡ (rect p k).width
+  unit_width plane l =
+      ⊎_elim
+      (λ (z : plane ≡ 0). ap (λ m. (rect p m).width) (first_index plane k (chunks_of_plane p) z))
+      (λ (b : k < chunks_of_plane p). same_width p plane k b)
+      (plane_is_first planes plane k (chunks_of_plane p) l which)
+
+  pub unit_read : (i : ℕ) → form_fault p limits colour i ≡ Ok tt → IsRead p colour
+  unit_read i formed = form_read p limits colour i samples coloured formed
+
+  pub unit_some : (i : ℕ) → form_fault p limits colour i ≡ Ok tt → len ≤ stride → 0 < stride
+  unit_some i formed fits =
+      let a : 0 < len = row_some p colour (rect p k).width (chunks_within p k sides).some_column deep (unit_read i formed).stored.shows in
+      omega (arith, a, fits)
+
+  pub unit_columns : (plane i : ℕ) → i ≡ place plane → plane < planes → len ≤ stride → 0 + row_bytes p colour (rect p i).width ≤ stride
+  unit_columns plane i q l fits =
+      let e : row_bytes p colour (rect p i).width ≡ len = ap (λ m. row_bytes p colour (rect p m).width) q ∙ ap (row_bytes p colour) (unit_width plane l) in
+      omega (arith, e, fits)
+
+  pub unit_rows : (plane i top size : ℕ) → i ≡ place plane → plane < planes → top ≡ plane * h → planes * (h * stride) ≤ size
+      → (top + (rect p i).height) * stride ≤ size
+  unit_rows plane i top size q l t room =
+      let e : (rect p i).height ≡ h = ap (λ m. (rect p m).height) q ∙ unit_height plane l in
+      let a : (plane + 1) * (h * stride) ≤ planes * (h * stride) = mul-le-mul_right (h * stride) (omega (arith, l)) in
+      let b : (top + (rect p i).height) * stride ≡ (plane * h + h) * stride = (λ z. (t z + e z) * stride) in
+      let c : (plane * h + h) * stride ≡ (plane + 1) * (h * stride) = omega arith in
+      omega (arith, a, b, c, room)
+
+  pub unit_form_cause : (failed : Type 0) (plane i : ℕ) (old : List ℕ) (e : TiffError) → i ≡ place plane → plane < planes → each_below in_unit plane ≡ Ok tt
+      → IsCause (Unit {0}) ⊥ e (form_fault p limits colour i ≡ Err e)
+      → IsCause (Unit {0}) failed e (filled file order p limits colour (chunk_part file order p k planes stride) old ≡ Err e)
+  unfolding filled
+  unit_form_cause failed plane i old e q below none c =
+      cause_along e (λ w. w) (λ z. Prim.absurd z)
+      (λ t.
+      let f : form_fault p limits colour (place plane) ≡ Err e = subst (λ (m : ℕ). form_fault p limits colour m ≡ Err e) q t in
+      let g : each_below in_unit planes ≡ Err e = first_at in_unit planes plane e below none (unit_at plane ∙ rw f refl) in
+      rw g refl)
+      c
+
+  pub unit_rows_cause : (failed failed' : Type 0) (plane i : ℕ) (old : List ℕ) (e : TiffError) → i ≡ place plane → (failed → failed') → plane < planes → each_below in_unit plane ≡ Ok tt
+      → form_fault p limits colour i ≡ Ok tt
+      → IsCause (Unit {0}) failed e (unless (is_short file order p colour i) (IoError UnexpectedEof) ≡ Err e)
+      → IsCause (Unit {0}) failed' e (filled file order p limits colour (chunk_part file order p k planes stride) old ≡ Err e)
+  unfolding filled
+  unit_rows_cause failed failed' plane i old e q grew below none formed c =
+      cause_along e (λ w. w) grew
+      (λ t.
+      let f : fault_at i ≡ Err e = rw formed t in
+      let g : each_below in_unit planes ≡ Err e = first_at in_unit planes plane e below none (unit_at plane ∙ subst (λ (m : ℕ). fault_at m ≡ Err e) q f) in
+      rw g refl)
+      c
+
+  pub unit_none : (plane i : ℕ) → i ≡ place plane → each_below in_unit plane ≡ Ok tt → form_fault p limits colour i ≡ Ok tt
+      → unless (is_short file order p colour i) (IoError UnexpectedEof) ≡ Ok tt → each_below in_unit (plane + 1) ≡ Ok tt
+  unit_none plane i q none formed whole =
+      let f : fault_at i ≡ Ok tt = rw formed whole in
+      one_more in_unit plane none (unit_at plane ∙ subst (λ (m : ℕ). fault_at m ≡ Ok tt) q f)
+
+  pub unit_more : (plane i top : ℕ) (file' old mid new : List ℕ) → i ≡ place plane → plane < planes → top ≡ plane * h → file' ≡ file
+      → Writes (IsInUnit p colour stride k plane) (unit_byte file order p colour stride k) old mid
+      → Writes (IsIn stride top (rect p i).height 0 (row_bytes p colour (rect p i).width)) (in_rect (chunk_byte file' order p colour i) stride top 0) mid new
+      → Writes (IsInUnit p colour stride k (plane + 1)) (unit_byte file order p colour stride k) old new
+  unit_more plane i top file' old mid new q below t same a b =
+      let e : (rect p i).height ≡ h = ap (λ m. (rect p m).height) q ∙ unit_height plane below in
+      let f : row_bytes p colour (rect p i).width ≡ len = ap (λ m. row_bytes p colour (rect p m).width) q ∙ ap (row_bytes p colour) (unit_width plane below) in
+      let b1 = moved order p colour i (rect p i).height (row_bytes p colour (rect p i).width) mid new file' file stride stride top (plane * h) 0 0 same refl t refl b in
+      let b2 = subst (λ (m : ℕ). Writes (IsIn stride (plane * h) m 0 (row_bytes p colour (rect p i).width)) (in_rect (chunk_byte file order p colour i) stride (plane * h) 0) mid new) e b1 in
+      let b3 = subst (λ (m : ℕ). Writes (IsIn stride (plane * h) h 0 m) (in_rect (chunk_byte file order p colour i) stride (plane * h) 0) mid new) f b2 in
+      let b4 = subst (λ (m : ℕ). Writes (IsIn stride (plane * h) h 0 len) (in_rect (chunk_byte file order p colour m) stride (plane * h) 0) mid new) q b3 in
+      unit_plane_written file order p colour stride k plane old mid new sides (plane_is_first planes plane k (chunks_of_plane p) below which) a b4
+
+  pub unit_filled : (old new : List ℕ) → len ≤ stride → each_below in_unit planes ≡ Ok tt
+      → Writes (IsInUnit p colour stride k planes) (unit_byte file order p colour stride k) old new
+      → filled file order p limits colour (chunk_part file order p k planes stride) old ≡ Ok new
+  unfolding filled
+  unit_filled old new fits none w =
+      let e : new ≡ placed file order p colour (chunk_region file order p k) stride planes old = unit_written file order p colour stride k planes old new sides fits w in
       rw none (ap (λ (z : List ℕ). Ok z) (sym e))

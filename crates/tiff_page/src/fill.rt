@@ -12,11 +12,11 @@ ghost use Rattle.tiff_page.specs.View as view;
 
 use crate::chunk::{Corner, read_rows};
 use crate::faults::form_fault;
-use crate::layout::{PlaneLayout, chunks_of_plane, rect, row_bits};
+use crate::layout::{PlaneLayout, chunk_data_dimensions, chunks_of_plane, rect, row_bits};
 use crate::page::Page;
 use std::alloc::Global;
 use tiff_base::color::ColorType;
-use tiff_base::error::{TiffError, TiffResult};
+use tiff_base::error::TiffResult;
 use tiff_base::io::Source;
 use tiff_base::tags::ByteOrder;
 use tiff_ifd::limits::Limits;
@@ -132,5 +132,24 @@ pub fn fill_unit<R: Source>(
     ensures kept { IsKept R.bytes R.failures source.old source.new }
     ensures answer { Answers (λ _. buf.new) result (filled (R.bytes source.old) order (view.page page.now) limits.now colour (chunk_part (R.bytes source.old) order (view.page page.now) index planes stride) buf.old) (R.failures source.old) (R.failures source.new) }
 {
-    Err(TiffError::OutOfMemory)
+    let (_, height) = chunk_data_dimensions(page, index);
+    let chunks = chunks_of_plane(page) as usize;
+    for plane in 0..planes {
+        let at = usize::from(plane) * chunks + index as usize;
+        match form_fault(page, limits, colour, at) {
+            Ok(()) => {}
+            Err(fault) => return Err(fault),
+        }
+        let top = usize::from(plane) * height as usize;
+        let corner = Corner {
+            top,
+            left: 0,
+            stride,
+        };
+        match read_rows(alloc, source, order, page, colour, at as u32, buf, corner) {
+            Ok(()) => {}
+            Err(fault) => return Err(fault),
+        }
+    }
+    Ok(())
 }

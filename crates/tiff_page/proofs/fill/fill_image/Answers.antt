@@ -52,7 +52,7 @@ loop-chunk-preserved g c =
       count = omega (arith, c.in-Ok.ensures.kept.failures, c.loop-chunk.invariant.count);
       none = one_more (of_chunk file c.args.order (view.page p) c.args.limits.now (layout c.args.layout) (sides_of p) p.sampled p.deep c.requires.laid c.args.planes) c.loop-chunk.chunk c.loop-chunk.invariant.none given;
       written = planes_written (view.page p) colour stride c.args.planes c.loop-chunk.chunk (image_byte (view.page p) colour stride file c.args.order) c.args.buf.now c.fill_chunk.new.buf
-      (wrote c.args.buf.now c.loop-chunk.invariant.written);
+          (wrote c.args.buf.now c.loop-chunk.invariant.written);
     }
 
 pub returns-clause-answer : goal.returns-clause-answer
