@@ -43,3 +43,16 @@ pub one_plane : (all s n : ℕ) → 0 < all → 0 < s → s ≤ n → 0 < min al
 one_plane all s n p q h =
     let k : 1 ≤ n / s = le-div 1 n s q (omega (arith, h)) in
     omega (arith, p, k)
+
+-- ---- the rows of a chunk
+
+pub height_within : (p : PageRecord) (i : ℕ) → (rect p i).height ≤ p.chunk_height
+unfolding rect
+height_within p i = omega arith
+
+pub rows_fit : (s h c : ℕ) → h ≤ c → s * c < 2 ^ 64 → Fits w64 (s * h)
+rows_fit s h c l f =
+    let k : h * s ≤ c * s = mul-le-mul_right s l in
+    let a : h * s ≡ s * h = mul_comm h s in
+    let b : c * s ≡ s * c = mul_comm c s in
+    omega (arith, k, a, b, f)

@@ -97,6 +97,32 @@ fn chunk_layout(page: &Page, alloc: Global, index: u32) -> TiffResult<PlaneLayou
     planes_layout(page, alloc, width, height)
 }
 
+// The bytes of the rows of a chunk that lie so many bytes apart.
+#[tactic(auto, using(crate::proofs::PixelSteps::height_within, crate::proofs::PixelSteps::rows_fit))]
+fn rows_len(page: &Page, index: u32, stride: usize) -> usize
+    requires wide { stride * page.now.chunk_height < 2 ^ 64 }
+    ensures value { result ≡ stride * (place.rect (view.page page.now) index).height }
+    ensures room { (place.rect (view.page page.now) index).height * stride ≤ result }
+{
+    let (_, height) = chunk_data_dimensions(page, index);
+    stride * height as usize
+}
+
+// All planes of an image where their bytes are within the limit, else one.
+fn planes_within(page: &Page, limits: &Limits, layout: PlaneLayout) -> u16
+    requires some { 0 < layouts.planes page.now.planar layout.colour }
+    requires fits { layout.plane_stride * layouts.planes page.now.planar layout.colour < 2 ^ 64 }
+    ensures value { result ≡ (let all = layouts.planes page.now.planar layout.colour in if nat_le (layout.plane_stride * all) limits.now.decoding_buffer_size then all else 1) }
+    ensures some { 0 < result }
+    ensures fits { layout.plane_stride * result < 2 ^ 64 }
+{
+    let all = planes(page, layout.colour);
+    if layout.plane_stride * usize::from(all) <= limits.decoding_buffer_size {
+        return all;
+    }
+    1
+}
+
 // The samples of an image in so many planes, in so many bytes.
 #[tactic(auto, unfolding(crate::specs::PixelCalls::samples))]
 fn image_samples<R: Source>(
@@ -157,6 +183,7 @@ fn chunk_samples<R: Source>(
 }
 
 /// The samples of an image, of its first plane where it is planar.
+#[tactic(auto, using(crate::proofs::Planes::image_is_first_plane))]
 pub fn read_image<R: Source>(
     alloc: Global,
     source: &mut R,
@@ -167,11 +194,22 @@ pub fn read_image<R: Source>(
     ensures kept { IsKept R.bytes R.failures source.old source.new }
     ensures answer { Answers (λ s. decoded s.sample_type s.bytes.items) result (image_of (R.bytes source.old) order (view.page page.now) limits.now) (R.failures source.old) (R.failures source.new) }
 {
-    Err(TiffError::OutOfMemory)
+    let layout = planes_layout(page, alloc, page.width, page.height)?;
+    image_samples(
+        alloc,
+        source,
+        order,
+        page,
+        limits,
+        layout,
+        1,
+        layout.plane_stride,
+    )
 }
 
 /// The samples of all planes of an image, or of the first one where all aren't within `decoding_buffer_size`, with the layout
 /// of all planes.
+#[tactic(auto, unfolding(crate::specs::PixelCalls::read_image_to_buffer))]
 pub fn read_image_to_buffer<R: Source>(
     alloc: Global,
     source: &mut R,
@@ -182,10 +220,18 @@ pub fn read_image_to_buffer<R: Source>(
     ensures kept { IsKept R.bytes R.failures source.old source.new }
     ensures answer { Answers (λ r. (r.0, decoded r.1.sample_type r.1.bytes.items)) result (calls.read_image_to_buffer (R.bytes source.old) order (view.page page.now) limits.now) (R.failures source.old) (R.failures source.new) }
 {
-    Err(TiffError::OutOfMemory)
+    let layout = planes_layout(page, alloc, page.width, page.height)?;
+    let preference = all_planes(page, layout);
+    let planes = planes_within(page, limits, layout);
+    let len = layout.plane_stride * usize::from(planes);
+    match image_samples(alloc, source, order, page, limits, layout, planes, len) {
+        Ok(samples) => Ok((preference, samples)),
+        Err(fault) => Err(fault),
+    }
 }
 
 /// Reads an image into a slice, as many planes as it takes whole.
+#[tactic(auto, unfolding(crate::specs::PixelCalls::read_image_bytes))]
 pub fn read_image_bytes<R: Source>(
     alloc: Global,
     source: &mut R,
@@ -197,10 +243,14 @@ pub fn read_image_bytes<R: Source>(
     ensures kept { IsKept R.bytes R.failures source.old source.new }
     ensures answer { Answers (λ _. buf.new) result (calls.read_image_bytes (R.bytes source.old) order (view.page page.now) limits.now buf.old) (R.failures source.old) (R.failures source.new) }
 {
-    Err(TiffError::OutOfMemory)
+    let layout = planes_layout(page, alloc, page.width, page.height)?;
+    room_fault(buf.len(), layout.plane_stride)?;
+    let planes = planes_used(page, layout, buf.len());
+    fill_image(alloc, source, order, page, limits, layout, planes, buf)
 }
 
 /// The samples of a chunk.
+#[tactic(auto, unfolding(crate::specs::PixelCalls::read_chunk))]
 pub fn read_chunk<R: Source>(
     alloc: Global,
     source: &mut R,
@@ -212,10 +262,27 @@ pub fn read_chunk<R: Source>(
     ensures kept { IsKept R.bytes R.failures source.old source.new }
     ensures answer { Answers (λ s. decoded s.sample_type s.bytes.items) result (calls.read_chunk (R.bytes source.old) order (view.page page.now) limits.now index) (R.failures source.old) (R.failures source.new) }
 {
-    Err(TiffError::OutOfMemory)
+    let layout = chunk_layout(page, alloc, index)?;
+    let PlaneLayout {
+        colour,
+        row_bytes,
+        plane_stride,
+    } = layout;
+    chunk_samples(
+        alloc,
+        source,
+        order,
+        page,
+        limits,
+        colour,
+        index,
+        row_bytes,
+        plane_stride,
+    )
 }
 
 /// Reads a chunk into a slice.
+#[tactic(auto, unfolding(crate::specs::PixelCalls::read_chunk_bytes))]
 pub fn read_chunk_bytes<R: Source>(
     alloc: Global,
     source: &mut R,
@@ -228,10 +295,24 @@ pub fn read_chunk_bytes<R: Source>(
     ensures kept { IsKept R.bytes R.failures source.old source.new }
     ensures answer { Answers (λ _. buf.new) result (calls.read_chunk_bytes (R.bytes source.old) order (view.page page.now) limits.now index buf.old) (R.failures source.old) (R.failures source.new) }
 {
-    Err(TiffError::OutOfMemory)
+    let layout = chunk_layout(page, alloc, index)?;
+    room_fault(buf.len(), layout.plane_stride)?;
+    fill_unit(
+        alloc,
+        source,
+        order,
+        page,
+        limits,
+        layout.colour,
+        index,
+        1,
+        layout.row_bytes,
+        buf,
+    )
 }
 
 /// The samples of a chunk, its rows `stride` bytes apart, with zeros between them.
+#[tactic(auto, unfolding(crate::specs::PixelCalls::read_chunk_to_buffer))]
 pub fn read_chunk_to_buffer<R: Source>(
     alloc: Global,
     source: &mut R,
@@ -244,10 +325,25 @@ pub fn read_chunk_to_buffer<R: Source>(
     ensures kept { IsKept R.bytes R.failures source.old source.new }
     ensures answer { Answers (λ s. decoded s.sample_type s.bytes.items) result (calls.read_chunk_to_buffer (R.bytes source.old) order (view.page page.now) limits.now index stride) (R.failures source.old) (R.failures source.new) }
 {
-    Err(TiffError::OutOfMemory)
+    let layout = chunk_layout(page, alloc, index)?;
+    stride_fault(stride, layout.row_bytes)?;
+    wide_product(stride, page.chunk_height as usize)?;
+    let len = rows_len(page, index, stride);
+    chunk_samples(
+        alloc,
+        source,
+        order,
+        page,
+        limits,
+        layout.colour,
+        index,
+        stride,
+        len,
+    )
 }
 
 /// Reads the chunk of each plane of a coding unit into a slice, as many as it takes whole.
+#[tactic(auto, unfolding(crate::specs::PixelCalls::read_coding_unit_bytes))]
 pub fn read_coding_unit_bytes<R: Source>(
     alloc: Global,
     source: &mut R,
@@ -260,5 +356,20 @@ pub fn read_coding_unit_bytes<R: Source>(
     ensures kept { IsKept R.bytes R.failures source.old source.new }
     ensures answer { Answers (λ _. buf.new) result (calls.read_coding_unit_bytes (R.bytes source.old) order (view.page page.now) limits.now unit buf.old) (R.failures source.old) (R.failures source.new) }
 {
-    Err(TiffError::OutOfMemory)
+    let layout = chunk_layout(page, alloc, unit)?;
+    unit_fault(page, unit)?;
+    room_fault(buf.len(), layout.plane_stride)?;
+    let planes = planes_used(page, layout, buf.len());
+    fill_unit(
+        alloc,
+        source,
+        order,
+        page,
+        limits,
+        layout.colour,
+        unit,
+        planes,
+        layout.row_bytes,
+        buf,
+    )
 }
