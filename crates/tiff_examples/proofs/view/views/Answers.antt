@@ -15,4 +15,6 @@ returns c = (
   p.bytes_decoded,
   p.signed_decoded,
   p.floats_decoded,
+  p.zeros_behind,
+  p.no_zeros,
 )
