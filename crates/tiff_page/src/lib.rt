@@ -7,7 +7,6 @@ pub mod chunk;
 pub mod counts;
 pub mod faults;
 pub mod handed;
-pub mod image;
 pub mod laws;
 pub mod layout;
 pub mod lists;
