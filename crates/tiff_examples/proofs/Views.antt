@@ -50,6 +50,9 @@ pub floats_decoded : s.floats_decoded
 unfolding floats
 floats_decoded samples e = ap floats e
 
+pub wide_bytes : s.wide_bytes
+wide_bytes = refl
+
 pub bytes_same : s.bytes_same
 bytes_same = refl
 

@@ -15,4 +15,5 @@ returns c = (
   p.bytes_decoded,
   p.signed_decoded,
   p.floats_decoded,
+  p.wide_bytes,
 )
