@@ -36,7 +36,7 @@ use Rattle.tiff_page.specs.Layout.{colour_of}
 use Rattle.tiff_page.specs.Counts as counts
 use Rattle.tiff_page.specs.Rect as rects
 use Rattle.tiff_page.specs.Buffers as layouts
-use Rattle.tiff_page.specs.Image.{Decoded, image_of, covered_image_of}
+use Rattle.tiff_page.specs.Image.{Decoded, image_of}
 use Rattle.tiff_page.specs.PixelCalls as pixels
 use Rattle.tiff_decode.specs.State.{default_limits}
 use Rattle.tiff_decode.specs.Machine.{State, Decoding, Outcome, stays}
@@ -275,10 +275,6 @@ image_coding_unit_layout d unit = stays d (layouts.image_coding_unit_layout d.st
 
 unfoldable pub read_image : Decoding → Outcome Decoded
 read_image d = stays d (image_of d.bytes d.order d.state.page d.state.limits)
-
--- the same, as far as this version reads images
-unfoldable pub covered_image : Decoding → Outcome Decoded
-covered_image d = stays d (covered_image_of d.bytes d.order d.state.page d.state.limits)
 
 unfoldable pub read_image_to_buffer : Decoding → Outcome (BufferLayoutPreference × Decoded)
 read_image_to_buffer d = stays d (pixels.read_image_to_buffer d.bytes d.order d.state.page d.state.limits)

@@ -12,7 +12,6 @@ ghost use Rattle.tiff_decode.specs.Along.{IsAlong, IsAt};
 ghost use Rattle.tiff_decode.specs.Machine.{Decoding, Follows, FollowsOrFaults, FollowsPlainly, Tells, decoding, keeps_state};
 ghost use Rattle.tiff_decode.specs.Outcome as outcome;
 ghost use Rattle.tiff_decode.specs.Outcome.{begun, first_directory, page_in};
-ghost use Rattle.tiff_decode.specs.Result.{decoded_as};
 
 pub use crate::result::DecodingResult;
 use std::alloc::Global;
@@ -28,7 +27,6 @@ use tiff_ifd::limits::Limits;
 use tiff_ifd::value_reader::ValueReader;
 use tiff_ifd::walk::Walk;
 use tiff_page::checks::read_page;
-use tiff_page::image::read_covered_image;
 use tiff_page::layout::colour_of as page_colour;
 use tiff_page::page::Page;
 
@@ -485,25 +483,5 @@ impl<R: Source> Decoder<R> {
     {
         let (kind, order) = (self.tags.kind, self.tags.order);
         read_directory(self.alloc, &mut self.tags.source, pointer.0, kind, order)
-    }
-
-    /// The samples of the page's image, row by row, or the first fault: more samples than `decoding_buffer_size`, or more
-    /// bytes in the file than `intermediate_buffer_size`: `LimitsExceeded`; too few data: `IoError(UnexpectedEof)`. This
-    /// version reads pages of one gray strip; of another, where no fault comes before its data, `UnsupportedDataType`.
-    #[tactic(auto, unfolding(crate::specs::Outcome::covered_image))]
-    pub fn read_image(&mut self) -> TiffResult<DecodingResult>
-        ensures { Follows decoded_as (outcome.covered_image self.old) result self.old self.new }
-    {
-        let order = self.tags.order;
-        match read_covered_image(
-            self.alloc,
-            &mut self.tags.source,
-            order,
-            &self.page,
-            &self.tags.limits,
-        ) {
-            Ok(samples) => return Ok(DecodingResult::U8(samples)),
-            Err(fault) => return Err(fault),
-        }
     }
 }

@@ -6,6 +6,7 @@ pub mod decoder;
 pub mod laws;
 pub mod layouts;
 pub mod low_level;
+pub mod pixels;
 pub mod result;
 pub mod script;
 pub mod tag_iter;

@@ -191,9 +191,9 @@ module _ (m : Model) (file : List ℕ) (link width height : ℕ) (samples : List
       (tells (field_value Classic LittleEndian new limits) (values_read new limits))
 
   -- this version reads its image
-  covered_is : is_gray_strip the_page ≡ true
+  gray_is : is_gray_strip the_page ≡ true
   unfolding is_gray_strip
-  covered_is = rw (eq-eqb width width refl, le-leb height (rows_per_strip width) g.one_strip) refl
+  gray_is = rw (eq-eqb width width refl, le-leb height (rows_per_strip width) g.one_strip) refl
 
   -- its strip stands in the file
   strip_is : exactly_at new strip (width * height) ≡ Ok shown
@@ -265,7 +265,7 @@ module _ (m : Model) (file : List ℕ) (link width height : ℕ) (samples : List
       → ReadsAs Classic new place limits the_page shown
   page_reads_as limits small a b = record {
     is_page = page_is limits;
-    is_covered = covered_is;
+    is_strip = gray_is;
     is_read = bytes_read limits a b
         ∙ ap (λ (l : List ℕ). Ok (record { sample_type = U8; numbers = l })) (numbers_are _ ∙ bytes_are small);
   }

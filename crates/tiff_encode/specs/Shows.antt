@@ -131,12 +131,12 @@ strip_page n width height = record {
   byte_counts = width * height ∷ [];
 }
 
--- Under these limits the directory at a place is this page, which is one whose image this version reads, and its image has
--- these numbers of a byte each.
+-- Under these limits the directory at a place is this page, of one gray strip, and its image has these numbers of a byte
+-- each.
 pub record ReadsAs (kind : FileKind) (file : List ℕ) (place : ℕ) (limits : Limits) (page : PageRecord)
     (numbers : List ℕ) : Type 0 where
   pub is_page : page_at kind file place limits ≡ Ok page
-  pub is_covered : is_gray_strip page ≡ true
+  pub is_strip : is_gray_strip page ≡ true
   pub is_read : image_of file LittleEndian page limits ≡ Ok (record { sample_type = U8; numbers = numbers })
 
 -- a page of one gray strip that was appended to what stands is read as it was handed in, under limits that let its

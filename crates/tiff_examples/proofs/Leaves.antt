@@ -44,7 +44,7 @@ reads_wide = λ r. unequal 1 2 (lit< tt) (ap (λ p. p.width) (ok_inj (strip_page
 
 pub reads_white : s.reads_white
 unfolding is_gray_strip
-reads_white = λ r. true_false (sym r.is_covered)
+reads_white = λ r. true_false (sym r.is_strip)
 
 pub leaves_other : s.leaves_other
 leaves_other = λ l. models.other_sample l.shows

@@ -21,7 +21,7 @@ use Rattle.tiff_ifd.specs.Look.{Look, look_in, require}
 use Rattle.tiff_page.specs.Buffers as layouts
 use Rattle.tiff_page.specs.Buffers.{planes_layout}
 use Rattle.tiff_page.specs.Counts as counts
-use Rattle.tiff_page.specs.Image.{image_of, is_gray_strip, covered_image_of}
+use Rattle.tiff_page.specs.Image.{image_of}
 use Rattle.tiff_page.specs.Layout as layout
 use Rattle.tiff_page.specs.Layout.{colour_of, layout_of, row_bits, sample_type_of}
 use Rattle.tiff_page.specs.PixelCalls as pixels
@@ -254,17 +254,9 @@ pub image_cut : s.image_cut
 unfolding outcome.read_image image_of image_bytes layout_of colour_of row_bits planes_layout sample_type_of rect pixels.filled pixels.samples pixels.placed byte_at shown_sample number numbers_in form_fault depth_fault predictor_fault white_fault
 image_cut = refl
 
-pub covered_read : s.covered_read
-unfolding outcome.covered_image covered_image_of is_gray_strip image_of layout_of colour_of row_bits sample_type_of form_fault depth_fault predictor_fault white_fault rect byte_at shown_sample image_bytes number numbers_in
-covered_read = refl
-
-pub covered_packed : s.covered_packed
-unfolding outcome.covered_image covered_image_of is_gray_strip image_of layout_of colour_of row_bits sample_type_of form_fault depth_fault predictor_fault white_fault
-covered_packed = refl
-
-pub covered_limited : s.covered_limited
-unfolding outcome.covered_image covered_image_of is_gray_strip image_of layout_of colour_of row_bits sample_type_of form_fault depth_fault predictor_fault white_fault
-covered_limited = refl
+pub image_limited : s.image_limited
+unfolding outcome.read_image image_of layout_of colour_of row_bits sample_type_of
+image_limited = refl
 
 pub buffer_read : s.buffer_read
 unfolding outcome.read_image_to_buffer pixels.read_image_to_buffer layout_of colour_of row_bits planes_layout sample_type_of rect pixels.filled pixels.samples pixels.placed byte_at shown_sample number numbers_in form_fault depth_fault predictor_fault white_fault

@@ -6,7 +6,7 @@ use Rattle.tiff_base.specs.Runs.{runs_after}
 use Rattle.tiff_base.specs.Number.{number}
 use Rattle.tiff_page.specs.Pixels.{shown_sample, byte_at, image_bytes, numbers_in}
 use Rattle.tiff_page.specs.PixelFault.{depth_fault, predictor_fault, white_fault, form_fault}
-use Rattle.tiff_page.specs.Image.{image_of, is_gray_strip, covered_image_of}
+use Rattle.tiff_page.specs.Image.{image_of, is_gray_strip}
 use Rattle.tiff_examples.specs.Shown as s
 
 pub pixel_shown : s.pixel_shown
@@ -210,98 +210,88 @@ pub white_3_bits : s.white_3_bits
 unfolding form_fault depth_fault predictor_fault white_fault
 white_3_bits = refl
 
-pub covered : s.covered
-unfolding covered_image_of is_gray_strip image_of layout_of colour_of no_colour row_bits sample_type_of form_fault depth_fault
-    predictor_fault white_fault rect numbers_in image_bytes number byte_at shown_sample
-covered = refl
+pub gray_strip : s.gray_strip
+unfolding is_gray_strip
+gray_strip = refl
 
-pub covered_cut : s.covered_cut
-unfolding covered_image_of is_gray_strip image_of layout_of colour_of no_colour row_bits sample_type_of form_fault depth_fault
-    predictor_fault white_fault rect numbers_in image_bytes number byte_at shown_sample
-covered_cut = refl
-
-pub not_covered : s.not_covered
-unfolding covered_image_of is_gray_strip layout_of colour_of no_colour row_bits sample_type_of form_fault depth_fault
-    predictor_fault white_fault
-not_covered = refl
+pub wide_page : s.wide_page
+unfolding is_gray_strip
+wide_page = refl
 
 pub packed_page : s.packed_page
-unfolding covered_image_of is_gray_strip layout_of colour_of no_colour row_bits sample_type_of form_fault depth_fault
-    predictor_fault white_fault
+unfolding is_gray_strip
 packed_page = refl
 
 pub predicted_page : s.predicted_page
-unfolding covered_image_of is_gray_strip layout_of colour_of no_colour row_bits sample_type_of form_fault depth_fault
-    predictor_fault white_fault
+unfolding is_gray_strip
 predicted_page = refl
 
 pub signed_page : s.signed_page
-unfolding covered_image_of is_gray_strip layout_of colour_of no_colour row_bits sample_type_of form_fault depth_fault
-    predictor_fault white_fault
+unfolding is_gray_strip
 signed_page = refl
 
 pub white_page : s.white_page
-unfolding covered_image_of is_gray_strip layout_of colour_of no_colour row_bits sample_type_of form_fault depth_fault
-    predictor_fault white_fault
+unfolding is_gray_strip
 white_page = refl
 
 pub planar_page : s.planar_page
-unfolding covered_image_of is_gray_strip layout_of colour_of no_colour row_bits sample_type_of form_fault depth_fault
-    predictor_fault white_fault
+unfolding is_gray_strip
 planar_page = refl
 
 pub tile_page : s.tile_page
-unfolding covered_image_of is_gray_strip layout_of colour_of no_colour row_bits sample_type_of form_fault depth_fault
-    predictor_fault white_fault
+unfolding is_gray_strip
 tile_page = refl
 
 pub strips_page : s.strips_page
-unfolding covered_image_of is_gray_strip layout_of colour_of no_colour row_bits sample_type_of form_fault depth_fault
-    predictor_fault white_fault
+unfolding is_gray_strip
 strips_page = refl
 
 pub bands_page : s.bands_page
-unfolding covered_image_of is_gray_strip layout_of colour_of no_colour row_bits sample_type_of form_fault depth_fault
-    predictor_fault white_fault
+unfolding is_gray_strip
 bands_page = refl
 
+pub data_told : s.data_told
+unfolding image_of layout_of colour_of no_colour row_bits sample_type_of form_fault depth_fault
+    predictor_fault white_fault rect
+data_told = refl
+
 pub colour_told : s.colour_told
-unfolding covered_image_of is_gray_strip layout_of colour_of no_colour row_bits sample_type_of form_fault depth_fault
+unfolding image_of layout_of colour_of no_colour row_bits sample_type_of form_fault depth_fault
     predictor_fault white_fault
 colour_told = refl
 
 pub planes_told : s.planes_told
-unfolding covered_image_of is_gray_strip layout_of colour_of no_colour row_bits sample_type_of form_fault depth_fault
+unfolding image_of layout_of colour_of no_colour row_bits sample_type_of form_fault depth_fault
     predictor_fault white_fault
 planes_told = refl
 
 pub type_told : s.type_told
-unfolding covered_image_of is_gray_strip layout_of colour_of no_colour row_bits sample_type_of form_fault depth_fault
+unfolding image_of layout_of colour_of no_colour row_bits sample_type_of form_fault depth_fault
     predictor_fault white_fault
 type_told = refl
 
 pub samples_told : s.samples_told
-unfolding covered_image_of is_gray_strip layout_of colour_of no_colour row_bits sample_type_of form_fault depth_fault
+unfolding image_of layout_of colour_of no_colour row_bits sample_type_of form_fault depth_fault
     predictor_fault white_fault
 samples_told = refl
 
 pub samples_first : s.samples_first
-unfolding covered_image_of is_gray_strip layout_of colour_of no_colour row_bits sample_type_of form_fault depth_fault
+unfolding image_of layout_of colour_of no_colour row_bits sample_type_of form_fault depth_fault
     predictor_fault white_fault
 samples_first = refl
 
 pub bytes_told : s.bytes_told
-unfolding covered_image_of is_gray_strip layout_of colour_of no_colour row_bits sample_type_of form_fault depth_fault
+unfolding image_of layout_of colour_of no_colour row_bits sample_type_of form_fault depth_fault
     predictor_fault white_fault
 bytes_told = refl
 
 pub lzw_told : s.lzw_told
-unfolding covered_image_of is_gray_strip layout_of colour_of no_colour row_bits sample_type_of form_fault depth_fault
+unfolding image_of layout_of colour_of no_colour row_bits sample_type_of form_fault depth_fault
     predictor_fault white_fault
 lzw_told = refl
 
 pub white_told : s.white_told
-unfolding covered_image_of is_gray_strip layout_of colour_of no_colour row_bits sample_type_of form_fault depth_fault
+unfolding image_of layout_of colour_of no_colour row_bits sample_type_of form_fault depth_fault
     predictor_fault white_fault
 white_told = refl
 

@@ -56,6 +56,9 @@ zeros_behind = refl
 pub no_zeros : s.no_zeros
 no_zeros = refl
 
+pub wide_bytes : s.wide_bytes
+wide_bytes = refl
+
 pub bytes_same : s.bytes_same
 bytes_same = refl
 

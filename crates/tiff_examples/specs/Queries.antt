@@ -8,7 +8,6 @@ use Rattle.tiff_base.specs.declared.error.TiffUnsupportedError.TheVariants.{Inte
 use Rattle.tiff_base.specs.declared.error.UsageError.TheVariants.{InvalidChunkType, InvalidCodingUnit, InsufficientOutputBufferSize, InsufficientOutputRowStride}
 use Rattle.tiff_base.specs.declared.io.IoKind.TheVariants.{UnexpectedEof}
 use Rattle.tiff_base.specs.declared.tags.ByteOrder.TheVariants.{LittleEndian}
-use Rattle.tiff_base.specs.declared.tags.CompressionMethod.TheVariants as method
 use Rattle.tiff_base.specs.declared.tags.PhotometricInterpretation.TheVariants as meaning
 use Rattle.tiff_base.specs.declared.tags.PlanarConfiguration.TheVariants.{Planar}
 use Rattle.tiff_base.specs.declared.tags.SampleFormat.TheVariants.{Uint, Void}
@@ -17,7 +16,6 @@ use Rattle.tiff_base.specs.declared.tags.«Type».TheVariants.{BYTE, ASCII, SHOR
 use Rattle.tiff_base.specs.Field.{Field}
 use Rattle.tiff_value.specs.Buffer.{empty_buffer}
 use Rattle.tiff_ifd.specs.Datum as d
-use Rattle.tiff_ifd.specs.StandIn.{stand_in}
 use Rattle.tiff_page.specs.declared.layout.DecodingSampleType.TheVariants as type
 use Rattle.tiff_page.specs.Page.{PageRecord}
 use Rattle.tiff_decode.specs.Machine.{Decoding, stays}
@@ -216,18 +214,10 @@ image_read = outcome.read_image gray_decoder ≡ stays gray_decoder (Ok (record 
 abbrev pub image_cut : Type 0
 image_cut = outcome.read_image (record gray_decoder { bytes = take 24 gray_file }) ≡ stays (record gray_decoder { bytes = take 24 gray_file }) (Err (IoError UnexpectedEof))
 
--- as far as this version reads images: its pixels, another page, and the decoder's own limits
-abbrev pub covered_read : Type 0
-covered_read = outcome.covered_image gray_decoder ≡ stays gray_decoder (Ok (record { sample_type = type.U8; numbers = 7 ∷ [] }))
-
-abbrev pub covered_packed : Type 0
-covered_packed =
-    outcome.covered_image (with_page (record pixel_page { method = method.PackBits }))
-    ≡ stays (with_page (record pixel_page { method = method.PackBits })) (Err stand_in)
-
-abbrev pub covered_limited : Type 0
-covered_limited =
-    outcome.covered_image (record gray_decoder { state = record gray_state { limits = limits 0 1 } })
+-- under the decoder's own limits
+abbrev pub image_limited : Type 0
+image_limited =
+    outcome.read_image (record gray_decoder { state = record gray_state { limits = limits 0 1 } })
     ≡ stays (record gray_decoder { state = record gray_state { limits = limits 0 1 } }) (Err LimitsExceeded)
 
 abbrev pub buffer_read : Type 0

@@ -16,7 +16,7 @@ use Rattle.tiff_ifd.specs.Limits.{unlimited}
 use Rattle.tiff_ifd.specs.Datum.{none, more, list, short, signed_byte}
 use Rattle.tiff_ifd.specs.FieldValue.{field_value}
 use Rattle.tiff_ifd.specs.Look.{look_in}
-use Rattle.tiff_ifd.specs.StandIn.{stand_in}
+use Rattle.tiff_encode.specs.Encoder.{stand_in}
 use Rattle.tiff_examples.specs.Fields.{of}
 
 -- BitsPerSample: one short in the entry, and three at the place 0

@@ -1,5 +1,5 @@
 -- Worked samples: what a page shows, and the faults of reading it.
-use Rattle.std.specs.Prelude.{◌≡◌, ℕ, List, [], ◌∷◌, Some, None, Ok, Err, take, replicate}
+use Rattle.std.specs.Prelude.{◌≡◌, ℕ, List, [], ◌∷◌, Some, None, Ok, Err, true, false, take, replicate}
 use Rattle.tiff_base.specs.declared.color.ChunkType.TheVariants.{Strip, Tile}
 use Rattle.tiff_base.specs.declared.color.ColorType.TheVariants as colour
 use Rattle.tiff_base.specs.declared.error.TiffError.TheVariants.{FormatError, UnsupportedError, IoError, LimitsExceeded}
@@ -15,12 +15,11 @@ use Rattle.tiff_base.specs.declared.tags.Predictor.TheVariants as predictor
 use Rattle.tiff_base.specs.declared.tags.SampleFormat.TheVariants as format
 use Rattle.tiff_ifd.specs.declared.limits.Limits.{Limits}
 use Rattle.tiff_ifd.specs.Limits.{unlimited}
-use Rattle.tiff_ifd.specs.StandIn.{stand_in}
 use Rattle.tiff_page.specs.declared.layout.DecodingSampleType.TheVariants as type
 use Rattle.tiff_page.specs.Page.{PageRecord}
 use Rattle.tiff_page.specs.PixelFault.{form_fault}
 use Rattle.tiff_page.specs.Pixels.{shown_sample, byte_at, image_bytes, numbers_in, whole_image, chunk_region}
-use Rattle.tiff_page.specs.Image.{image_of, covered_image_of}
+use Rattle.tiff_page.specs.Image.{image_of, is_gray_strip}
 use Rattle.tiff_examples.specs.Files.{gray_file}
 use Rattle.tiff_examples.specs.Pages.{gray_page}
 
@@ -366,65 +365,56 @@ white_3_bits =
     form_fault (record pixel_page { depth = 3; interpretation = meaning.WhiteIsZero }) unlimited (colour.Gray 3) 0
     ≡ Err (UnsupportedError UnknownInterpretation)
 
--- as far as this version reads images: one gray strip of 8 bits is read, or its data are too few
-abbrev pub covered : Type 0
-covered =
-    covered_image_of (replicate 20 1) LittleEndian gray_page unlimited
-    ≡ Ok (record { sample_type = type.U8; numbers = replicate 12 1 })
+-- a page of one gray strip of 8 bits
+abbrev pub gray_strip : Type 0
+gray_strip = is_gray_strip gray_page ≡ true
 
-abbrev pub covered_cut : Type 0
-covered_cut = covered_image_of (replicate 19 1) LittleEndian gray_page unlimited ≡ Err (IoError UnexpectedEof)
-
--- another page, without any data, is the stand-in: of 16 bits, under limits that just suffice, ..
+-- pages that are none: of 16 bits, ..
 abbrev pub two_bytes : PageRecord
 two_bytes = record gray_page { depth = 16 }
 
-abbrev pub not_covered : Type 0
-not_covered = covered_image_of [] LittleEndian two_bytes (limits 24 12) ≡ Err stand_in
+abbrev pub wide_page : Type 0
+wide_page = is_gray_strip two_bytes ≡ false
 
 -- .. packed, predicted, signed, white as 0, in planes, in tiles, ..
 abbrev pub packed_page : Type 0
-packed_page = covered_image_of [] LittleEndian (record gray_page { method = method.PackBits }) unlimited ≡ Err stand_in
+packed_page = is_gray_strip (record gray_page { method = method.PackBits }) ≡ false
 
 abbrev pub predicted_page : Type 0
-predicted_page =
-    covered_image_of [] LittleEndian (record gray_page { predictor = predictor.Horizontal }) unlimited ≡ Err stand_in
+predicted_page = is_gray_strip (record gray_page { predictor = predictor.Horizontal }) ≡ false
 
 abbrev pub signed_page : Type 0
-signed_page = covered_image_of [] LittleEndian (record gray_page { format = format.Int }) unlimited ≡ Err stand_in
+signed_page = is_gray_strip (record gray_page { format = format.Int }) ≡ false
 
 abbrev pub white_page : Type 0
-white_page =
-    covered_image_of [] LittleEndian (record gray_page { interpretation = meaning.WhiteIsZero }) unlimited ≡ Err stand_in
+white_page = is_gray_strip (record gray_page { interpretation = meaning.WhiteIsZero }) ≡ false
 
 abbrev pub planar_page : Type 0
-planar_page = covered_image_of [] LittleEndian (record gray_page { planar = Planar }) unlimited ≡ Err stand_in
+planar_page = is_gray_strip (record gray_page { planar = Planar }) ≡ false
 
 abbrev pub tile_page : Type 0
-tile_page = covered_image_of [] LittleEndian (record gray_page { chunk_type = Tile }) unlimited ≡ Err stand_in
+tile_page = is_gray_strip (record gray_page { chunk_type = Tile }) ≡ false
 
--- .. in two strips, of which the second has a fault, and of two samples a pixel
+-- .. in two strips, and of two samples a pixel
 abbrev pub strips_page : Type 0
-strips_page =
-    covered_image_of [] LittleEndian (record gray_page {
-      chunk_height = 2;
-      offsets = 8 ∷ 16 ∷ [];
-      byte_counts = 8 ∷ 99 ∷ [];
-    }) (limits 99 8)
-    ≡ Err stand_in
+strips_page = is_gray_strip (record gray_page { chunk_height = 2 }) ≡ false
 
 abbrev pub bands_page : Type 0
-bands_page = covered_image_of [] LittleEndian (record gray_page { samples = 2 }) unlimited ≡ Err stand_in
+bands_page = is_gray_strip (record gray_page { samples = 2 }) ≡ false
 
--- what comes before it: the layout's fault, planes that are too long together, the number type's fault, ..
+-- what comes before too few data, under limits that just suffice: the layout's fault, planes that are too long together,
+-- the number type's fault, ..
+abbrev pub data_told : Type 0
+data_told = image_of [] LittleEndian two_bytes (limits 24 12) ≡ Err (IoError UnexpectedEof)
+
 abbrev pub colour_told : Type 0
 colour_told =
-    covered_image_of [] LittleEndian (record gray_page { interpretation = meaning.ItuLab }) unlimited
+    image_of [] LittleEndian (record gray_page { interpretation = meaning.ItuLab }) unlimited
     ≡ Err (UnsupportedError (InterpretationWithBits meaning.ItuLab (8 ∷ [])))
 
 abbrev pub planes_told : Type 0
 planes_told =
-    covered_image_of [] LittleEndian (record planar_row {
+    image_of [] LittleEndian (record planar_row {
       width = 4294967295;
       height = 4294967295;
       chunk_width = 4294967295;
@@ -433,29 +423,28 @@ planes_told =
 
 abbrev pub type_told : Type 0
 type_told =
-    covered_image_of [] LittleEndian (record gray_page { depth = 65 }) (limits 0 0)
+    image_of [] LittleEndian (record gray_page { depth = 65 }) (limits 0 0)
     ≡ Err (UnsupportedError (UnsupportedSampleDepth 65))
 
 -- .. the limit of samples, which comes before the method, the limit of the file's bytes, the method, ..
 abbrev pub samples_told : Type 0
-samples_told = covered_image_of [] LittleEndian two_bytes (limits 23 12) ≡ Err LimitsExceeded
+samples_told = image_of [] LittleEndian two_bytes (limits 23 12) ≡ Err LimitsExceeded
 
 abbrev pub samples_first : Type 0
-samples_first =
-    covered_image_of [] LittleEndian (record gray_page { method = method.LZW }) (limits 11 12) ≡ Err LimitsExceeded
+samples_first = image_of [] LittleEndian (record gray_page { method = method.LZW }) (limits 11 12) ≡ Err LimitsExceeded
 
 abbrev pub bytes_told : Type 0
-bytes_told = covered_image_of [] LittleEndian two_bytes (limits 24 11) ≡ Err LimitsExceeded
+bytes_told = image_of [] LittleEndian two_bytes (limits 24 11) ≡ Err LimitsExceeded
 
 abbrev pub lzw_told : Type 0
 lzw_told =
-    covered_image_of [] LittleEndian (record gray_page { method = method.LZW }) unlimited
+    image_of [] LittleEndian (record gray_page { method = method.LZW }) unlimited
     ≡ Err (UnsupportedError (UnsupportedCompressionMethod method.LZW))
 
 -- .. and white as 0 that can't be inverted
 abbrev pub white_told : Type 0
 white_told =
-    covered_image_of [] LittleEndian (record gray_page { format = format.Int; interpretation = meaning.WhiteIsZero }) unlimited
+    image_of [] LittleEndian (record gray_page { format = format.Int; interpretation = meaning.WhiteIsZero }) unlimited
     ≡ Err (UnsupportedError UnknownInterpretation)
 
 -- differences begin anew in each row

@@ -14,7 +14,7 @@ use Rattle.tiff_ifd.specs.View.{datum, value, datum_list}
 use Rattle.tiff_ifd.specs.declared.value.Value.TheVariants as v
 use Rattle.tiff_page.specs.declared.layout.DecodingSampleType.TheVariants as type
 use Rattle.tiff_decode.specs.declared.result.DecodingResult.TheVariants as result
-use Rattle.tiff_decode.specs.Result.{decoded_as, whole_numbers}
+use Rattle.tiff_decode.specs.Result.{decoded_as, whole_numbers, bytes_of}
 
 -- a number, and a list that holds a list
 abbrev pub byte_seen : Type 0
@@ -62,6 +62,10 @@ zeros_behind = whole_numbers 4 (1 ∷ 2 ∷ 3 ∷ 4 ∷ 5 ∷ []) ≡ 1 ∷ 2 �
 
 abbrev pub no_zeros : Type 0
 no_zeros = whole_numbers 2 (1 ∷ 2 ∷ []) ≡ 1 ∷ 2 ∷ []
+
+-- the bytes of samples, the lowest of each first
+abbrev pub wide_bytes : Type 0
+wide_bytes = bytes_of (record { sample_type = type.U16; numbers = 0x0102 ∷ 0x0304 ∷ [] }) ≡ (0x02 ∷ 0x01 ∷ 0x04 ∷ 0x03 ∷ [])
 
 -- ---- the same values
 

@@ -38,14 +38,14 @@ pub fn forms()
         s.packed_form × s.method_first × s.white_several × s.white_4_bits }
 {}
 
-/// Images that this version reads, and images that it doesn't.
-pub fn covered()
-    ensures { s.covered × s.covered_cut × s.not_covered × s.packed_page × s.predicted_page ×
-        s.signed_page × s.white_page × s.planar_page × s.tile_page × s.strips_page × s.bands_page }
+/// Pages of one gray strip, and pages that are none.
+pub fn strips()
+    ensures { s.gray_strip × s.wide_page × s.packed_page × s.predicted_page × s.signed_page ×
+        s.white_page × s.planar_page × s.tile_page × s.strips_page × s.bands_page }
 {}
 
-/// The faults that come before those.
+/// The faults that come before too few data.
 pub fn before()
-    ensures { s.colour_told × s.planes_told × s.type_told × s.samples_told × s.samples_first ×
-        s.bytes_told × s.lzw_told × s.white_told }
+    ensures { s.data_told × s.colour_told × s.planes_told × s.type_told × s.samples_told ×
+        s.samples_first × s.bytes_told × s.lzw_told × s.white_told }
 {}

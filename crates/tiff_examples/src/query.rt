@@ -24,5 +24,5 @@ pub fn facts()
 
 /// Pixels of a page.
 pub fn pixels()
-    ensures { s.image_read × s.image_cut × s.covered_read × s.covered_packed × s.covered_limited × s.buffer_read × s.buffer_cut × s.slice_read × s.slice_short × s.chunk_read × s.chunk_past × s.chunk_slice × s.chunk_slice_short × s.chunk_apart × s.chunk_stride × s.unit_read × s.unit_absent }
+    ensures { s.image_read × s.image_cut × s.image_limited × s.buffer_read × s.buffer_cut × s.slice_read × s.slice_short × s.chunk_read × s.chunk_past × s.chunk_slice × s.chunk_slice_short × s.chunk_apart × s.chunk_stride × s.unit_read × s.unit_absent }
 {}

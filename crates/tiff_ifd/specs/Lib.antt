@@ -5,7 +5,6 @@ pub mod Item
 pub mod FieldValue
 pub mod Into
 pub mod Look
-pub mod StandIn
 pub mod Limits
 pub mod Chain
 pub mod Links

@@ -1,6 +1,5 @@
 pub mod Sizes
 pub mod Strip
-pub mod Gray
 pub mod Placing
 pub mod Planes
 pub mod Chunks

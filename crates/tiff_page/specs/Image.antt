@@ -1,5 +1,5 @@
 -- What reading an image answers.
-use Rattle.std.specs.Prelude.{ℕ, ◌*◌, List, Result, Ok, Err, ◌&&◌, ◌==◌, Bool, true, false, nat_le, if◌then◌else◌}
+use Rattle.std.specs.Prelude.{ℕ, ◌*◌, List, Result, Ok, ◌&&◌, ◌==◌, Bool, true, false, nat_le}
 use Rattle.tiff_base.specs.declared.color.ChunkType.{ChunkType}
 use Rattle.tiff_base.specs.declared.color.ChunkType.TheVariants.{Strip}
 use Rattle.tiff_base.specs.declared.color.ColorType.{ColorType}
@@ -17,12 +17,11 @@ use Rattle.tiff_base.specs.declared.tags.SampleFormat.{SampleFormat}
 use Rattle.tiff_base.specs.declared.tags.SampleFormat.TheVariants as format
 use Rattle.tiff_base.specs.Answers.{◌>>=◌}
 use Rattle.tiff_ifd.specs.declared.limits.Limits.{Limits}
-use Rattle.tiff_ifd.specs.StandIn.{stand_in}
 use Rattle.tiff_page.specs.declared.layout.DecodingSampleType.{DecodingSampleType}
 use Rattle.tiff_page.specs.Page.{PageRecord}
 use Rattle.tiff_page.specs.Rect.{chunks_of_plane}
 use Rattle.tiff_page.specs.Layout.{layout_of, planes, wide, sample_type_of, size_of}
-use Rattle.tiff_page.specs.PixelFault.{samples_fault, each_below, form_fault, chunk_fault}
+use Rattle.tiff_page.specs.PixelFault.{samples_fault, each_below, chunk_fault}
 use Rattle.tiff_page.specs.Pixels.{is_short, image_bytes, numbers_in}
 
 -- decoded samples: their number type, and the bits of each
@@ -49,7 +48,7 @@ image_of file order p limits = do
   _ ← samples_fault limits (size_of type) layout.plane_stride
   chunks_read file order p limits layout.colour type
 
--- ---- the pages that this version reads
+-- ---- pages of one gray strip
 
 abbrev pub is_none : CompressionMethod → Bool
 is_none method.None = true
@@ -89,18 +88,3 @@ is_one_strip p = is_strip p.chunk_type && (p.chunk_width == p.width && nat_le p.
 
 unfoldable pub is_gray_strip : PageRecord → Bool
 is_gray_strip p = is_gray_8 p && (is_as_it_stands p && is_one_strip p)
-
--- what is answered of the image of another page: the first fault that comes before the data of its first chunk, else the
--- stand-in
-abbrev pub unread : PageRecord → Limits → Result Decoded TiffError
-unread p limits = do
-  layout ← layout_of p p.width p.height
-  _ ← wide (layout.plane_stride * planes p.planar layout.colour)
-  type ← sample_type_of p
-  _ ← samples_fault limits (size_of type) layout.plane_stride
-  _ ← form_fault p limits layout.colour 0
-  Err stand_in
-
--- the samples of a page's image, as far as this version reads them
-unfoldable pub covered_image_of : List ℕ → ByteOrder → PageRecord → Limits → Result Decoded TiffError
-covered_image_of file order p limits = if is_gray_strip p then image_of file order p limits else unread p limits

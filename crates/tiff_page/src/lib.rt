@@ -8,7 +8,6 @@ pub mod counts;
 pub mod faults;
 pub mod fill;
 pub mod handed;
-pub mod image;
 pub mod laws;
 pub mod layout;
 pub mod lists;

@@ -4,6 +4,7 @@ use Rattle.tiff_examples.proofs.pixels.before.Goals as goal
 
 pub returns : goal.returns
 returns c = (
+  p.data_told,
   p.colour_told,
   p.planes_told,
   p.type_told,

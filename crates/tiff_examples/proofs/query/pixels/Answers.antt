@@ -6,9 +6,7 @@ pub returns : goal.returns
 returns c = (
   p.image_read,
   p.image_cut,
-  p.covered_read,
-  p.covered_packed,
-  p.covered_limited,
+  p.image_limited,
   p.buffer_read,
   p.buffer_cut,
   p.slice_read,

@@ -17,4 +17,5 @@ returns c = (
   p.floats_decoded,
   p.zeros_behind,
   p.no_zeros,
+  p.wide_bytes,
 )

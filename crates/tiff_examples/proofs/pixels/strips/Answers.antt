@@ -1,12 +1,11 @@
 -- Each example is proved in proofs/Shown.antt.
 use Rattle.tiff_examples.proofs.Shown as p
-use Rattle.tiff_examples.proofs.pixels.covered.Goals as goal
+use Rattle.tiff_examples.proofs.pixels.strips.Goals as goal
 
 pub returns : goal.returns
 returns c = (
-  p.covered,
-  p.covered_cut,
-  p.not_covered,
+  p.gray_strip,
+  p.wide_page,
   p.packed_page,
   p.predicted_page,
   p.signed_page,
