@@ -1,10 +1,11 @@
 //! Pixels are read: whole images, chunks, and coding units.
 //!
 //! Each call answers the first fault in this order: of the layout of what is read, in all planes, as
-//! `buffers::image_buffer_layout`; of the call's own arguments; of samples, `UnsupportedSampleDepth` or `UnsupportedSampleFormat`, and more of them than
-//! `decoding_buffer_size` bytes hold, `LimitsExceeded`; then of the first chunk, and in it of the first plane, that has one: a
-//! form that isn't supported, or more bytes in the file than `intermediate_buffer_size`, as `faults::form_fault`, and too few
-//! data, `IoError(UnexpectedEof)`. What a slice holds after a fault is open.
+//! `buffers::image_buffer_layout`; of the call's own arguments; of samples, `UnsupportedSampleDepth` or
+//! `UnsupportedSampleFormat`, and more of them than `decoding_buffer_size` bytes hold, `LimitsExceeded`; then of the first
+//! chunk, and in it of the first plane, that has one: a form that isn't supported, or more bytes in the file than
+//! `intermediate_buffer_size`, as `faults::form_fault`, and too few data, `IoError(UnexpectedEof)`. What a slice holds after
+//! a fault is open.
 
 ghost use Rattle.std.specs.Prelude.{◌≡◌, ◌*◌, ◌<◌, ◌≤◌, ◌^◌, Ok, IfOk, replicate, if◌then◌else◌, nat_le};
 ghost use Rattle.tiff_base.specs.Answers.{Answers, AnswersHere, IsKept};
@@ -16,12 +17,12 @@ ghost use Rattle.tiff_page.specs.PixelFault.{samples_fault};
 ghost use Rattle.tiff_page.specs.Rect as place;
 ghost use Rattle.tiff_page.specs.View as view;
 
-use crate::buffers::{all_planes, planes_layout};
+use crate::buffers::{all_planes, planes_layout, unit_fault};
 use crate::faults::samples_fault;
 use crate::fill::{fill_image, fill_unit};
 use crate::layout::{
-    BufferLayoutPreference, DecodingSampleType, PlaneLayout, chunk_data_dimensions,
-    chunks_of_plane, planes, sample_type_of, size_of, wide_product,
+    BufferLayoutPreference, DecodingSampleType, PlaneLayout, chunk_data_dimensions, planes,
+    sample_type_of, size_of, wide_product,
 };
 use crate::page::Page;
 use std::alloc::Global;
@@ -60,18 +61,6 @@ fn stride_fault(stride: usize, row_bytes: usize) -> TiffResult<()>
             requested: stride,
         }
         .into());
-    }
-    Ok(())
-}
-
-// A coding unit is one of the chunks of a plane.
-fn unit_fault(page: &Page, unit: u32) -> TiffResult<()>
-    ensures answer { AnswersHere (λ _. tt) result (buffers.unit_fault (view.page page.now) unit) }
-    ensures below { IfOk result (λ _. unit < place.chunks_of_plane (view.page page.now)) }
-{
-    let chunks = chunks_of_plane(page);
-    if unit >= chunks {
-        return Err(UsageError::InvalidCodingUnit(unit, chunks).into());
     }
     Ok(())
 }
