@@ -7,7 +7,7 @@ use Rattle.tiff_base.specs.declared.tags.PlanarConfiguration.{PlanarConfiguratio
 use Rattle.tiff_base.specs.declared.tags.PlanarConfiguration.TheVariants.{Chunky, Planar}
 use Rattle.tiff_base.specs.Color.{num_samples}
 use Rattle.tiff_page.specs.Page.{PageRecord}
-use Rattle.tiff_page.specs.Rect.{rect, across, chunks_of_plane}
+use Rattle.tiff_page.specs.Rect.{rect}
 use Rattle.tiff_page.specs.Layout.{colour_of, layout_of, row_bytes, planes}
 use Rattle.tiff_page.proofs.Planes.{layout_gives, Shows, colour_shows}
 

@@ -4,6 +4,7 @@ ghost use Rattle.std.specs.Prelude.{◌≡◌, ◌<◌, ◌*◌, ◌^◌, IfOk, 
 ghost use Rattle.tiff_base.specs.Answers.{AnswersHere};
 ghost use Rattle.tiff_page.specs.Buffers as spec;
 ghost use Rattle.tiff_page.specs.Layout as layouts;
+ghost use Rattle.tiff_page.specs.Rect as place;
 ghost use Rattle.tiff_page.specs.View as view;
 
 use crate::layout::{
@@ -105,6 +106,18 @@ pub fn image_chunk_buffer_layout(
     })
 }
 
+// A coding unit is one of the chunks of a plane.
+pub(crate) fn unit_fault(page: &Page, unit: u32) -> TiffResult<()>
+    ensures answer { AnswersHere (λ _. tt) result (spec.unit_fault (view.page page.now) unit) }
+    ensures below { IfOk result (λ _. unit < place.chunks_of_plane (view.page page.now)) }
+{
+    let chunks = chunks_of_plane(page);
+    if unit >= chunks {
+        return Err(UsageError::InvalidCodingUnit(unit, chunks).into());
+    }
+    Ok(())
+}
+
 /// A buffer for a coding unit: of a chunky page as for the chunk, of a planar one for all planes, whose first fault is that
 /// of the layout, as for the image; then a unit that isn't below the chunks of a plane: `InvalidCodingUnit(unit, chunks)`.
 #[tactic(auto, unfolding(crate::specs::Buffers::image_coding_unit_layout))]
@@ -123,10 +136,7 @@ pub fn image_coding_unit_layout(
         _ => {
             let (width, height) = chunk_data_dimensions(page, unit);
             let layout = planes_layout(page, alloc, width, height)?;
-            let chunks = chunks_of_plane(page);
-            if unit >= chunks {
-                return Err(UsageError::InvalidCodingUnit(unit, chunks).into());
-            }
+            unit_fault(page, unit)?;
             Ok(all_planes(page, layout))
         }
     }

@@ -1,25 +1,33 @@
 //! Pixels are read: whole images, chunks, and coding units.
+//!
+//! Each call answers the first fault in this order: of the layout of what is read, in all planes, as
+//! `buffers::image_buffer_layout`; of the call's own arguments; of samples, `UnsupportedSampleDepth` or
+//! `UnsupportedSampleFormat`, and more of them than `decoding_buffer_size` bytes hold, `LimitsExceeded`; then of the first
+//! chunk, and in it of the first plane, that has one: a form that isn't supported, or more bytes in the file than
+//! `intermediate_buffer_size`, as `faults::form_fault`, and too few data, `IoError(UnexpectedEof)`. What a slice holds after
+//! a fault is open.
 
-ghost use Rattle.std.specs.Prelude.{◌≡◌, ◌*◌, ◌<◌, ◌≤◌, ◌^◌, ℕ, Ok, IfOk, OnOk, if◌then◌else◌, nat_le};
+ghost use Rattle.std.specs.Prelude.{◌≡◌, ◌*◌, ◌<◌, ◌≤◌, ◌^◌, Ok, IfOk, replicate, if◌then◌else◌, nat_le};
 ghost use Rattle.tiff_base.specs.Answers.{Answers, AnswersHere, IsKept};
 ghost use Rattle.tiff_page.specs.Buffers as buffers;
-ghost use Rattle.tiff_page.specs.Image.{Decoded, decoded, image_of};
+ghost use Rattle.tiff_page.specs.Image.{decoded, image_of};
 ghost use Rattle.tiff_page.specs.Layout as layouts;
 ghost use Rattle.tiff_page.specs.PixelCalls as calls;
+ghost use Rattle.tiff_page.specs.PixelFault.{samples_fault};
 ghost use Rattle.tiff_page.specs.Rect as place;
 ghost use Rattle.tiff_page.specs.View as view;
 
-use crate::buffers::{all_planes, planes_layout};
+use crate::buffers::{all_planes, planes_layout, unit_fault};
 use crate::faults::samples_fault;
 use crate::fill::{fill_image, fill_unit};
 use crate::layout::{
-    BufferLayoutPreference, DecodingSampleType, PlaneLayout, chunk_data_dimensions,
-    chunks_of_plane, planes, sample_type_of, size_of, wide_product,
+    BufferLayoutPreference, DecodingSampleType, PlaneLayout, chunk_data_dimensions, planes,
+    sample_type_of, size_of, wide_product,
 };
 use crate::page::Page;
 use std::alloc::Global;
 use tiff_base::color::ColorType;
-use tiff_base::error::{TiffError, TiffResult, UsageError};
+use tiff_base::error::{TiffResult, UsageError};
 use tiff_base::io::Source;
 use tiff_base::tags::ByteOrder;
 use tiff_ifd::limits::Limits;
@@ -53,18 +61,6 @@ fn stride_fault(stride: usize, row_bytes: usize) -> TiffResult<()>
             requested: stride,
         }
         .into());
-    }
-    Ok(())
-}
-
-// A coding unit is one of the chunks of a plane.
-fn unit_fault(page: &Page, unit: u32) -> TiffResult<()>
-    ensures answer { AnswersHere (λ _. tt) result (buffers.unit_fault (view.page page.now) unit) }
-    ensures below { IfOk result (λ _. unit < place.chunks_of_plane (view.page page.now)) }
-{
-    let chunks = chunks_of_plane(page);
-    if unit >= chunks {
-        return Err(UsageError::InvalidCodingUnit(unit, chunks).into());
     }
     Ok(())
 }
@@ -123,6 +119,20 @@ fn planes_within(page: &Page, limits: &Limits, layout: PlaneLayout) -> u16
     1
 }
 
+// Zeros for samples of so many bytes, if these are within the limit.
+fn zeros(
+    alloc: Global,
+    limits: &Limits,
+    sample_type: DecodingSampleType,
+    len: usize,
+) -> TiffResult<Vec<u8>>
+    ensures answer { AnswersHere (λ _. tt) result (samples_fault limits.now (layouts.size_of sample_type) len) }
+    ensures zeros { IfOk result (λ v. v.items ≡ replicate len 0) }
+{
+    samples_fault(limits, size_of(sample_type), len)?;
+    Ok(vec![in alloc; 0u8; len]?)
+}
+
 // The samples of an image in so many planes, in so many bytes.
 #[tactic(auto, unfolding(crate::specs::PixelCalls::samples))]
 fn image_samples<R: Source>(
@@ -142,8 +152,7 @@ fn image_samples<R: Source>(
     ensures answer { Answers (λ s. decoded s.sample_type s.bytes.items) result (calls.samples (R.bytes source.old) order (view.page page.now) limits.now layout.colour (calls.image_part (R.bytes source.old) order (view.page page.now) planes layout.row_bytes) len) (R.failures source.old) (R.failures source.new) }
 {
     let sample_type = sample_type_of(page, alloc)?;
-    samples_fault(limits, size_of(sample_type), len)?;
-    let mut bytes = vec![in alloc; 0u8; len]?;
+    let mut bytes = zeros(alloc, limits, sample_type, len)?;
     match fill_image(
         alloc, source, order, page, limits, layout, planes, &mut bytes,
     ) {
@@ -172,8 +181,7 @@ fn chunk_samples<R: Source>(
     ensures answer { Answers (λ s. decoded s.sample_type s.bytes.items) result (calls.samples (R.bytes source.old) order (view.page page.now) limits.now colour (calls.chunk_part (R.bytes source.old) order (view.page page.now) index 1 stride) len) (R.failures source.old) (R.failures source.new) }
 {
     let sample_type = sample_type_of(page, alloc)?;
-    samples_fault(limits, size_of(sample_type), len)?;
-    let mut bytes = vec![in alloc; 0u8; len]?;
+    let mut bytes = zeros(alloc, limits, sample_type, len)?;
     match fill_unit(
         alloc, source, order, page, limits, colour, index, 1, stride, &mut bytes,
     ) {
@@ -230,7 +238,8 @@ pub fn read_image_to_buffer<R: Source>(
     }
 }
 
-/// Reads an image into a slice, as many planes as it takes whole.
+/// Reads an image into a slice, as many planes as it takes whole, one behind the other; bytes behind them stay. Less room
+/// than a plane's bytes: `InsufficientOutputBufferSize`.
 #[tactic(auto, unfolding(crate::specs::PixelCalls::read_image_bytes))]
 pub fn read_image_bytes<R: Source>(
     alloc: Global,
@@ -249,7 +258,8 @@ pub fn read_image_bytes<R: Source>(
     fill_image(alloc, source, order, page, limits, layout, planes, buf)
 }
 
-/// The samples of a chunk.
+/// The samples of a chunk, in rows of its own width in the image. An index past the list of chunks:
+/// `InconsistentSizesEncountered`.
 #[tactic(auto, unfolding(crate::specs::PixelCalls::read_chunk))]
 pub fn read_chunk<R: Source>(
     alloc: Global,
@@ -263,25 +273,21 @@ pub fn read_chunk<R: Source>(
     ensures answer { Answers (λ s. decoded s.sample_type s.bytes.items) result (calls.read_chunk (R.bytes source.old) order (view.page page.now) limits.now index) (R.failures source.old) (R.failures source.new) }
 {
     let layout = chunk_layout(page, alloc, index)?;
-    let PlaneLayout {
-        colour,
-        row_bytes,
-        plane_stride,
-    } = layout;
     chunk_samples(
         alloc,
         source,
         order,
         page,
         limits,
-        colour,
+        layout.colour,
         index,
-        row_bytes,
-        plane_stride,
+        layout.row_bytes,
+        layout.plane_stride,
     )
 }
 
-/// Reads a chunk into a slice.
+/// Reads a chunk into a slice, in rows of its own width in the image; bytes behind them stay. Less room than its bytes:
+/// `InsufficientOutputBufferSize`; an index past the list of chunks: `InconsistentSizesEncountered`.
 #[tactic(auto, unfolding(crate::specs::PixelCalls::read_chunk_bytes))]
 pub fn read_chunk_bytes<R: Source>(
     alloc: Global,
@@ -311,7 +317,9 @@ pub fn read_chunk_bytes<R: Source>(
     )
 }
 
-/// The samples of a chunk, its rows `stride` bytes apart, with zeros between them.
+/// The samples of a chunk, its rows `stride` bytes apart, with zeros between them. A stride below the bytes of a row:
+/// `InsufficientOutputRowStride`; a chunk's stored height of such rows of 2^64 bytes or more: `LimitsExceeded`; an index past
+/// the list of chunks: `InconsistentSizesEncountered`.
 #[tactic(auto, unfolding(crate::specs::PixelCalls::read_chunk_to_buffer))]
 pub fn read_chunk_to_buffer<R: Source>(
     alloc: Global,
@@ -342,7 +350,9 @@ pub fn read_chunk_to_buffer<R: Source>(
     )
 }
 
-/// Reads the chunk of each plane of a coding unit into a slice, as many as it takes whole.
+/// Reads the chunk of each plane of a coding unit into a slice, as many as it takes whole, one behind the other; bytes behind
+/// them stay. A unit that isn't below the chunks of a plane: `InvalidCodingUnit(unit, chunks)`; less room than a chunk's
+/// bytes: `InsufficientOutputBufferSize`.
 #[tactic(auto, unfolding(crate::specs::PixelCalls::read_coding_unit_bytes))]
 pub fn read_coding_unit_bytes<R: Source>(
     alloc: Global,

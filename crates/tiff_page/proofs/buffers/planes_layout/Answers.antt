@@ -2,7 +2,6 @@ use Rattle.tiff_page.specs.View as view
 use Rattle.tiff_page.proofs.PixelSteps.{coloured, some_planes}
 use Rattle.tiff_page.proofs.buffers.planes_layout.Goals as goal
 
--- src/buffers.rt:20:1
 pub returns-clause-some : goal.returns-clause-some
 returns-clause-some c =
     let p = view.page c.args.page.now in
