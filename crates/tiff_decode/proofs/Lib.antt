@@ -7,3 +7,4 @@ pub mod Items
 pub mod TagList
 pub mod Samples
 pub mod Pieces
+pub mod Back

@@ -10,13 +10,13 @@ use Rattle.tiff_base.specs.declared.tags.ByteOrder.TheVariants.{LittleEndian}
 use Rattle.tiff_base.specs.Number.{number}
 use Rattle.tiff_page.specs.Pixels.{each_to, width_of, numbers_in}
 
-zero_in : (n i : ℕ) → get_or {A = ℕ} (replicate n 0) i 0 ≡ 0
+pub zero_in : (n i : ℕ) → get_or {A = ℕ} (replicate n 0) i 0 ≡ 0
 zero_in zero i = refl
 zero_in (suc n) zero = refl
 zero_in (suc n) (suc i) = zero_in n i
 
 -- behind bytes stand zeros, as past their end
-behind : (bytes zeros : List ℕ) (k : ℕ) → ((i : ℕ) → get_or zeros i 0 ≡ 0) → get_or (bytes ++ zeros) k 0 ≡ get_or bytes k 0
+pub behind : (bytes zeros : List ℕ) (k : ℕ) → ((i : ℕ) → get_or zeros i 0 ≡ 0) → get_or (bytes ++ zeros) k 0 ≡ get_or bytes k 0
 behind [] zeros k none = none k
 behind (b ∷ bytes) zeros zero none = refl
 behind (b ∷ bytes) zeros (suc k) none = behind bytes zeros k none
@@ -34,7 +34,7 @@ abbrev pub number_in : ℕ → List ℕ → ℕ → ℕ
 number_in size bytes n = number LittleEndian (width_of size) (each_to size (λ j. slice_index bytes (n * size + j)))
 
 -- a whole piece of bytes
-whole : (size : ℕ) (bytes : List ℕ) (n : ℕ) → n * size + size ≤ length bytes → take size (drop (n * size) bytes) ≡ each_to size (λ j. slice_index bytes (n * size + j))
+pub whole : (size : ℕ) (bytes : List ℕ) (n : ℕ) → n * size + size ≤ length bytes → take size (drop (n * size) bytes) ≡ each_to size (λ j. slice_index bytes (n * size + j))
 whole size bytes n h =
     fill_by_all (λ j. slice_index bytes (n * size + j)) (take size (drop (n * size) bytes)) size 0
     (length-take-le size (drop (n * size) bytes) (omega (arith, length-drop (n * size) bytes)))

@@ -1,11 +1,13 @@
 -- A decoding result as its number type and the bits of its numbers.
-use Rattle.std.specs.Prelude.{ℕ, List, map}
+use Rattle.std.specs.Prelude.{◌≡◌, ℕ, ◌-◌, ◌%◌, List, ◌++◌, length, map, replicate}
 use Rattle.std.specs.List.{flat_map}
 use Rattle.std.specs.Int.{w8, w16, w32, w64, cast_unsigned}
 use Rattle.tiff_base.specs.Number.{le}
+use Rattle.tiff_base.specs.Told.{AreOctets}
+use Rattle.tiff_page.specs.declared.layout.DecodingSampleType.{DecodingSampleType}
 use Rattle.tiff_page.specs.declared.layout.DecodingSampleType.TheVariants as type
 use Rattle.tiff_page.specs.Layout.{size_of}
-use Rattle.tiff_page.specs.Image.{Decoded}
+use Rattle.tiff_page.specs.Image.{Decoded, decoded}
 use Rattle.tiff_decode.specs.declared.result.DecodingResult.{DecodingResult}
 use Rattle.tiff_decode.specs.declared.result.DecodingResult.TheVariants as result
 use Rattle.tiff_decode.specs.declared.buffer.DecodingBuffer.{DecodingBuffer}
@@ -41,3 +43,11 @@ buffered_as (buffer.I64 s) = record { sample_type = type.I64; numbers = map (cas
 -- the little-endian bytes of all numbers
 abbrev pub bytes_of : Decoded → List ℕ
 bytes_of samples = flat_map (le (size_of samples.sample_type)) samples.numbers
+
+-- bytes with as many zeros behind them as fill up the last number of this size
+abbrev pub whole_numbers : ℕ → List ℕ → List ℕ
+whole_numbers size bytes = bytes ++ replicate ((size - length bytes % size) % size) 0
+
+-- the numbers that bytes hold have those bytes, and the zeros
+abbrev pub BytesAgain : Type 0
+BytesAgain = (t : DecodingSampleType) (bytes : List ℕ) → AreOctets bytes → bytes_of (decoded t bytes) ≡ whole_numbers (size_of t) bytes

@@ -1,6 +1,7 @@
 //! The laws of a decoder's calls, each the contract of a function with no work.
 
 ghost use Rattle.tiff_decode.specs.Once.{IsEachAlong, IsOneAnswer};
+ghost use Rattle.tiff_decode.specs.Result.{BytesAgain};
 
 /// A call leaves the file, counts its failed reads, and goes to its next state, or with want of memory and a fault of the
 /// device stays.
@@ -11,4 +12,9 @@ pub fn each_along()
 /// A call's answer is one, but for want of memory and faults of the device.
 pub fn one_answer()
     ensures { IsOneAnswer }
+{}
+
+/// The numbers that some bytes hold have those bytes again, and behind them the zeros that fill up the last number.
+pub fn bytes_again()
+    ensures { BytesAgain }
 {}

@@ -50,6 +50,12 @@ pub floats_decoded : s.floats_decoded
 unfolding floats
 floats_decoded samples e = ap floats e
 
+pub zeros_behind : s.zeros_behind
+zeros_behind = refl
+
+pub no_zeros : s.no_zeros
+no_zeros = refl
+
 pub wide_bytes : s.wide_bytes
 wide_bytes = refl
 

@@ -14,7 +14,7 @@ use Rattle.tiff_ifd.specs.View.{datum, value, datum_list}
 use Rattle.tiff_ifd.specs.declared.value.Value.TheVariants as v
 use Rattle.tiff_page.specs.declared.layout.DecodingSampleType.TheVariants as type
 use Rattle.tiff_decode.specs.declared.result.DecodingResult.TheVariants as result
-use Rattle.tiff_decode.specs.Result.{decoded_as, bytes_of}
+use Rattle.tiff_decode.specs.Result.{decoded_as, whole_numbers, bytes_of}
 
 -- a number, and a list that holds a list
 abbrev pub byte_seen : Type 0
@@ -55,6 +55,13 @@ signed_decoded = (samples : Vec ℤ Global) → samples.items ≡ (negsuc 0 ∷ 
 abbrev pub floats_decoded : Type 0
 floats_decoded = (samples : Vec Bits16 Global) → samples.items ≡ (record { 0 = 0x3c00 } ∷ [])
     → decoded_as (result.F16 samples) ≡ record { sample_type = type.F16; numbers = 0x3c00 ∷ [] }
+
+-- bytes whose last number is filled up, and those of whole numbers
+abbrev pub zeros_behind : Type 0
+zeros_behind = whole_numbers 4 (1 ∷ 2 ∷ 3 ∷ 4 ∷ 5 ∷ []) ≡ 1 ∷ 2 ∷ 3 ∷ 4 ∷ 5 ∷ 0 ∷ 0 ∷ 0 ∷ []
+
+abbrev pub no_zeros : Type 0
+no_zeros = whole_numbers 2 (1 ∷ 2 ∷ []) ≡ 1 ∷ 2 ∷ []
 
 -- the bytes of samples, the lowest of each first
 abbrev pub wide_bytes : Type 0

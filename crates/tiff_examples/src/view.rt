@@ -5,7 +5,8 @@ ghost use Rattle.tiff_examples.specs.Views as s;
 /// Values and samples as plain data.
 pub fn views()
     ensures { s.byte_seen × s.list_seen × s.byte_back × s.list_back × s.float_seen × s.no_depth × s.two_deep × s.two_seen ×
-        s.bytes_decoded × s.signed_decoded × s.floats_decoded × s.wide_bytes }
+        s.bytes_decoded × s.signed_decoded × s.floats_decoded ×
+        s.zeros_behind × s.no_zeros × s.wide_bytes }
 {}
 
 /// Values that are the same, and fields that are set in turn.

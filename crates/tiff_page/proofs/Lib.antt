@@ -10,7 +10,9 @@ pub mod ChunkRows
 pub mod Units
 pub mod ChunkRead
 pub mod RowRead
+pub mod Filling
 pub mod Rows
 pub mod RowLaws
 pub mod Reading
 pub mod Handing
+pub mod PixelSteps

@@ -1,11 +1,11 @@
 -- What is known of a page that passed the tests of its form.
 use Rattle.std.proofs.Common.{List, suc, ◌-◌, [], ◌∷◌, ◌≡◌, ℕ, ◌/◌, ◌<◌, ◌≤◌, Bool, true, false, Ok, Err, refl, sym, subst, ◌∙◌, ◌⊎◌, inl, inr, ⊎_elim, arith}
-use Rattle.std.specs.Prelude.{Result, length, if◌then◌else◌, nat_le, nat_lt, ◌==◌}
+use Rattle.std.specs.Prelude.{Result, length, slice_index, if◌then◌else◌, nat_le, nat_lt, ◌==◌}
 use Rattle.std.proofs.lemmas.Bool.{cases_Bool, cases_lt, eqb-true, lt-ltb, le-ltb}
 use Rattle.tiff_base.specs.declared.color.ColorType.{ColorType}
 use Rattle.tiff_base.specs.declared.color.ColorType.TheVariants.{Gray, RGB, Palette, GrayA, RGBA, CMYK, CMYKA, YCbCr, Lab, Multiband}
 use Rattle.tiff_base.specs.declared.error.TiffError.{TiffError}
-use Rattle.tiff_base.specs.declared.error.TiffError.TheVariants.{FormatError, UnsupportedError}
+use Rattle.tiff_base.specs.declared.error.TiffError.TheVariants.{FormatError, UnsupportedError, LimitsExceeded}
 use Rattle.tiff_base.specs.declared.error.TiffFormatError.TheVariants.{InconsistentSizesEncountered}
 use Rattle.tiff_base.specs.declared.error.TiffUnsupportedError.TheVariants.{UnsupportedColorType, HorizontalPredictor, FloatingPointPredictor}
 use Rattle.tiff_base.specs.declared.tags.ExtraSamples.{ExtraSamples}
@@ -22,7 +22,7 @@ use Rattle.tiff_base.specs.Color.{num_samples}
 use Rattle.tiff_ifd.specs.declared.limits.Limits.{Limits}
 use Rattle.tiff_page.specs.Page.{PageRecord}
 use Rattle.tiff_page.specs.Layout.{colour_of, colour_from, no_colour, gray, lab, photometric, first_is_alpha, shown}
-use Rattle.tiff_page.specs.PixelFault.{unless, is_whole, is_gray, unpredicted, depth_fault, form_fault}
+use Rattle.tiff_page.specs.PixelFault.{unless, is_whole, is_gray, unpredicted, depth_fault, predictor_fault, method_fault, form_fault}
 use Rattle.tiff_page.specs.Pixels.{stored_samples}
 use Rattle.tiff_page.specs.Row.{IsSize}
 use Rattle.tiff_page.specs.Read.{IsRead, FormRead}
@@ -173,10 +173,19 @@ both : (a : Result (Unit {0}) TiffError) (f : Unit {0} → Result (Unit {0}) Tif
 both (Ok u) f h = (refl, h)
 both (Err e) f h = cc
 
-depth_passed : (p : PageRecord) (limits : Limits) (c : ColorType) (i : ℕ) → form_fault p limits c i ≡ Ok tt → depth_fault p c ≡ Ok tt
+pub depth_passed : (p : PageRecord) (limits : Limits) (c : ColorType) (i : ℕ) → form_fault p limits c i ≡ Ok tt → depth_fault p c ≡ Ok tt
 unfolding form_fault
 depth_passed p limits c i h =
     (both (depth_fault p c) _ (both (unless (nat_le (length p.offsets) i) (FormatError InconsistentSizesEncountered)) _ h).1).0
+
+pub method_passed : (p : PageRecord) (limits : Limits) (c : ColorType) (i : ℕ) → form_fault p limits c i ≡ Ok tt → method_fault p.method ≡ Ok tt
+unfolding form_fault
+method_passed p limits c i h =
+    let a = both (unless (nat_le (length p.offsets) i) (FormatError InconsistentSizesEncountered)) _ h in
+    let b = both (depth_fault p c) _ a.1 in
+    let d = both (predictor_fault p c) _ b.1 in
+    let e = both (unless (nat_lt limits.intermediate_buffer_size (slice_index p.byte_counts i)) LimitsExceeded) _ d.1 in
+    (both (method_fault p.method) _ e.1).0
 
 is_read : (p : PageRecord) (c : ColorType) → 0 < p.samples → colour_of p ≡ Ok c → depth_fault p c ≡ Ok tt → IsRead p c
 is_read p c s e d =

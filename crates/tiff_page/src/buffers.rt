@@ -1,6 +1,6 @@
 //! Buffers for an image and its parts.
 
-ghost use Rattle.std.specs.Prelude.{◌≡◌, ◌<◌, ◌*◌, ◌^◌, IfOk, IfSome};
+ghost use Rattle.std.specs.Prelude.{◌≡◌, ◌<◌, ◌*◌, ◌^◌, IfOk, IfSome, Ok};
 ghost use Rattle.tiff_base.specs.Answers.{AnswersHere};
 ghost use Rattle.tiff_page.specs.Buffers as spec;
 ghost use Rattle.tiff_page.specs.Layout as layouts;
@@ -23,6 +23,8 @@ pub fn planes_layout(page: &Page, alloc: Global, width: u32, height: u32) -> Tif
     ensures rows { 0 < width → IfOk result (λ l. 0 < l.row_bytes) }
     ensures plane { 0 < width → 0 < height → IfOk result (λ l. 0 < l.plane_stride) }
     ensures fits { IfOk result (λ l. l.plane_stride * layouts.planes page.now.planar l.colour < 2 ^ 64) }
+    ensures laid { IfOk result (λ l. layouts.layout_of (view.page page.now) width height ≡ Ok (record { colour = l.colour; row_bytes = l.row_bytes; plane_stride = l.plane_stride })) }
+    ensures some { IfOk result (λ l. 0 < layouts.planes page.now.planar l.colour) }
 {
     let layout = layout_of(page, alloc, width, height)?;
     let planes = usize::from(planes(page, layout.colour));
@@ -31,7 +33,7 @@ pub fn planes_layout(page: &Page, alloc: Global, width: u32, height: u32) -> Tif
 }
 
 // A buffer for all planes of a layout.
-fn all_planes(page: &Page, layout: PlaneLayout) -> BufferLayoutPreference
+pub(crate) fn all_planes(page: &Page, layout: PlaneLayout) -> BufferLayoutPreference
     requires { layout.plane_stride * layouts.planes page.now.planar layout.colour < 2 ^ 64 }
     ensures { result ≡ spec.all_planes (view.page page.now) (record { colour = layout.colour; row_bytes = layout.row_bytes; plane_stride = layout.plane_stride }) }
 {

@@ -134,7 +134,7 @@ fn gap_behind(gap: u64, row: usize, rows: usize) -> u64
 }
 
 // Reads the rows of a chunk.
-fn read_rows<R: Source>(
+pub(crate) fn read_rows<R: Source>(
     alloc: Global,
     source: &mut R,
     order: ByteOrder,

@@ -6,6 +6,7 @@ pub mod checks;
 pub mod chunk;
 pub mod counts;
 pub mod faults;
+pub mod fill;
 pub mod handed;
 pub mod laws;
 pub mod layout;

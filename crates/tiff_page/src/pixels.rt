@@ -1,15 +1,25 @@
 //! Pixels are read: whole images, chunks, and coding units.
 
-ghost use Rattle.std.specs.Prelude.{◌≡◌, ◌*◌};
-ghost use Rattle.tiff_base.specs.Answers.{Answers, IsKept};
+ghost use Rattle.std.specs.Prelude.{◌≡◌, ◌*◌, ◌<◌, ◌≤◌, ◌^◌, ℕ, Ok, IfOk, OnOk, if◌then◌else◌, nat_le};
+ghost use Rattle.tiff_base.specs.Answers.{Answers, AnswersHere, IsKept};
+ghost use Rattle.tiff_page.specs.Buffers as buffers;
 ghost use Rattle.tiff_page.specs.Image.{Decoded, decoded, image_of};
+ghost use Rattle.tiff_page.specs.Layout as layouts;
 ghost use Rattle.tiff_page.specs.PixelCalls as calls;
+ghost use Rattle.tiff_page.specs.Rect as place;
 ghost use Rattle.tiff_page.specs.View as view;
 
-use crate::layout::{BufferLayoutPreference, DecodingSampleType};
+use crate::buffers::{all_planes, planes_layout};
+use crate::faults::samples_fault;
+use crate::fill::{fill_image, fill_unit};
+use crate::layout::{
+    BufferLayoutPreference, DecodingSampleType, PlaneLayout, chunk_data_dimensions,
+    chunks_of_plane, planes, sample_type_of, size_of, wide_product,
+};
 use crate::page::Page;
 use std::alloc::Global;
-use tiff_base::error::{TiffError, TiffResult};
+use tiff_base::color::ColorType;
+use tiff_base::error::{TiffError, TiffResult, UsageError};
 use tiff_base::io::Source;
 use tiff_base::tags::ByteOrder;
 use tiff_ifd::limits::Limits;
@@ -21,7 +31,159 @@ pub struct SampleBytes {
     pub bytes: Vec<u8>,
 }
 
+// A slice has room for one plane.
+fn room_fault(provided: usize, needed: usize) -> TiffResult<()>
+    ensures answer { AnswersHere (λ _. tt) result (calls.room_fault provided needed) }
+    ensures room { IfOk result (λ _. needed ≤ provided) }
+{
+    if provided < needed {
+        return Err(UsageError::InsufficientOutputBufferSize { needed, provided }.into());
+    }
+    Ok(())
+}
+
+// Rows that lie so many bytes apart don't reach into each other.
+fn stride_fault(stride: usize, row_bytes: usize) -> TiffResult<()>
+    ensures answer { AnswersHere (λ _. tt) result (calls.stride_fault stride row_bytes) }
+    ensures columns { IfOk result (λ _. row_bytes ≤ stride) }
+{
+    if stride < row_bytes {
+        return Err(UsageError::InsufficientOutputRowStride {
+            needed: row_bytes,
+            requested: stride,
+        }
+        .into());
+    }
+    Ok(())
+}
+
+// A coding unit is one of the chunks of a plane.
+fn unit_fault(page: &Page, unit: u32) -> TiffResult<()>
+    ensures answer { AnswersHere (λ _. tt) result (buffers.unit_fault (view.page page.now) unit) }
+    ensures below { IfOk result (λ _. unit < place.chunks_of_plane (view.page page.now)) }
+{
+    let chunks = chunks_of_plane(page);
+    if unit >= chunks {
+        return Err(UsageError::InvalidCodingUnit(unit, chunks).into());
+    }
+    Ok(())
+}
+
+// The planes that a slice of so many bytes takes whole.
+#[tactic(auto, using(crate::proofs::PixelSteps::whole_planes, crate::proofs::PixelSteps::one_plane))]
+fn planes_used(page: &Page, layout: PlaneLayout, len: usize) -> u16
+    requires plane { 0 < layout.plane_stride }
+    requires some { 0 < layouts.planes page.now.planar layout.colour }
+    requires room { layout.plane_stride ≤ len }
+    ensures value { result ≡ calls.planes_used (view.page page.now) (record { colour = layout.colour; row_bytes = layout.row_bytes; plane_stride = layout.plane_stride }) len }
+    ensures some { 0 < result }
+    ensures room { result * layout.plane_stride ≤ len }
+{
+    let all = usize::from(planes(page, layout.colour));
+    all.min(len / layout.plane_stride) as u16
+}
+
+// The layout of a chunk as a part of its page.
+#[tactic(auto, using(crate::proofs::PixelSteps::coloured, crate::proofs::PixelSteps::columns, crate::proofs::PixelSteps::stride))]
+fn chunk_layout(page: &Page, alloc: Global, index: u32) -> TiffResult<PlaneLayout>
+    ensures answer { AnswersHere (λ l. record { colour = l.colour; row_bytes = l.row_bytes; plane_stride = l.plane_stride }) result (buffers.planes_layout (view.page page.now) (place.rect (view.page page.now) index).width (place.rect (view.page page.now) index).height) }
+    ensures coloured { IfOk result (λ l. layouts.colour_of (view.page page.now) ≡ Ok l.colour) }
+    ensures columns { IfOk result (λ l. layouts.row_bytes (view.page page.now) l.colour (place.rect (view.page page.now) index).width ≤ l.row_bytes) }
+    ensures stride { IfOk result (λ l. (place.rect (view.page page.now) index).height * l.row_bytes ≡ l.plane_stride) }
+    ensures plane { IfOk result (λ l. 0 < l.plane_stride) }
+    ensures some { IfOk result (λ l. 0 < layouts.planes page.now.planar l.colour) }
+{
+    let (width, height) = chunk_data_dimensions(page, index);
+    planes_layout(page, alloc, width, height)
+}
+
+// The bytes of the rows of a chunk that lie so many bytes apart.
+#[tactic(auto, using(crate::proofs::PixelSteps::height_within, crate::proofs::PixelSteps::rows_fit))]
+fn rows_len(page: &Page, index: u32, stride: usize) -> usize
+    requires wide { stride * page.now.chunk_height < 2 ^ 64 }
+    ensures value { result ≡ stride * (place.rect (view.page page.now) index).height }
+    ensures room { (place.rect (view.page page.now) index).height * stride ≤ result }
+{
+    let (_, height) = chunk_data_dimensions(page, index);
+    stride * height as usize
+}
+
+// All planes of an image where their bytes are within the limit, else one.
+fn planes_within(page: &Page, limits: &Limits, layout: PlaneLayout) -> u16
+    requires some { 0 < layouts.planes page.now.planar layout.colour }
+    requires fits { layout.plane_stride * layouts.planes page.now.planar layout.colour < 2 ^ 64 }
+    ensures value { result ≡ (let all = layouts.planes page.now.planar layout.colour in if nat_le (layout.plane_stride * all) limits.now.decoding_buffer_size then all else 1) }
+    ensures some { 0 < result }
+    ensures fits { layout.plane_stride * result < 2 ^ 64 }
+{
+    let all = planes(page, layout.colour);
+    if layout.plane_stride * usize::from(all) <= limits.decoding_buffer_size {
+        return all;
+    }
+    1
+}
+
+// The samples of an image in so many planes, in so many bytes.
+#[tactic(auto, unfolding(crate::specs::PixelCalls::samples))]
+fn image_samples<R: Source>(
+    alloc: Global,
+    source: &mut R,
+    order: ByteOrder,
+    page: &Page,
+    limits: &Limits,
+    layout: PlaneLayout,
+    planes: u16,
+    len: usize,
+) -> TiffResult<SampleBytes>
+    requires laid { layouts.layout_of (view.page page.now) page.now.width page.now.height ≡ Ok (record { colour = layout.colour; row_bytes = layout.row_bytes; plane_stride = layout.plane_stride }) }
+    requires some { 0 < planes }
+    requires room { planes * layout.plane_stride ≤ len }
+    ensures kept { IsKept R.bytes R.failures source.old source.new }
+    ensures answer { Answers (λ s. decoded s.sample_type s.bytes.items) result (calls.samples (R.bytes source.old) order (view.page page.now) limits.now layout.colour (calls.image_part (R.bytes source.old) order (view.page page.now) planes layout.row_bytes) len) (R.failures source.old) (R.failures source.new) }
+{
+    let sample_type = sample_type_of(page, alloc)?;
+    samples_fault(limits, size_of(sample_type), len)?;
+    let mut bytes = vec![in alloc; 0u8; len]?;
+    match fill_image(
+        alloc, source, order, page, limits, layout, planes, &mut bytes,
+    ) {
+        Ok(()) => Ok(SampleBytes { sample_type, bytes }),
+        Err(fault) => Err(fault),
+    }
+}
+
+// The samples of a chunk, its rows a stride apart, in so many bytes.
+#[tactic(auto, unfolding(crate::specs::PixelCalls::samples))]
+fn chunk_samples<R: Source>(
+    alloc: Global,
+    source: &mut R,
+    order: ByteOrder,
+    page: &Page,
+    limits: &Limits,
+    colour: ColorType,
+    index: u32,
+    stride: usize,
+    len: usize,
+) -> TiffResult<SampleBytes>
+    requires coloured { layouts.colour_of (view.page page.now) ≡ Ok colour }
+    requires columns { layouts.row_bytes (view.page page.now) colour (place.rect (view.page page.now) index).width ≤ stride }
+    requires room { (place.rect (view.page page.now) index).height * stride ≤ len }
+    ensures kept { IsKept R.bytes R.failures source.old source.new }
+    ensures answer { Answers (λ s. decoded s.sample_type s.bytes.items) result (calls.samples (R.bytes source.old) order (view.page page.now) limits.now colour (calls.chunk_part (R.bytes source.old) order (view.page page.now) index 1 stride) len) (R.failures source.old) (R.failures source.new) }
+{
+    let sample_type = sample_type_of(page, alloc)?;
+    samples_fault(limits, size_of(sample_type), len)?;
+    let mut bytes = vec![in alloc; 0u8; len]?;
+    match fill_unit(
+        alloc, source, order, page, limits, colour, index, 1, stride, &mut bytes,
+    ) {
+        Ok(()) => Ok(SampleBytes { sample_type, bytes }),
+        Err(fault) => Err(fault),
+    }
+}
+
 /// The samples of an image, of its first plane where it is planar.
+#[tactic(auto, using(crate::proofs::Planes::image_is_first_plane))]
 pub fn read_image<R: Source>(
     alloc: Global,
     source: &mut R,
@@ -32,11 +194,22 @@ pub fn read_image<R: Source>(
     ensures kept { IsKept R.bytes R.failures source.old source.new }
     ensures answer { Answers (λ s. decoded s.sample_type s.bytes.items) result (image_of (R.bytes source.old) order (view.page page.now) limits.now) (R.failures source.old) (R.failures source.new) }
 {
-    Err(TiffError::OutOfMemory)
+    let layout = planes_layout(page, alloc, page.width, page.height)?;
+    image_samples(
+        alloc,
+        source,
+        order,
+        page,
+        limits,
+        layout,
+        1,
+        layout.plane_stride,
+    )
 }
 
 /// The samples of all planes of an image, or of the first one where all aren't within `decoding_buffer_size`, with the layout
 /// of all planes.
+#[tactic(auto, unfolding(crate::specs::PixelCalls::read_image_to_buffer))]
 pub fn read_image_to_buffer<R: Source>(
     alloc: Global,
     source: &mut R,
@@ -47,10 +220,18 @@ pub fn read_image_to_buffer<R: Source>(
     ensures kept { IsKept R.bytes R.failures source.old source.new }
     ensures answer { Answers (λ r. (r.0, decoded r.1.sample_type r.1.bytes.items)) result (calls.read_image_to_buffer (R.bytes source.old) order (view.page page.now) limits.now) (R.failures source.old) (R.failures source.new) }
 {
-    Err(TiffError::OutOfMemory)
+    let layout = planes_layout(page, alloc, page.width, page.height)?;
+    let preference = all_planes(page, layout);
+    let planes = planes_within(page, limits, layout);
+    let len = layout.plane_stride * usize::from(planes);
+    match image_samples(alloc, source, order, page, limits, layout, planes, len) {
+        Ok(samples) => Ok((preference, samples)),
+        Err(fault) => Err(fault),
+    }
 }
 
 /// Reads an image into a slice, as many planes as it takes whole.
+#[tactic(auto, unfolding(crate::specs::PixelCalls::read_image_bytes))]
 pub fn read_image_bytes<R: Source>(
     alloc: Global,
     source: &mut R,
@@ -62,10 +243,14 @@ pub fn read_image_bytes<R: Source>(
     ensures kept { IsKept R.bytes R.failures source.old source.new }
     ensures answer { Answers (λ _. buf.new) result (calls.read_image_bytes (R.bytes source.old) order (view.page page.now) limits.now buf.old) (R.failures source.old) (R.failures source.new) }
 {
-    Err(TiffError::OutOfMemory)
+    let layout = planes_layout(page, alloc, page.width, page.height)?;
+    room_fault(buf.len(), layout.plane_stride)?;
+    let planes = planes_used(page, layout, buf.len());
+    fill_image(alloc, source, order, page, limits, layout, planes, buf)
 }
 
 /// The samples of a chunk.
+#[tactic(auto, unfolding(crate::specs::PixelCalls::read_chunk))]
 pub fn read_chunk<R: Source>(
     alloc: Global,
     source: &mut R,
@@ -77,10 +262,27 @@ pub fn read_chunk<R: Source>(
     ensures kept { IsKept R.bytes R.failures source.old source.new }
     ensures answer { Answers (λ s. decoded s.sample_type s.bytes.items) result (calls.read_chunk (R.bytes source.old) order (view.page page.now) limits.now index) (R.failures source.old) (R.failures source.new) }
 {
-    Err(TiffError::OutOfMemory)
+    let layout = chunk_layout(page, alloc, index)?;
+    let PlaneLayout {
+        colour,
+        row_bytes,
+        plane_stride,
+    } = layout;
+    chunk_samples(
+        alloc,
+        source,
+        order,
+        page,
+        limits,
+        colour,
+        index,
+        row_bytes,
+        plane_stride,
+    )
 }
 
 /// Reads a chunk into a slice.
+#[tactic(auto, unfolding(crate::specs::PixelCalls::read_chunk_bytes))]
 pub fn read_chunk_bytes<R: Source>(
     alloc: Global,
     source: &mut R,
@@ -93,10 +295,24 @@ pub fn read_chunk_bytes<R: Source>(
     ensures kept { IsKept R.bytes R.failures source.old source.new }
     ensures answer { Answers (λ _. buf.new) result (calls.read_chunk_bytes (R.bytes source.old) order (view.page page.now) limits.now index buf.old) (R.failures source.old) (R.failures source.new) }
 {
-    Err(TiffError::OutOfMemory)
+    let layout = chunk_layout(page, alloc, index)?;
+    room_fault(buf.len(), layout.plane_stride)?;
+    fill_unit(
+        alloc,
+        source,
+        order,
+        page,
+        limits,
+        layout.colour,
+        index,
+        1,
+        layout.row_bytes,
+        buf,
+    )
 }
 
 /// The samples of a chunk, its rows `stride` bytes apart, with zeros between them.
+#[tactic(auto, unfolding(crate::specs::PixelCalls::read_chunk_to_buffer))]
 pub fn read_chunk_to_buffer<R: Source>(
     alloc: Global,
     source: &mut R,
@@ -109,10 +325,25 @@ pub fn read_chunk_to_buffer<R: Source>(
     ensures kept { IsKept R.bytes R.failures source.old source.new }
     ensures answer { Answers (λ s. decoded s.sample_type s.bytes.items) result (calls.read_chunk_to_buffer (R.bytes source.old) order (view.page page.now) limits.now index stride) (R.failures source.old) (R.failures source.new) }
 {
-    Err(TiffError::OutOfMemory)
+    let layout = chunk_layout(page, alloc, index)?;
+    stride_fault(stride, layout.row_bytes)?;
+    wide_product(stride, page.chunk_height as usize)?;
+    let len = rows_len(page, index, stride);
+    chunk_samples(
+        alloc,
+        source,
+        order,
+        page,
+        limits,
+        layout.colour,
+        index,
+        stride,
+        len,
+    )
 }
 
 /// Reads the chunk of each plane of a coding unit into a slice, as many as it takes whole.
+#[tactic(auto, unfolding(crate::specs::PixelCalls::read_coding_unit_bytes))]
 pub fn read_coding_unit_bytes<R: Source>(
     alloc: Global,
     source: &mut R,
@@ -125,5 +356,20 @@ pub fn read_coding_unit_bytes<R: Source>(
     ensures kept { IsKept R.bytes R.failures source.old source.new }
     ensures answer { Answers (λ _. buf.new) result (calls.read_coding_unit_bytes (R.bytes source.old) order (view.page page.now) limits.now unit buf.old) (R.failures source.old) (R.failures source.new) }
 {
-    Err(TiffError::OutOfMemory)
+    let layout = chunk_layout(page, alloc, unit)?;
+    unit_fault(page, unit)?;
+    room_fault(buf.len(), layout.plane_stride)?;
+    let planes = planes_used(page, layout, buf.len());
+    fill_unit(
+        alloc,
+        source,
+        order,
+        page,
+        limits,
+        layout.colour,
+        unit,
+        planes,
+        layout.row_bytes,
+        buf,
+    )
 }

@@ -15,5 +15,7 @@ returns c = (
   p.bytes_decoded,
   p.signed_decoded,
   p.floats_decoded,
+  p.zeros_behind,
+  p.no_zeros,
   p.wide_bytes,
 )

@@ -1,0 +1,21 @@
+use Rattle.std.proofs.Common.{◌≡◌, ℕ, ◌+◌, ◌*◌, ◌≤◌, List, Ok}
+use Rattle.tiff_page.specs.Pixels.{is_short}
+use Rattle.tiff_page.specs.PixelFault.{chunk_fault, each_below}
+use Rattle.tiff_page.specs.Place.{Writes, IsBefore, image_byte}
+use Rattle.tiff_page.specs.Rect.{chunks_of_plane}
+use Rattle.tiff_page.specs.View as view
+use Rattle.tiff_page.proofs.fill.fill_image.Given as goal
+
+-- the chunks so far have no fault, and are in the buffer
+abbrev pub invariant-loop-chunk : goal.invariant-loop-chunk
+invariant-loop-chunk g l =
+    let bytes = g.R.Source.bytes l.fn.source in
+    let p = view.page l.page in
+    let colour = l.layout.colour in
+    let stride = l.layout.row_bytes in
+    record {
+      same_bytes : g.R.Source.bytes l.source ≡ bytes;
+      count : g.R.Source.failures l.fn.source ≤ g.R.Source.failures l.source;
+      none : each_below (λ j. each_below (λ plane. chunk_fault p l.limits (is_short bytes l.order p colour) colour (plane * chunks_of_plane p + (0 + j))) l.planes) l.chunk ≡ Ok tt;
+      written : Writes (IsBefore p colour stride l.planes l.chunk 0) (image_byte p colour stride bytes l.order) l.fn.buf l.buf;
+    }

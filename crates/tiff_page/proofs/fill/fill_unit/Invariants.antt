@@ -1,0 +1,19 @@
+use Rattle.std.proofs.Common.{◌≡◌, ℕ, ◌+◌, ◌*◌, ◌≤◌, Ok}
+use Rattle.tiff_page.specs.Pixels.{is_short}
+use Rattle.tiff_page.specs.PixelFault.{chunk_fault, each_below}
+use Rattle.tiff_page.specs.Place.{Writes, IsInUnit, unit_byte}
+use Rattle.tiff_page.specs.Rect.{chunks_of_plane}
+use Rattle.tiff_page.specs.View as view
+use Rattle.tiff_page.proofs.fill.fill_unit.Given as goal
+
+-- the chunk of the planes so far has no fault, and is in the buffer
+abbrev pub invariant-loop-plane : goal.invariant-loop-plane
+invariant-loop-plane g l =
+    let bytes = g.R.Source.bytes l.fn.source in
+    let p = view.page l.page in
+    record {
+      same_bytes : g.R.Source.bytes l.source ≡ bytes;
+      count : g.R.Source.failures l.fn.source ≤ g.R.Source.failures l.source;
+      none : each_below (λ plane. chunk_fault p l.limits (is_short bytes l.order p l.colour) l.colour (plane * chunks_of_plane p + (l.index + 0))) l.plane ≡ Ok tt;
+      written : Writes (IsInUnit p l.colour l.stride l.index l.plane) (unit_byte bytes l.order p l.colour l.stride l.index) l.fn.buf l.buf;
+    }
