@@ -6,8 +6,8 @@ use std::test::Fail;
 use tiff_base::error::TiffResult;
 use tiff_base::tags::{ByteOrder, FileKind};
 
-// An entry of one SHORT.
-fn short(tag: u16, n: u16) -> LaidEntry<'static> {
+/// An entry of one SHORT.
+pub fn short(tag: u16, n: u16) -> LaidEntry<'static> {
     LaidEntry {
         tag,
         field_type: 3,
@@ -16,8 +16,8 @@ fn short(tag: u16, n: u16) -> LaidEntry<'static> {
     }
 }
 
-// An entry of one LONG.
-fn long(tag: u16, n: u32) -> LaidEntry<'static> {
+/// An entry of one LONG.
+pub fn long(tag: u16, n: u32) -> LaidEntry<'static> {
     LaidEntry {
         tag,
         field_type: 4,

@@ -58,6 +58,12 @@ impl Layout {
         Ok(())
     }
 
+    /// Zeros up to a place.
+    pub fn fill_to(&mut self, place: usize) -> TiffResult<()> {
+        self.bytes.resize(place, 0)?;
+        Ok(())
+    }
+
     /// A number of two bytes.
     pub fn u16(&mut self, n: u16) -> TiffResult<()> {
         match self.order {

@@ -12,7 +12,10 @@ mod files;
 mod layout;
 #[cfg(test)]
 mod packed;
+#[cfg(test)]
 mod pages;
+#[cfg(test)]
+mod pixels;
 #[cfg(test)]
 mod reading;
 #[cfg(test)]

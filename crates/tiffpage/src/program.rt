@@ -1,7 +1,9 @@
 //! What the program does.
 
 ghost use Rattle.std.specs.Prelude.{◌≡◌, ◌≤◌, IfOk};
+ghost use Rattle.tiff.specs.Machine.{Follows, stays};
 ghost use Rattle.tiff.specs.Shows.{ShowsOnePage};
+ghost use Rattle.tiffpage.specs.Samples.{sample_bytes};
 
 use crate::command::{Command, parse};
 use crate::files::Files;
@@ -9,11 +11,11 @@ use crate::listing::list_entries;
 use std::alloc::Global;
 use std::fmt;
 use std::io::Write;
-use tiff::decoder::{Decoder, DecodingResult};
+use tiff::decoder::Decoder;
 use tiff::encoder::TiffEncoder;
 use tiff::encoder::colortype::Gray8;
-use tiff::io::{MemorySink, MemorySource};
-use tiff::{TiffError, TiffResult, TiffUnsupportedError};
+use tiff::io::{MemorySink, MemorySource, Source};
+use tiff::{TiffError, TiffResult};
 
 /// Why a command was not done.
 #[derive(Drop)]
@@ -75,13 +77,19 @@ fn open_page(alloc: Global, file: Vec<u8>, page: u32) -> TiffResult<Decoder<Memo
     Ok(decoder)
 }
 
-// The samples of a page. This version reads samples of 8 bits.
+// The samples of the image of a decoder's page as bytes, the lowest of each first.
+#[tactic(auto, unfolding(tiff_decode::specs::Outcome::read_image))]
+fn image_bytes<R: Source>(alloc: Global, decoder: &mut Decoder<R>) -> TiffResult<Vec<u8>>
+    ensures { Follows (λ v. v.items) (stays decoder.old (sample_bytes decoder.old)) result decoder.old decoder.new }
+{
+    let mut samples = decoder.read_image()?;
+    samples.as_buffer(0).as_bytes(alloc)
+}
+
+// The samples of a page as bytes.
 fn page_samples(alloc: Global, file: Vec<u8>, page: u32) -> TiffResult<Vec<u8>> {
     let mut decoder = open_page(alloc, file, page)?;
-    match decoder.read_image()? {
-        DecodingResult::U8(samples) => Ok(samples),
-        _ => Err(TiffUnsupportedError::UnsupportedDataType.into()),
-    }
+    image_bytes(alloc, &mut decoder)
 }
 
 // The entries of a page, a line for each.

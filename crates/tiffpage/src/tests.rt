@@ -137,6 +137,17 @@ fn a_byte_to_a_page_and_back(rt: HostRuntime) -> Result<(), Fail> {
     Ok(())
 }
 
+#[test]
+fn samples_of_two_bytes_are_written_lowest_first(rt: HostRuntime) -> Result<(), Fail> {
+    let mut page = BIG;
+    page[60] = 16;
+    let mut files = MemoryFiles::with(rt.alloc(), "IN", page.as_slice())?;
+    let raw = run_words(rt.alloc(), &mut files, &["raw", "IN", "0", "OUT"])?;
+    assert_eq!(rt; raw.status, 0);
+    assert_eq!(rt; files.read("OUT")?.as_slice(), [0, 7].as_slice());
+    Ok(())
+}
+
 // A command line, its status and its line on the error stream; IN has three bytes, ONE the file of one sample.
 const FAULTS: [(&[&str], u8, &[u8]); 22] = [
     (
