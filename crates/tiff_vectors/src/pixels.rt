@@ -153,7 +153,9 @@ fn two_planes() -> PageForm {
 }
 
 const PLACES: u32 = 300;
+
 const COUNTS: u32 = 400;
+
 const DATA: u32 = 500;
 
 // An entry of one number for each chunk: it stands there, or several stand at a place.
@@ -330,7 +332,10 @@ fn a_byte_count_is_limited_before_the_method(rt: HostRuntime) -> Result<(), Fail
     let mut limits = Limits::default();
     limits.intermediate_buffer_size = 1;
     reader.set_limits(limits);
-    assert_eq!(rt; fault(rt.alloc(), reader.read_chunk(0))?.as_str(), "LimitsExceeded");
+    assert_eq!(rt;
+        fault(rt.alloc(), reader.read_chunk(0))?.as_str(),
+        "LimitsExceeded"
+    );
     Ok(())
 }
 
@@ -350,7 +355,10 @@ fn rows_of_a_chunk_stand_apart(rt: HostRuntime) -> Result<(), Fail> {
     assert_eq!(rt; bytes.get(..5), Some([0, 1, 2, 3, 0].as_slice()));
     assert_eq!(rt;
         bytes.get(239..),
-        Some([0, 0xF0, 0xF1, 0xF2, 0xF3, 0, 0, 0, 0, 0, 0, 0, 0, 0, 0, 0, 0].as_slice())
+        Some([
+            0, 0xF0, 0xF1, 0xF2, 0xF3, 0, 0, 0, 0, 0, 0, 0, 0, 0, 0, 0, 0
+        ]
+        .as_slice())
     );
     let narrow = reader.read_chunk_to_buffer(&mut samples, 1, 3);
     assert_eq!(rt;

@@ -258,6 +258,9 @@ fn a_big_endian_page_is_read(rt: HostRuntime) -> Result<(), Fail> {
     assert_eq!(rt; decoder.byte_order(), ByteOrder::BigEndian);
     assert_eq!(rt; decoder.get_tag_u32(Tag::RowsPerStrip)?, 1_000_000);
     let samples = decoder.read_samples()?;
-    assert_eq!(rt; samples.as_ref().map(|s| s.as_slice()), Some([7].as_slice()));
+    assert_eq!(rt;
+        samples.as_ref().map(|s| s.as_slice()),
+        Some([7].as_slice())
+    );
     Ok(())
 }
