@@ -1,5 +1,5 @@
 -- The bytes of a row of a chunk over its stored bytes.
-use Rattle.std.proofs.Common.{rules, ◌≡◌, ℕ, ◌+◌, ◌-◌, ◌*◌, ◌/◌, ◌%◌, ◌^◌, ◌<◌, ◌≤◌, ◌⊎◌, min, true, false, Bool, cond, List, take, drop, length, refl, ap, sym, ◌∙◌, subst, ⊎_elim, arith}
+use Rattle.std.proofs.Common.{rules, ◌≡◌, ℕ, ◌+◌, ◌-◌, ◌*◌, ◌/◌, ◌%◌, ◌^◌, ◌<◌, ◌≤◌, min, true, false, Bool, List, drop, refl, ap, sym, ◌∙◌, ⊎_elim, arith}
 use Rattle.std.specs.Prelude.{nat_lt, slice_index, sum_by, ◌||◌}
 use Rattle.std.specs.List.{range_with_len}
 use Rattle.std.proofs.lemmas.Bool.{cases_Bool, cases_lt, lt-ltb, le-ltb, ltb-false}
@@ -10,23 +10,20 @@ use Rattle.tiff_base.specs.declared.color.ColorType.{ColorType}
 use Rattle.tiff_base.specs.declared.tags.ByteOrder.{ByteOrder}
 use Rattle.tiff_base.specs.declared.tags.ByteOrder.TheVariants.{BigEndian}
 use Rattle.tiff_base.specs.declared.tags.PhotometricInterpretation.{PhotometricInterpretation}
-use Rattle.tiff_base.specs.declared.tags.PhotometricInterpretation.TheVariants as meaning
 use Rattle.tiff_base.specs.declared.tags.PlanarConfiguration.{PlanarConfiguration}
 use Rattle.tiff_base.specs.declared.tags.PlanarConfiguration.TheVariants.{Chunky, Planar}
 use Rattle.tiff_base.specs.declared.tags.Predictor.{Predictor}
 use Rattle.tiff_base.specs.declared.tags.Predictor.TheVariants as predictor
 use Rattle.tiff_base.specs.Number.{number}
 use Rattle.tiff_page.specs.Page.{PageRecord}
-use Rattle.tiff_page.specs.Counts.{all_chunks, planes_of, parts}
+use Rattle.tiff_page.specs.Counts.{all_chunks, planes_of}
 use Rattle.tiff_page.specs.Rect.{rect, across, chunks_of_plane}
 use Rattle.tiff_page.specs.Layout.{row_bits, row_bytes, shown}
-use Rattle.tiff_page.specs.Pixels.{each_to, width_of, planar_or, stored_samples, stored_row_bytes, chunk_data, stored_byte, is_byte_plane, needs_whole_rows, needed_of_last, inverted, number_by, chunk_at, packed_byte, number_byte, region_byte, chunk_region, shown_sample}
+use Rattle.tiff_page.specs.Pixels.{each_to, width_of, planar_or, stored_samples, stored_row_bytes, chunk_data, stored_byte, is_byte_plane, needs_whole_rows, needed_of_last, inverted, number_by, packed_byte, number_byte, chunk_region, shown_sample}
 use Rattle.tiff_page.specs.Laws.{HasSides}
-use Rattle.tiff_page.specs.Row.{row_number, summed_byte_in, joined_number}
-use Rattle.tiff_page.specs.Place.{chunk_byte}
+use Rattle.tiff_page.specs.Row.{row_number, summed_byte_in}
 use Rattle.tiff_page.specs.Handed as law
 use Rattle.tiff_page.specs.Handed.{IsStored, complemented, number_in, handed_number, handed_byte, stored_row}
-use Rattle.tiff_page.proofs.Sizes.{parts_some, plane_some}
 use Rattle.tiff_page.proofs.Chunks.{fewer_bytes}
 use Rattle.tiff_page.proofs.Rows.{each_same, sum_same}
 

@@ -1,5 +1,5 @@
 -- The chunks of an image cover its places in a buffer, each place once.
-use Rattle.std.proofs.Common.{◌≡◌, ℕ, ◌+◌, ◌-◌, ◌*◌, ◌/◌, ◌%◌, ◌<◌, ◌≤◌, ◌⊎◌, min, true, false, Some, None, List, length, refl, ap, sym, ◌∙◌, subst, inl, inr, ⊎_elim, arith}
+use Rattle.std.proofs.Common.{◌≡◌, ℕ, ◌+◌, ◌-◌, ◌*◌, ◌/◌, ◌%◌, ◌<◌, ◌≤◌, ◌⊎◌, min, true, false, Some, None, List, length, refl, ap, sym, ◌∙◌, inl, inr, ⊎_elim, arith}
 use Rattle.std.specs.Prelude.{nat_lt, slice_index, unwrap_or}
 use Rattle.std.proofs.lemmas.Bool.{cases_Bool, cases_lt, lt-ltb, le-ltb}
 use Rattle.std.proofs.lemmas.List.{ext_get_or}
@@ -12,10 +12,10 @@ use Rattle.tiff_page.specs.Page.{PageRecord}
 use Rattle.tiff_page.specs.Counts.{parts}
 use Rattle.tiff_page.specs.Rect.{rect, across, chunks_of_plane}
 use Rattle.tiff_page.specs.Layout.{row_bits, row_bytes, shown}
-use Rattle.tiff_page.specs.Pixels.{Region, byte_at, chunk_region, region_byte, whole_image}
+use Rattle.tiff_page.specs.Pixels.{Region, byte_at, region_byte, whole_image}
 use Rattle.tiff_page.specs.PixelCalls.{placed}
 use Rattle.tiff_page.specs.Laws.{HasSides, HasWholeRows}
-use Rattle.tiff_page.specs.Place.{Writes, IsIn, in_rect, chunk_byte, plane_of, chunk_of, top_of, left_of, IsInChunk, IsOfChunk, IsBefore, image_byte}
+use Rattle.tiff_page.specs.Place.{Writes, in_rect, chunk_byte, plane_of, chunk_of, top_of, left_of, IsInChunk, IsOfChunk, IsBefore, image_byte}
 use Rattle.tiff_page.specs.Placing as law
 use Rattle.tiff_page.proofs.Sizes.{parts_cover, parts_some, parts_within, plane_some}
 use Rattle.tiff_page.proofs.Chunks.{fewer_bytes, start_is, none_before, image_of_chunks}

@@ -1,6 +1,6 @@
 -- What is left of the data of a chunk.
-use Rattle.std.proofs.Common.{◌≡◌, ℕ, ◌+◌, ◌-◌, ◌<◌, ◌≤◌, ◌^◌, List, [], ◌++◌, length, take, drop, ap, sym, ◌∙◌, arith, drop-drop, length-drop}
-use Rattle.std.proofs.lemmas.List.{drop_all, drop-append-le, length-append}
+use Rattle.std.proofs.Common.{◌≡◌, ℕ, ◌+◌, ◌-◌, ◌<◌, ◌≤◌, ◌^◌, List, [], ◌++◌, length, drop, ap, sym, ◌∙◌, arith, drop-drop, length-drop}
+use Rattle.std.proofs.lemmas.List.{drop_all, drop-append-le}
 use Rattle.tiff_base.specs.Runs.{Unpacked, before}
 use Rattle.tiff_ifd.specs.Unpacking.{left_at, unpacked_at}
 use Rattle.tiff_ifd.specs.declared.packbits.PackedPlace.{PackedPlace}

@@ -1,12 +1,10 @@
-use Rattle.std.proofs.Common.{rules, arith, ◌≡◌, ℕ, ◌<◌, ◌≤◌, ◌∙◌, ◌+◌, ◌-◌, ◌*◌, length, refl, drop, ap, sym, subst}
+use Rattle.std.proofs.Common.{arith, ◌≡◌, ℕ, ◌<◌, ◌∙◌, ◌+◌, ◌-◌, ◌*◌, length, refl, drop, ap, sym, subst}
 use Rattle.std.proofs.lemmas.List.Edits.{length-between}
 use borrow.Rule.Slice.PartMut.{put_mid}
-use Rattle.tiff_base.specs.declared.color.ColorType.{ColorType}
 use Rattle.tiff_page.specs.declared.page.Page.{Page}
 use Rattle.std.specs.Prelude.{slice_index}
 use Rattle.tiff_page.specs.Pixels.{data_by, chunk_data, stored_row_bytes}
 use Rattle.tiff_page.specs.Counts.{all_chunks}
-use Rattle.tiff_page.specs.Handed.{IsStored}
 use Rattle.tiff_page.specs.Laws.{HasSides}
 use Rattle.tiff_page.specs.Layout.{row_bytes}
 use Rattle.tiff_page.specs.Rect.{rect}
@@ -14,7 +12,7 @@ use Rattle.tiff_page.specs.Place.{Writes, IsIn, in_rect, chunk_byte}
 use Rattle.tiff_page.specs.Reading.{needed_of_row}
 use Rattle.tiff_page.specs.Stored.{left_of}
 use Rattle.tiff_page.specs.View as view
-use Rattle.tiff_page.proofs.ChunkRead.{row_below, width_within, row_some, row_bytes_are, row_held, next_row, whole_chunk, too_short}
+use Rattle.tiff_page.proofs.ChunkRead.{row_below, width_within, row_some, row_bytes_are, row_held, next_row, too_short}
 use Rattle.tiff_page.proofs.Rects.{no_row, row_put, row_room}
 use Rattle.tiff_page.proofs.chunk.read_rows.Goals as goal
 

@@ -1,10 +1,10 @@
-use Rattle.std.proofs.Common.{arith, Ok, Err, ◌≡◌, ℕ, List, ◌∙◌, ◌+◌, ◌*◌, ◌<◌, ◌≤◌, length, ap, sym, subst, refl}
+use Rattle.std.proofs.Common.{arith, Ok, Err, ◌≡◌, ℕ, List, ◌∙◌, ◌+◌, ◌*◌, ◌<◌, length, subst}
 use Rattle.tiff_base.specs.Answers.{IsCause}
 use Rattle.tiff_base.specs.declared.error.TiffError.TheVariants.{IoError}
 use Rattle.tiff_base.specs.declared.io.IoKind.TheVariants.{UnexpectedEof}
 use Rattle.tiff_page.specs.Laws.{HasSides}
 use Rattle.tiff_page.specs.Pixels.{is_short}
-use Rattle.tiff_page.specs.PixelFault.{chunk_fault, each_below, unless}
+use Rattle.tiff_page.specs.PixelFault.{each_below, unless}
 use Rattle.tiff_page.specs.Place.{Writes, IsInUnit, unit_byte}
 use Rattle.tiff_page.specs.Rect.{rect, chunks_of_plane}
 use Rattle.tiff_page.specs.View as view
@@ -82,7 +82,7 @@ loop-plane-preserved g c =
       count = omega (arith, c.in-Ok-read_rows.ensures.kept.failures, c.loop-plane.invariant.count);
       none = unit_none (g.R.Source.bytes c.args.source.now) c.args.order (view.page p) c.args.limits.now c.args.colour (sides_of p) p.sampled p.deep c.requires.coloured c.args.stride c.args.index c.args.planes c.requires.which c.loop-plane.plane i q c.loop-plane.invariant.none c.in-Ok.ensures.answer given;
       written = unit_more (g.R.Source.bytes c.args.source.now) c.args.order (view.page p) c.args.limits.now c.args.colour (sides_of p) p.sampled p.deep c.requires.coloured c.args.stride c.args.index c.args.planes c.requires.which c.loop-plane.plane i (c.from-in-loop-plane.result * c.chunk_data_dimensions-height.result.1) (g.R.Source.bytes c.loop-plane.source) c.args.buf.now c.loop-plane.buf c.read_rows.new.buf q c.loop-plane-test.true t same
-      c.loop-plane.invariant.written c.in-Ok-read_rows.ensures.ok;
+          c.loop-plane.invariant.written c.in-Ok-read_rows.ensures.ok;
     }
 
 pub returns-clause-answer : goal.returns-clause-answer

@@ -1,4 +1,4 @@
-use Rattle.std.proofs.Common.{arith, ◌≡◌, ℕ, ◌∙◌, ◌+◌, ◌*◌, ◌/◌, ◌<◌, ◌^◌, ap, sym}
+use Rattle.std.proofs.Common.{arith, ℕ, ◌∙◌, ◌+◌, ◌*◌, ◌/◌, ◌<◌, ◌^◌, ap, sym}
 use Rattle.std.proofs.lemmas.Nat.{mul-lt}
 use Rattle.tiff_page.specs.Layout.{row_bits}
 use Rattle.tiff_page.specs.Laws.{HasSides}
