@@ -73,8 +73,8 @@ impl<R: Source> Decoder<R> {
         ensures { Follows decoded_as (outcome.read_chunk self.old chunk_index) result self.old self.new }
     {
         let (alloc, order) = (self.alloc, self.tags.order);
-        let source = &mut self.tags.source;
-        match pixels::read_chunk(alloc, source, order, &self.page, &self.tags.limits, chunk_index) {
+        let (source, limits) = (&mut self.tags.source, &self.tags.limits);
+        match pixels::read_chunk(alloc, source, order, &self.page, limits, chunk_index) {
             Ok(read) => Ok(typed(alloc, read.sample_type, read.bytes)?),
             Err(fault) => Err(fault),
         }
@@ -88,7 +88,15 @@ impl<R: Source> Decoder<R> {
     {
         let (alloc, order) = (self.alloc, self.tags.order);
         let (source, limits) = (&mut self.tags.source, &self.tags.limits);
-        pixels::read_chunk_bytes(alloc, source, order, &self.page, limits, chunk_index, buffer)
+        pixels::read_chunk_bytes(
+            alloc,
+            source,
+            order,
+            &self.page,
+            limits,
+            chunk_index,
+            buffer,
+        )
     }
 
     /// Makes `buffer` the samples of a chunk, its rows `output_width` bytes apart, with zeros between them. Rows that are
