@@ -73,15 +73,8 @@ impl<R: Source> Decoder<R> {
         ensures { Follows decoded_as (outcome.read_chunk self.old chunk_index) result self.old self.new }
     {
         let (alloc, order) = (self.alloc, self.tags.order);
-        let source = &mut self.tags.source;
-        match pixels::read_chunk(
-            alloc,
-            source,
-            order,
-            &self.page,
-            &self.tags.limits,
-            chunk_index,
-        ) {
+        let (source, limits) = (&mut self.tags.source, &self.tags.limits);
+        match pixels::read_chunk(alloc, source, order, &self.page, limits, chunk_index) {
             Ok(read) => Ok(typed(alloc, read.sample_type, read.bytes)?),
             Err(fault) => Err(fault),
         }
