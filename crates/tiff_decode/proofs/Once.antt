@@ -22,6 +22,7 @@ use Rattle.tiff_decode.specs.Outcome as outcome
 use Rattle.tiff_decode.specs.Failures.{fault_of, device_count, failed_items, failed_list}
 use Rattle.tiff_decode.specs.Result.{decoded_as}
 use Rattle.tiff_decode.specs.Step.{Step, items_of, bits_32, bits_64, ItemIs, ItemsAre, Items}
+use Rattle.tiff_decode.specs.Reader.{TagsRead}
 use Rattle.tiff_decode.specs.Once.{IsNamedFault, seen, item_seen, AreNamed, IsNamedList, IsNamed, SameAnswer, IsAlong}
 
 -- what a named result says of the file, and where it leaves the decoder
@@ -111,6 +112,28 @@ told wanting view outcome (Err OutOfMemory) old new h = record {
   next = λ no. absurd no;
   stays = λ _. at_state old.state old new h.1;
 }
+
+-- a read of tags follows its outcome, where this moves nothing
+moved_nowhere : (state : State) (old new : Decoding) → state ≡ old.state → new ≡ record old { failures = new.failures } → old.failures ≤ new.failures → StandsAt state old new
+moved_nowhere state old new same p l = record {
+  stands = p ∙ ap (λ (s : State). record old { failures = new.failures; state = s }) (sym same);
+  failures = l;
+}
+
+tags_follow : {X Y : Type 0} (view : X → Y) (outcome : Outcome Y) (r : Result X TiffError) (old new : Decoding)
+    → outcome.next ≡ old.state → TagsRead view outcome r old new → FollowsBut (Unit {0}) view outcome r old new
+tags_follow view outcome (Ok x) old new same h = record { answer = h.answer; at = moved_nowhere outcome.next old new same h.state h.failures }
+tags_follow view outcome (Err (FormatError e)) old new same h = record { answer = h.answer; at = moved_nowhere outcome.next old new same h.state h.failures }
+tags_follow view outcome (Err (UnsupportedError e)) old new same h = record { answer = h.answer; at = moved_nowhere outcome.next old new same h.state h.failures }
+tags_follow view outcome (Err (IoError UnexpectedEof)) old new same h = record { answer = h.answer; at = moved_nowhere outcome.next old new same h.state h.failures }
+tags_follow view outcome (Err (IoError InvalidData)) old new same h = record { answer = h.answer; at = moved_nowhere outcome.next old new same h.state h.failures }
+tags_follow view outcome (Err (IoError InvalidInput)) old new same h = record { answer = h.answer; at = moved_nowhere outcome.next old new same h.state h.failures }
+tags_follow view outcome (Err (IoError WriteZero)) old new same h = record { answer = h.answer; at = moved_nowhere outcome.next old new same h.state h.failures }
+tags_follow view outcome (Err LimitsExceeded) old new same h = record { answer = h.answer; at = moved_nowhere outcome.next old new same h.state h.failures }
+tags_follow view outcome (Err IntSizeError) old new same h = record { answer = h.answer; at = moved_nowhere outcome.next old new same h.state h.failures }
+tags_follow view outcome (Err (UsageError e)) old new same h = record { answer = h.answer; at = moved_nowhere outcome.next old new same h.state h.failures }
+tags_follow view outcome (Err (IoError Device)) old new same h = record { grew = h.answer; at = moved_nowhere old.state old new refl h.state h.failures }
+tags_follow view outcome (Err OutOfMemory) old new same h = (tt, moved_nowhere old.state old new refl h.state h.failures)
 
 here_state : (state : State) (old new : Decoding) → new ≡ record old { state = state } → new.state ≡ state
 here_state state old new p = ap (λ (d : Decoding). d.state) p
@@ -378,13 +401,13 @@ along old (call.ChunkDataDimensions i) (reply.ChunkDataDimensions r) new h = rec
   stays = λ _. ap (λ (d : Decoding). d.state) h.1;
 }
 along old call.ImageBufferLayout (reply.ImageBufferLayout r) new h =
-    let t : IsTold (λ x. x) (outcome.image_buffer_layout old) r old new = told_here (IsFault (outcome.image_buffer_layout old).answer) (λ x. x) (outcome.image_buffer_layout old) r old new (inl refl) h in
+    let t : IsTold (λ x. x) (outcome.image_buffer_layout old) r old new = told_here (Unit {0}) (λ x. x) (outcome.image_buffer_layout old) r old new (inl refl) h in
     record { file = t.file; failed = t.failed; next = λ n. (t.next n).1; stays = t.stays }
 along old (call.ImageChunkBufferLayout i) (reply.ImageChunkBufferLayout r) new h =
-    let t : IsTold (λ x. x) (outcome.image_chunk_buffer_layout old i) r old new = told_here (IsFault (outcome.image_chunk_buffer_layout old i).answer) (λ x. x) (outcome.image_chunk_buffer_layout old i) r old new (inl refl) h in
+    let t : IsTold (λ x. x) (outcome.image_chunk_buffer_layout old i) r old new = told_here (Unit {0}) (λ x. x) (outcome.image_chunk_buffer_layout old i) r old new (inl refl) h in
     record { file = t.file; failed = t.failed; next = λ n. (t.next n).1; stays = t.stays }
 along old (call.ImageCodingUnitLayout unit) (reply.ImageCodingUnitLayout r) new h =
-    let t : IsTold (λ x. x) (outcome.image_coding_unit_layout old unit.0) r old new = told_here (IsFault (outcome.image_coding_unit_layout old unit.0).answer) (λ x. x) (outcome.image_coding_unit_layout old unit.0) r old new (inl refl) h in
+    let t : IsTold (λ x. x) (outcome.image_coding_unit_layout old unit.0) r old new = told_here (Unit {0}) (λ x. x) (outcome.image_coding_unit_layout old unit.0) r old new (inl refl) h in
     record { file = t.file; failed = t.failed; next = λ n. (t.next n).1; stays = t.stays }
 along old call.ReadImage (reply.ReadImage r) new h =
     let t : IsTold decoded_as (outcome.read_image old) r old new = told (Unit {0}) decoded_as (outcome.read_image old) r old new h in
@@ -408,52 +431,52 @@ along old (call.ReadCodingUnitBytes unit len) (reply.ReadCodingUnitBytes r b) ne
     let t : IsTold (λ _. items_of b) (outcome.read_coding_unit_bytes old unit.0 (replicate len 0)) r old new = told (Unit {0}) (λ _. items_of b) (outcome.read_coding_unit_bytes old unit.0 (replicate len 0)) r old new h in
     record { file = t.file; failed = t.failed; next = λ n. (t.next n).1; stays = t.stays }
 along old (call.FindTag tag) (reply.FindTag r) new h =
-    let t : IsTold (option_map datum) (outcome.find_tag old tag) r old new = told (Unit {0}) (option_map datum) (outcome.find_tag old tag) r old new h in
+    let t : IsTold (option_map datum) (outcome.find_tag old tag) r old new = told (Unit {0}) (option_map datum) (outcome.find_tag old tag) r old new (tags_follow (option_map datum) (outcome.find_tag old tag) r old new refl h) in
     record { file = t.file; failed = t.failed; next = λ n. (t.next n).1; stays = t.stays }
 along old (call.FindTagUnsigned tag) (reply.FindTagUnsigned r) new h =
-    let t : IsTold (λ x. x) (outcome.find_tag_unsigned old tag) r old new = told (Unit {0}) (λ x. x) (outcome.find_tag_unsigned old tag) r old new h in
+    let t : IsTold (λ x. x) (outcome.find_tag_unsigned old tag) r old new = told (Unit {0}) (λ x. x) (outcome.find_tag_unsigned old tag) r old new (tags_follow (λ x. x) (outcome.find_tag_unsigned old tag) r old new refl h) in
     record { file = t.file; failed = t.failed; next = λ n. (t.next n).1; stays = t.stays }
 along old (call.FindTagUnsignedVec tag) (reply.FindTagUnsignedVec r) new h =
-    let t : IsTold (option_map items_of) (outcome.find_tag_unsigned_vec old tag) r old new = told (Unit {0}) (option_map items_of) (outcome.find_tag_unsigned_vec old tag) r old new h in
+    let t : IsTold (option_map items_of) (outcome.find_tag_unsigned_vec old tag) r old new = told (Unit {0}) (option_map items_of) (outcome.find_tag_unsigned_vec old tag) r old new (tags_follow (option_map items_of) (outcome.find_tag_unsigned_vec old tag) r old new refl h) in
     record { file = t.file; failed = t.failed; next = λ n. (t.next n).1; stays = t.stays }
 along old (call.GetTag tag) (reply.GetTag r) new h =
-    let t : IsTold datum (outcome.get_tag old tag) r old new = told (Unit {0}) datum (outcome.get_tag old tag) r old new h in
+    let t : IsTold datum (outcome.get_tag old tag) r old new = told (Unit {0}) datum (outcome.get_tag old tag) r old new (tags_follow datum (outcome.get_tag old tag) r old new refl h) in
     record { file = t.file; failed = t.failed; next = λ n. (t.next n).1; stays = t.stays }
 along old (call.GetTagUnsigned tag) (reply.GetTagUnsigned r) new h =
-    let t : IsTold (λ x. x) (outcome.get_tag_unsigned old tag) r old new = told (Unit {0}) (λ x. x) (outcome.get_tag_unsigned old tag) r old new h in
+    let t : IsTold (λ x. x) (outcome.get_tag_unsigned old tag) r old new = told (Unit {0}) (λ x. x) (outcome.get_tag_unsigned old tag) r old new (tags_follow (λ x. x) (outcome.get_tag_unsigned old tag) r old new refl h) in
     record { file = t.file; failed = t.failed; next = λ n. (t.next n).1; stays = t.stays }
 along old (call.GetTagU32 tag) (reply.GetTagU32 r) new h =
-    let t : IsTold (λ x. x) (outcome.get_tag_u32 old tag) r old new = told (Unit {0}) (λ x. x) (outcome.get_tag_u32 old tag) r old new h in
+    let t : IsTold (λ x. x) (outcome.get_tag_u32 old tag) r old new = told (Unit {0}) (λ x. x) (outcome.get_tag_u32 old tag) r old new (tags_follow (λ x. x) (outcome.get_tag_u32 old tag) r old new refl h) in
     record { file = t.file; failed = t.failed; next = λ n. (t.next n).1; stays = t.stays }
 along old (call.GetTagU64 tag) (reply.GetTagU64 r) new h =
-    let t : IsTold (λ x. x) (outcome.get_tag_u64 old tag) r old new = told (Unit {0}) (λ x. x) (outcome.get_tag_u64 old tag) r old new h in
+    let t : IsTold (λ x. x) (outcome.get_tag_u64 old tag) r old new = told (Unit {0}) (λ x. x) (outcome.get_tag_u64 old tag) r old new (tags_follow (λ x. x) (outcome.get_tag_u64 old tag) r old new refl h) in
     record { file = t.file; failed = t.failed; next = λ n. (t.next n).1; stays = t.stays }
 along old (call.GetTagF32 tag) (reply.GetTagF32 r) new h =
-    let t : IsTold bits_32 (outcome.get_tag_f32 old tag) r old new = told (Unit {0}) bits_32 (outcome.get_tag_f32 old tag) r old new h in
+    let t : IsTold bits_32 (outcome.get_tag_f32 old tag) r old new = told (Unit {0}) bits_32 (outcome.get_tag_f32 old tag) r old new (tags_follow bits_32 (outcome.get_tag_f32 old tag) r old new refl h) in
     record { file = t.file; failed = t.failed; next = λ n. (t.next n).1; stays = t.stays }
 along old (call.GetTagF64 tag) (reply.GetTagF64 r) new h =
-    let t : IsTold bits_64 (outcome.get_tag_f64 old tag) r old new = told (Unit {0}) bits_64 (outcome.get_tag_f64 old tag) r old new h in
+    let t : IsTold bits_64 (outcome.get_tag_f64 old tag) r old new = told (Unit {0}) bits_64 (outcome.get_tag_f64 old tag) r old new (tags_follow bits_64 (outcome.get_tag_f64 old tag) r old new refl h) in
     record { file = t.file; failed = t.failed; next = λ n. (t.next n).1; stays = t.stays }
 along old (call.GetTagU32Vec tag) (reply.GetTagU32Vec r) new h =
-    let t : IsTold items_of (outcome.get_tag_u32_vec old tag) r old new = told (Unit {0}) items_of (outcome.get_tag_u32_vec old tag) r old new h in
+    let t : IsTold items_of (outcome.get_tag_u32_vec old tag) r old new = told (Unit {0}) items_of (outcome.get_tag_u32_vec old tag) r old new (tags_follow items_of (outcome.get_tag_u32_vec old tag) r old new refl h) in
     record { file = t.file; failed = t.failed; next = λ n. (t.next n).1; stays = t.stays }
 along old (call.GetTagU16Vec tag) (reply.GetTagU16Vec r) new h =
-    let t : IsTold items_of (outcome.get_tag_u16_vec old tag) r old new = told (Unit {0}) items_of (outcome.get_tag_u16_vec old tag) r old new h in
+    let t : IsTold items_of (outcome.get_tag_u16_vec old tag) r old new = told (Unit {0}) items_of (outcome.get_tag_u16_vec old tag) r old new (tags_follow items_of (outcome.get_tag_u16_vec old tag) r old new refl h) in
     record { file = t.file; failed = t.failed; next = λ n. (t.next n).1; stays = t.stays }
 along old (call.GetTagU64Vec tag) (reply.GetTagU64Vec r) new h =
-    let t : IsTold items_of (outcome.get_tag_u64_vec old tag) r old new = told (Unit {0}) items_of (outcome.get_tag_u64_vec old tag) r old new h in
+    let t : IsTold items_of (outcome.get_tag_u64_vec old tag) r old new = told (Unit {0}) items_of (outcome.get_tag_u64_vec old tag) r old new (tags_follow items_of (outcome.get_tag_u64_vec old tag) r old new refl h) in
     record { file = t.file; failed = t.failed; next = λ n. (t.next n).1; stays = t.stays }
 along old (call.GetTagF32Vec tag) (reply.GetTagF32Vec r) new h =
-    let t : IsTold (λ v. map bits_32 v.items) (outcome.get_tag_f32_vec old tag) r old new = told (Unit {0}) (λ v. map bits_32 v.items) (outcome.get_tag_f32_vec old tag) r old new h in
+    let t : IsTold (λ v. map bits_32 v.items) (outcome.get_tag_f32_vec old tag) r old new = told (Unit {0}) (λ v. map bits_32 v.items) (outcome.get_tag_f32_vec old tag) r old new (tags_follow (λ v. map bits_32 v.items) (outcome.get_tag_f32_vec old tag) r old new refl h) in
     record { file = t.file; failed = t.failed; next = λ n. (t.next n).1; stays = t.stays }
 along old (call.GetTagF64Vec tag) (reply.GetTagF64Vec r) new h =
-    let t : IsTold (λ v. map bits_64 v.items) (outcome.get_tag_f64_vec old tag) r old new = told (Unit {0}) (λ v. map bits_64 v.items) (outcome.get_tag_f64_vec old tag) r old new h in
+    let t : IsTold (λ v. map bits_64 v.items) (outcome.get_tag_f64_vec old tag) r old new = told (Unit {0}) (λ v. map bits_64 v.items) (outcome.get_tag_f64_vec old tag) r old new (tags_follow (λ v. map bits_64 v.items) (outcome.get_tag_f64_vec old tag) r old new refl h) in
     record { file = t.file; failed = t.failed; next = λ n. (t.next n).1; stays = t.stays }
 along old (call.GetTagU8Vec tag) (reply.GetTagU8Vec r) new h =
-    let t : IsTold items_of (outcome.get_tag_u8_vec old tag) r old new = told (Unit {0}) items_of (outcome.get_tag_u8_vec old tag) r old new h in
+    let t : IsTold items_of (outcome.get_tag_u8_vec old tag) r old new = told (Unit {0}) items_of (outcome.get_tag_u8_vec old tag) r old new (tags_follow items_of (outcome.get_tag_u8_vec old tag) r old new refl h) in
     record { file = t.file; failed = t.failed; next = λ n. (t.next n).1; stays = t.stays }
 along old (call.GetTagAsciiString tag) (reply.GetTagAsciiString r) new h =
-    let t : IsTold string_bytes (outcome.get_tag_ascii_string old tag) r old new = told (Unit {0}) string_bytes (outcome.get_tag_ascii_string old tag) r old new h in
+    let t : IsTold string_bytes (outcome.get_tag_ascii_string old tag) r old new = told (Unit {0}) string_bytes (outcome.get_tag_ascii_string old tag) r old new (tags_follow string_bytes (outcome.get_tag_ascii_string old tag) r old new refl h) in
     record { file = t.file; failed = t.failed; next = λ n. (t.next n).1; stays = t.stays }
 along old call.TagIter (reply.TagIter r) new h =
     let a : StandsAt old.state old new × (old.failures + failed_list r ≤ new.failures) = list_along (outcome.tag_iter old) r old new h in
@@ -470,10 +493,10 @@ along old (call.FindEntry tag) (reply.FindEntry r) new h = record {
   stays = λ _. ap (λ (d : Decoding). d.state) h.1;
 }
 along old (call.FindTagBuf tag) (reply.FindTagBuf r b) new h =
-    let t : IsTold (λ x. (x, b)) (outcome.find_tag_buf old tag (empty_buffer BYTE)) r old new = told (Unit {0}) (λ x. (x, b)) (outcome.find_tag_buf old tag (empty_buffer BYTE)) r old new h.0 in
+    let t : IsTold (λ x. (x, b)) (outcome.find_tag_buf old tag (empty_buffer BYTE)) r old new = told (Unit {0}) (λ x. (x, b)) (outcome.find_tag_buf old tag (empty_buffer BYTE)) r old new (tags_follow (λ x. (x, b)) (outcome.find_tag_buf old tag (empty_buffer BYTE)) r old new refl h.0) in
     record { file = t.file; failed = t.failed; next = λ n. (t.next n).1; stays = t.stays }
 along old (call.FindTagBytes tag len at) (reply.FindTagBytes r b) new h =
-    let t : IsTold (λ x. (x, items_of b)) (outcome.find_tag_bytes old tag (replicate len 0) at) r old new = told (Unit {0}) (λ x. (x, items_of b)) (outcome.find_tag_bytes old tag (replicate len 0) at) r old new h in
+    let t : IsTold (λ x. (x, items_of b)) (outcome.find_tag_bytes old tag (replicate len 0) at) r old new = told (Unit {0}) (λ x. (x, items_of b)) (outcome.find_tag_bytes old tag (replicate len 0) at) r old new (tags_follow (λ x. (x, items_of b)) (outcome.find_tag_bytes old tag (replicate len 0) at) r old new refl h) in
     record { file = t.file; failed = t.failed; next = λ n. (t.next n).1; stays = t.stays }
 along old which reply new h = absurd h
 
@@ -657,21 +680,21 @@ chunk_data_dimensions_once old i first second new other s t n m = absurd s
 image_buffer_layout_once : (old : Decoding) (first second : Reply) (new other : Decoding)
     → Step old call.ImageBufferLayout first new → Step old call.ImageBufferLayout second other → IsNamed first → IsNamed second → SameAnswer first second
 unfolding outcome.image_buffer_layout
-image_buffer_layout_once old (reply.ImageBufferLayout r) (reply.ImageBufferLayout q) new other s t n m = sym (seen_same r) ∙ (((told_here (IsFault (outcome.image_buffer_layout old).answer) (λ x. x) (outcome.image_buffer_layout old) r old new (inl refl) s).next n).0 ∙ sym ((told_here (IsFault (outcome.image_buffer_layout old).answer) (λ x. x) (outcome.image_buffer_layout old) q old other (inl refl) t).next m).0) ∙ seen_same q
+image_buffer_layout_once old (reply.ImageBufferLayout r) (reply.ImageBufferLayout q) new other s t n m = sym (seen_same r) ∙ (((told_here (Unit {0}) (λ x. x) (outcome.image_buffer_layout old) r old new (inl refl) s).next n).0 ∙ sym ((told_here (Unit {0}) (λ x. x) (outcome.image_buffer_layout old) q old other (inl refl) t).next m).0) ∙ seen_same q
 image_buffer_layout_once old (reply.ImageBufferLayout r) second new other s t n m = absurd t
 image_buffer_layout_once old first second new other s t n m = absurd s
 
 image_chunk_buffer_layout_once : (old : Decoding) (i : ℕ) (first second : Reply) (new other : Decoding)
     → Step old (call.ImageChunkBufferLayout i) first new → Step old (call.ImageChunkBufferLayout i) second other → IsNamed first → IsNamed second → SameAnswer first second
 unfolding outcome.image_chunk_buffer_layout
-image_chunk_buffer_layout_once old i (reply.ImageChunkBufferLayout r) (reply.ImageChunkBufferLayout q) new other s t n m = sym (seen_same r) ∙ (((told_here (IsFault (outcome.image_chunk_buffer_layout old i).answer) (λ x. x) (outcome.image_chunk_buffer_layout old i) r old new (inl refl) s).next n).0 ∙ sym ((told_here (IsFault (outcome.image_chunk_buffer_layout old i).answer) (λ x. x) (outcome.image_chunk_buffer_layout old i) q old other (inl refl) t).next m).0) ∙ seen_same q
+image_chunk_buffer_layout_once old i (reply.ImageChunkBufferLayout r) (reply.ImageChunkBufferLayout q) new other s t n m = sym (seen_same r) ∙ (((told_here (Unit {0}) (λ x. x) (outcome.image_chunk_buffer_layout old i) r old new (inl refl) s).next n).0 ∙ sym ((told_here (Unit {0}) (λ x. x) (outcome.image_chunk_buffer_layout old i) q old other (inl refl) t).next m).0) ∙ seen_same q
 image_chunk_buffer_layout_once old i (reply.ImageChunkBufferLayout r) second new other s t n m = absurd t
 image_chunk_buffer_layout_once old i first second new other s t n m = absurd s
 
 image_coding_unit_layout_once : (old : Decoding) (unit : TiffCodingUnit) (first second : Reply) (new other : Decoding)
     → Step old (call.ImageCodingUnitLayout unit) first new → Step old (call.ImageCodingUnitLayout unit) second other → IsNamed first → IsNamed second → SameAnswer first second
 unfolding outcome.image_coding_unit_layout
-image_coding_unit_layout_once old unit (reply.ImageCodingUnitLayout r) (reply.ImageCodingUnitLayout q) new other s t n m = sym (seen_same r) ∙ (((told_here (IsFault (outcome.image_coding_unit_layout old unit.0).answer) (λ x. x) (outcome.image_coding_unit_layout old unit.0) r old new (inl refl) s).next n).0 ∙ sym ((told_here (IsFault (outcome.image_coding_unit_layout old unit.0).answer) (λ x. x) (outcome.image_coding_unit_layout old unit.0) q old other (inl refl) t).next m).0) ∙ seen_same q
+image_coding_unit_layout_once old unit (reply.ImageCodingUnitLayout r) (reply.ImageCodingUnitLayout q) new other s t n m = sym (seen_same r) ∙ (((told_here (Unit {0}) (λ x. x) (outcome.image_coding_unit_layout old unit.0) r old new (inl refl) s).next n).0 ∙ sym ((told_here (Unit {0}) (λ x. x) (outcome.image_coding_unit_layout old unit.0) q old other (inl refl) t).next m).0) ∙ seen_same q
 image_coding_unit_layout_once old unit (reply.ImageCodingUnitLayout r) second new other s t n m = absurd t
 image_coding_unit_layout_once old unit first second new other s t n m = absurd s
 
@@ -719,97 +742,113 @@ read_coding_unit_bytes_once old unit len first second new other s t n m = absurd
 
 find_tag_once : (old : Decoding) (tag : Tag) (first second : Reply) (new other : Decoding)
     → Step old (call.FindTag tag) first new → Step old (call.FindTag tag) second other → IsNamed first → IsNamed second → SameAnswer first second
-find_tag_once old tag (reply.FindTag r) (reply.FindTag q) new other s t n m = ((told (Unit {0}) (option_map datum) (outcome.find_tag old tag) r old new s).next n).0 ∙ sym ((told (Unit {0}) (option_map datum) (outcome.find_tag old tag) q old other t).next m).0
+unfolding outcome.find_tag
+find_tag_once old tag (reply.FindTag r) (reply.FindTag q) new other s t n m = ((told (Unit {0}) (option_map datum) (outcome.find_tag old tag) r old new (tags_follow (option_map datum) (outcome.find_tag old tag) r old new refl s)).next n).0 ∙ sym ((told (Unit {0}) (option_map datum) (outcome.find_tag old tag) q old other (tags_follow (option_map datum) (outcome.find_tag old tag) q old other refl t)).next m).0
 find_tag_once old tag (reply.FindTag r) second new other s t n m = absurd t
 find_tag_once old tag first second new other s t n m = absurd s
 
 find_tag_unsigned_once : (old : Decoding) (tag : Tag) (first second : Reply) (new other : Decoding)
     → Step old (call.FindTagUnsigned tag) first new → Step old (call.FindTagUnsigned tag) second other → IsNamed first → IsNamed second → SameAnswer first second
-find_tag_unsigned_once old tag (reply.FindTagUnsigned r) (reply.FindTagUnsigned q) new other s t n m = sym (seen_same r) ∙ (((told (Unit {0}) (λ x. x) (outcome.find_tag_unsigned old tag) r old new s).next n).0 ∙ sym ((told (Unit {0}) (λ x. x) (outcome.find_tag_unsigned old tag) q old other t).next m).0) ∙ seen_same q
+unfolding outcome.find_tag_unsigned
+find_tag_unsigned_once old tag (reply.FindTagUnsigned r) (reply.FindTagUnsigned q) new other s t n m = sym (seen_same r) ∙ (((told (Unit {0}) (λ x. x) (outcome.find_tag_unsigned old tag) r old new (tags_follow (λ x. x) (outcome.find_tag_unsigned old tag) r old new refl s)).next n).0 ∙ sym ((told (Unit {0}) (λ x. x) (outcome.find_tag_unsigned old tag) q old other (tags_follow (λ x. x) (outcome.find_tag_unsigned old tag) q old other refl t)).next m).0) ∙ seen_same q
 find_tag_unsigned_once old tag (reply.FindTagUnsigned r) second new other s t n m = absurd t
 find_tag_unsigned_once old tag first second new other s t n m = absurd s
 
 find_tag_unsigned_vec_once : (old : Decoding) (tag : Tag) (first second : Reply) (new other : Decoding)
     → Step old (call.FindTagUnsignedVec tag) first new → Step old (call.FindTagUnsignedVec tag) second other → IsNamed first → IsNamed second → SameAnswer first second
-find_tag_unsigned_vec_once old tag (reply.FindTagUnsignedVec r) (reply.FindTagUnsignedVec q) new other s t n m = ((told (Unit {0}) (option_map items_of) (outcome.find_tag_unsigned_vec old tag) r old new s).next n).0 ∙ sym ((told (Unit {0}) (option_map items_of) (outcome.find_tag_unsigned_vec old tag) q old other t).next m).0
+unfolding outcome.find_tag_unsigned_vec
+find_tag_unsigned_vec_once old tag (reply.FindTagUnsignedVec r) (reply.FindTagUnsignedVec q) new other s t n m = ((told (Unit {0}) (option_map items_of) (outcome.find_tag_unsigned_vec old tag) r old new (tags_follow (option_map items_of) (outcome.find_tag_unsigned_vec old tag) r old new refl s)).next n).0 ∙ sym ((told (Unit {0}) (option_map items_of) (outcome.find_tag_unsigned_vec old tag) q old other (tags_follow (option_map items_of) (outcome.find_tag_unsigned_vec old tag) q old other refl t)).next m).0
 find_tag_unsigned_vec_once old tag (reply.FindTagUnsignedVec r) second new other s t n m = absurd t
 find_tag_unsigned_vec_once old tag first second new other s t n m = absurd s
 
 get_tag_once : (old : Decoding) (tag : Tag) (first second : Reply) (new other : Decoding)
     → Step old (call.GetTag tag) first new → Step old (call.GetTag tag) second other → IsNamed first → IsNamed second → SameAnswer first second
-get_tag_once old tag (reply.GetTag r) (reply.GetTag q) new other s t n m = ((told (Unit {0}) datum (outcome.get_tag old tag) r old new s).next n).0 ∙ sym ((told (Unit {0}) datum (outcome.get_tag old tag) q old other t).next m).0
+unfolding outcome.get_tag
+get_tag_once old tag (reply.GetTag r) (reply.GetTag q) new other s t n m = ((told (Unit {0}) datum (outcome.get_tag old tag) r old new (tags_follow datum (outcome.get_tag old tag) r old new refl s)).next n).0 ∙ sym ((told (Unit {0}) datum (outcome.get_tag old tag) q old other (tags_follow datum (outcome.get_tag old tag) q old other refl t)).next m).0
 get_tag_once old tag (reply.GetTag r) second new other s t n m = absurd t
 get_tag_once old tag first second new other s t n m = absurd s
 
 get_tag_unsigned_once : (old : Decoding) (tag : Tag) (first second : Reply) (new other : Decoding)
     → Step old (call.GetTagUnsigned tag) first new → Step old (call.GetTagUnsigned tag) second other → IsNamed first → IsNamed second → SameAnswer first second
-get_tag_unsigned_once old tag (reply.GetTagUnsigned r) (reply.GetTagUnsigned q) new other s t n m = sym (seen_same r) ∙ (((told (Unit {0}) (λ x. x) (outcome.get_tag_unsigned old tag) r old new s).next n).0 ∙ sym ((told (Unit {0}) (λ x. x) (outcome.get_tag_unsigned old tag) q old other t).next m).0) ∙ seen_same q
+unfolding outcome.get_tag_unsigned
+get_tag_unsigned_once old tag (reply.GetTagUnsigned r) (reply.GetTagUnsigned q) new other s t n m = sym (seen_same r) ∙ (((told (Unit {0}) (λ x. x) (outcome.get_tag_unsigned old tag) r old new (tags_follow (λ x. x) (outcome.get_tag_unsigned old tag) r old new refl s)).next n).0 ∙ sym ((told (Unit {0}) (λ x. x) (outcome.get_tag_unsigned old tag) q old other (tags_follow (λ x. x) (outcome.get_tag_unsigned old tag) q old other refl t)).next m).0) ∙ seen_same q
 get_tag_unsigned_once old tag (reply.GetTagUnsigned r) second new other s t n m = absurd t
 get_tag_unsigned_once old tag first second new other s t n m = absurd s
 
 get_tag_u32_once : (old : Decoding) (tag : Tag) (first second : Reply) (new other : Decoding)
     → Step old (call.GetTagU32 tag) first new → Step old (call.GetTagU32 tag) second other → IsNamed first → IsNamed second → SameAnswer first second
-get_tag_u32_once old tag (reply.GetTagU32 r) (reply.GetTagU32 q) new other s t n m = sym (seen_same r) ∙ (((told (Unit {0}) (λ x. x) (outcome.get_tag_u32 old tag) r old new s).next n).0 ∙ sym ((told (Unit {0}) (λ x. x) (outcome.get_tag_u32 old tag) q old other t).next m).0) ∙ seen_same q
+unfolding outcome.get_tag_u32
+get_tag_u32_once old tag (reply.GetTagU32 r) (reply.GetTagU32 q) new other s t n m = sym (seen_same r) ∙ (((told (Unit {0}) (λ x. x) (outcome.get_tag_u32 old tag) r old new (tags_follow (λ x. x) (outcome.get_tag_u32 old tag) r old new refl s)).next n).0 ∙ sym ((told (Unit {0}) (λ x. x) (outcome.get_tag_u32 old tag) q old other (tags_follow (λ x. x) (outcome.get_tag_u32 old tag) q old other refl t)).next m).0) ∙ seen_same q
 get_tag_u32_once old tag (reply.GetTagU32 r) second new other s t n m = absurd t
 get_tag_u32_once old tag first second new other s t n m = absurd s
 
 get_tag_u64_once : (old : Decoding) (tag : Tag) (first second : Reply) (new other : Decoding)
     → Step old (call.GetTagU64 tag) first new → Step old (call.GetTagU64 tag) second other → IsNamed first → IsNamed second → SameAnswer first second
-get_tag_u64_once old tag (reply.GetTagU64 r) (reply.GetTagU64 q) new other s t n m = sym (seen_same r) ∙ (((told (Unit {0}) (λ x. x) (outcome.get_tag_u64 old tag) r old new s).next n).0 ∙ sym ((told (Unit {0}) (λ x. x) (outcome.get_tag_u64 old tag) q old other t).next m).0) ∙ seen_same q
+unfolding outcome.get_tag_u64
+get_tag_u64_once old tag (reply.GetTagU64 r) (reply.GetTagU64 q) new other s t n m = sym (seen_same r) ∙ (((told (Unit {0}) (λ x. x) (outcome.get_tag_u64 old tag) r old new (tags_follow (λ x. x) (outcome.get_tag_u64 old tag) r old new refl s)).next n).0 ∙ sym ((told (Unit {0}) (λ x. x) (outcome.get_tag_u64 old tag) q old other (tags_follow (λ x. x) (outcome.get_tag_u64 old tag) q old other refl t)).next m).0) ∙ seen_same q
 get_tag_u64_once old tag (reply.GetTagU64 r) second new other s t n m = absurd t
 get_tag_u64_once old tag first second new other s t n m = absurd s
 
 get_tag_f32_once : (old : Decoding) (tag : Tag) (first second : Reply) (new other : Decoding)
     → Step old (call.GetTagF32 tag) first new → Step old (call.GetTagF32 tag) second other → IsNamed first → IsNamed second → SameAnswer first second
-get_tag_f32_once old tag (reply.GetTagF32 r) (reply.GetTagF32 q) new other s t n m = ((told (Unit {0}) bits_32 (outcome.get_tag_f32 old tag) r old new s).next n).0 ∙ sym ((told (Unit {0}) bits_32 (outcome.get_tag_f32 old tag) q old other t).next m).0
+unfolding outcome.get_tag_f32
+get_tag_f32_once old tag (reply.GetTagF32 r) (reply.GetTagF32 q) new other s t n m = ((told (Unit {0}) bits_32 (outcome.get_tag_f32 old tag) r old new (tags_follow bits_32 (outcome.get_tag_f32 old tag) r old new refl s)).next n).0 ∙ sym ((told (Unit {0}) bits_32 (outcome.get_tag_f32 old tag) q old other (tags_follow bits_32 (outcome.get_tag_f32 old tag) q old other refl t)).next m).0
 get_tag_f32_once old tag (reply.GetTagF32 r) second new other s t n m = absurd t
 get_tag_f32_once old tag first second new other s t n m = absurd s
 
 get_tag_f64_once : (old : Decoding) (tag : Tag) (first second : Reply) (new other : Decoding)
     → Step old (call.GetTagF64 tag) first new → Step old (call.GetTagF64 tag) second other → IsNamed first → IsNamed second → SameAnswer first second
-get_tag_f64_once old tag (reply.GetTagF64 r) (reply.GetTagF64 q) new other s t n m = ((told (Unit {0}) bits_64 (outcome.get_tag_f64 old tag) r old new s).next n).0 ∙ sym ((told (Unit {0}) bits_64 (outcome.get_tag_f64 old tag) q old other t).next m).0
+unfolding outcome.get_tag_f64
+get_tag_f64_once old tag (reply.GetTagF64 r) (reply.GetTagF64 q) new other s t n m = ((told (Unit {0}) bits_64 (outcome.get_tag_f64 old tag) r old new (tags_follow bits_64 (outcome.get_tag_f64 old tag) r old new refl s)).next n).0 ∙ sym ((told (Unit {0}) bits_64 (outcome.get_tag_f64 old tag) q old other (tags_follow bits_64 (outcome.get_tag_f64 old tag) q old other refl t)).next m).0
 get_tag_f64_once old tag (reply.GetTagF64 r) second new other s t n m = absurd t
 get_tag_f64_once old tag first second new other s t n m = absurd s
 
 get_tag_u32_vec_once : (old : Decoding) (tag : Tag) (first second : Reply) (new other : Decoding)
     → Step old (call.GetTagU32Vec tag) first new → Step old (call.GetTagU32Vec tag) second other → IsNamed first → IsNamed second → SameAnswer first second
-get_tag_u32_vec_once old tag (reply.GetTagU32Vec r) (reply.GetTagU32Vec q) new other s t n m = ((told (Unit {0}) items_of (outcome.get_tag_u32_vec old tag) r old new s).next n).0 ∙ sym ((told (Unit {0}) items_of (outcome.get_tag_u32_vec old tag) q old other t).next m).0
+unfolding outcome.get_tag_u32_vec
+get_tag_u32_vec_once old tag (reply.GetTagU32Vec r) (reply.GetTagU32Vec q) new other s t n m = ((told (Unit {0}) items_of (outcome.get_tag_u32_vec old tag) r old new (tags_follow items_of (outcome.get_tag_u32_vec old tag) r old new refl s)).next n).0 ∙ sym ((told (Unit {0}) items_of (outcome.get_tag_u32_vec old tag) q old other (tags_follow items_of (outcome.get_tag_u32_vec old tag) q old other refl t)).next m).0
 get_tag_u32_vec_once old tag (reply.GetTagU32Vec r) second new other s t n m = absurd t
 get_tag_u32_vec_once old tag first second new other s t n m = absurd s
 
 get_tag_u16_vec_once : (old : Decoding) (tag : Tag) (first second : Reply) (new other : Decoding)
     → Step old (call.GetTagU16Vec tag) first new → Step old (call.GetTagU16Vec tag) second other → IsNamed first → IsNamed second → SameAnswer first second
-get_tag_u16_vec_once old tag (reply.GetTagU16Vec r) (reply.GetTagU16Vec q) new other s t n m = ((told (Unit {0}) items_of (outcome.get_tag_u16_vec old tag) r old new s).next n).0 ∙ sym ((told (Unit {0}) items_of (outcome.get_tag_u16_vec old tag) q old other t).next m).0
+unfolding outcome.get_tag_u16_vec
+get_tag_u16_vec_once old tag (reply.GetTagU16Vec r) (reply.GetTagU16Vec q) new other s t n m = ((told (Unit {0}) items_of (outcome.get_tag_u16_vec old tag) r old new (tags_follow items_of (outcome.get_tag_u16_vec old tag) r old new refl s)).next n).0 ∙ sym ((told (Unit {0}) items_of (outcome.get_tag_u16_vec old tag) q old other (tags_follow items_of (outcome.get_tag_u16_vec old tag) q old other refl t)).next m).0
 get_tag_u16_vec_once old tag (reply.GetTagU16Vec r) second new other s t n m = absurd t
 get_tag_u16_vec_once old tag first second new other s t n m = absurd s
 
 get_tag_u64_vec_once : (old : Decoding) (tag : Tag) (first second : Reply) (new other : Decoding)
     → Step old (call.GetTagU64Vec tag) first new → Step old (call.GetTagU64Vec tag) second other → IsNamed first → IsNamed second → SameAnswer first second
-get_tag_u64_vec_once old tag (reply.GetTagU64Vec r) (reply.GetTagU64Vec q) new other s t n m = ((told (Unit {0}) items_of (outcome.get_tag_u64_vec old tag) r old new s).next n).0 ∙ sym ((told (Unit {0}) items_of (outcome.get_tag_u64_vec old tag) q old other t).next m).0
+unfolding outcome.get_tag_u64_vec
+get_tag_u64_vec_once old tag (reply.GetTagU64Vec r) (reply.GetTagU64Vec q) new other s t n m = ((told (Unit {0}) items_of (outcome.get_tag_u64_vec old tag) r old new (tags_follow items_of (outcome.get_tag_u64_vec old tag) r old new refl s)).next n).0 ∙ sym ((told (Unit {0}) items_of (outcome.get_tag_u64_vec old tag) q old other (tags_follow items_of (outcome.get_tag_u64_vec old tag) q old other refl t)).next m).0
 get_tag_u64_vec_once old tag (reply.GetTagU64Vec r) second new other s t n m = absurd t
 get_tag_u64_vec_once old tag first second new other s t n m = absurd s
 
 get_tag_f32_vec_once : (old : Decoding) (tag : Tag) (first second : Reply) (new other : Decoding)
     → Step old (call.GetTagF32Vec tag) first new → Step old (call.GetTagF32Vec tag) second other → IsNamed first → IsNamed second → SameAnswer first second
-get_tag_f32_vec_once old tag (reply.GetTagF32Vec r) (reply.GetTagF32Vec q) new other s t n m = ((told (Unit {0}) (λ v. map bits_32 v.items) (outcome.get_tag_f32_vec old tag) r old new s).next n).0 ∙ sym ((told (Unit {0}) (λ v. map bits_32 v.items) (outcome.get_tag_f32_vec old tag) q old other t).next m).0
+unfolding outcome.get_tag_f32_vec
+get_tag_f32_vec_once old tag (reply.GetTagF32Vec r) (reply.GetTagF32Vec q) new other s t n m = ((told (Unit {0}) (λ v. map bits_32 v.items) (outcome.get_tag_f32_vec old tag) r old new (tags_follow (λ v. map bits_32 v.items) (outcome.get_tag_f32_vec old tag) r old new refl s)).next n).0 ∙ sym ((told (Unit {0}) (λ v. map bits_32 v.items) (outcome.get_tag_f32_vec old tag) q old other (tags_follow (λ v. map bits_32 v.items) (outcome.get_tag_f32_vec old tag) q old other refl t)).next m).0
 get_tag_f32_vec_once old tag (reply.GetTagF32Vec r) second new other s t n m = absurd t
 get_tag_f32_vec_once old tag first second new other s t n m = absurd s
 
 get_tag_f64_vec_once : (old : Decoding) (tag : Tag) (first second : Reply) (new other : Decoding)
     → Step old (call.GetTagF64Vec tag) first new → Step old (call.GetTagF64Vec tag) second other → IsNamed first → IsNamed second → SameAnswer first second
-get_tag_f64_vec_once old tag (reply.GetTagF64Vec r) (reply.GetTagF64Vec q) new other s t n m = ((told (Unit {0}) (λ v. map bits_64 v.items) (outcome.get_tag_f64_vec old tag) r old new s).next n).0 ∙ sym ((told (Unit {0}) (λ v. map bits_64 v.items) (outcome.get_tag_f64_vec old tag) q old other t).next m).0
+unfolding outcome.get_tag_f64_vec
+get_tag_f64_vec_once old tag (reply.GetTagF64Vec r) (reply.GetTagF64Vec q) new other s t n m = ((told (Unit {0}) (λ v. map bits_64 v.items) (outcome.get_tag_f64_vec old tag) r old new (tags_follow (λ v. map bits_64 v.items) (outcome.get_tag_f64_vec old tag) r old new refl s)).next n).0 ∙ sym ((told (Unit {0}) (λ v. map bits_64 v.items) (outcome.get_tag_f64_vec old tag) q old other (tags_follow (λ v. map bits_64 v.items) (outcome.get_tag_f64_vec old tag) q old other refl t)).next m).0
 get_tag_f64_vec_once old tag (reply.GetTagF64Vec r) second new other s t n m = absurd t
 get_tag_f64_vec_once old tag first second new other s t n m = absurd s
 
 get_tag_u8_vec_once : (old : Decoding) (tag : Tag) (first second : Reply) (new other : Decoding)
     → Step old (call.GetTagU8Vec tag) first new → Step old (call.GetTagU8Vec tag) second other → IsNamed first → IsNamed second → SameAnswer first second
-get_tag_u8_vec_once old tag (reply.GetTagU8Vec r) (reply.GetTagU8Vec q) new other s t n m = ((told (Unit {0}) items_of (outcome.get_tag_u8_vec old tag) r old new s).next n).0 ∙ sym ((told (Unit {0}) items_of (outcome.get_tag_u8_vec old tag) q old other t).next m).0
+unfolding outcome.get_tag_u8_vec
+get_tag_u8_vec_once old tag (reply.GetTagU8Vec r) (reply.GetTagU8Vec q) new other s t n m = ((told (Unit {0}) items_of (outcome.get_tag_u8_vec old tag) r old new (tags_follow items_of (outcome.get_tag_u8_vec old tag) r old new refl s)).next n).0 ∙ sym ((told (Unit {0}) items_of (outcome.get_tag_u8_vec old tag) q old other (tags_follow items_of (outcome.get_tag_u8_vec old tag) q old other refl t)).next m).0
 get_tag_u8_vec_once old tag (reply.GetTagU8Vec r) second new other s t n m = absurd t
 get_tag_u8_vec_once old tag first second new other s t n m = absurd s
 
 get_tag_ascii_string_once : (old : Decoding) (tag : Tag) (first second : Reply) (new other : Decoding)
     → Step old (call.GetTagAsciiString tag) first new → Step old (call.GetTagAsciiString tag) second other → IsNamed first → IsNamed second → SameAnswer first second
-get_tag_ascii_string_once old tag (reply.GetTagAsciiString r) (reply.GetTagAsciiString q) new other s t n m = ((told (Unit {0}) string_bytes (outcome.get_tag_ascii_string old tag) r old new s).next n).0 ∙ sym ((told (Unit {0}) string_bytes (outcome.get_tag_ascii_string old tag) q old other t).next m).0
+unfolding outcome.get_tag_ascii_string
+get_tag_ascii_string_once old tag (reply.GetTagAsciiString r) (reply.GetTagAsciiString q) new other s t n m = ((told (Unit {0}) string_bytes (outcome.get_tag_ascii_string old tag) r old new (tags_follow string_bytes (outcome.get_tag_ascii_string old tag) r old new refl s)).next n).0 ∙ sym ((told (Unit {0}) string_bytes (outcome.get_tag_ascii_string old tag) q old other (tags_follow string_bytes (outcome.get_tag_ascii_string old tag) q old other refl t)).next m).0
 get_tag_ascii_string_once old tag (reply.GetTagAsciiString r) second new other s t n m = absurd t
 get_tag_ascii_string_once old tag first second new other s t n m = absurd s
 
@@ -827,13 +866,15 @@ find_entry_once old tag first second new other s t n m = absurd s
 
 find_tag_buf_once : (old : Decoding) (tag : Tag) (first second : Reply) (new other : Decoding)
     → Step old (call.FindTagBuf tag) first new → Step old (call.FindTagBuf tag) second other → IsNamed first → IsNamed second → SameAnswer first second
-find_tag_buf_once old tag (reply.FindTagBuf r b) (reply.FindTagBuf q c) new other s t n m = ((told (Unit {0}) (λ x. (x, b)) (outcome.find_tag_buf old tag (empty_buffer BYTE)) r old new s.0).next n).0 ∙ sym ((told (Unit {0}) (λ x. (x, c)) (outcome.find_tag_buf old tag (empty_buffer BYTE)) q old other t.0).next m).0
+unfolding outcome.find_tag_buf
+find_tag_buf_once old tag (reply.FindTagBuf r b) (reply.FindTagBuf q c) new other s t n m = ((told (Unit {0}) (λ x. (x, b)) (outcome.find_tag_buf old tag (empty_buffer BYTE)) r old new (tags_follow (λ x. (x, b)) (outcome.find_tag_buf old tag (empty_buffer BYTE)) r old new refl s.0)).next n).0 ∙ sym ((told (Unit {0}) (λ x. (x, c)) (outcome.find_tag_buf old tag (empty_buffer BYTE)) q old other (tags_follow (λ x. (x, c)) (outcome.find_tag_buf old tag (empty_buffer BYTE)) q old other refl t.0)).next m).0
 find_tag_buf_once old tag (reply.FindTagBuf r b) second new other s t n m = absurd t
 find_tag_buf_once old tag first second new other s t n m = absurd s
 
 find_tag_bytes_once : (old : Decoding) (tag : Tag) (len : ℕ) (at : ℕ) (first second : Reply) (new other : Decoding)
     → Step old (call.FindTagBytes tag len at) first new → Step old (call.FindTagBytes tag len at) second other → IsNamed first → IsNamed second → SameAnswer first second
-find_tag_bytes_once old tag len at (reply.FindTagBytes r b) (reply.FindTagBytes q c) new other s t n m = ((told (Unit {0}) (λ x. (x, items_of b)) (outcome.find_tag_bytes old tag (replicate len 0) at) r old new s).next n).0 ∙ sym ((told (Unit {0}) (λ x. (x, items_of c)) (outcome.find_tag_bytes old tag (replicate len 0) at) q old other t).next m).0
+unfolding outcome.find_tag_bytes
+find_tag_bytes_once old tag len at (reply.FindTagBytes r b) (reply.FindTagBytes q c) new other s t n m = ((told (Unit {0}) (λ x. (x, items_of b)) (outcome.find_tag_bytes old tag (replicate len 0) at) r old new (tags_follow (λ x. (x, items_of b)) (outcome.find_tag_bytes old tag (replicate len 0) at) r old new refl s)).next n).0 ∙ sym ((told (Unit {0}) (λ x. (x, items_of c)) (outcome.find_tag_bytes old tag (replicate len 0) at) q old other (tags_follow (λ x. (x, items_of c)) (outcome.find_tag_bytes old tag (replicate len 0) at) q old other refl t)).next m).0
 find_tag_bytes_once old tag len at (reply.FindTagBytes r b) second new other s t n m = absurd t
 find_tag_bytes_once old tag len at first second new other s t n m = absurd s
 

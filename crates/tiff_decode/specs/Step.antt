@@ -19,8 +19,9 @@ use Rattle.tiff_decode.specs.declared.script.Call.{Call}
 use Rattle.tiff_decode.specs.declared.script.Call.TheVariants as call
 use Rattle.tiff_decode.specs.declared.script.Reply.{Reply}
 use Rattle.tiff_decode.specs.declared.script.Reply.TheVariants as reply
-use Rattle.tiff_decode.specs.Machine.{Decoding, StandsAt, Follows, FollowsExactly, FollowsPlainly, FollowsOrFaults, Tells}
+use Rattle.tiff_decode.specs.Machine.{Decoding, StandsAt, Follows, FollowsExactly, FollowsHere, FollowsPlainly, FollowsOrFaults, Tells}
 use Rattle.tiff_decode.specs.Outcome as outcome
+use Rattle.tiff_decode.specs.Reader.{TagsRead}
 use Rattle.tiff_decode.specs.Result.{decoded_as}
 
 -- ---- what replies hold, as plain data
@@ -96,9 +97,9 @@ Step old call.StripCount (reply.StripCount r) new = FollowsPlainly (λ x. x) (ou
 Step old call.TileCount (reply.TileCount r) new = FollowsPlainly (λ x. x) (outcome.tile_count old) r old new
 Step old call.ChunkDimensions (reply.ChunkDimensions r) new = Tells (outcome.chunk_dimensions old) r old new
 Step old (call.ChunkDataDimensions i) (reply.ChunkDataDimensions r) new = Tells (outcome.chunk_data_dimensions old i) r old new
-Step old call.ImageBufferLayout (reply.ImageBufferLayout r) new = FollowsOrFaults (λ x. x) (outcome.image_buffer_layout old) r old new
-Step old (call.ImageChunkBufferLayout i) (reply.ImageChunkBufferLayout r) new = FollowsOrFaults (λ x. x) (outcome.image_chunk_buffer_layout old i) r old new
-Step old (call.ImageCodingUnitLayout unit) (reply.ImageCodingUnitLayout r) new = FollowsOrFaults (λ x. x) (outcome.image_coding_unit_layout old unit.0) r old new
+Step old call.ImageBufferLayout (reply.ImageBufferLayout r) new = FollowsHere (λ x. x) (outcome.image_buffer_layout old) r old new
+Step old (call.ImageChunkBufferLayout i) (reply.ImageChunkBufferLayout r) new = FollowsHere (λ x. x) (outcome.image_chunk_buffer_layout old i) r old new
+Step old (call.ImageCodingUnitLayout unit) (reply.ImageCodingUnitLayout r) new = FollowsHere (λ x. x) (outcome.image_coding_unit_layout old unit.0) r old new
 Step old call.ReadImage (reply.ReadImage r) new = Follows decoded_as (outcome.read_image old) r old new
 Step old call.ReadImageToBuffer (reply.ReadImageToBuffer r b) new = Follows (λ x. (x, decoded_as b)) (outcome.read_image_to_buffer old) r old new
 Step old (call.ReadImageBytes len) (reply.ReadImageBytes r b) new = Follows (λ _. items_of b) (outcome.read_image_bytes old (replicate len 0)) r old new
@@ -106,24 +107,24 @@ Step old (call.ReadChunk i) (reply.ReadChunk r) new = Follows decoded_as (outcom
 Step old (call.ReadChunkBytes i len) (reply.ReadChunkBytes r b) new = Follows (λ _. items_of b) (outcome.read_chunk_bytes old i (replicate len 0)) r old new
 Step old (call.ReadChunkToBuffer i stride) (reply.ReadChunkToBuffer r b) new = Follows (λ _. decoded_as b) (outcome.read_chunk_to_buffer old i stride) r old new
 Step old (call.ReadCodingUnitBytes unit len) (reply.ReadCodingUnitBytes r b) new = Follows (λ _. items_of b) (outcome.read_coding_unit_bytes old unit.0 (replicate len 0)) r old new
-Step old (call.FindTag tag) (reply.FindTag r) new = Follows (option_map datum) (outcome.find_tag old tag) r old new
-Step old (call.FindTagUnsigned tag) (reply.FindTagUnsigned r) new = Follows (λ x. x) (outcome.find_tag_unsigned old tag) r old new
-Step old (call.FindTagUnsignedVec tag) (reply.FindTagUnsignedVec r) new = Follows (option_map items_of) (outcome.find_tag_unsigned_vec old tag) r old new
-Step old (call.GetTag tag) (reply.GetTag r) new = Follows datum (outcome.get_tag old tag) r old new
-Step old (call.GetTagUnsigned tag) (reply.GetTagUnsigned r) new = Follows (λ x. x) (outcome.get_tag_unsigned old tag) r old new
-Step old (call.GetTagU32 tag) (reply.GetTagU32 r) new = Follows (λ x. x) (outcome.get_tag_u32 old tag) r old new
-Step old (call.GetTagU64 tag) (reply.GetTagU64 r) new = Follows (λ x. x) (outcome.get_tag_u64 old tag) r old new
-Step old (call.GetTagF32 tag) (reply.GetTagF32 r) new = Follows bits_32 (outcome.get_tag_f32 old tag) r old new
-Step old (call.GetTagF64 tag) (reply.GetTagF64 r) new = Follows bits_64 (outcome.get_tag_f64 old tag) r old new
-Step old (call.GetTagU32Vec tag) (reply.GetTagU32Vec r) new = Follows items_of (outcome.get_tag_u32_vec old tag) r old new
-Step old (call.GetTagU16Vec tag) (reply.GetTagU16Vec r) new = Follows items_of (outcome.get_tag_u16_vec old tag) r old new
-Step old (call.GetTagU64Vec tag) (reply.GetTagU64Vec r) new = Follows items_of (outcome.get_tag_u64_vec old tag) r old new
-Step old (call.GetTagF32Vec tag) (reply.GetTagF32Vec r) new = Follows (λ v. map bits_32 v.items) (outcome.get_tag_f32_vec old tag) r old new
-Step old (call.GetTagF64Vec tag) (reply.GetTagF64Vec r) new = Follows (λ v. map bits_64 v.items) (outcome.get_tag_f64_vec old tag) r old new
-Step old (call.GetTagU8Vec tag) (reply.GetTagU8Vec r) new = Follows items_of (outcome.get_tag_u8_vec old tag) r old new
-Step old (call.GetTagAsciiString tag) (reply.GetTagAsciiString r) new = Follows string_bytes (outcome.get_tag_ascii_string old tag) r old new
+Step old (call.FindTag tag) (reply.FindTag r) new = TagsRead (option_map datum) (outcome.find_tag old tag) r old new
+Step old (call.FindTagUnsigned tag) (reply.FindTagUnsigned r) new = TagsRead (λ x. x) (outcome.find_tag_unsigned old tag) r old new
+Step old (call.FindTagUnsignedVec tag) (reply.FindTagUnsignedVec r) new = TagsRead (option_map items_of) (outcome.find_tag_unsigned_vec old tag) r old new
+Step old (call.GetTag tag) (reply.GetTag r) new = TagsRead datum (outcome.get_tag old tag) r old new
+Step old (call.GetTagUnsigned tag) (reply.GetTagUnsigned r) new = TagsRead (λ x. x) (outcome.get_tag_unsigned old tag) r old new
+Step old (call.GetTagU32 tag) (reply.GetTagU32 r) new = TagsRead (λ x. x) (outcome.get_tag_u32 old tag) r old new
+Step old (call.GetTagU64 tag) (reply.GetTagU64 r) new = TagsRead (λ x. x) (outcome.get_tag_u64 old tag) r old new
+Step old (call.GetTagF32 tag) (reply.GetTagF32 r) new = TagsRead bits_32 (outcome.get_tag_f32 old tag) r old new
+Step old (call.GetTagF64 tag) (reply.GetTagF64 r) new = TagsRead bits_64 (outcome.get_tag_f64 old tag) r old new
+Step old (call.GetTagU32Vec tag) (reply.GetTagU32Vec r) new = TagsRead items_of (outcome.get_tag_u32_vec old tag) r old new
+Step old (call.GetTagU16Vec tag) (reply.GetTagU16Vec r) new = TagsRead items_of (outcome.get_tag_u16_vec old tag) r old new
+Step old (call.GetTagU64Vec tag) (reply.GetTagU64Vec r) new = TagsRead items_of (outcome.get_tag_u64_vec old tag) r old new
+Step old (call.GetTagF32Vec tag) (reply.GetTagF32Vec r) new = TagsRead (λ v. map bits_32 v.items) (outcome.get_tag_f32_vec old tag) r old new
+Step old (call.GetTagF64Vec tag) (reply.GetTagF64Vec r) new = TagsRead (λ v. map bits_64 v.items) (outcome.get_tag_f64_vec old tag) r old new
+Step old (call.GetTagU8Vec tag) (reply.GetTagU8Vec r) new = TagsRead items_of (outcome.get_tag_u8_vec old tag) r old new
+Step old (call.GetTagAsciiString tag) (reply.GetTagAsciiString r) new = TagsRead string_bytes (outcome.get_tag_ascii_string old tag) r old new
 Step old call.TagIter (reply.TagIter r) new = Items (outcome.tag_iter old) r old new
 Step old (call.FindEntry tag) (reply.FindEntry r) new = Tells (outcome.find_entry old tag) r old new
-Step old (call.FindTagBuf tag) (reply.FindTagBuf r b) new = Follows (λ x. (x, b)) (outcome.find_tag_buf old tag (empty_buffer BYTE)) r old new × BufferLeft old.order (outcome.find_entry old tag) (empty_buffer BYTE) r b
-Step old (call.FindTagBytes tag len at) (reply.FindTagBytes r b) new = Follows (λ x. (x, items_of b)) (outcome.find_tag_bytes old tag (replicate len 0) at) r old new
+Step old (call.FindTagBuf tag) (reply.FindTagBuf r b) new = TagsRead (λ x. (x, b)) (outcome.find_tag_buf old tag (empty_buffer BYTE)) r old new × BufferLeft old.order (outcome.find_entry old tag) (empty_buffer BYTE) r b
+Step old (call.FindTagBytes tag len at) (reply.FindTagBytes r b) new = TagsRead (λ x. (x, items_of b)) (outcome.find_tag_bytes old tag (replicate len 0) at) r old new
 Step old which other new = ⊥

@@ -1,10 +1,24 @@
 //! Lists of calls of a decoder, and their replies.
 
+ghost use Rattle.std.specs.Prelude.{◌≡◌, ◌+◌, ◌++◌, ◌∷◌, [], ◌<◌, ◌≤◌, vec_len, vec_capacity, replicate, OnOk, IfOk, IfErr};
+ghost use Rattle.tiff_base.specs.declared.error.TiffError.TheVariants.{OutOfMemory};
+ghost use Rattle.tiff_base.specs.declared.tags.«Type».TheVariants.{BYTE};
+ghost use Rattle.tiff_value.specs.Buffer.{empty_buffer};
+ghost use Rattle.tiff_decode.specs.Machine.{Follows};
+ghost use Rattle.tiff_decode.specs.Outcome as outcome;
+ghost use Rattle.tiff_decode.specs.Reader.{TagsRead};
+ghost use Rattle.tiff_decode.specs.Result.{decoded_as};
+ghost use Rattle.tiff_decode.specs.Step.{items_of, BufferLeft, Step};
+ghost use Rattle.tiff_decode.specs.Steps.{Ran};
+
+use crate::decoder::Decoder;
 use crate::result::DecodingResult;
+use std::alloc::Global;
 use tiff_base::color::{ChunkType, ColorType};
 use tiff_base::directory::{Directory, Entry};
-use tiff_base::error::TiffResult;
-use tiff_base::tags::{Bits32, Bits64, ByteOrder, IfdPointer, Tag};
+use tiff_base::error::{TiffError, TiffResult};
+use tiff_base::io::Source;
+use tiff_base::tags::{Bits32, Bits64, ByteOrder, IfdPointer, Tag, Type};
 use tiff_ifd::limits::Limits;
 use tiff_ifd::value::Value;
 use tiff_page::layout::{BufferLayoutPreference, TiffCodingUnit};
@@ -137,4 +151,255 @@ pub enum Reply {
     FindEntry(Option<Entry>),
     FindTagBuf(TiffResult<Option<Entry>>, ValueBuffer),
     FindTagBytes(TiffResult<Option<usize>>, Vec<u8>),
+}
+
+// The same limits.
+fn same_limits(limits: &Limits) -> Limits
+    ensures { result ≡ limits.now }
+{
+    let mut same = Limits::unlimited();
+    same.decoding_buffer_size = limits.decoding_buffer_size;
+    same.ifd_value_size = limits.ifd_value_size;
+    same.intermediate_buffer_size = limits.intermediate_buffer_size;
+    same
+}
+
+// So many zeros.
+fn zeros(alloc: Global, len: usize) -> TiffResult<Vec<u8>>
+    ensures zeros { IfOk result (λ v. v.items ≡ replicate len 0) }
+    ensures err { IfErr result (λ e. e ≡ OutOfMemory) }
+{
+    Ok(vec![in alloc; 0u8; len]?)
+}
+
+// The image into an empty list of samples.
+fn image_samples<R: Source>(
+    decoder: &mut Decoder<R>,
+) -> (TiffResult<BufferLayoutPreference>, DecodingResult)
+    ensures { Follows (λ x. (x, decoded_as result.1)) (outcome.read_image_to_buffer decoder.old) result.0 decoder.old decoder.new }
+{
+    let mut samples = DecodingResult::U8(Vec::new(decoder.alloc));
+    let result = decoder.read_image_to_buffer(&mut samples);
+    (result, samples)
+}
+
+// A chunk into an empty list of samples.
+fn chunk_samples<R: Source>(
+    decoder: &mut Decoder<R>,
+    chunk: u32,
+    stride: usize,
+) -> (TiffResult<()>, DecodingResult)
+    ensures { Follows (λ _. decoded_as result.1) (outcome.read_chunk_to_buffer decoder.old chunk stride) result.0 decoder.old decoder.new }
+{
+    let mut samples = DecodingResult::U8(Vec::new(decoder.alloc));
+    let result = decoder.read_chunk_to_buffer(&mut samples, chunk, stride);
+    (result, samples)
+}
+
+// The image into a slice of zeros.
+#[tactic(auto, using(crate::proofs::Turns::stands_here, crate::proofs::Turns::image_bytes))]
+fn image_bytes<R: Source>(decoder: &mut Decoder<R>, len: usize) -> (TiffResult<()>, Vec<u8>)
+    ensures { Follows (λ _. items_of result.1) (outcome.read_image_bytes decoder.old (replicate len 0)) result.0 decoder.old decoder.new }
+{
+    let alloc = decoder.alloc;
+    let Ok(mut bytes) = zeros(alloc, len) else {
+        return (Err(TiffError::OutOfMemory), Vec::new(alloc));
+    };
+    let result = decoder.read_image_bytes(&mut bytes);
+    (result, bytes)
+}
+
+// A chunk into a slice of zeros.
+#[tactic(auto, using(crate::proofs::Turns::stands_here, crate::proofs::Turns::chunk_bytes))]
+fn chunk_bytes<R: Source>(
+    decoder: &mut Decoder<R>,
+    chunk: u32,
+    len: usize,
+) -> (TiffResult<()>, Vec<u8>)
+    ensures { Follows (λ _. items_of result.1) (outcome.read_chunk_bytes decoder.old chunk (replicate len 0)) result.0 decoder.old decoder.new }
+{
+    let alloc = decoder.alloc;
+    let Ok(mut bytes) = zeros(alloc, len) else {
+        return (Err(TiffError::OutOfMemory), Vec::new(alloc));
+    };
+    let result = decoder.read_chunk_bytes(chunk, &mut bytes);
+    (result, bytes)
+}
+
+// A coding unit into a slice of zeros.
+#[tactic(auto, using(crate::proofs::Turns::stands_here, crate::proofs::Turns::unit_bytes))]
+fn unit_bytes<R: Source>(
+    decoder: &mut Decoder<R>,
+    unit: TiffCodingUnit,
+    len: usize,
+) -> (TiffResult<()>, Vec<u8>)
+    ensures { Follows (λ _. items_of result.1) (outcome.read_coding_unit_bytes decoder.old unit.0 (replicate len 0)) result.0 decoder.old decoder.new }
+{
+    let alloc = decoder.alloc;
+    let Ok(mut bytes) = zeros(alloc, len) else {
+        return (Err(TiffError::OutOfMemory), Vec::new(alloc));
+    };
+    let result = decoder.read_coding_unit_bytes(unit, &mut bytes);
+    (result, bytes)
+}
+
+// The values of a tag into an empty buffer.
+fn tag_buffer<R: Source>(
+    decoder: &mut Decoder<R>,
+    tag: Tag,
+) -> (TiffResult<Option<Entry>>, ValueBuffer)
+    ensures read { TagsRead (λ x. (x, result.1)) (outcome.find_tag_buf decoder.old tag (empty_buffer BYTE)) result.0 decoder.old decoder.new }
+    ensures left { BufferLeft decoder.old.order (outcome.find_entry decoder.old tag) (empty_buffer BYTE) result.0 result.1 }
+{
+    let mut buffer = ValueBuffer::empty(decoder.alloc, Type::BYTE);
+    let result = decoder.buf_in(None, tag, &mut buffer);
+    (result, buffer)
+}
+
+// The bytes of a tag's values into a slice of zeros.
+#[tactic(auto, using(crate::proofs::Turns::nothing_read, crate::proofs::Turns::tag_bytes))]
+fn tag_bytes<R: Source>(
+    decoder: &mut Decoder<R>,
+    tag: Tag,
+    len: usize,
+    at: u64,
+) -> (TiffResult<Option<usize>>, Vec<u8>)
+    ensures { TagsRead (λ x. (x, items_of result.1)) (outcome.find_tag_bytes decoder.old tag (replicate len 0) at) result.0 decoder.old decoder.new }
+{
+    let alloc = decoder.alloc;
+    let Ok(mut bytes) = zeros(alloc, len) else {
+        return (Err(TiffError::OutOfMemory), Vec::new(alloc));
+    };
+    let result = decoder.bytes_in(None, tag, &mut bytes, at);
+    (result, bytes)
+}
+
+// Makes one call.
+fn run_call<R: Source>(decoder: &mut Decoder<R>, call: &Call) -> Reply
+    ensures { Step decoder.old call.now result decoder.new }
+{
+    match call {
+        Call::SetLimits(limits) => {
+            decoder.set_limits(same_limits(limits));
+            Reply::SetLimits
+        }
+        Call::Dimensions => Reply::Dimensions(decoder.dimensions()),
+        Call::Colortype => Reply::Colortype(decoder.colortype()),
+        Call::IfdPointer => Reply::IfdPointer(decoder.ifd_pointer()),
+        Call::SeekToImage(index) => Reply::SeekToImage(decoder.seek_to_image(*index)),
+        Call::NextImage => Reply::NextImage(decoder.next_image()),
+        Call::MoreImages => Reply::MoreImages(decoder.more_images()),
+        Call::ByteOrder => Reply::ByteOrder(decoder.byte_order()),
+        Call::ReadDirectory(pointer) => Reply::ReadDirectory(decoder.read_directory(*pointer)),
+        Call::GotoOffset(place) => Reply::GotoOffset(decoder.goto_offset(*place)),
+        Call::GotoOffsetU64(place) => Reply::GotoOffsetU64(decoder.goto_offset_u64(*place)),
+        Call::ReadIfdOffset => Reply::ReadIfdOffset(decoder.read_ifd_offset()),
+        Call::ReadByte => Reply::ReadByte(decoder.read_byte()),
+        Call::ReadShort => Reply::ReadShort(decoder.read_short()),
+        Call::ReadSshort => Reply::ReadSshort(decoder.read_sshort()),
+        Call::ReadLong => Reply::ReadLong(decoder.read_long()),
+        Call::ReadSlong => Reply::ReadSlong(decoder.read_slong()),
+        Call::ReadLong8 => Reply::ReadLong8(decoder.read_long8()),
+        Call::ReadSlong8 => Reply::ReadSlong8(decoder.read_slong8()),
+        Call::ReadFloat => Reply::ReadFloat(decoder.read_float()),
+        Call::ReadDouble => Reply::ReadDouble(decoder.read_double()),
+        Call::ReadString(len) => Reply::ReadString(decoder.read_string(*len)),
+        Call::ReadOffset => Reply::ReadOffset(decoder.read_offset()),
+        Call::ReadOffsetU64 => Reply::ReadOffsetU64(decoder.read_offset_u64()),
+        Call::GetChunkType => Reply::GetChunkType(decoder.get_chunk_type()),
+        Call::StripCount => Reply::StripCount(decoder.strip_count()),
+        Call::TileCount => Reply::TileCount(decoder.tile_count()),
+        Call::ChunkDimensions => Reply::ChunkDimensions(decoder.chunk_dimensions()),
+        Call::ChunkDataDimensions(chunk) => {
+            Reply::ChunkDataDimensions(decoder.chunk_data_dimensions(*chunk))
+        }
+        Call::ImageBufferLayout => Reply::ImageBufferLayout(decoder.image_buffer_layout()),
+        Call::ImageChunkBufferLayout(chunk) => {
+            Reply::ImageChunkBufferLayout(decoder.image_chunk_buffer_layout(*chunk))
+        }
+        Call::ImageCodingUnitLayout(unit) => {
+            Reply::ImageCodingUnitLayout(decoder.image_coding_unit_layout(*unit))
+        }
+        Call::ReadImage => Reply::ReadImage(decoder.read_image()),
+        Call::ReadImageToBuffer => {
+            let (result, samples) = image_samples(decoder);
+            Reply::ReadImageToBuffer(result, samples)
+        }
+        Call::ReadImageBytes(len) => {
+            let (result, bytes) = image_bytes(decoder, *len);
+            Reply::ReadImageBytes(result, bytes)
+        }
+        Call::ReadChunk(chunk) => Reply::ReadChunk(decoder.read_chunk(*chunk)),
+        Call::ReadChunkBytes { chunk, len } => {
+            let (result, bytes) = chunk_bytes(decoder, *chunk, *len);
+            Reply::ReadChunkBytes(result, bytes)
+        }
+        Call::ReadChunkToBuffer { chunk, stride } => {
+            let (result, samples) = chunk_samples(decoder, *chunk, *stride);
+            Reply::ReadChunkToBuffer(result, samples)
+        }
+        Call::ReadCodingUnitBytes { unit, len } => {
+            let (result, bytes) = unit_bytes(decoder, *unit, *len);
+            Reply::ReadCodingUnitBytes(result, bytes)
+        }
+        Call::FindTag(tag) => Reply::FindTag(decoder.find_tag(*tag)),
+        Call::FindTagUnsigned(tag) => Reply::FindTagUnsigned(decoder.number_in(None, *tag)),
+        Call::FindTagUnsignedVec(tag) => Reply::FindTagUnsignedVec(decoder.numbers_in(None, *tag)),
+        Call::GetTag(tag) => Reply::GetTag(decoder.get_tag(*tag)),
+        Call::GetTagUnsigned(tag) => Reply::GetTagUnsigned(decoder.required_in(None, *tag)),
+        Call::GetTagU32(tag) => Reply::GetTagU32(decoder.get_tag_u32(*tag)),
+        Call::GetTagU64(tag) => Reply::GetTagU64(decoder.get_tag_u64(*tag)),
+        Call::GetTagF32(tag) => Reply::GetTagF32(decoder.get_tag_f32(*tag)),
+        Call::GetTagF64(tag) => Reply::GetTagF64(decoder.get_tag_f64(*tag)),
+        Call::GetTagU32Vec(tag) => Reply::GetTagU32Vec(decoder.get_tag_u32_vec(*tag)),
+        Call::GetTagU16Vec(tag) => Reply::GetTagU16Vec(decoder.get_tag_u16_vec(*tag)),
+        Call::GetTagU64Vec(tag) => Reply::GetTagU64Vec(decoder.get_tag_u64_vec(*tag)),
+        Call::GetTagF32Vec(tag) => Reply::GetTagF32Vec(decoder.get_tag_f32_vec(*tag)),
+        Call::GetTagF64Vec(tag) => Reply::GetTagF64Vec(decoder.get_tag_f64_vec(*tag)),
+        Call::GetTagU8Vec(tag) => Reply::GetTagU8Vec(decoder.get_tag_u8_vec(*tag)),
+        Call::GetTagAsciiString(tag) => Reply::GetTagAsciiString(decoder.get_tag_ascii_string(
+            *tag,
+        )),
+        Call::TagIter => Reply::TagIter(decoder.all_tags()),
+        Call::FindEntry(tag) => Reply::FindEntry(decoder.entry_in(None, *tag)),
+        Call::FindTagBuf(tag) => {
+            let (result, buffer) = tag_buffer(decoder, *tag);
+            Reply::FindTagBuf(result, buffer)
+        }
+        Call::FindTagBytes { tag, len, at } => {
+            let (result, bytes) = tag_bytes(decoder, *tag, *len, *at);
+            Reply::FindTagBytes(result, bytes)
+        }
+    }
+}
+
+// Puts an item behind the others of a list that has room for it.
+fn put<T: Drop>(items: &mut Vec<T>, item: T)
+    requires { vec_len items.old < vec_capacity items.old }
+    ensures items { items.new.items ≡ items.old.items ++ item ∷ [] }
+    ensures len { vec_len items.new ≡ vec_len items.old + 1 }
+    ensures capacity { vec_capacity items.old ≤ vec_capacity items.new }
+{
+    if items.push(item).is_err() {
+        unreachable!();
+    }
+}
+
+/// Makes calls of a decoder one after another, and puts the reply of each, a fault too, behind those in `replies`. Room for all
+/// replies is taken first; where that is refused, `OutOfMemory`: nothing is called, and `replies` holds what it held.
+#[tactic(auto, using(crate::proofs::Turns::turn, crate::proofs::Turns::none_made))]
+pub fn run_calls<R: Source>(
+    decoder: &mut Decoder<R>,
+    calls: &[Call],
+    replies: &mut Vec<Reply>,
+) -> TiffResult<()>
+    ensures made { OnOk result (Ran decoder.old calls.now replies.old.items replies.new.items decoder.new) }
+    ensures refused { IfErr result (λ e. (e ≡ OutOfMemory) × (decoder.new ≡ decoder.old) × (replies.new.items ≡ replies.old.items)) }
+{
+    replies.try_reserve(calls.len())?;
+    for call in calls {
+        let reply = run_call(decoder, call);
+        put(replies, reply);
+    }
+    Ok(())
 }

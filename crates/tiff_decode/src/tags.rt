@@ -139,7 +139,7 @@ impl<R: Source> Decoder<R> {
 
     // The field of a tag of the page's directory, or of another one.
     #[tactic(auto, unfolding(crate::specs::Outcome::find_entry))]
-    fn entry_in(&self, other: Option<&Directory>, tag: Tag) -> Option<Entry>
+    pub(crate) fn entry_in(&self, other: Option<&Directory>, tag: Tag) -> Option<Entry>
         ensures { result ≡ outcome.find_entry (reading self.now (option_map (λ d. d.now) other.entry)) tag }
     {
         match chosen(&self.tags.directory, other).get(tag) {
@@ -150,7 +150,7 @@ impl<R: Source> Decoder<R> {
 
     // A field and its bytes, of the page's directory or of another one.
     #[tactic(auto, unfolding(crate::specs::Outcome::find_tag_buf))]
-    fn buf_in(
+    pub(crate) fn buf_in(
         &mut self,
         other: Option<&Directory>,
         tag: Tag,
@@ -186,7 +186,7 @@ impl<R: Source> Decoder<R> {
 
     // The bytes of a field from one on, of the page's directory or of another one.
     #[tactic(auto, unfolding(crate::specs::Outcome::find_tag_bytes))]
-    fn bytes_in(
+    pub(crate) fn bytes_in(
         &mut self,
         other: Option<&Directory>,
         tag: Tag,
@@ -218,7 +218,11 @@ impl<R: Source> Decoder<R> {
 
     // The number of a tag of the page's directory, or of another one.
     #[tactic(auto, unfolding(crate::specs::Outcome::find_tag, crate::specs::Outcome::find_tag_unsigned, tiff_ifd::specs::Ask::find_unsigned, tiff_ifd::specs::Look::find))]
-    fn number_in(&mut self, other: Option<&Directory>, tag: Tag) -> TiffResult<Option<u64>>
+    pub(crate) fn number_in(
+        &mut self,
+        other: Option<&Directory>,
+        tag: Tag,
+    ) -> TiffResult<Option<u64>>
         ensures { TagsRead (λ n. n) (outcome.find_tag_unsigned (reading self.old (option_map (λ d. d.now) other.entry)) tag) result self.old self.new }
     {
         match self.value_in(other, tag)? {
@@ -229,7 +233,11 @@ impl<R: Source> Decoder<R> {
 
     // The numbers of a tag of the page's directory, or of another one.
     #[tactic(auto, unfolding(crate::specs::Outcome::find_tag, crate::specs::Outcome::find_tag_unsigned_vec, tiff_ifd::specs::Ask::find_unsigned_vec, tiff_ifd::specs::Look::find))]
-    fn numbers_in(&mut self, other: Option<&Directory>, tag: Tag) -> TiffResult<Option<Vec<u64>>>
+    pub(crate) fn numbers_in(
+        &mut self,
+        other: Option<&Directory>,
+        tag: Tag,
+    ) -> TiffResult<Option<Vec<u64>>>
         ensures { TagsRead (λ o. option_map (λ v. v.items) o) (outcome.find_tag_unsigned_vec (reading self.old (option_map (λ d. d.now) other.entry)) tag) result self.old self.new }
     {
         let alloc = self.alloc;
@@ -245,7 +253,7 @@ impl<R: Source> Decoder<R> {
 
     // The number of a required tag of the page's directory, or of another one.
     #[tactic(auto, unfolding(crate::specs::Outcome::find_tag_unsigned, crate::specs::Outcome::get_tag_unsigned, tiff_ifd::specs::Ask::get_unsigned))]
-    fn required_in(&mut self, other: Option<&Directory>, tag: Tag) -> TiffResult<u64>
+    pub(crate) fn required_in(&mut self, other: Option<&Directory>, tag: Tag) -> TiffResult<u64>
         ensures { TagsRead (λ n. n) (outcome.get_tag_unsigned (reading self.old (option_map (λ d. d.now) other.entry)) tag) result self.old self.new }
     {
         match self.number_in(other, tag)? {
