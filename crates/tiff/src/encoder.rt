@@ -1,4 +1,6 @@
 //! Files are written.
 
-pub use tiff_encode::encoder::{TiffEncoder, laws};
+pub use tiff_encode::encoder::{
+    DirectoryOffset, TiffEncoder, TiffKind, TiffKindBig, TiffKindStandard, laws,
+};
 pub use tiff_value::encoder::colortype;

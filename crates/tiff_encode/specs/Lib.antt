@@ -13,3 +13,4 @@ pub mod Stored
 pub mod JobValues
 pub mod Jobs
 pub mod RunLaws
+pub mod Kind

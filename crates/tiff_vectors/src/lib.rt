@@ -19,6 +19,8 @@ mod pixels;
 #[cfg(test)]
 mod reading;
 #[cfg(test)]
+mod script;
+#[cfg(test)]
 mod tags;
 #[cfg(test)]
 mod undone;

@@ -1,16 +1,52 @@
 //! The two kinds of file that are written, and where a directory of one stands.
 
+ghost use Rattle.std.specs.Prelude.{◌≡◌, ℕ, ◌^◌, if◌then◌else◌, nat_le, None, Some, Ok, Err};
+ghost use Rattle.std.specs.FinMap as map;
+ghost use Rattle.tiff_base.specs.Answers.{Gives};
+ghost use Rattle.tiff_base.specs.Directory.{link_place};
+ghost use Rattle.tiff_base.specs.Number.{le};
+ghost use Rattle.tiff_base.specs.declared.tags.FileKind as kinds;
+ghost use Rattle.tiff_base.specs.declared.error.TiffError.TheVariants.{IntSizeError};
+ghost use Rattle.tiff_encode.specs.Calls.{new_offset};
+ghost use Rattle.tiff_encode.specs.Causes.{is_past, is_past_count};
+ghost use Rattle.tiff_encode.specs.Written.{count_len, place_len};
+ghost use Rattle.tiff_encode.specs.Kind.{WritesWithin};
+
+use crate::encoder::page::narrow;
 use std::marker::{Model, PhantomData};
-use tiff_base::tags::IfdPointer;
+use tiff_base::directory::Directory;
+use tiff_base::error::{TiffError, TiffResult, UsageError};
+use tiff_base::io::Sink;
+use tiff_base::tags::{FileKind, IfdPointer};
+use tiff_value::encoder::writer::TiffWriter;
 
 /// A kind of file, by the numbers of its places.
 pub trait TiffKind {
-    ghost use Rattle.tiff_base.specs.declared.tags.FileKind.{FileKind};
-
     /// A place in a file of this kind.
     type OffsetType: Copy;
 
-    ghost kind: { FileKind };
+    ghost kind: { kinds.FileKind };
+
+    // The place that a value is.
+    ghost place: { Self.OffsetType → ℕ };
+
+    /// The kind (this project's).
+    fn file_kind() -> FileKind
+        ensures { result ≡ kind };
+
+    /// A place as this kind has it. A place past its bytes: `IntSizeError`.
+    fn convert_offset(offset: u64) -> TiffResult<Self::OffsetType>
+        ensures { Gives place result (if is_past kind offset then Err IntSizeError else Ok offset) };
+
+    /// Writes a place. A place past its bytes: `IntSizeError`, and nothing is done; else the errors of
+    /// `TiffWriter::write_bytes`.
+    fn write_offset<W: Sink>(writer: &mut TiffWriter<W>, offset: u64) -> TiffResult<()>
+        ensures { WritesWithin (is_past kind offset) (le (place_len kind) offset) writer.old writer.new result };
+
+    /// Writes the count of a directory's entries. A count past its bytes: `IntSizeError`, and nothing is done; else the errors
+    /// of `TiffWriter::write_bytes`.
+    fn write_entry_count<W: Sink>(writer: &mut TiffWriter<W>, count: usize) -> TiffResult<()>
+        ensures { WritesWithin (is_past_count kind count) (le (count_len kind) count) writer.old writer.new result };
 }
 
 /// TIFF 6.0: places of 4 bytes.
@@ -22,6 +58,30 @@ impl TiffKind for TiffKindStandard {
     type OffsetType = u32;
 
     ghost kind = { Classic };
+
+    ghost place = { λ offset. offset };
+
+    fn file_kind() -> FileKind {
+        FileKind::Classic
+    }
+
+    fn convert_offset(offset: u64) -> TiffResult<u32> {
+        narrow(offset)
+    }
+
+    fn write_offset<W: Sink>(writer: &mut TiffWriter<W>, offset: u64) -> TiffResult<()> {
+        if offset > u64::from(u32::MAX) {
+            return Err(TiffError::IntSizeError);
+        }
+        writer.write_u32(offset as u32)
+    }
+
+    fn write_entry_count<W: Sink>(writer: &mut TiffWriter<W>, count: usize) -> TiffResult<()> {
+        if count > usize::from(u16::MAX) {
+            return Err(TiffError::IntSizeError);
+        }
+        writer.write_u16(count as u16)
+    }
 }
 
 /// BigTIFF: places of 8 bytes.
@@ -33,6 +93,24 @@ impl TiffKind for TiffKindBig {
     type OffsetType = u64;
 
     ghost kind = { Big };
+
+    ghost place = { λ offset. offset };
+
+    fn file_kind() -> FileKind {
+        FileKind::Big
+    }
+
+    fn convert_offset(offset: u64) -> TiffResult<u64> {
+        Ok(offset)
+    }
+
+    fn write_offset<W: Sink>(writer: &mut TiffWriter<W>, offset: u64) -> TiffResult<()> {
+        writer.write_u64(offset)
+    }
+
+    fn write_entry_count<W: Sink>(writer: &mut TiffWriter<W>, count: usize) -> TiffResult<()> {
+        writer.write_u64(count as u64)
+    }
 }
 
 /// Where a directory that is finished stands, and its link.
@@ -45,9 +123,48 @@ pub struct DirectoryOffset<K: TiffKind> {
 }
 
 impl<K: TiffKind> Model for DirectoryOffset<K> {
+    ghost use Rattle.std.specs.Prelude.{◌≡◌};
     ghost use Rattle.tiff_encode.specs.Calls.{Offsets};
 
     ghost Value = { Offsets };
 
     ghost view = { λ d. record { pointer = d.pointer.0; link = d.link } };
+
+    // The place as the kind has it is that of the pointer.
+    ghost invariant = { λ d. K.place d.offset ≡ d.pointer.0 };
+}
+
+// The place of the link of a directory of so many entries that stands at a place, if it is below 2^64.
+fn link_of(kind: FileKind, place: u64, count: usize) -> Option<u64>
+    ensures { result ≡ (if nat_le (2 ^ 64) (link_place kind place count) then None else Some (link_place kind place count)) }
+{
+    let (head, entry) = match kind {
+        FileKind::Classic => (2, 12),
+        FileKind::Big => (8, 20),
+    };
+    let entries = (count as u64).checked_mul(entry)?;
+    place.checked_add(head)?.checked_add(entries)
+}
+
+impl<K: TiffKind> DirectoryOffset<K> {
+    /// Where a directory stands that was finished at a place with the entries of `directory`. The first cause that holds: a place past
+    /// the kind's bytes: `IntSizeError`; the place 0, or a link at 2^64 or behind: `UsageError(ZeroIfdPointer)`.
+    #[tactic(auto, unfolding(crate::specs::Calls::new_offset, crate::specs::Causes::offset_cause))]
+    pub fn new(pointer: IfdPointer, directory: &Directory) -> TiffResult<Self>
+        ensures { Gives (λ o. o) result (new_offset K.kind pointer.0 (map.len directory.now.entries)) }
+    {
+        let offset = K::convert_offset(pointer.0)?;
+        let Some(link) = link_of(K::file_kind(), pointer.0, directory.len()) else {
+            return Err(UsageError::ZeroIfdPointer.into());
+        };
+        if pointer.0 == 0 {
+            return Err(UsageError::ZeroIfdPointer.into());
+        }
+        Ok(DirectoryOffset {
+            offset,
+            pointer,
+            link,
+            kind: PhantomData,
+        })
+    }
 }
