@@ -1,5 +1,7 @@
 pub mod Opening
 mod Once
+pub mod Laid
+pub mod Whole
 pub mod Required
 pub mod Numbers
 pub mod Along

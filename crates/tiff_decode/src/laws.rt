@@ -2,6 +2,9 @@
 
 ghost use Rattle.tiff_decode.specs.Once.{IsEachAlong, IsOneAnswer};
 ghost use Rattle.tiff_decode.specs.Result.{BytesAgain};
+ghost use Rattle.tiff_decode.specs.Whole.{PlaneOfChunks};
+
+use tiff_page::laws;
 
 /// A call leaves the file, counts its failed reads, and goes to its next state, or with want of memory and a fault of the
 /// device stays.
@@ -18,3 +21,13 @@ pub fn one_answer()
 pub fn bytes_again()
     ensures { BytesAgain }
 {}
+
+/// Each chunk, read alone, stands in the image that is read whole.
+pub fn plane_of_chunks()
+    ensures { PlaneOfChunks }
+{
+    laws::chunks_within();
+    laws::placed_each();
+    laws::whole_rows();
+    laws::image_of_chunks();
+}

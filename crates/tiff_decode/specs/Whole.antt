@@ -1,0 +1,42 @@
+-- A plane of an image is its chunks, read one by one and placed (this project's).
+use Rattle.std.specs.Prelude.{◌≡◌, ℕ, ◌+◌, ◌*◌, ◌/◌, ◌<◌, List, length, slice_index, Ok}
+use Rattle.tiff_page.specs.Page.{PageRecord}
+use Rattle.tiff_page.specs.Rect.{rect, chunks_of_plane}
+use Rattle.tiff_page.specs.Layout.{LayoutRecord, layout_of, row_bits, row_bytes}
+use Rattle.tiff_page.specs.Laws.{HasSides}
+use Rattle.tiff_page.specs.PixelCalls.{planes_used}
+use Rattle.tiff_decode.specs.Machine.{Decoding}
+use Rattle.tiff_decode.specs.Outcome as outcome
+
+-- the layout of the page's image
+abbrev pub IsLayout : PageRecord → LayoutRecord → Type 0
+IsLayout p layout = layout_of p p.width p.height ≡ Ok layout
+
+-- the chunks of the planes that a slice of so many bytes takes whole
+abbrev pub chunks_used : PageRecord → LayoutRecord → ℕ → ℕ
+chunks_used p layout len = planes_used p layout len * chunks_of_plane p
+
+-- the bytes of a row of a chunk
+abbrev pub chunk_row : PageRecord → LayoutRecord → ℕ → ℕ
+chunk_row p layout i = row_bytes p layout.colour (rect p i).width
+
+-- where byte b of row r of a chunk is: in a slice of that chunk, and in a slice of the image's planes
+abbrev pub at_chunk : PageRecord → LayoutRecord → ℕ → ℕ → ℕ → ℕ
+at_chunk p layout i r b = r * chunk_row p layout i + b
+
+abbrev pub at_image : PageRecord → LayoutRecord → ℕ → ℕ → ℕ → ℕ
+at_image p layout i r b =
+    ((rect p i).plane * p.height + (rect p i).y + r) * layout.row_bytes + row_bits p layout.colour (rect p i).x / 8 + b
+
+-- A chunk stands in an image: each byte of each of its rows.
+pub record IsPlacedIn (p : PageRecord) (layout : LayoutRecord) (i : ℕ) (chunk image : List ℕ) : Type 0 where
+  pub each : (r b : ℕ) → r < (rect p i).height → b < chunk_row p layout i
+      → slice_index image (at_image p layout i r b) ≡ slice_index chunk (at_chunk p layout i r b)
+
+-- each chunk of the planes that a slice takes, read alone, stands in that slice after the image is read into it
+abbrev pub PlaneOfChunks : Type 0
+PlaneOfChunks = (d : Decoding) (layout : LayoutRecord) (buf image part chunk : List ℕ) (i : ℕ) → HasSides d.state.page → IsLayout d.state.page layout
+    → i < chunks_used d.state.page layout (length buf)
+    → (outcome.read_image_bytes d buf).answer ≡ Ok image
+    → (outcome.read_chunk_bytes d i part).answer ≡ Ok chunk
+    → IsPlacedIn d.state.page layout i chunk image
