@@ -2,6 +2,7 @@ pub mod Opening
 mod Once
 pub mod Laid
 pub mod Whole
+pub mod WhereChunks
 pub mod Required
 pub mod Numbers
 pub mod Along

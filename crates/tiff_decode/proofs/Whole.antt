@@ -94,11 +94,14 @@ depth_read p limits short colour i h =
     (bind_ok (depth_fault p colour) (λ _. rest) a.0 b.1.1).1.0
 
 -- a chunk below so many planes' is of one of them
-pub plane_of : (i n c : ℕ) → i < n * c → i / c < n
-plane_of i n c l =
-    ⊎_elim (λ (some : 0 < c). div_below i c n some l)
+pub some_chunk : (i n c : ℕ) → i < n * c → 0 < c
+some_chunk i n c l =
+    ⊎_elim (λ (some : 0 < c). some)
     (λ (none : c ≤ 0). let e : n * c ≡ n * 0 = (let z : c ≡ 0 = omega (arith, none) in ap (λ (m : ℕ). n * m) z) in Prim.absurd (omega (arith, l, e)))
     (cases_lt 0 c)
+
+pub plane_of : (i n c : ℕ) → i < n * c → i / c < n
+plane_of i n c l = div_below i c n (some_chunk i n c l) l
 
 module _ (within_image : ChunksWithin) (placed_each : PlacedEach) (whole_rows : WholeRows) (image_of_chunks : ImageOfChunks) where
   module _ (file : List ℕ) (order : ByteOrder) (p : PageRecord) (limits : Limits) (l : LayoutRecord) (sides : HasSides p) (given : layout_of p p.width p.height ≡ Ok l) (i : ℕ) where

@@ -1,8 +1,10 @@
 -- A plane of an image is its chunks, read one by one and placed (this project's).
-use Rattle.std.specs.Prelude.{◌≡◌, ℕ, ◌+◌, ◌*◌, ◌/◌, ◌<◌, List, length, slice_index, Ok}
+use Rattle.std.specs.Prelude.{◌≡◌, ℕ, ◌+◌, ◌*◌, ◌/◌, ◌<◌, ◌≤◌, List, length, slice_index, Ok}
+use Rattle.std.specs.Result.{IsOk}
 use Rattle.tiff_page.specs.Page.{PageRecord}
 use Rattle.tiff_page.specs.Rect.{rect, chunks_of_plane}
 use Rattle.tiff_page.specs.Layout.{LayoutRecord, layout_of, row_bits, row_bytes}
+use Rattle.tiff_page.specs.Buffers.{planes_layout}
 use Rattle.tiff_page.specs.Laws.{HasSides}
 use Rattle.tiff_page.specs.PixelCalls.{planes_used}
 use Rattle.tiff_decode.specs.Machine.{Decoding}
@@ -40,3 +42,31 @@ PlaneOfChunks = (d : Decoding) (layout : LayoutRecord) (buf image part chunk : L
     → (outcome.read_image_bytes d buf).answer ≡ Ok image
     → (outcome.read_chunk_bytes d i part).answer ≡ Ok chunk
     → IsPlacedIn d.state.page layout i chunk image
+
+-- ---- where they are read
+
+-- the bytes of a chunk
+abbrev pub chunk_bytes : PageRecord → LayoutRecord → ℕ → ℕ
+chunk_bytes p layout i = chunk_row p layout i * (rect p i).height
+
+-- a chunk is read into each slice that has room for it
+abbrev pub IsChunkRead : Decoding → LayoutRecord → ℕ → Type 0
+IsChunkRead d layout i = (part : List ℕ) → chunk_bytes d.state.page layout i ≤ length part → IsOk (outcome.read_chunk_bytes d i part).answer
+
+-- the planes of the image have this layout, and a slice of so many bytes has room for one
+pub record HasRoom (p : PageRecord) (layout : LayoutRecord) (len : ℕ) : Type 0 where
+  pub laid : planes_layout p p.width p.height ≡ Ok layout
+  pub room : layout.plane_stride ≤ len
+
+-- the chunks of the planes that a slice takes are such
+abbrev pub EachUsed : PageRecord → LayoutRecord → ℕ → (ℕ → Type 0) → Type 0
+EachUsed p layout len Is = (i : ℕ) → i < chunks_used p layout len → Is i
+
+-- an image is read into a slice that has room exactly where each chunk of those planes is read
+abbrev pub ReadWhereChunks : Type 0
+ReadWhereChunks = (d : Decoding) (buf : List ℕ) → HasSides d.state.page
+    → (IsOk (outcome.read_image_bytes d buf).answer
+    → (layout : LayoutRecord) × (HasRoom d.state.page layout (length buf) × EachUsed d.state.page layout (length buf) (IsChunkRead d layout)))
+    × ((layout : LayoutRecord) → HasRoom d.state.page layout (length buf)
+    → EachUsed d.state.page layout (length buf) (λ i. (part : List ℕ) × IsOk (outcome.read_chunk_bytes d i part).answer)
+    → IsOk (outcome.read_image_bytes d buf).answer)

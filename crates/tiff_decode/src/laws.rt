@@ -2,7 +2,7 @@
 
 ghost use Rattle.tiff_decode.specs.Once.{IsEachAlong, IsOneAnswer};
 ghost use Rattle.tiff_decode.specs.Result.{BytesAgain};
-ghost use Rattle.tiff_decode.specs.Whole.{PlaneOfChunks};
+ghost use Rattle.tiff_decode.specs.Whole.{PlaneOfChunks, ReadWhereChunks};
 
 use tiff_page::laws;
 
@@ -30,4 +30,12 @@ pub fn plane_of_chunks()
     laws::placed_each();
     laws::whole_rows();
     laws::image_of_chunks();
+}
+
+/// An image is read exactly where its chunks are.
+pub fn read_where_chunks()
+    ensures { ReadWhereChunks }
+{
+    laws::chunks_within();
+    laws::no_fault();
 }
