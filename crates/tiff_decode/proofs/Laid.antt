@@ -51,6 +51,7 @@ pub record IsLaid (p : PageRecord) (width height : ℕ) (l : LayoutRecord) : Typ
   pub stride : l.plane_stride ≡ row_bytes p l.colour width * height
   pub tall : row_bytes p l.colour width * p.chunk_height < 2 ^ 64
   pub few : row_bytes p l.colour width * height < 2 ^ 64
+  pub lined : (c : ColorType) × (aligned p l.colour width ≡ Ok c)
   pub chroma : (c : ColorType) × (whole_chroma p l.colour ≡ Ok c)
 
 pub laid : (p : PageRecord) (width height : ℕ) (l : LayoutRecord) → layout_of p width height ≡ Ok l → IsLaid p width height l
@@ -76,6 +77,7 @@ laid p width height l h =
       stride = s.1;
       tall = (wide_ok (row_bytes p a.0 width * p.chunk_height) b.0 b.1.0).0;
       few = s.0;
+      lined = (d.0, d.1.0);
       chroma = (e.0, e.1.0);
     })
 

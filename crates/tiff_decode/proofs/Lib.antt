@@ -3,6 +3,7 @@ mod Once
 pub mod Laid
 pub mod Whole
 pub mod WhereChunks
+pub mod Covered
 pub mod Required
 pub mod Numbers
 pub mod Along

@@ -43,6 +43,21 @@ PlaneOfChunks = (d : Decoding) (layout : LayoutRecord) (buf image part chunk : L
     → (outcome.read_chunk_bytes d i part).answer ≡ Ok chunk
     → IsPlacedIn d.state.page layout i chunk image
 
+-- a byte of so many planes is of a row of one of their chunks
+pub record IsOfChunk (p : PageRecord) (layout : LayoutRecord) (planes at : ℕ) : Type 0 where
+  pub chunk : ℕ
+  pub row : ℕ
+  pub byte : ℕ
+  pub used : chunk < planes * chunks_of_plane p
+  pub in_chunk : row < (rect p chunk).height
+  pub in_row : byte < chunk_row p layout chunk
+  pub here : at ≡ at_image p layout chunk row byte
+
+-- each of them is
+abbrev pub PlanesCovered : Type 0
+PlanesCovered = (p : PageRecord) (layout : LayoutRecord) (planes at : ℕ) → HasSides p → IsLayout p layout → at < planes * layout.plane_stride
+    → IsOfChunk p layout planes at
+
 -- ---- where they are read
 
 -- the bytes of a chunk

@@ -2,7 +2,7 @@
 
 ghost use Rattle.tiff_decode.specs.Once.{IsEachAlong, IsOneAnswer};
 ghost use Rattle.tiff_decode.specs.Result.{BytesAgain};
-ghost use Rattle.tiff_decode.specs.Whole.{PlaneOfChunks, ReadWhereChunks};
+ghost use Rattle.tiff_decode.specs.Whole.{PlaneOfChunks, PlanesCovered, ReadWhereChunks};
 
 use tiff_page::laws;
 
@@ -30,6 +30,13 @@ pub fn plane_of_chunks()
     laws::placed_each();
     laws::whole_rows();
     laws::image_of_chunks();
+}
+
+/// Each byte of an image's planes is of a chunk.
+pub fn planes_covered()
+    ensures { PlanesCovered }
+{
+    laws::one_chunk();
 }
 
 /// An image is read exactly where its chunks are.
