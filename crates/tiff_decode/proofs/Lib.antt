@@ -4,6 +4,7 @@ pub mod Laid
 pub mod Whole
 pub mod WhereChunks
 pub mod Covered
+pub mod Made
 pub mod Required
 pub mod Numbers
 pub mod Along

@@ -58,6 +58,20 @@ abbrev pub PlanesCovered : Type 0
 PlanesCovered = (p : PageRecord) (layout : LayoutRecord) (planes at : ℕ) → HasSides p → IsLayout p layout → at < planes * layout.plane_stride
     → IsOfChunk p layout planes at
 
+-- a slice of the image's planes that was made chunk by chunk: each was read alone, into a slice of its own, and placed; what
+-- isn't of these planes is what it was
+pub record IsMadeOfChunks (d : Decoding) (layout : LayoutRecord) (buf made : List ℕ) : Type 0 where
+  pub long : length made ≡ length buf
+  pub placed : (i : ℕ) → i < chunks_used d.state.page layout (length buf)
+      → (part chunk : List ℕ) × (((outcome.read_chunk_bytes d i part).answer ≡ Ok chunk) × IsPlacedIn d.state.page layout i chunk made)
+  pub stays : (at : ℕ) → planes_used d.state.page layout (length buf) * layout.plane_stride ≤ at → at < length buf
+      → slice_index made at ≡ slice_index buf at
+
+-- is the slice that the image is read into
+abbrev pub ImageIsItsChunks : Type 0
+ImageIsItsChunks = (d : Decoding) (layout : LayoutRecord) (buf image made : List ℕ) → HasSides d.state.page → IsLayout d.state.page layout
+    → (outcome.read_image_bytes d buf).answer ≡ Ok image → IsMadeOfChunks d layout buf made → made ≡ image
+
 -- ---- where they are read
 
 -- the bytes of a chunk

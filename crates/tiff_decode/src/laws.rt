@@ -2,7 +2,7 @@
 
 ghost use Rattle.tiff_decode.specs.Once.{IsEachAlong, IsOneAnswer};
 ghost use Rattle.tiff_decode.specs.Result.{BytesAgain};
-ghost use Rattle.tiff_decode.specs.Whole.{PlaneOfChunks, PlanesCovered, ReadWhereChunks};
+ghost use Rattle.tiff_decode.specs.Whole.{ImageIsItsChunks, PlaneOfChunks, PlanesCovered, ReadWhereChunks};
 
 use tiff_page::laws;
 
@@ -37,6 +37,15 @@ pub fn planes_covered()
     ensures { PlanesCovered }
 {
     laws::one_chunk();
+}
+
+/// An image that is read whole is what its chunks make, read one by one and placed.
+pub fn image_is_its_chunks()
+    ensures { ImageIsItsChunks }
+{
+    laws::placed_each();
+    plane_of_chunks();
+    planes_covered();
 }
 
 /// An image is read exactly where its chunks are.
