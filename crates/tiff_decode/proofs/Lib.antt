@@ -5,6 +5,7 @@ pub mod Whole
 pub mod WhereChunks
 pub mod Covered
 pub mod Made
+pub mod FirstRefused
 pub mod Required
 pub mod Numbers
 pub mod Along

@@ -1,6 +1,7 @@
 -- A plane of an image is its chunks, read one by one and placed (this project's).
-use Rattle.std.specs.Prelude.{◌≡◌, ℕ, ◌+◌, ◌*◌, ◌/◌, ◌<◌, ◌≤◌, List, length, slice_index, Ok}
+use Rattle.std.specs.Prelude.{◌≡◌, ℕ, ◌+◌, ◌*◌, ◌/◌, ◌<◌, ◌≤◌, List, length, slice_index, Ok, Err}
 use Rattle.std.specs.Result.{IsOk}
+use Rattle.tiff_base.specs.declared.error.TiffError.{TiffError}
 use Rattle.tiff_page.specs.Page.{PageRecord}
 use Rattle.tiff_page.specs.Rect.{rect, chunks_of_plane}
 use Rattle.tiff_page.specs.Layout.{LayoutRecord, layout_of, row_bits, row_bytes}
@@ -99,3 +100,25 @@ ReadWhereChunks = (d : Decoding) (buf : List ℕ) → HasSides d.state.page
     × ((layout : LayoutRecord) → HasRoom d.state.page layout (length buf)
     → EachUsed d.state.page layout (length buf) (λ i. (part : List ℕ) × IsOk (outcome.read_chunk_bytes d i part).answer)
     → IsOk (outcome.read_image_bytes d buf).answer)
+
+-- a chunk is refused with this fault, in each slice that has room for it
+abbrev pub IsChunkRefused : Decoding → LayoutRecord → TiffError → ℕ → Type 0
+IsChunkRefused d layout e i =
+    (part : List ℕ) → chunk_bytes d.state.page layout i ≤ length part → (outcome.read_chunk_bytes d i part).answer ≡ Err e
+
+-- Chunk k of a plane is the first that is refused, with this fault: the chunks before it are read, in each plane, and so is
+-- chunk k of the planes before.
+pub record IsFirstRefused (d : Decoding) (layout : LayoutRecord) (planes plane k : ℕ) (e : TiffError) : Type 0 where
+  pub used : plane < planes
+  pub of_plane : k < chunks_of_plane d.state.page
+  pub refused : IsChunkRefused d layout e (plane * chunks_of_plane d.state.page + k)
+  pub before : (n j : ℕ) → n < planes → j < k → IsChunkRead d layout (n * chunks_of_plane d.state.page + j)
+  pub above : (n : ℕ) → n < plane → IsChunkRead d layout (n * chunks_of_plane d.state.page + k)
+
+-- an image that has room is refused with the fault of the first chunk that is refused
+abbrev pub RefusedWhereChunks : Type 0
+RefusedWhereChunks = (d : Decoding) (layout : LayoutRecord) (buf : List ℕ) (e : TiffError) → HasSides d.state.page → HasRoom d.state.page layout (length buf)
+    → ((outcome.read_image_bytes d buf).answer ≡ Err e
+    → (plane k : ℕ) × IsFirstRefused d layout (planes_used d.state.page layout (length buf)) plane k e)
+    × ((plane k : ℕ) → IsFirstRefused d layout (planes_used d.state.page layout (length buf)) plane k e
+    → (outcome.read_image_bytes d buf).answer ≡ Err e)

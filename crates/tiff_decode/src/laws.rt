@@ -2,7 +2,7 @@
 
 ghost use Rattle.tiff_decode.specs.Once.{IsEachAlong, IsOneAnswer};
 ghost use Rattle.tiff_decode.specs.Result.{BytesAgain};
-ghost use Rattle.tiff_decode.specs.Whole.{ImageIsItsChunks, PlaneOfChunks, PlanesCovered, ReadWhereChunks};
+ghost use Rattle.tiff_decode.specs.Whole.{ImageIsItsChunks, PlaneOfChunks, PlanesCovered, ReadWhereChunks, RefusedWhereChunks};
 
 use tiff_page::laws;
 
@@ -54,4 +54,13 @@ pub fn read_where_chunks()
 {
     laws::chunks_within();
     laws::no_fault();
+}
+
+/// An image is refused with the fault of the first chunk that is refused.
+pub fn refused_where_chunks()
+    ensures { RefusedWhereChunks }
+{
+    laws::chunks_within();
+    laws::no_fault();
+    laws::first_fault();
 }
