@@ -1,21 +1,20 @@
 -- Each byte of an image's planes is of a chunk.
-use Rattle.std.proofs.Common.{◌≡◌, ℕ, ◌+◌, ◌-◌, ◌*◌, ◌/◌, ◌%◌, ◌<◌, ◌≤◌, Bool, true, false, List, [], Ok, Err, refl, ap, sym, subst, ◌∙◌, ◌⊎◌, inl, inr, ⊎_elim, arith}
-use Rattle.std.specs.Prelude.{Result, ◌&&◌, ◌==◌, not, if◌then◌else◌, nat_lt}
-use Rattle.std.proofs.lemmas.Bool.{cases_Bool, cases_lt, eqb-true, ltb-false}
-use Rattle.std.proofs.lemmas.Nat.{div_below, mod_below, div-add-mod'}
+use Rattle.std.proofs.Common.{◌≡◌, ℕ, ◌+◌, ◌-◌, ◌*◌, ◌/◌, ◌%◌, ◌<◌, ◌≤◌, true, false, [], Ok, Err, ap, sym, subst, ◌∙◌, ◌⊎◌, inl, inr, ⊎_elim, arith}
+use Rattle.std.specs.Prelude.{◌==◌, nat_lt}
+use Rattle.std.proofs.lemmas.Bool.{cases_Bool, eqb-true, ltb-false}
+use Rattle.std.proofs.lemmas.Nat.{mod_below, div-add-mod'}
 use Rattle.std.proofs.Math.Nat.{mul_assoc, mul_comm, mul-le-mul_right, div-mul-le_self, lt-div-mul-add, one-le-mul, le-div_iff_mul-le, div-lt_iff_lt-mul}
 use Rattle.tiff_base.specs.declared.color.ColorType.{ColorType}
-use Rattle.tiff_base.specs.declared.error.TiffError.{TiffError}
 use Rattle.tiff_base.specs.declared.error.TiffError.TheVariants.{UnsupportedError}
 use Rattle.tiff_base.specs.declared.error.TiffUnsupportedError.TheVariants.{MisalignedTileBoundaries}
 use Rattle.tiff_base.specs.declared.tags.ByteOrder.TheVariants.{LittleEndian}
 use Rattle.tiff_page.specs.Page.{PageRecord}
 use Rattle.tiff_page.specs.Counts.{parts}
 use Rattle.tiff_page.specs.Rect.{rect, across, chunks_of_plane}
-use Rattle.tiff_page.specs.Layout.{LayoutRecord, row_bits, row_bytes, shown, aligned}
+use Rattle.tiff_page.specs.Layout.{LayoutRecord, row_bits, shown, aligned}
 use Rattle.tiff_page.specs.Pixels.{chunk_at}
 use Rattle.tiff_page.specs.Laws.{HasSides, HasPixel, OneChunk}
-use Rattle.tiff_decode.specs.Whole.{IsOfChunk, PlanesCovered, chunk_row, at_image}
+use Rattle.tiff_decode.specs.Whole.{IsOfChunk, PlanesCovered, chunk_row}
 use Rattle.tiff_decode.proofs.Laid.{IsLaid, laid}
 use Rattle.tiff_decode.proofs.Whole.{some_chunk, plane_of}
 

@@ -1,7 +1,6 @@
 -- An image is refused with the fault of the first chunk that is refused.
 use Rattle.std.proofs.Common.{◌≡◌, ℕ, ◌+◌, ◌*◌, ◌<◌, ◌≤◌, List, length, Ok, Err, refl, ap, sym, ◌∙◌, arith}
 use Rattle.std.specs.Prelude.{Result, replicate}
-use Rattle.std.specs.Result.{IsOk}
 use Rattle.std.proofs.lemmas.List.{length-replicate}
 use Rattle.tiff_base.specs.declared.error.TiffError.{TiffError}
 use Rattle.tiff_base.specs.declared.tags.ByteOrder.{ByteOrder}
@@ -17,7 +16,7 @@ use Rattle.tiff_page.specs.PixelCalls.{Part, image_part, chunk_part, part_fault,
 use Rattle.tiff_page.specs.Laws.{HasSides, IsFirst, ChunksWithin, NoFault, FirstFault}
 use Rattle.tiff_decode.specs.Machine.{Decoding}
 use Rattle.tiff_decode.specs.Outcome as outcome
-use Rattle.tiff_decode.specs.Whole.{HasRoom, IsChunkRead, IsChunkRefused, IsFirstRefused, RefusedWhereChunks, chunk_row, chunk_bytes}
+use Rattle.tiff_decode.specs.Whole.{IsChunkRead, IsChunkRefused, IsFirstRefused, RefusedWhereChunks, chunk_row, chunk_bytes}
 use Rattle.tiff_decode.proofs.WhereChunks.{fault_of, chunk_layout, chunk_laid, chunk_read, chunk_none, one_fault, has_room}
 
 -- ---- refused reads

@@ -1,22 +1,19 @@
 -- An image is read exactly where its chunks are.
-use Rattle.std.proofs.Common.{◌≡◌, ℕ, ◌+◌, ◌-◌, ◌*◌, ◌/◌, ◌%◌, ◌^◌, ◌<◌, ◌≤◌, min, Bool, true, false, List, length, Ok, Err, refl, ap, sym, subst, ◌∙◌, ⊎_elim, arith}
-use Rattle.std.specs.Prelude.{Result, replicate, if◌then◌else◌, nat_lt}
+use Rattle.std.proofs.Common.{◌≡◌, ℕ, ◌+◌, ◌-◌, ◌*◌, ◌/◌, ◌%◌, ◌^◌, ◌<◌, ◌≤◌, true, false, List, length, Ok, Err, refl, ap, sym, ◌∙◌, arith}
+use Rattle.std.specs.Prelude.{Result, nat_lt}
 use Rattle.std.specs.Result.{is_ok, IsOk}
-use Rattle.std.proofs.lemmas.Bool.{cases_lt, lt-ltb, le-ltb}
-use Rattle.std.proofs.lemmas.List.{length-replicate}
+use Rattle.std.proofs.lemmas.Bool.{lt-ltb, le-ltb}
 use Rattle.std.proofs.lemmas.Nat.{mul-add-lt, div_below, mod_below, div-add-mod'}
 use Rattle.std.proofs.Math.Nat.{mul_comm, mul-le-mul, mul-le-mul_right}
 use Rattle.tiff_base.specs.declared.color.ColorType.{ColorType}
 use Rattle.tiff_base.specs.declared.error.TiffError.{TiffError}
-use Rattle.tiff_base.specs.declared.error.TiffError.TheVariants.{LimitsExceeded, UsageError}
-use Rattle.tiff_base.specs.declared.error.UsageError.TheVariants.{InsufficientOutputBufferSize}
 use Rattle.tiff_base.specs.declared.tags.ByteOrder.{ByteOrder}
 use Rattle.tiff_base.specs.Answers.{◌>>=◌}
 use Rattle.tiff_ifd.specs.declared.limits.Limits.{Limits}
 use Rattle.tiff_page.specs.Page.{PageRecord}
 use Rattle.tiff_page.specs.Counts.{parts}
 use Rattle.tiff_page.specs.Rect.{rect, chunks_of_plane}
-use Rattle.tiff_page.specs.Layout.{LayoutRecord, layout_of, colour_of, planes, row_bits, row_bytes, shown, wide, aligned, whole_chroma}
+use Rattle.tiff_page.specs.Layout.{LayoutRecord, layout_of, planes, row_bits, row_bytes, shown, wide, aligned}
 use Rattle.tiff_page.specs.PixelFault.{each_below, chunk_fault}
 use Rattle.tiff_page.specs.Pixels.{is_short}
 use Rattle.tiff_page.specs.Buffers.{planes_layout}
@@ -25,9 +22,9 @@ use Rattle.tiff_page.specs.PixelCalls.{Part, image_part, chunk_part, part_fault,
 use Rattle.tiff_page.specs.Laws.{HasSides, IsWithin, ChunksWithin, NoFault}
 use Rattle.tiff_decode.specs.Machine.{Decoding}
 use Rattle.tiff_decode.specs.Outcome as outcome
-use Rattle.tiff_decode.specs.Whole.{HasRoom, EachUsed, IsChunkRead, ReadWhereChunks, chunks_used, chunk_row, chunk_bytes}
+use Rattle.tiff_decode.specs.Whole.{HasRoom, EachUsed, IsChunkRead, ReadWhereChunks, chunk_row, chunk_bytes}
 use Rattle.tiff_decode.proofs.Whole.{some_chunk, plane_of}
-use Rattle.tiff_decode.proofs.Laid.{IsLaid, IsReadInto, laid, planes_laid, read_gives, ok_is}
+use Rattle.tiff_decode.proofs.Laid.{IsLaid, laid, planes_laid, read_gives, ok_is}
 
 -- ---- the layout of a chunk
 
