@@ -1,8 +1,8 @@
 -- An image that is read whole is what its chunks make, read one by one and placed.
 use Rattle.std.proofs.Common.{◌≡◌, ℕ, Some, None, ◌+◌, ◌*◌, ◌/◌, ◌%◌, ◌<◌, ◌≤◌, Bool, true, false, List, length, Ok, refl, ap, sym, subst, ◌∙◌, ◌⊎◌, inl, inr, ⊎_elim, arith}
-use Rattle.std.specs.Prelude.{◌&&◌, if◌then◌else◌, nat_lt, slice_index, unwrap_or}
+use Rattle.std.specs.Prelude.{◌&&◌, if◌then◌else◌, nat_lt, replicate, slice_index, unwrap_or}
 use Rattle.std.proofs.lemmas.Bool.{cases_lt, le-ltb}
-use Rattle.std.proofs.lemmas.List.{ext_get_or}
+use Rattle.std.proofs.lemmas.List.{ext_get_or, length-replicate}
 use Rattle.std.proofs.Math.Nat.{le-div_iff_mul-le, one-le-mul}
 use Rattle.tiff_base.specs.declared.color.ColorType.{ColorType}
 use Rattle.tiff_base.specs.declared.tags.ByteOrder.{ByteOrder}
@@ -15,8 +15,9 @@ use Rattle.tiff_page.specs.PixelCalls.{Part, image_part, planes_used, placed}
 use Rattle.tiff_page.specs.Laws.{HasSides, PlacedEach}
 use Rattle.tiff_decode.specs.Machine.{Decoding}
 use Rattle.tiff_decode.specs.Outcome as outcome
-use Rattle.tiff_decode.specs.Whole.{IsLayout, IsMadeOfChunks, IsOfChunk, ImageIsItsChunks, PlaneOfChunks, PlanesCovered, at_image}
-use Rattle.tiff_decode.proofs.Laid.{IsLaid, IsReadInto, laid, planes_laid, read_gives, ok_is}
+use Rattle.tiff_decode.specs.Whole.{EachUsed, HasRoom, IsChunkRead, IsLayout, IsMadeOfChunks, IsOfChunk, ImageIsItsChunks, PlaneOfChunks, PlanesCovered, ReadWhereChunks, at_image, chunk_bytes}
+use Rattle.tiff_decode.proofs.Laid.{IsLaid, IsReadInto, laid, planes_laid, read_gives, good, ok_is}
+use Rattle.tiff_decode.proofs.WhereChunks.{ok_or, is_good}
 
 pub none_found : (a b : Bool) (x v : ℕ) → (a ≡ false) ⊎ (b ≡ false) → unwrap_or (if a && b then Some x else None) v ≡ v
 none_found false b x v h = refl
@@ -83,20 +84,66 @@ module _ (placed_each : PlacedEach) (plane_of_chunks : PlaneOfChunks) (planes_co
       ∙ sym (one.2.1.each of.row of.byte of.in_chunk of.in_row) in
       ap (slice_index made) of.here ∙ sym e ∙ sym (ap (slice_index image) of.here)
 
-  pub image_is_its_chunks : ImageIsItsChunks
-  unfolding outcome.read_image_bytes pixels.read_image_bytes
-  image_is_its_chunks d l buf image made sides given read is =
-      let p : PageRecord = d.state.page in
-      let to : LayoutRecord → Part d.bytes d.order p = into placed_each d.bytes d.order p d.state.limits l sides given buf image in
-      let a = read_gives d.bytes d.order p d.state.limits p.width p.height to buf image read in
-      let same : a.0 ≡ l = ok_is a.0 l (sym (planes_laid p p.width p.height a.0 a.1.laid).0 ∙ given) in
-      let b : IsReadInto d.bytes d.order p d.state.limits p.width p.height to buf image l =
-      subst (IsReadInto d.bytes d.order p d.state.limits p.width p.height to buf image) same a.1 in
-      ext_get_or 0 made image (is.long ∙ sym (as_long placed_each d.bytes d.order p d.state.limits l sides given buf image b))
-      (λ at under.
-      let here : at < length buf = omega (arith, under, is.long) in
-      ⊎_elim
-      (λ (below : at < planes_used p l (length buf) * l.plane_stride). image_byte d l buf image made sides given read is at below)
-      (λ (above : planes_used p l (length buf) * l.plane_stride ≤ at).
-      is.stays at above here ∙ sym (stays placed_each d.bytes d.order p d.state.limits l sides given buf image b at above here))
-      (cases_lt at (planes_used p l (length buf) * l.plane_stride)))
+  module _ (d : Decoding) (l : LayoutRecord) (buf image : List ℕ) (sides : HasSides d.state.page) (given : IsLayout d.state.page l) (read : (outcome.read_image_bytes d buf).answer ≡ Ok image) where
+    abbrev page : PageRecord
+    page = d.state.page
+
+    abbrev to : LayoutRecord → Part d.bytes d.order page
+    to = into placed_each d.bytes d.order page d.state.limits l sides given buf image
+
+    is_read : IsReadInto d.bytes d.order page d.state.limits page.width page.height to buf image l
+    unfolding outcome.read_image_bytes pixels.read_image_bytes
+    is_read =
+        let a = read_gives d.bytes d.order page d.state.limits page.width page.height to buf image read in
+        let same : a.0 ≡ l = ok_is a.0 l (sym (planes_laid page page.width page.height a.0 a.1.laid).0 ∙ given) in
+        subst (IsReadInto d.bytes d.order page d.state.limits page.width page.height to buf image) same a.1
+
+    length_is : length image ≡ length buf
+    length_is = as_long placed_each d.bytes d.order page d.state.limits l sides given buf image is_read
+
+    past_is : (at : ℕ) → planes_used page l (length buf) * l.plane_stride ≤ at → at < length buf → slice_index image at ≡ slice_index buf at
+    past_is = stays placed_each d.bytes d.order page d.state.limits l sides given buf image is_read
+
+    -- what the chunks make is the image
+    pub made_is : (made : List ℕ) → IsMadeOfChunks d l buf made → made ≡ image
+    made_is made is =
+        ext_get_or 0 made image (is.long ∙ sym length_is)
+        (λ at under.
+        let here : at < length buf = omega (arith, under, is.long) in
+        ⊎_elim
+        (λ (below : at < planes_used page l (length buf) * l.plane_stride). image_byte d l buf image made sides given read is at below)
+        (λ (above : planes_used page l (length buf) * l.plane_stride ≤ at). is.stays at above here ∙ sym (past_is at above here))
+        (cases_lt at (planes_used page l (length buf) * l.plane_stride)))
+
+    -- and the image is made of them
+    pub is_made : EachUsed page l (length buf) (IsChunkRead d l) → IsMadeOfChunks d l buf image
+    is_made each = record {
+      long = length_is;
+      placed = λ i below.
+          let part : List ℕ = replicate (chunk_bytes page l i) 0 in
+          let room : chunk_bytes page l i ≤ length part = omega (arith, length-replicate {A = ℕ} (chunk_bytes page l i) 0) in
+          let bytes = ok_or (outcome.read_chunk_bytes d i part).answer (each i below part room) in
+          (part, bytes.0, (bytes.1, plane_of_chunks d l buf image part bytes.0 i sides given below read bytes.1));
+      stays = past_is;
+    }
+
+  module _ (read_where_chunks : ReadWhereChunks) where
+    -- each chunk of an image that is read is
+    each_read : (d : Decoding) (l : LayoutRecord) (buf image : List ℕ) → HasSides d.state.page → HasRoom d.state.page l (length buf)
+        → (outcome.read_image_bytes d buf).answer ≡ Ok image → EachUsed d.state.page l (length buf) (IsChunkRead d l)
+    each_read d l buf image sides room read =
+        let w = (read_where_chunks d buf sides).0 (is_good (outcome.read_image_bytes d buf).answer image read) in
+        let same : w.0 ≡ l = ok_is w.0 l (sym w.1.0.laid ∙ room.laid) in
+        subst (λ (z : LayoutRecord). EachUsed d.state.page z (length buf) (IsChunkRead d z)) same w.1.1
+
+    pub image_is_its_chunks : ImageIsItsChunks
+    image_is_its_chunks d l buf made sides room =
+        let p : PageRecord = d.state.page in
+        let given : IsLayout p l = (planes_laid p p.width p.height l room.laid).0 in (
+          λ read. is_made d l buf made sides given read (each_read d l buf made sides room read),
+          λ is.
+              let ok = (read_where_chunks d buf sides).1 l room
+              (λ i below. ((is.placed i below).0, is_good (outcome.read_chunk_bytes d i (is.placed i below).0).answer (is.placed i below).1 (is.placed i below).2.0)) in
+              let image = ok_or (outcome.read_image_bytes d buf).answer ok in
+              image.1 ∙ ap good (sym (made_is d l buf image.0 sides given image.1 made is)),
+        )

@@ -1,5 +1,5 @@
 -- A plane of an image is its chunks, read one by one and placed (this project's).
-use Rattle.std.specs.Prelude.{◌≡◌, ℕ, ◌+◌, ◌*◌, ◌/◌, ◌<◌, ◌≤◌, List, length, slice_index, Ok, Err}
+use Rattle.std.specs.Prelude.{◌≡◌, ℕ, ◌+◌, ◌*◌, ◌/◌, ◌<◌, ◌≤◌, ◌↔◌, List, length, slice_index, Ok, Err}
 use Rattle.std.specs.Result.{IsOk}
 use Rattle.tiff_base.specs.declared.error.TiffError.{TiffError}
 use Rattle.tiff_page.specs.Page.{PageRecord}
@@ -18,6 +18,15 @@ IsLayout p layout = layout_of p p.width p.height ≡ Ok layout
 -- the chunks of the planes that a slice of so many bytes takes whole
 abbrev pub chunks_used : PageRecord → LayoutRecord → ℕ → ℕ
 chunks_used p layout len = planes_used p layout len * chunks_of_plane p
+
+-- the chunks of the planes that a slice takes are such
+abbrev pub EachUsed : PageRecord → LayoutRecord → ℕ → (ℕ → Type 0) → Type 0
+EachUsed p layout len Is = (i : ℕ) → i < chunks_used p layout len → Is i
+
+-- the planes of the image have this layout, and a slice of so many bytes has room for one
+pub record HasRoom (p : PageRecord) (layout : LayoutRecord) (len : ℕ) : Type 0 where
+  pub laid : planes_layout p p.width p.height ≡ Ok layout
+  pub room : layout.plane_stride ≤ len
 
 -- the bytes of a row of a chunk
 abbrev pub chunk_row : PageRecord → LayoutRecord → ℕ → ℕ
@@ -59,19 +68,22 @@ abbrev pub PlanesCovered : Type 0
 PlanesCovered = (p : PageRecord) (layout : LayoutRecord) (planes at : ℕ) → HasSides p → IsLayout p layout → at < planes * layout.plane_stride
     → IsOfChunk p layout planes at
 
--- a slice of the image's planes that was made chunk by chunk: each was read alone, into a slice of its own, and placed; what
--- isn't of these planes is what it was
+-- a chunk was read alone, into a slice of its own, and placed
+abbrev pub IsReadAndPlaced : Decoding → LayoutRecord → List ℕ → ℕ → Type 0
+IsReadAndPlaced d layout made i =
+    (part chunk : List ℕ) × (((outcome.read_chunk_bytes d i part).answer ≡ Ok chunk) × IsPlacedIn d.state.page layout i chunk made)
+
+-- A slice was made of chunks: each chunk of the planes that it takes was read and placed, and what is past them stays.
 pub record IsMadeOfChunks (d : Decoding) (layout : LayoutRecord) (buf made : List ℕ) : Type 0 where
   pub long : length made ≡ length buf
-  pub placed : (i : ℕ) → i < chunks_used d.state.page layout (length buf)
-      → (part chunk : List ℕ) × (((outcome.read_chunk_bytes d i part).answer ≡ Ok chunk) × IsPlacedIn d.state.page layout i chunk made)
+  pub placed : EachUsed d.state.page layout (length buf) (IsReadAndPlaced d layout made)
   pub stays : (at : ℕ) → planes_used d.state.page layout (length buf) * layout.plane_stride ≤ at → at < length buf
       → slice_index made at ≡ slice_index buf at
 
--- is the slice that the image is read into
+-- an image is read into a slice that has room exactly as its chunks make it
 abbrev pub ImageIsItsChunks : Type 0
-ImageIsItsChunks = (d : Decoding) (layout : LayoutRecord) (buf image made : List ℕ) → HasSides d.state.page → IsLayout d.state.page layout
-    → (outcome.read_image_bytes d buf).answer ≡ Ok image → IsMadeOfChunks d layout buf made → made ≡ image
+ImageIsItsChunks = (d : Decoding) (layout : LayoutRecord) (buf made : List ℕ) → HasSides d.state.page → HasRoom d.state.page layout (length buf)
+    → ((outcome.read_image_bytes d buf).answer ≡ Ok made) ↔ IsMadeOfChunks d layout buf made
 
 -- ---- where they are read
 
@@ -82,15 +94,6 @@ chunk_bytes p layout i = chunk_row p layout i * (rect p i).height
 -- a chunk is read into each slice that has room for it
 abbrev pub IsChunkRead : Decoding → LayoutRecord → ℕ → Type 0
 IsChunkRead d layout i = (part : List ℕ) → chunk_bytes d.state.page layout i ≤ length part → IsOk (outcome.read_chunk_bytes d i part).answer
-
--- the planes of the image have this layout, and a slice of so many bytes has room for one
-pub record HasRoom (p : PageRecord) (layout : LayoutRecord) (len : ℕ) : Type 0 where
-  pub laid : planes_layout p p.width p.height ≡ Ok layout
-  pub room : layout.plane_stride ≤ len
-
--- the chunks of the planes that a slice takes are such
-abbrev pub EachUsed : PageRecord → LayoutRecord → ℕ → (ℕ → Type 0) → Type 0
-EachUsed p layout len Is = (i : ℕ) → i < chunks_used p layout len → Is i
 
 -- an image is read into a slice that has room exactly where each chunk of those planes is read
 abbrev pub ReadWhereChunks : Type 0

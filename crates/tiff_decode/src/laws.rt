@@ -39,21 +39,22 @@ pub fn planes_covered()
     laws::one_chunk();
 }
 
-/// An image that is read whole is what its chunks make, read one by one and placed.
-pub fn image_is_its_chunks()
-    ensures { ImageIsItsChunks }
-{
-    laws::placed_each();
-    plane_of_chunks();
-    planes_covered();
-}
-
 /// An image is read exactly where its chunks are.
 pub fn read_where_chunks()
     ensures { ReadWhereChunks }
 {
     laws::chunks_within();
     laws::no_fault();
+}
+
+/// An image is read whole exactly as its chunks make it, read one by one and placed.
+pub fn image_is_its_chunks()
+    ensures { ImageIsItsChunks }
+{
+    laws::placed_each();
+    plane_of_chunks();
+    planes_covered();
+    read_where_chunks();
 }
 
 /// An image is refused with the fault of the first chunk that is refused.
