@@ -9,7 +9,7 @@ use Rattle.tiff_base.specs.declared.tags.Tag.{Tag}
 use Rattle.tiff_base.specs.Answers.{Answers, AnswersExactly}
 use Rattle.tiff_decode.specs.declared.script.Call.{Call}
 use Rattle.tiff_decode.specs.declared.script.Reply.{Reply}
-use Rattle.tiff_decode.specs.Failures.{failures, all_failures}
+use Rattle.tiff_decode.specs.Failures.{all_failures}
 use Rattle.tiff_decode.specs.Machine.{Decoding, Outcome, StandsAt, Follows}
 use Rattle.tiff_decode.specs.Outcome as outcome
 use Rattle.tiff_decode.specs.Reader.{TagsRead}

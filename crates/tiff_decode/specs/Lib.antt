@@ -8,4 +8,5 @@ pub mod Steps
 pub mod Once
 pub mod Reader
 pub mod Along
+pub mod Whole
 pub mod Items

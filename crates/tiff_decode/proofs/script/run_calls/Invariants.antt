@@ -1,4 +1,4 @@
-use Rattle.std.proofs.Common.{◌≡◌, ◌+◌, ◌-◌, ◌≤◌, length, take, vec_len, vec_capacity}
+use Rattle.std.proofs.Common.{◌+◌, ◌-◌, ◌≤◌, length, take, vec_len, vec_capacity}
 use Rattle.tiff_decode.specs.Steps.{Ran}
 use Rattle.tiff_decode.proofs.script.run_calls.Given as goal
 

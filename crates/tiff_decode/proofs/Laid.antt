@@ -1,0 +1,130 @@
+-- What a layout of a part of a page says, and what a read of pixels was when it gave bytes.
+use Rattle.std.proofs.Common.{◌≡◌, ℕ, ◌*◌, ◌^◌, ◌<◌, ◌≤◌, Bool, true, false, List, length, Ok, Err, refl, sym, subst, ⊎_elim}
+use Rattle.std.specs.Prelude.{Result, nat_lt}
+use Rattle.std.proofs.lemmas.Bool.{cases_Bool, ltb-true, ltb-false}
+use Rattle.tiff_base.specs.declared.color.ColorType.{ColorType}
+use Rattle.tiff_base.specs.declared.error.TiffError.{TiffError}
+use Rattle.tiff_base.specs.declared.error.TiffError.TheVariants.{LimitsExceeded, UsageError}
+use Rattle.tiff_base.specs.declared.error.UsageError.TheVariants.{InsufficientOutputBufferSize}
+use Rattle.tiff_base.specs.declared.tags.ByteOrder.{ByteOrder}
+use Rattle.tiff_base.specs.Answers.{◌>>=◌}
+use Rattle.tiff_ifd.specs.declared.limits.Limits.{Limits}
+use Rattle.tiff_page.specs.Page.{PageRecord}
+use Rattle.tiff_page.specs.Layout.{LayoutRecord, layout_of, colour_of, row_bytes, planes, wide, aligned, whole_chroma}
+use Rattle.tiff_page.specs.PixelFault.{unless}
+use Rattle.tiff_page.specs.Buffers.{planes_layout}
+use Rattle.tiff_page.specs.PixelCalls.{Part, room_fault, part_fault, placed, filled}
+
+-- ---- chains of steps
+
+-- each step of a chain that gave something did
+pub bind_ok : {A B : Type 0} (r : Result A TiffError) (f : A → Result B TiffError) (y : B) → (r >>= f) ≡ Ok y → (x : A) × ((r ≡ Ok x) × (f x ≡ Ok y))
+bind_ok (Ok x) f y h = (x, (refl, h))
+bind_ok (Err e) f y h = cc
+
+abbrev pub good : {A : Type 0} → A → Result A TiffError
+good x = Ok x
+
+pub ok_is : {A : Type 0} (x y : A) → good x ≡ good y → x ≡ y
+ok_is x y h = cc
+
+pub unless_ok : (b : Bool) (e : TiffError) → unless b e ≡ Ok tt → b ≡ false
+unless_ok true e h = cc
+unless_ok false e h = refl
+
+pub wide_ok : (n m : ℕ) → wide n ≡ Ok m → (n < 2 ^ 64) × (m ≡ n)
+wide_ok n m h =
+    ⊎_elim
+    (λ (t : nat_lt n (2 ^ 64) ≡ true). let g : Ok n ≡ Ok m = rw t at h in (ltb-true n (2 ^ 64) t, sym (ok_is n m g)))
+    (λ (f : nat_lt n (2 ^ 64) ≡ false). let g : Err LimitsExceeded ≡ Ok m = rw f at h in cc)
+    (cases_Bool (nat_lt n (2 ^ 64)))
+
+pub room_ok : (provided needed : ℕ) → room_fault provided needed ≡ Ok tt → needed ≤ provided
+room_ok provided needed h = ltb-false provided needed (unless_ok (nat_lt provided needed) (UsageError (InsufficientOutputBufferSize needed provided)) h)
+
+-- ---- layouts
+
+-- a layout of so many columns and rows
+pub record IsLaid (p : PageRecord) (width height : ℕ) (l : LayoutRecord) : Type 0 where
+  pub colour : colour_of p ≡ Ok l.colour
+  pub rows : l.row_bytes ≡ row_bytes p l.colour width
+  pub stride : l.plane_stride ≡ row_bytes p l.colour width * height
+  pub tall : row_bytes p l.colour width * p.chunk_height < 2 ^ 64
+  pub few : row_bytes p l.colour width * height < 2 ^ 64
+  pub lined : (c : ColorType) × (aligned p l.colour width ≡ Ok c)
+  pub chroma : (c : ColorType) × (whole_chroma p l.colour ≡ Ok c)
+
+pub laid : (p : PageRecord) (width height : ℕ) (l : LayoutRecord) → layout_of p width height ≡ Ok l → IsLaid p width height l
+unfolding layout_of
+laid p width height l h =
+    let last : ColorType → ℕ → Result LayoutRecord TiffError =
+    λ colour stride. Ok (record { colour = colour; row_bytes = row_bytes p colour width; plane_stride = stride }) in
+    let chroma : ColorType → ℕ → Result LayoutRecord TiffError = λ colour stride. whole_chroma p colour >>= (λ _. last colour stride) in
+    let row : ColorType → ℕ → Result LayoutRecord TiffError = λ colour stride. aligned p colour width >>= (λ _. chroma colour stride) in
+    let plane : ColorType → Result LayoutRecord TiffError = λ colour. wide (row_bytes p colour width * height) >>= (λ stride. row colour stride) in
+    let tall : ColorType → Result LayoutRecord TiffError = λ colour. wide (row_bytes p colour width * p.chunk_height) >>= (λ _. plane colour) in
+    let a = bind_ok (colour_of p) tall l h in
+    let b = bind_ok (wide (row_bytes p a.0 width * p.chunk_height)) (λ _. plane a.0) l a.1.1 in
+    let c = bind_ok (wide (row_bytes p a.0 width * height)) (λ stride. row a.0 stride) l b.1.1 in
+    let d = bind_ok (aligned p a.0 width) (λ _. chroma a.0 c.0) l c.1.1 in
+    let e = bind_ok (whole_chroma p a.0) (λ _. last a.0 c.0) l d.1.1 in
+    let s = wide_ok (row_bytes p a.0 width * height) c.0 c.1.0 in
+    let made : LayoutRecord = record { colour = a.0; row_bytes = row_bytes p a.0 width; plane_stride = c.0 } in
+    subst (λ (z : LayoutRecord). IsLaid p width height z) {x = made} (ok_is made l e.1.1)
+    (record {
+      colour = a.1.0;
+      rows = refl;
+      stride = s.1;
+      tall = (wide_ok (row_bytes p a.0 width * p.chunk_height) b.0 b.1.0).0;
+      few = s.0;
+      lined = (d.0, d.1.0);
+      chroma = (e.0, e.1.0);
+    })
+
+-- of so many planes
+pub planes_laid : (p : PageRecord) (width height : ℕ) (l : LayoutRecord) → planes_layout p width height ≡ Ok l
+    → (layout_of p width height ≡ Ok l) × (l.plane_stride * planes p.planar l.colour < 2 ^ 64)
+unfolding planes_layout
+planes_laid p width height l h =
+    let whole : LayoutRecord → Result LayoutRecord TiffError = λ layout. wide (layout.plane_stride * planes p.planar layout.colour) >>= (λ _. Ok layout) in
+    let a = bind_ok (layout_of p width height) whole l h in
+    let b = bind_ok (wide (a.0.plane_stride * planes p.planar a.0.colour)) (λ _. Ok a.0) l a.1.1 in
+    let few = (wide_ok (a.0.plane_stride * planes p.planar a.0.colour) b.0 b.1.0).0 in
+    subst (λ (z : LayoutRecord). (layout_of p width height ≡ Ok z) × (z.plane_stride * planes p.planar z.colour < 2 ^ 64)) (ok_is a.0 l b.1.1) (a.1.0, few)
+
+-- ---- reads
+
+module _ (file : List ℕ) (order : ByteOrder) (p : PageRecord) (limits : Limits) where
+  -- what a read of pixels was when it gave these bytes
+  pub record IsFilled (colour : ColorType) (part : Part file order p) (buf new : List ℕ) : Type 0 where
+    pub none : part_fault file order p limits colour part ≡ Ok tt
+    pub bytes : new ≡ placed file order p colour part.region part.stride part.planes buf
+
+  pub filled_gives : (colour : ColorType) (part : Part file order p) (buf new : List ℕ) → filled file order p limits colour part buf ≡ Ok new
+      → IsFilled colour part buf new
+  unfolding filled
+  filled_gives colour part buf new h =
+      let all : List ℕ = placed file order p colour part.region part.stride part.planes buf in
+      let a = bind_ok (part_fault file order p limits colour part) (λ _. Ok all) new h in
+      record { none = a.1.0; bytes = sym (ok_is all new a.1.1) }
+
+  -- a layout, room for a plane of it, and then the bytes
+  pub record IsReadInto (width height : ℕ) (part : LayoutRecord → Part file order p) (buf new : List ℕ) (l : LayoutRecord) : Type 0 where
+    pub laid : planes_layout p width height ≡ Ok l
+    pub room : l.plane_stride ≤ length buf
+    pub filled : IsFilled l.colour (part l) buf new
+
+  pub read_gives : (width height : ℕ) (part : LayoutRecord → Part file order p) (buf new : List ℕ)
+      → (planes_layout p width height >>= (λ l. room_fault (length buf) l.plane_stride >>= (λ _. filled file order p limits l.colour (part l) buf))) ≡ Ok new
+      → (l : LayoutRecord) × IsReadInto width height part buf new l
+  read_gives width height part buf new h =
+      let fill : LayoutRecord → Result (List ℕ) TiffError = λ l. filled file order p limits l.colour (part l) buf in
+      let a = bind_ok (planes_layout p width height) (λ l. room_fault (length buf) l.plane_stride >>= (λ _. fill l)) new h in
+      let b = bind_ok (room_fault (length buf) a.0.plane_stride) (λ _. fill a.0) new a.1.1 in (
+        a.0,
+        record {
+          laid = a.1.0;
+          room = room_ok (length buf) a.0.plane_stride b.1.0;
+          filled = filled_gives a.0.colour (part a.0) buf new b.1.1;
+        },
+      )
