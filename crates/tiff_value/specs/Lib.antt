@@ -1,6 +1,7 @@
 pub mod ColorType
 pub mod Written
 pub mod Data
+pub mod Values
 pub mod Buffer
 pub mod ColorTypes
 pub mod Differences

@@ -1,5 +1,6 @@
 //! What files are written by.
 
 pub mod colortype;
+mod numbers;
 pub mod tiff_value;
 pub mod writer;
