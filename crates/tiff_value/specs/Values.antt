@@ -1,7 +1,9 @@
 -- What a value that is written is, and what its write does.
-use Rattle.std.specs.Prelude.{◌≡◌, ℕ, ◌+◌, ◌*◌, ◌^◌, ◌-◌, ◌⊎◌, min, Bool, true, false, cond, List, [], ◌∷◌, ◌++◌, length, Result, Ok, Err, MatchResult}
+use Rattle.std.specs.Prelude.{◌≡◌, ℕ, ◌+◌, ◌*◌, ◌^◌, ◌-◌, ◌⊎◌, min, Bool, true, false, cond, List, [], ◌∷◌, ◌++◌, length, map, Result, Ok, Err, MatchResult}
 use Rattle.std.specs.List.{flat_map, list_all}
 use Rattle.std.proofs.Common.{refl, ap, sym, ◌∙◌, subst, arith, length-append}
+use Rattle.std.proofs.lemmas.List.{length-map}
+use Rattle.std.proofs.lemmas.List.Folds.{flat_map-map}
 use Rattle.tiff_base.specs.declared.error.TiffError.{TiffError}
 use Rattle.tiff_base.specs.declared.error.TiffError.TheVariants.{FormatError, OutOfMemory}
 use Rattle.tiff_base.specs.declared.error.TiffFormatError.TheVariants.{InvalidTag}
@@ -69,6 +71,13 @@ module _ {A : Type 0} (type : «Type») (f : A → List ℕ) (values : List A �
       let whole : (x : A) → length (f x) ≡ type_size type = λ x. one_whole x (count_of x) (given x) (sized x) (alone x) in
       let v : IsValue type (length xs) (Ok (data_by type f xs)) = (refl, refl, each_whole (type_size type) f whole xs) in
       subst (λ (d : FieldData). IsValue type (length xs) (Ok d)) (sym (listed xs)) v
+
+-- values that are seen as numbers are written as these
+pub mapped : {A B : Type 0} (type : «Type») (number_of : A → B) (f : B → List ℕ) (xs : List A)
+    → data_by type f (map number_of xs) ≡ data_by type (λ x. f (number_of x)) xs
+mapped type number_of f xs =
+    ap (λ (n : ℕ). record { field_type = type; count = n; bytes = flat_map f (map number_of xs) }) (length-map xs number_of)
+    ∙ ap (λ (bs : List ℕ). record { field_type = type; count = length xs; bytes = bs }) (flat_map-map f number_of xs)
 
 text_by : (b : Bool) (text : List ℕ)
     → IsValue ASCII (length text + 1) (cond b (Ok (record { field_type = ASCII; count = length text + 1; bytes = text ++ (0 ∷ []) })) (Err (FormatError InvalidTag)))

@@ -1,6 +1,7 @@
 //! What files are written by.
 
 pub mod colortype;
+mod names;
 mod numbers;
 pub mod tiff_value;
 pub mod writer;

@@ -248,3 +248,209 @@ pub struct SRational {
     pub n: i32,
     pub d: i32,
 }
+
+impl TiffValue for Ifd {
+    ghost use Rattle.std.specs.Prelude.{[], ◌∷◌, Ok, refl};
+    ghost use Rattle.tiff_base.specs.declared.tags.«Type».TheVariants.{IFD};
+    ghost use Rattle.tiff_value.specs.Data.{data_of, ifds};
+
+    ghost value_type = { IFD };
+
+    ghost value_count = { λ _. 1 };
+
+    ghost field_data = { λ n. Ok (data_of (ifds (n.0 ∷ []))) };
+
+    fn field_type() -> Type {
+        Type::IFD
+    }
+
+    fn count(&self) -> usize {
+        1
+    }
+
+    #[tactic(auto, unfolding(crate::specs::Data::data_of))]
+    fn data(&self, alloc: Global) -> TiffResult<Vec<u8>> {
+        Ok(Vec::from_slice(alloc, &self.0.to_le_bytes())?)
+    }
+
+    ghost sized = { λ n. unfold data_of in (refl, refl, refl) };
+}
+
+impl TiffScalar for Ifd {
+    ghost use Rattle.std.specs.Prelude.{map, refl};
+    ghost use Rattle.tiff_base.specs.Number.{le};
+    ghost use Rattle.tiff_base.specs.declared.tags.«Type».TheVariants.{IFD};
+    ghost use Rattle.tiff_value.specs.Data.{data_of, ifds};
+    ghost use Rattle.tiff_value.specs.Values.{mapped};
+
+    ghost scalars = { λ ns. ifds (map (λ n. n.0) ns) };
+
+    ghost spelled = { λ n. le 4 n.0 };
+
+    fn push_to(&self, out: &mut Vec<u8>) -> TiffResult<()> {
+        out.extend_from_slice(&self.0.to_le_bytes())?;
+        Ok(())
+    }
+
+    ghost alone = { λ n. refl };
+
+    ghost one = { λ n. refl };
+
+    ghost listed = { λ ns. unfold data_of in mapped IFD (λ n. n.0) (le 4) ns };
+}
+
+impl TiffValue for Ifd8 {
+    ghost use Rattle.std.specs.Prelude.{[], ◌∷◌, Ok, refl};
+    ghost use Rattle.tiff_base.specs.declared.tags.«Type».TheVariants.{IFD8};
+    ghost use Rattle.tiff_value.specs.Data.{data_of, ifd8s};
+
+    ghost value_type = { IFD8 };
+
+    ghost value_count = { λ _. 1 };
+
+    ghost field_data = { λ n. Ok (data_of (ifd8s (n.0 ∷ []))) };
+
+    fn field_type() -> Type {
+        Type::IFD8
+    }
+
+    fn count(&self) -> usize {
+        1
+    }
+
+    #[tactic(auto, unfolding(crate::specs::Data::data_of))]
+    fn data(&self, alloc: Global) -> TiffResult<Vec<u8>> {
+        Ok(Vec::from_slice(alloc, &self.0.to_le_bytes())?)
+    }
+
+    ghost sized = { λ n. unfold data_of in (refl, refl, refl) };
+}
+
+impl TiffScalar for Ifd8 {
+    ghost use Rattle.std.specs.Prelude.{map, refl};
+    ghost use Rattle.tiff_base.specs.Number.{le};
+    ghost use Rattle.tiff_base.specs.declared.tags.«Type».TheVariants.{IFD8};
+    ghost use Rattle.tiff_value.specs.Data.{data_of, ifd8s};
+    ghost use Rattle.tiff_value.specs.Values.{mapped};
+
+    ghost scalars = { λ ns. ifd8s (map (λ n. n.0) ns) };
+
+    ghost spelled = { λ n. le 8 n.0 };
+
+    fn push_to(&self, out: &mut Vec<u8>) -> TiffResult<()> {
+        out.extend_from_slice(&self.0.to_le_bytes())?;
+        Ok(())
+    }
+
+    ghost alone = { λ n. refl };
+
+    ghost one = { λ n. refl };
+
+    ghost listed = { λ ns. unfold data_of in mapped IFD8 (λ n. n.0) (le 8) ns };
+}
+
+impl TiffValue for Rational {
+    ghost use Rattle.std.specs.Prelude.{[], ◌∷◌, Ok, refl};
+    ghost use Rattle.tiff_base.specs.declared.tags.«Type».TheVariants.{RATIONAL};
+    ghost use Rattle.tiff_value.specs.Data.{data_of, rationals};
+
+    ghost value_type = { RATIONAL };
+
+    ghost value_count = { λ _. 1 };
+
+    ghost field_data = { λ r. Ok (data_of (rationals ((r.n, r.d) ∷ []))) };
+
+    fn field_type() -> Type {
+        Type::RATIONAL
+    }
+
+    fn count(&self) -> usize {
+        1
+    }
+
+    #[tactic(auto, unfolding(crate::specs::Data::data_of))]
+    fn data(&self, alloc: Global) -> TiffResult<Vec<u8>> {
+        let mut out = Vec::with_capacity(alloc, 8)?;
+        self.push_to(&mut out)?;
+        Ok(out)
+    }
+
+    ghost sized = { λ r. unfold data_of in (refl, refl, refl) };
+}
+
+impl TiffScalar for Rational {
+    ghost use Rattle.std.specs.Prelude.{map, refl, ◌++◌};
+    ghost use Rattle.tiff_base.specs.Number.{le};
+    ghost use Rattle.tiff_base.specs.declared.tags.«Type».TheVariants.{RATIONAL};
+    ghost use Rattle.tiff_value.specs.Data.{data_of, rationals};
+    ghost use Rattle.tiff_value.specs.Values.{mapped};
+
+    ghost scalars = { λ rs. rationals (map (λ r. (r.n, r.d)) rs) };
+
+    ghost spelled = { λ r. le 4 r.n ++ le 4 r.d };
+
+    fn push_to(&self, out: &mut Vec<u8>) -> TiffResult<()> {
+        out.extend_from_slice(&self.n.to_le_bytes())?;
+        out.extend_from_slice(&self.d.to_le_bytes())?;
+        Ok(())
+    }
+
+    ghost alone = { λ r. refl };
+
+    ghost one = { λ r. refl };
+
+    ghost listed = { λ rs. unfold data_of in mapped RATIONAL (λ r. (r.n, r.d)) (λ r. le 4 r.0 ++ le 4 r.1) rs };
+}
+
+impl TiffValue for SRational {
+    ghost use Rattle.std.specs.Prelude.{[], ◌∷◌, Ok, refl};
+    ghost use Rattle.tiff_base.specs.declared.tags.«Type».TheVariants.{SRATIONAL};
+    ghost use Rattle.tiff_value.specs.Data.{data_of, srationals};
+
+    ghost value_type = { SRATIONAL };
+
+    ghost value_count = { λ _. 1 };
+
+    ghost field_data = { λ r. Ok (data_of (srationals ((r.n, r.d) ∷ []))) };
+
+    fn field_type() -> Type {
+        Type::SRATIONAL
+    }
+
+    fn count(&self) -> usize {
+        1
+    }
+
+    #[tactic(auto, unfolding(crate::specs::Data::data_of))]
+    fn data(&self, alloc: Global) -> TiffResult<Vec<u8>> {
+        let mut out = Vec::with_capacity(alloc, 8)?;
+        self.push_to(&mut out)?;
+        Ok(out)
+    }
+
+    ghost sized = { λ r. unfold data_of in (refl, refl, refl) };
+}
+
+impl TiffScalar for SRational {
+    ghost use Rattle.std.specs.Prelude.{map, refl, ◌++◌};
+    ghost use Rattle.std.specs.Int.{w32};
+    ghost use Rattle.tiff_base.specs.declared.tags.«Type».TheVariants.{SRATIONAL};
+    ghost use Rattle.tiff_value.specs.Data.{data_of, srationals, signed_le};
+    ghost use Rattle.tiff_value.specs.Values.{mapped};
+
+    ghost scalars = { λ rs. srationals (map (λ r. (r.n, r.d)) rs) };
+
+    ghost spelled = { λ r. signed_le w32 r.n ++ signed_le w32 r.d };
+
+    fn push_to(&self, out: &mut Vec<u8>) -> TiffResult<()> {
+        out.extend_from_slice(&self.n.to_le_bytes())?;
+        out.extend_from_slice(&self.d.to_le_bytes())?;
+        Ok(())
+    }
+
+    ghost alone = { λ r. refl };
+
+    ghost one = { λ r. refl };
+
+    ghost listed = { λ rs. unfold data_of in mapped SRATIONAL (λ r. (r.n, r.d)) (λ r. signed_le w32 r.0 ++ signed_le w32 r.1) rs };
+}
