@@ -9,14 +9,7 @@ use Rattle.tiff_base.specs.declared.tags.«Type».TheVariants as t
 use Rattle.tiff_base.specs.Tags.{method_number, interpretation_number, planar_number, predictor_number, unit_number, format_number, extra_number}
 use Rattle.tiff_base.specs.Number.{le}
 use Rattle.tiff_value.specs.Data.{FieldData, u8s, i8s, u16s, i16s, u32s, i32s, u64s, i64s, bits32s, bits64s, methods, interpretations, planars, predictors, units, formats, extras, ifds, ifd8s, rationals, srationals, signed_le, data_of, is_letter, text_data, IsWhole, DataIsWhole, TextIsWhole}
-
--- values of so many bytes each
-each_whole : {A : Type 0} (size : ℕ) (bytes_of : A → List ℕ) → ((x : A) → length (bytes_of x) ≡ size) → (xs : List A)
-    → length (flat_map bytes_of xs) ≡ length xs * size
-each_whole size bytes_of whole [] = omega arith
-each_whole size bytes_of whole (x ∷ xs) =
-    length-append (bytes_of x) (flat_map bytes_of xs)
-    ∙ omega (arith, whole x, each_whole size bytes_of whole xs)
+use Rattle.tiff_value.specs.Values.{each_whole}
 
 pub data_is_whole : DataIsWhole
 unfolding data_of

@@ -31,7 +31,7 @@ pub trait TiffValue {
     ghost field_data: { Self → Result FieldData TiffError };
 
     /// How many bytes a value of its type has: the Rust crate's `BYTE_LEN`.
-    fn byte_len() -> u8
+    final fn byte_len() -> u8
         ensures { result ≡ type_size value_type }
     {
         Self::field_type().byte_len()
@@ -46,7 +46,7 @@ pub trait TiffValue {
         ensures { result ≡ value_count self.now };
 
     /// How many bytes it has; `usize::MAX` where that doesn't fit.
-    fn bytes(&self) -> usize
+    final fn bytes(&self) -> usize
         ensures { result ≡ byte_count (value_count self.now) value_type }
     {
         self.count().saturating_mul(usize::from(Self::byte_len()))
@@ -58,7 +58,7 @@ pub trait TiffValue {
 
     /// Writes its bytes at the writer's place, as they are. Errors are those of `data` and of `write_bytes`.
     #[tactic(auto, using(crate::proofs::Values::value_written))]
-    fn write<W: Sink>(&self, alloc: Global, writer: &mut TiffWriter<W>) -> TiffResult<()>
+    final fn write<W: Sink>(&self, alloc: Global, writer: &mut TiffWriter<W>) -> TiffResult<()>
         ensures { WritesValue (field_data self.now) writer.old writer.new result }
     {
         let data = self.data(alloc)?;
@@ -110,12 +110,6 @@ impl<T: TiffValue> TiffValue for &T {
 
     ghost field_data = { λ x. T.field_data x.now };
 
-    fn byte_len() -> u8
-        ensures { result ≡ type_size T.value_type }
-    {
-        T::byte_len()
-    }
-
     fn field_type() -> Type
         ensures { result ≡ T.value_type }
     {
@@ -148,12 +142,6 @@ impl<'a, T: TiffScalar> TiffValue for Slice<'a, T> {
 
     ghost field_data = { λ s. Ok (data_of (T.scalars s.0.now)) };
 
-    fn byte_len() -> u8
-        ensures { result ≡ type_size T.value_type }
-    {
-        T::byte_len()
-    }
-
     fn field_type() -> Type
         ensures { result ≡ T.value_type }
     {
@@ -165,7 +153,8 @@ impl<'a, T: TiffScalar> TiffValue for Slice<'a, T> {
     }
 
     fn data(&self, alloc: Global) -> TiffResult<Vec<u8>> {
-        let mut out = Vec::with_capacity(alloc, self.bytes())?;
+        let size = usize::from(T::byte_len());
+        let mut out = Vec::with_capacity(alloc, self.0.len().saturating_mul(size))?;
         T::push_all(self.0, &mut out)?;
         Ok(out)
     }
@@ -188,12 +177,6 @@ impl<'a> TiffValue for Text<'a> {
     ghost value_count = { λ t. length t.0.now + 1 };
 
     ghost field_data = { λ t. text_data t.0.now };
-
-    fn byte_len() -> u8
-        ensures { result ≡ 1 }
-    {
-        1
-    }
 
     fn field_type() -> Type
         ensures { result ≡ Type.ASCII }
