@@ -1,6 +1,7 @@
 //! What files are written by.
 
 pub mod colortype;
+mod fractions;
 mod names;
 mod numbers;
 pub mod tiff_value;

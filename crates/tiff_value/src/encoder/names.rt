@@ -1,6 +1,10 @@
 //! The enums of tags that are written: each is its number.
 
-ghost use Rattle.std.specs.Prelude.{◌≡◌};
+ghost use Rattle.std.specs.Prelude.{◌≡◌, [], ◌∷◌, Ok, refl};
+ghost use Rattle.tiff_base.specs.Number.{le};
+ghost use Rattle.tiff_base.specs.Tags.{method_number, interpretation_number, planar_number, predictor_number, unit_number, format_number, extra_number};
+ghost use Rattle.tiff_base.specs.declared.tags.«Type».TheVariants.{SHORT};
+ghost use Rattle.tiff_value.specs.Data.{data_of, methods, interpretations, planars, predictors, units, formats, extras};
 
 use super::tiff_value::{TiffScalar, TiffValue};
 use std::alloc::Global;
@@ -11,10 +15,6 @@ use tiff_base::tags::{
 };
 
 impl TiffValue for CompressionMethod {
-    ghost use Rattle.std.specs.Prelude.{[], ◌∷◌, Ok, refl};
-    ghost use Rattle.tiff_base.specs.declared.tags.«Type».TheVariants.{SHORT};
-    ghost use Rattle.tiff_value.specs.Data.{data_of, methods};
-
     ghost value_type = { SHORT };
 
     ghost value_count = { λ _. 1 };
@@ -38,11 +38,6 @@ impl TiffValue for CompressionMethod {
 }
 
 impl TiffScalar for CompressionMethod {
-    ghost use Rattle.std.specs.Prelude.{refl};
-    ghost use Rattle.tiff_base.specs.Number.{le};
-    ghost use Rattle.tiff_base.specs.Tags.{method_number};
-    ghost use Rattle.tiff_value.specs.Data.{data_of, methods};
-
     ghost scalars = { methods };
 
     ghost spelled = { λ m. le 2 (method_number m) };
@@ -60,10 +55,6 @@ impl TiffScalar for CompressionMethod {
 }
 
 impl TiffValue for PhotometricInterpretation {
-    ghost use Rattle.std.specs.Prelude.{[], ◌∷◌, Ok, refl};
-    ghost use Rattle.tiff_base.specs.declared.tags.«Type».TheVariants.{SHORT};
-    ghost use Rattle.tiff_value.specs.Data.{data_of, interpretations};
-
     ghost value_type = { SHORT };
 
     ghost value_count = { λ _. 1 };
@@ -87,11 +78,6 @@ impl TiffValue for PhotometricInterpretation {
 }
 
 impl TiffScalar for PhotometricInterpretation {
-    ghost use Rattle.std.specs.Prelude.{refl};
-    ghost use Rattle.tiff_base.specs.Number.{le};
-    ghost use Rattle.tiff_base.specs.Tags.{interpretation_number};
-    ghost use Rattle.tiff_value.specs.Data.{data_of, interpretations};
-
     ghost scalars = { interpretations };
 
     ghost spelled = { λ i. le 2 (interpretation_number i) };
@@ -109,10 +95,6 @@ impl TiffScalar for PhotometricInterpretation {
 }
 
 impl TiffValue for PlanarConfiguration {
-    ghost use Rattle.std.specs.Prelude.{[], ◌∷◌, Ok, refl};
-    ghost use Rattle.tiff_base.specs.declared.tags.«Type».TheVariants.{SHORT};
-    ghost use Rattle.tiff_value.specs.Data.{data_of, planars};
-
     ghost value_type = { SHORT };
 
     ghost value_count = { λ _. 1 };
@@ -136,11 +118,6 @@ impl TiffValue for PlanarConfiguration {
 }
 
 impl TiffScalar for PlanarConfiguration {
-    ghost use Rattle.std.specs.Prelude.{refl};
-    ghost use Rattle.tiff_base.specs.Number.{le};
-    ghost use Rattle.tiff_base.specs.Tags.{planar_number};
-    ghost use Rattle.tiff_value.specs.Data.{data_of, planars};
-
     ghost scalars = { planars };
 
     ghost spelled = { λ p. le 2 (planar_number p) };
@@ -158,10 +135,6 @@ impl TiffScalar for PlanarConfiguration {
 }
 
 impl TiffValue for Predictor {
-    ghost use Rattle.std.specs.Prelude.{[], ◌∷◌, Ok, refl};
-    ghost use Rattle.tiff_base.specs.declared.tags.«Type».TheVariants.{SHORT};
-    ghost use Rattle.tiff_value.specs.Data.{data_of, predictors};
-
     ghost value_type = { SHORT };
 
     ghost value_count = { λ _. 1 };
@@ -185,11 +158,6 @@ impl TiffValue for Predictor {
 }
 
 impl TiffScalar for Predictor {
-    ghost use Rattle.std.specs.Prelude.{refl};
-    ghost use Rattle.tiff_base.specs.Number.{le};
-    ghost use Rattle.tiff_base.specs.Tags.{predictor_number};
-    ghost use Rattle.tiff_value.specs.Data.{data_of, predictors};
-
     ghost scalars = { predictors };
 
     ghost spelled = { λ p. le 2 (predictor_number p) };
@@ -207,10 +175,6 @@ impl TiffScalar for Predictor {
 }
 
 impl TiffValue for ResolutionUnit {
-    ghost use Rattle.std.specs.Prelude.{[], ◌∷◌, Ok, refl};
-    ghost use Rattle.tiff_base.specs.declared.tags.«Type».TheVariants.{SHORT};
-    ghost use Rattle.tiff_value.specs.Data.{data_of, units};
-
     ghost value_type = { SHORT };
 
     ghost value_count = { λ _. 1 };
@@ -234,11 +198,6 @@ impl TiffValue for ResolutionUnit {
 }
 
 impl TiffScalar for ResolutionUnit {
-    ghost use Rattle.std.specs.Prelude.{refl};
-    ghost use Rattle.tiff_base.specs.Number.{le};
-    ghost use Rattle.tiff_base.specs.Tags.{unit_number};
-    ghost use Rattle.tiff_value.specs.Data.{data_of, units};
-
     ghost scalars = { units };
 
     ghost spelled = { λ u. le 2 (unit_number u) };
@@ -256,10 +215,6 @@ impl TiffScalar for ResolutionUnit {
 }
 
 impl TiffValue for SampleFormat {
-    ghost use Rattle.std.specs.Prelude.{[], ◌∷◌, Ok, refl};
-    ghost use Rattle.tiff_base.specs.declared.tags.«Type».TheVariants.{SHORT};
-    ghost use Rattle.tiff_value.specs.Data.{data_of, formats};
-
     ghost value_type = { SHORT };
 
     ghost value_count = { λ _. 1 };
@@ -283,11 +238,6 @@ impl TiffValue for SampleFormat {
 }
 
 impl TiffScalar for SampleFormat {
-    ghost use Rattle.std.specs.Prelude.{refl};
-    ghost use Rattle.tiff_base.specs.Number.{le};
-    ghost use Rattle.tiff_base.specs.Tags.{format_number};
-    ghost use Rattle.tiff_value.specs.Data.{data_of, formats};
-
     ghost scalars = { formats };
 
     ghost spelled = { λ f. le 2 (format_number f) };
@@ -305,10 +255,6 @@ impl TiffScalar for SampleFormat {
 }
 
 impl TiffValue for ExtraSamples {
-    ghost use Rattle.std.specs.Prelude.{[], ◌∷◌, Ok, refl};
-    ghost use Rattle.tiff_base.specs.declared.tags.«Type».TheVariants.{SHORT};
-    ghost use Rattle.tiff_value.specs.Data.{data_of, extras};
-
     ghost value_type = { SHORT };
 
     ghost value_count = { λ _. 1 };
@@ -332,11 +278,6 @@ impl TiffValue for ExtraSamples {
 }
 
 impl TiffScalar for ExtraSamples {
-    ghost use Rattle.std.specs.Prelude.{refl};
-    ghost use Rattle.tiff_base.specs.Number.{le};
-    ghost use Rattle.tiff_base.specs.Tags.{extra_number};
-    ghost use Rattle.tiff_value.specs.Data.{data_of, extras};
-
     ghost scalars = { extras };
 
     ghost spelled = { λ e. le 2 (extra_number e) };

@@ -1,17 +1,18 @@
-//! Numbers that are written.
+//! Numbers that are written, and places, each a number.
 
-ghost use Rattle.std.specs.Prelude.{◌≡◌};
+ghost use Rattle.std.specs.Int.{w8, w16, w32, w64};
+ghost use Rattle.std.specs.Prelude.{◌≡◌, [], ◌∷◌, map, Ok, refl};
+ghost use Rattle.tiff_base.specs.Number.{le};
+ghost use Rattle.tiff_base.specs.declared.tags.«Type».TheVariants.{BYTE, SHORT, LONG, SBYTE, SSHORT, SLONG, FLOAT, DOUBLE, IFD, LONG8, SLONG8, IFD8};
+ghost use Rattle.tiff_value.specs.Data.{data_of, signed_le, u8s, i8s, u16s, i16s, u32s, i32s, u64s, i64s, bits32s, bits64s, ifds, ifd8s};
+ghost use Rattle.tiff_value.specs.Values.{mapped};
 
-use super::tiff_value::{TiffScalar, TiffValue};
+use super::tiff_value::{Ifd, Ifd8, TiffScalar, TiffValue};
 use std::alloc::Global;
 use tiff_base::error::TiffResult;
 use tiff_base::tags::{Bits32, Bits64, Type};
 
 impl TiffValue for u8 {
-    ghost use Rattle.std.specs.Prelude.{[], ◌∷◌, Ok, refl};
-    ghost use Rattle.tiff_base.specs.declared.tags.«Type».TheVariants.{BYTE};
-    ghost use Rattle.tiff_value.specs.Data.{data_of, u8s};
-
     ghost value_type = { BYTE };
 
     ghost value_count = { λ _. 1 };
@@ -35,10 +36,6 @@ impl TiffValue for u8 {
 }
 
 impl TiffScalar for u8 {
-    ghost use Rattle.std.specs.Prelude.{refl};
-    ghost use Rattle.tiff_base.specs.Number.{le};
-    ghost use Rattle.tiff_value.specs.Data.{data_of, u8s};
-
     ghost scalars = { u8s };
 
     ghost spelled = { le 1 };
@@ -62,10 +59,6 @@ impl TiffScalar for u8 {
 }
 
 impl TiffValue for i8 {
-    ghost use Rattle.std.specs.Prelude.{[], ◌∷◌, Ok, refl};
-    ghost use Rattle.tiff_base.specs.declared.tags.«Type».TheVariants.{SBYTE};
-    ghost use Rattle.tiff_value.specs.Data.{data_of, i8s};
-
     ghost value_type = { SBYTE };
 
     ghost value_count = { λ _. 1 };
@@ -89,10 +82,6 @@ impl TiffValue for i8 {
 }
 
 impl TiffScalar for i8 {
-    ghost use Rattle.std.specs.Prelude.{refl};
-    ghost use Rattle.std.specs.Int.{w8};
-    ghost use Rattle.tiff_value.specs.Data.{data_of, i8s, signed_le};
-
     ghost scalars = { i8s };
 
     ghost spelled = { signed_le w8 };
@@ -110,10 +99,6 @@ impl TiffScalar for i8 {
 }
 
 impl TiffValue for u16 {
-    ghost use Rattle.std.specs.Prelude.{[], ◌∷◌, Ok, refl};
-    ghost use Rattle.tiff_base.specs.declared.tags.«Type».TheVariants.{SHORT};
-    ghost use Rattle.tiff_value.specs.Data.{data_of, u16s};
-
     ghost value_type = { SHORT };
 
     ghost value_count = { λ _. 1 };
@@ -137,10 +122,6 @@ impl TiffValue for u16 {
 }
 
 impl TiffScalar for u16 {
-    ghost use Rattle.std.specs.Prelude.{refl};
-    ghost use Rattle.tiff_base.specs.Number.{le};
-    ghost use Rattle.tiff_value.specs.Data.{data_of, u16s};
-
     ghost scalars = { u16s };
 
     ghost spelled = { le 2 };
@@ -158,10 +139,6 @@ impl TiffScalar for u16 {
 }
 
 impl TiffValue for i16 {
-    ghost use Rattle.std.specs.Prelude.{[], ◌∷◌, Ok, refl};
-    ghost use Rattle.tiff_base.specs.declared.tags.«Type».TheVariants.{SSHORT};
-    ghost use Rattle.tiff_value.specs.Data.{data_of, i16s};
-
     ghost value_type = { SSHORT };
 
     ghost value_count = { λ _. 1 };
@@ -185,10 +162,6 @@ impl TiffValue for i16 {
 }
 
 impl TiffScalar for i16 {
-    ghost use Rattle.std.specs.Prelude.{refl};
-    ghost use Rattle.std.specs.Int.{w16};
-    ghost use Rattle.tiff_value.specs.Data.{data_of, i16s, signed_le};
-
     ghost scalars = { i16s };
 
     ghost spelled = { signed_le w16 };
@@ -206,10 +179,6 @@ impl TiffScalar for i16 {
 }
 
 impl TiffValue for u32 {
-    ghost use Rattle.std.specs.Prelude.{[], ◌∷◌, Ok, refl};
-    ghost use Rattle.tiff_base.specs.declared.tags.«Type».TheVariants.{LONG};
-    ghost use Rattle.tiff_value.specs.Data.{data_of, u32s};
-
     ghost value_type = { LONG };
 
     ghost value_count = { λ _. 1 };
@@ -233,10 +202,6 @@ impl TiffValue for u32 {
 }
 
 impl TiffScalar for u32 {
-    ghost use Rattle.std.specs.Prelude.{refl};
-    ghost use Rattle.tiff_base.specs.Number.{le};
-    ghost use Rattle.tiff_value.specs.Data.{data_of, u32s};
-
     ghost scalars = { u32s };
 
     ghost spelled = { le 4 };
@@ -254,10 +219,6 @@ impl TiffScalar for u32 {
 }
 
 impl TiffValue for i32 {
-    ghost use Rattle.std.specs.Prelude.{[], ◌∷◌, Ok, refl};
-    ghost use Rattle.tiff_base.specs.declared.tags.«Type».TheVariants.{SLONG};
-    ghost use Rattle.tiff_value.specs.Data.{data_of, i32s};
-
     ghost value_type = { SLONG };
 
     ghost value_count = { λ _. 1 };
@@ -281,10 +242,6 @@ impl TiffValue for i32 {
 }
 
 impl TiffScalar for i32 {
-    ghost use Rattle.std.specs.Prelude.{refl};
-    ghost use Rattle.std.specs.Int.{w32};
-    ghost use Rattle.tiff_value.specs.Data.{data_of, i32s, signed_le};
-
     ghost scalars = { i32s };
 
     ghost spelled = { signed_le w32 };
@@ -302,10 +259,6 @@ impl TiffScalar for i32 {
 }
 
 impl TiffValue for u64 {
-    ghost use Rattle.std.specs.Prelude.{[], ◌∷◌, Ok, refl};
-    ghost use Rattle.tiff_base.specs.declared.tags.«Type».TheVariants.{LONG8};
-    ghost use Rattle.tiff_value.specs.Data.{data_of, u64s};
-
     ghost value_type = { LONG8 };
 
     ghost value_count = { λ _. 1 };
@@ -329,10 +282,6 @@ impl TiffValue for u64 {
 }
 
 impl TiffScalar for u64 {
-    ghost use Rattle.std.specs.Prelude.{refl};
-    ghost use Rattle.tiff_base.specs.Number.{le};
-    ghost use Rattle.tiff_value.specs.Data.{data_of, u64s};
-
     ghost scalars = { u64s };
 
     ghost spelled = { le 8 };
@@ -350,10 +299,6 @@ impl TiffScalar for u64 {
 }
 
 impl TiffValue for i64 {
-    ghost use Rattle.std.specs.Prelude.{[], ◌∷◌, Ok, refl};
-    ghost use Rattle.tiff_base.specs.declared.tags.«Type».TheVariants.{SLONG8};
-    ghost use Rattle.tiff_value.specs.Data.{data_of, i64s};
-
     ghost value_type = { SLONG8 };
 
     ghost value_count = { λ _. 1 };
@@ -377,10 +322,6 @@ impl TiffValue for i64 {
 }
 
 impl TiffScalar for i64 {
-    ghost use Rattle.std.specs.Prelude.{refl};
-    ghost use Rattle.std.specs.Int.{w64};
-    ghost use Rattle.tiff_value.specs.Data.{data_of, i64s, signed_le};
-
     ghost scalars = { i64s };
 
     ghost spelled = { signed_le w64 };
@@ -398,10 +339,6 @@ impl TiffScalar for i64 {
 }
 
 impl TiffValue for Bits32 {
-    ghost use Rattle.std.specs.Prelude.{[], ◌∷◌, Ok, refl};
-    ghost use Rattle.tiff_base.specs.declared.tags.«Type».TheVariants.{FLOAT};
-    ghost use Rattle.tiff_value.specs.Data.{data_of, bits32s};
-
     ghost value_type = { FLOAT };
 
     ghost value_count = { λ _. 1 };
@@ -425,12 +362,6 @@ impl TiffValue for Bits32 {
 }
 
 impl TiffScalar for Bits32 {
-    ghost use Rattle.std.specs.Prelude.{map, refl};
-    ghost use Rattle.tiff_base.specs.Number.{le};
-    ghost use Rattle.tiff_base.specs.declared.tags.«Type».TheVariants.{FLOAT};
-    ghost use Rattle.tiff_value.specs.Data.{data_of, bits32s};
-    ghost use Rattle.tiff_value.specs.Values.{mapped};
-
     ghost scalars = { λ ns. bits32s (map (λ n. n.0) ns) };
 
     ghost spelled = { λ n. le 4 n.0 };
@@ -448,10 +379,6 @@ impl TiffScalar for Bits32 {
 }
 
 impl TiffValue for Bits64 {
-    ghost use Rattle.std.specs.Prelude.{[], ◌∷◌, Ok, refl};
-    ghost use Rattle.tiff_base.specs.declared.tags.«Type».TheVariants.{DOUBLE};
-    ghost use Rattle.tiff_value.specs.Data.{data_of, bits64s};
-
     ghost value_type = { DOUBLE };
 
     ghost value_count = { λ _. 1 };
@@ -475,12 +402,6 @@ impl TiffValue for Bits64 {
 }
 
 impl TiffScalar for Bits64 {
-    ghost use Rattle.std.specs.Prelude.{map, refl};
-    ghost use Rattle.tiff_base.specs.Number.{le};
-    ghost use Rattle.tiff_base.specs.declared.tags.«Type».TheVariants.{DOUBLE};
-    ghost use Rattle.tiff_value.specs.Data.{data_of, bits64s};
-    ghost use Rattle.tiff_value.specs.Values.{mapped};
-
     ghost scalars = { λ ns. bits64s (map (λ n. n.0) ns) };
 
     ghost spelled = { λ n. le 8 n.0 };
@@ -495,4 +416,84 @@ impl TiffScalar for Bits64 {
     ghost one = { λ n. refl };
 
     ghost listed = { λ ns. unfold data_of in mapped DOUBLE (λ n. n.0) (le 8) ns };
+}
+
+impl TiffValue for Ifd {
+    ghost value_type = { IFD };
+
+    ghost value_count = { λ _. 1 };
+
+    ghost field_data = { λ n. Ok (data_of (ifds (n.0 ∷ []))) };
+
+    fn field_type() -> Type {
+        Type::IFD
+    }
+
+    fn count(&self) -> usize {
+        1
+    }
+
+    #[tactic(auto, unfolding(crate::specs::Data::data_of))]
+    fn data(&self, alloc: Global) -> TiffResult<Vec<u8>> {
+        Ok(Vec::from_slice(alloc, &self.0.to_le_bytes())?)
+    }
+
+    ghost sized = { λ n. unfold data_of in (refl, refl, refl) };
+}
+
+impl TiffScalar for Ifd {
+    ghost scalars = { λ ns. ifds (map (λ n. n.0) ns) };
+
+    ghost spelled = { λ n. le 4 n.0 };
+
+    fn push_to(&self, out: &mut Vec<u8>) -> TiffResult<()> {
+        out.extend_from_slice(&self.0.to_le_bytes())?;
+        Ok(())
+    }
+
+    ghost alone = { λ n. refl };
+
+    ghost one = { λ n. refl };
+
+    ghost listed = { λ ns. unfold data_of in mapped IFD (λ n. n.0) (le 4) ns };
+}
+
+impl TiffValue for Ifd8 {
+    ghost value_type = { IFD8 };
+
+    ghost value_count = { λ _. 1 };
+
+    ghost field_data = { λ n. Ok (data_of (ifd8s (n.0 ∷ []))) };
+
+    fn field_type() -> Type {
+        Type::IFD8
+    }
+
+    fn count(&self) -> usize {
+        1
+    }
+
+    #[tactic(auto, unfolding(crate::specs::Data::data_of))]
+    fn data(&self, alloc: Global) -> TiffResult<Vec<u8>> {
+        Ok(Vec::from_slice(alloc, &self.0.to_le_bytes())?)
+    }
+
+    ghost sized = { λ n. unfold data_of in (refl, refl, refl) };
+}
+
+impl TiffScalar for Ifd8 {
+    ghost scalars = { λ ns. ifd8s (map (λ n. n.0) ns) };
+
+    ghost spelled = { λ n. le 8 n.0 };
+
+    fn push_to(&self, out: &mut Vec<u8>) -> TiffResult<()> {
+        out.extend_from_slice(&self.0.to_le_bytes())?;
+        Ok(())
+    }
+
+    ghost alone = { λ n. refl };
+
+    ghost one = { λ n. refl };
+
+    ghost listed = { λ ns. unfold data_of in mapped IFD8 (λ n. n.0) (le 8) ns };
 }
