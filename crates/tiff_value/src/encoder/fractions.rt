@@ -5,7 +5,7 @@ ghost use Rattle.std.specs.Prelude.{◌≡◌, [], ◌∷◌, ◌++◌, map, Ok,
 ghost use Rattle.tiff_base.specs.Number.{le};
 ghost use Rattle.tiff_base.specs.declared.tags.«Type».TheVariants.{RATIONAL, SRATIONAL};
 ghost use Rattle.tiff_value.specs.Data.{data_of, signed_le, rationals, srationals};
-ghost use Rattle.tiff_value.specs.Values.{mapped};
+ghost use Rattle.tiff_value.specs.ValueLaws.{mapped};
 
 use super::tiff_value::{Rational, SRational, TiffScalar, TiffValue};
 use std::alloc::Global;

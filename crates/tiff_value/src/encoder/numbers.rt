@@ -5,7 +5,7 @@ ghost use Rattle.std.specs.Prelude.{◌≡◌, [], ◌∷◌, map, Ok, refl};
 ghost use Rattle.tiff_base.specs.Number.{le};
 ghost use Rattle.tiff_base.specs.declared.tags.«Type».TheVariants.{BYTE, SHORT, LONG, SBYTE, SSHORT, SLONG, FLOAT, DOUBLE, IFD, LONG8, SLONG8, IFD8};
 ghost use Rattle.tiff_value.specs.Data.{data_of, signed_le, u8s, i8s, u16s, i16s, u32s, i32s, u64s, i64s, bits32s, bits64s, ifds, ifd8s};
-ghost use Rattle.tiff_value.specs.Values.{mapped};
+ghost use Rattle.tiff_value.specs.ValueLaws.{mapped};
 
 use super::tiff_value::{Ifd, Ifd8, TiffScalar, TiffValue};
 use std::alloc::Global;

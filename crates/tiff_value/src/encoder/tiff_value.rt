@@ -134,7 +134,7 @@ pub struct Slice<'a, T>(pub &'a [T]);
 impl<'a, T: TiffScalar> TiffValue for Slice<'a, T> {
     ghost use Rattle.std.specs.Prelude.{length, Ok};
     ghost use Rattle.tiff_value.specs.Data.{data_of};
-    ghost use Rattle.tiff_value.specs.Values.{several};
+    ghost use Rattle.tiff_value.specs.ValueLaws.{several};
 
     ghost value_type = { T.value_type };
 
@@ -170,7 +170,7 @@ impl<'a> TiffValue for Text<'a> {
     ghost use Rattle.std.specs.Prelude.{length, ◌+◌};
     ghost use Rattle.tiff_base.specs.declared.tags.«Type».TheVariants.{ASCII};
     ghost use Rattle.tiff_value.specs.Data.{text_data};
-    ghost use Rattle.tiff_value.specs.Values.{text_value};
+    ghost use Rattle.tiff_value.specs.ValueLaws.{text_value};
 
     ghost value_type = { ASCII };
 
