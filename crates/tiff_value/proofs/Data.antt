@@ -1,22 +1,13 @@
 -- The bytes of values that are written are as many as their count and their type say.
-use Rattle.std.proofs.Common.{◌≡◌, ℕ, ◌+◌, ◌*◌, Bool, true, false, cond, List, [], ◌∷◌, ◌++◌, length, Result, Ok, Err, refl, ap, sym, ◌∙◌, subst, arith, length-append}
+use Rattle.std.proofs.Common.{◌+◌, ◌++◌, length, Result, refl, subst}
 use Rattle.std.specs.Int.{w8, w16, w32, w64}
-use Rattle.std.specs.List.{flat_map, list_all}
 use Rattle.tiff_base.specs.declared.error.TiffError.{TiffError}
-use Rattle.tiff_base.specs.declared.error.TiffError.TheVariants.{FormatError}
-use Rattle.tiff_base.specs.declared.error.TiffFormatError.TheVariants.{InvalidTag}
 use Rattle.tiff_base.specs.declared.tags.«Type».TheVariants as t
 use Rattle.tiff_base.specs.Tags.{method_number, interpretation_number, planar_number, predictor_number, unit_number, format_number, extra_number}
 use Rattle.tiff_base.specs.Number.{le}
-use Rattle.tiff_value.specs.Data.{FieldData, u8s, i8s, u16s, i16s, u32s, i32s, u64s, i64s, bits32s, bits64s, methods, interpretations, planars, predictors, units, formats, extras, ifds, ifd8s, rationals, srationals, signed_le, data_of, is_letter, text_data, IsWhole, DataIsWhole, TextIsWhole}
-
--- values of so many bytes each
-each_whole : {A : Type 0} (size : ℕ) (bytes_of : A → List ℕ) → ((x : A) → length (bytes_of x) ≡ size) → (xs : List A)
-    → length (flat_map bytes_of xs) ≡ length xs * size
-each_whole size bytes_of whole [] = omega arith
-each_whole size bytes_of whole (x ∷ xs) =
-    length-append (bytes_of x) (flat_map bytes_of xs)
-    ∙ omega (arith, whole x, each_whole size bytes_of whole xs)
+use Rattle.tiff_value.specs.Data.{FieldData, u8s, i8s, u16s, i16s, u32s, i32s, u64s, i64s, bits32s, bits64s, methods, interpretations, planars, predictors, units, formats, extras, ifds, ifd8s, rationals, srationals, signed_le, data_of, DataIsWhole, TextIsWhole}
+use Rattle.tiff_value.specs.ValueLaws.{each_whole, text_value}
+use Rattle.tiff_value.specs.Values.{IsValue}
 
 pub data_is_whole : DataIsWhole
 unfolding data_of
@@ -42,23 +33,5 @@ data_is_whole (ifd8s ns) = each_whole 8 (le 8) (λ n. refl) ns
 data_is_whole (rationals rs) = each_whole 8 (λ r. le 4 r.0 ++ le 4 r.1) (λ r. refl) rs
 data_is_whole (srationals rs) = each_whole 8 (λ r. signed_le w32 r.0 ++ signed_le w32 r.1) (λ r. refl) rs
 
-abbrev data_or : FieldData → Result FieldData TiffError → FieldData
-data_or d (Ok x) = x
-data_or d (Err e) = d
-
-abbrev IsData : Result FieldData TiffError → Type 0
-IsData (Ok x) = Unit {0}
-IsData (Err e) = ⊥
-
-with_zero : (text : List ℕ) → length (text ++ 0 ∷ []) ≡ (length text + 1) * 1
-with_zero text = length-append text (0 ∷ []) ∙ omega arith
-
-text_by : (b : Bool) (text : List ℕ) (d : FieldData)
-    → cond b (Ok (record { field_type = t.ASCII; count = length text + 1; bytes = text ++ (0 ∷ []) })) (Err (FormatError InvalidTag)) ≡ Ok d
-    → IsWhole d
-text_by true text d h = subst IsWhole (ap (data_or d) h) (with_zero text)
-text_by false text d h = absurd (subst IsData (sym h) tt)
-
 pub text_is_whole : TextIsWhole
-unfolding text_data
-text_is_whole text d = text_by (list_all is_letter text) text d
+text_is_whole text d h = (subst (λ (g : Result FieldData TiffError). IsValue t.ASCII (length text + 1) g) h (text_value text)).2

@@ -1,4 +1,6 @@
 pub mod Put
 pub mod Data
+pub mod Values
+pub mod Bytes
 pub mod ColorTypes
 pub mod Differences

@@ -1,6 +1,7 @@
 -- Values as bytes, in a byte order (as in the Rust crate).
-use Rattle.std.specs.Prelude.{ℕ, ◌/◌, List, [], length}
+use Rattle.std.specs.Prelude.{ℕ, ◌/◌, List, [], length, Result, Ok, Err}
 use Rattle.std.specs.List.{refill}
+use Rattle.tiff_base.specs.declared.error.TiffError.{TiffError}
 use Rattle.tiff_base.specs.declared.tags.ByteOrder.{ByteOrder}
 use Rattle.tiff_base.specs.declared.tags.ByteOrder.TheVariants.{LittleEndian}
 use Rattle.tiff_base.specs.declared.tags.«Type».{«Type»}
@@ -25,6 +26,11 @@ empty_buffer type = record { order = LittleEndian; data_type = type; bytes = [] 
 -- the values that are written
 abbrev pub buffer_from : FieldData → BufferRecord
 buffer_from d = record { order = LittleEndian; data_type = d.field_type; bytes = d.bytes }
+
+-- the same of a value, unless no field can be given it
+abbrev pub buffer_given : Result FieldData TiffError → Result BufferRecord TiffError
+buffer_given (Ok d) = Ok (buffer_from d)
+buffer_given (Err e) = Err e
 
 -- the same values in this order
 abbrev pub ordered : BufferRecord → ByteOrder → BufferRecord

@@ -1,6 +1,8 @@
 pub mod ColorType
 pub mod Written
 pub mod Data
+pub mod Values
+pub mod ValueLaws
 pub mod Buffer
 pub mod ColorTypes
 pub mod Differences

@@ -1,10 +1,13 @@
 //! Values as bytes.
 
 ghost use Rattle.std.specs.Prelude.{◌≡◌};
-ghost use Rattle.tiff_value.specs.Buffer.{buffer_count, empty_buffer, ordered};
+ghost use Rattle.tiff_base.specs.Answers.{AnswersHere};
+ghost use Rattle.tiff_value.specs.Buffer.{buffer_count, buffer_given, empty_buffer, ordered};
 
+use crate::encoder::tiff_value::TiffValue;
 use std::alloc::Global;
 use std::marker::Model;
+use tiff_base::error::TiffResult;
 use tiff_base::tags::{ByteOrder, Type};
 
 /// Values of one type as bytes, in a byte order.
@@ -36,6 +39,18 @@ impl ValueBuffer {
             data_type,
             bytes: Vec::new(alloc),
         }
+    }
+
+    /// The values that are written, in the machine's order. Errors are those of `data`.
+    pub fn from_value<V: TiffValue>(alloc: Global, value: &V) -> TiffResult<Self>
+        ensures { AnswersHere (λ b. b) result (buffer_given (V.field_data value.now)) }
+    {
+        let bytes = value.data(alloc)?;
+        Ok(ValueBuffer {
+            order: ByteOrder::native(),
+            data_type: V::field_type(),
+            bytes,
+        })
     }
 
     /// The values of a type that these bytes are, in an order (this project's).

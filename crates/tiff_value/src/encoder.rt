@@ -1,5 +1,8 @@
 //! What files are written by.
 
 pub mod colortype;
+mod fractions;
+mod names;
+mod numbers;
 pub mod tiff_value;
 pub mod writer;

@@ -1,5 +1,215 @@
 //! The values that are written.
 
+ghost use Rattle.std.specs.Prelude.{◌≡◌, ◌+◌, ◌++◌, length, MatchResult};
+ghost use Rattle.std.specs.List.{flat_map, list_all};
+ghost use Rattle.tiff_base.specs.Answers.{AnswersHere};
+ghost use Rattle.tiff_base.specs.Types.{type_size};
+ghost use Rattle.tiff_value.specs.Data.{is_letter};
+ghost use Rattle.tiff_value.specs.Values.{byte_count, values_in, WritesValue};
+
+use crate::encoder::writer::TiffWriter;
+use std::alloc::Global;
+use tiff_base::error::{TiffError, TiffFormatError, TiffResult};
+use tiff_base::io::Sink;
+use tiff_base::tags::Type;
+
+/// What a field can be given: values of one type.
+pub trait TiffValue {
+    ghost use Rattle.std.specs.Prelude.{ℕ, Result};
+    ghost use Rattle.tiff_base.specs.declared.error.TiffError.{TiffError};
+    ghost use Rattle.tiff_base.specs.declared.tags.«Type».{«Type»};
+    ghost use Rattle.tiff_value.specs.Data.{FieldData};
+    ghost use Rattle.tiff_value.specs.Values.{IsValue};
+
+    // The type of its values.
+    ghost value_type: { «Type» };
+
+    // How many values it has.
+    ghost value_count: { Self → ℕ };
+
+    // What a field is given, or why it can't be.
+    ghost field_data: { Self → Result FieldData TiffError };
+
+    /// How many bytes a value of its type has: the Rust crate's `BYTE_LEN`.
+    final fn byte_len() -> u8
+        ensures { result ≡ type_size value_type }
+    {
+        Self::field_type().byte_len()
+    }
+
+    /// The type of its values: the Rust crate's `FIELD_TYPE`.
+    fn field_type() -> Type
+        ensures { result ≡ value_type };
+
+    /// How many values it has.
+    fn count(&self) -> usize
+        ensures { result ≡ value_count self.now };
+
+    /// How many bytes it has; `usize::MAX` where that doesn't fit.
+    final fn bytes(&self) -> usize
+        ensures { result ≡ byte_count (value_count self.now) value_type }
+    {
+        self.count().saturating_mul(usize::from(Self::byte_len()))
+    }
+
+    /// Its bytes, the least of each number first. A text that can't be written: `FormatError(InvalidTag)`.
+    fn data(&self, alloc: Global) -> TiffResult<Vec<u8>>
+        ensures { AnswersHere (λ v. values_in value_type (value_count self.now) v.items) result (field_data self.now) };
+
+    /// Writes its bytes at the writer's place, as they are. Errors are those of `data` and of `write_bytes`.
+    #[tactic(auto, using(crate::proofs::Values::value_written))]
+    final fn write<W: Sink>(&self, alloc: Global, writer: &mut TiffWriter<W>) -> TiffResult<()>
+        ensures { WritesValue (field_data self.now) writer.old writer.new result }
+    {
+        let data = self.data(alloc)?;
+        writer.write_bytes(&data)
+    }
+
+    // Its bytes are as many as its count and its type say, and it is refused as no text alone.
+    ghost sized: { (x : Self) → IsValue value_type (value_count x) (field_data x) };
+}
+
+/// A single value that can always be written (this project's); a `Slice` is several of them.
+pub trait TiffScalar: TiffValue + Sized {
+    ghost use Rattle.std.specs.Prelude.{◌≡◌, ℕ, List, [], ◌∷◌, Ok};
+    ghost use Rattle.tiff_value.specs.Data.{Scalars, data_by, data_of};
+
+    // Values of this type, as they are written.
+    ghost scalars: { List Self → Scalars };
+
+    // The bytes of one.
+    ghost spelled: { Self → List ℕ };
+
+    /// Appends its bytes.
+    fn push_to(&self, out: &mut Vec<u8>) -> TiffResult<()>
+        ensures { MatchResult result (λ _. out.new.items ≡ out.old.items ++ spelled self.now) (λ e. e ≡ TiffError.OutOfMemory) };
+
+    /// Appends the bytes of several values.
+    fn push_all(items: &[Self], out: &mut Vec<u8>) -> TiffResult<()>
+        ensures { MatchResult result (λ _. out.new.items ≡ out.old.items ++ flat_map spelled items.now) (λ e. e ≡ TiffError.OutOfMemory) }
+    {
+        for item in items {
+            item.push_to(out)?;
+        }
+        Ok(())
+    }
+
+    // A value is written as a list of it alone.
+    ghost alone: { (x : Self) → Self.field_data x ≡ Ok (data_of (scalars (x ∷ []))) };
+
+    ghost one: { (x : Self) → Self.value_count x ≡ 1 };
+
+    // The bytes of several are those of each.
+    ghost listed: { (xs : List Self) → data_of (scalars xs) ≡ data_by Self.value_type spelled xs };
+}
+
+impl<T: TiffValue> TiffValue for &T {
+    ghost value_type = { T.value_type };
+
+    ghost value_count = { λ x. T.value_count x.now };
+
+    ghost field_data = { λ x. T.field_data x.now };
+
+    fn field_type() -> Type
+        ensures { result ≡ T.value_type }
+    {
+        T::field_type()
+    }
+
+    fn count(&self) -> usize {
+        (**self).count()
+    }
+
+    fn data(&self, alloc: Global) -> TiffResult<Vec<u8>> {
+        (**self).data(alloc)
+    }
+
+    ghost sized = { λ x. T.sized x.now };
+}
+
+/// Several values of one type, in place of the Rust crate's `[T]` and `[T; N]`.
+#[derive(Drop)]
+pub struct Slice<'a, T>(pub &'a [T]);
+
+impl<'a, T: TiffScalar> TiffValue for Slice<'a, T> {
+    ghost use Rattle.std.specs.Prelude.{length, Ok};
+    ghost use Rattle.tiff_value.specs.Data.{data_of};
+    ghost use Rattle.tiff_value.specs.ValueLaws.{several};
+
+    ghost value_type = { T.value_type };
+
+    ghost value_count = { λ s. length s.0.now };
+
+    ghost field_data = { λ s. Ok (data_of (T.scalars s.0.now)) };
+
+    fn field_type() -> Type
+        ensures { result ≡ T.value_type }
+    {
+        T::field_type()
+    }
+
+    fn count(&self) -> usize {
+        self.0.len()
+    }
+
+    fn data(&self, alloc: Global) -> TiffResult<Vec<u8>> {
+        let size = usize::from(T::byte_len());
+        let mut out = Vec::with_capacity(alloc, self.0.len().saturating_mul(size))?;
+        T::push_all(self.0, &mut out)?;
+        Ok(out)
+    }
+
+    ghost sized = { λ s. several T.value_type T.spelled T.scalars T.listed T.value_count T.field_data T.sized T.alone s.0.now };
+}
+
+/// A text of ASCII without a zero; a zero is appended. It stands in place of the Rust crate's `str`.
+#[derive(Drop)]
+pub struct Text<'a>(pub &'a str);
+
+impl<'a> TiffValue for Text<'a> {
+    ghost use Rattle.std.specs.Prelude.{length, ◌+◌};
+    ghost use Rattle.tiff_base.specs.declared.tags.«Type».TheVariants.{ASCII};
+    ghost use Rattle.tiff_value.specs.Data.{text_data};
+    ghost use Rattle.tiff_value.specs.ValueLaws.{text_value};
+
+    ghost value_type = { ASCII };
+
+    ghost value_count = { λ t. length t.0.now + 1 };
+
+    ghost field_data = { λ t. text_data t.0.now };
+
+    fn field_type() -> Type
+        ensures { result ≡ Type.ASCII }
+    {
+        Type::ASCII
+    }
+
+    fn count(&self) -> usize {
+        self.0.len() + 1
+    }
+
+    #[tactic(auto, unfolding(crate::specs::Data::text_data))]
+    fn data(&self, alloc: Global) -> TiffResult<Vec<u8>> {
+        let bytes = self.0.as_bytes();
+        if !is_text(bytes) {
+            return Err(TiffError::FormatError(TiffFormatError::InvalidTag));
+        }
+        let mut out = Vec::with_capacity(alloc, bytes.len() + 1)?;
+        out.extend_from_slice(bytes)?;
+        out.push(0)?;
+        Ok(out)
+    }
+
+    ghost sized = { λ t. text_value t.0.now };
+}
+
+// Whether bytes are ASCII without a zero.
+fn is_text(bytes: &[u8]) -> bool
+    ensures { result ≡ list_all is_letter bytes.now }
+{
+    bytes.iter().all(|b| *b < 128 && *b != 0)
+}
+
 /// The place of a directory, of 4 bytes.
 #[derive(Clone, Drop)]
 pub struct Ifd(pub u32);

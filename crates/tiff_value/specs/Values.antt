@@ -1,0 +1,42 @@
+-- What a value that is written is, and what its write does.
+use Rattle.std.specs.Prelude.{◌≡◌, ℕ, ◌*◌, ◌^◌, ◌-◌, ◌⊎◌, min, false, List, Result, Ok, Err, MatchResult}
+use Rattle.tiff_base.specs.declared.error.TiffError.{TiffError}
+use Rattle.tiff_base.specs.declared.error.TiffError.TheVariants.{FormatError, OutOfMemory}
+use Rattle.tiff_base.specs.declared.error.TiffFormatError.TheVariants.{InvalidTag}
+use Rattle.tiff_base.specs.declared.tags.«Type».{«Type»}
+use Rattle.tiff_base.specs.Types.{type_size}
+use Rattle.tiff_value.specs.Data.{FieldData, IsWhole}
+use Rattle.tiff_value.specs.Written.{Written, written, IsStopped, IsCut}
+
+-- so many values of a type, by their bytes
+abbrev pub values_in : «Type» → ℕ → List ℕ → FieldData
+values_in type count bytes = record { field_type = type; count = count; bytes = bytes }
+
+-- A field is given so many values of a type, with as many bytes as they have; or it is refused, as no text.
+abbrev pub IsValue : «Type» → ℕ → Result FieldData TiffError → Type 0
+IsValue type count (Ok d) = (d.field_type ≡ type) × (d.count ≡ count) × IsWhole d
+IsValue type count (Err e) = e ≡ FormatError InvalidTag
+
+-- how many bytes so many values of a type have, as far as a number of 64 bits goes
+abbrev pub byte_count : ℕ → «Type» → ℕ
+byte_count count type = min (count * type_size type) (2 ^ 64 - 1)
+
+-- There was no memory for the bytes: nothing is done.
+pub record IsWanting (e : TiffError) (old new : Written) : Type 0 where
+  pub fault : e ≡ OutOfMemory
+  pub same : new ≡ old
+
+-- The field can't be given the value, for this fault: nothing is done.
+pub record IsRefused (given e : TiffError) (old new : Written) : Type 0 where
+  pub fault : e ≡ given
+  pub same : new ≡ old
+
+module _ {A : Type 0} where
+  -- The bytes of a value went out as they are, or there was no memory for them, or their write failed. A value that a
+  -- field can't be given is refused.
+  abbrev pub WritesValue : Result FieldData TiffError → Written → Written → Result A TiffError → Type 0
+  WritesValue (Ok d) old new r =
+      MatchResult r
+      (λ _. (old.failed ≡ false) × (new ≡ written old d.bytes))
+      (λ e. IsWanting e old new ⊎ (IsStopped e old new ⊎ IsCut d.bytes e old new))
+  WritesValue (Err given) old new r = MatchResult r (λ _. ⊥) (λ e. IsWanting e old new ⊎ IsRefused given e old new)

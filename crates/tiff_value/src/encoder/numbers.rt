@@ -1,0 +1,499 @@
+//! Numbers that are written, and places, each a number.
+
+ghost use Rattle.std.specs.Int.{w8, w16, w32, w64};
+ghost use Rattle.std.specs.Prelude.{◌≡◌, [], ◌∷◌, map, Ok, refl};
+ghost use Rattle.tiff_base.specs.Number.{le};
+ghost use Rattle.tiff_base.specs.declared.tags.«Type».TheVariants.{BYTE, SHORT, LONG, SBYTE, SSHORT, SLONG, FLOAT, DOUBLE, IFD, LONG8, SLONG8, IFD8};
+ghost use Rattle.tiff_value.specs.Data.{data_of, signed_le, u8s, i8s, u16s, i16s, u32s, i32s, u64s, i64s, bits32s, bits64s, ifds, ifd8s};
+ghost use Rattle.tiff_value.specs.ValueLaws.{mapped};
+
+use super::tiff_value::{Ifd, Ifd8, TiffScalar, TiffValue};
+use std::alloc::Global;
+use tiff_base::error::TiffResult;
+use tiff_base::tags::{Bits32, Bits64, Type};
+
+impl TiffValue for u8 {
+    ghost value_type = { BYTE };
+
+    ghost value_count = { λ _. 1 };
+
+    ghost field_data = { λ n. Ok (data_of (u8s (n ∷ []))) };
+
+    fn field_type() -> Type {
+        Type::BYTE
+    }
+
+    fn count(&self) -> usize {
+        1
+    }
+
+    #[tactic(auto, unfolding(crate::specs::Data::data_of))]
+    fn data(&self, alloc: Global) -> TiffResult<Vec<u8>> {
+        Ok(Vec::from_slice(alloc, &self.to_le_bytes())?)
+    }
+
+    ghost sized = { λ n. unfold data_of in (refl, refl, refl) };
+}
+
+impl TiffScalar for u8 {
+    ghost scalars = { u8s };
+
+    ghost spelled = { le 1 };
+
+    fn push_to(&self, out: &mut Vec<u8>) -> TiffResult<()> {
+        out.extend_from_slice(&self.to_le_bytes())?;
+        Ok(())
+    }
+
+    // one copy
+    fn push_all(items: &[u8], out: &mut Vec<u8>) -> TiffResult<()> {
+        out.extend_from_slice(items)?;
+        Ok(())
+    }
+
+    ghost alone = { λ n. refl };
+
+    ghost one = { λ n. refl };
+
+    ghost listed = { λ ns. unfold data_of in refl };
+}
+
+impl TiffValue for i8 {
+    ghost value_type = { SBYTE };
+
+    ghost value_count = { λ _. 1 };
+
+    ghost field_data = { λ n. Ok (data_of (i8s (n ∷ []))) };
+
+    fn field_type() -> Type {
+        Type::SBYTE
+    }
+
+    fn count(&self) -> usize {
+        1
+    }
+
+    #[tactic(auto, unfolding(crate::specs::Data::data_of))]
+    fn data(&self, alloc: Global) -> TiffResult<Vec<u8>> {
+        Ok(Vec::from_slice(alloc, &self.to_le_bytes())?)
+    }
+
+    ghost sized = { λ n. unfold data_of in (refl, refl, refl) };
+}
+
+impl TiffScalar for i8 {
+    ghost scalars = { i8s };
+
+    ghost spelled = { signed_le w8 };
+
+    fn push_to(&self, out: &mut Vec<u8>) -> TiffResult<()> {
+        out.extend_from_slice(&self.to_le_bytes())?;
+        Ok(())
+    }
+
+    ghost alone = { λ n. refl };
+
+    ghost one = { λ n. refl };
+
+    ghost listed = { λ ns. unfold data_of in refl };
+}
+
+impl TiffValue for u16 {
+    ghost value_type = { SHORT };
+
+    ghost value_count = { λ _. 1 };
+
+    ghost field_data = { λ n. Ok (data_of (u16s (n ∷ []))) };
+
+    fn field_type() -> Type {
+        Type::SHORT
+    }
+
+    fn count(&self) -> usize {
+        1
+    }
+
+    #[tactic(auto, unfolding(crate::specs::Data::data_of))]
+    fn data(&self, alloc: Global) -> TiffResult<Vec<u8>> {
+        Ok(Vec::from_slice(alloc, &self.to_le_bytes())?)
+    }
+
+    ghost sized = { λ n. unfold data_of in (refl, refl, refl) };
+}
+
+impl TiffScalar for u16 {
+    ghost scalars = { u16s };
+
+    ghost spelled = { le 2 };
+
+    fn push_to(&self, out: &mut Vec<u8>) -> TiffResult<()> {
+        out.extend_from_slice(&self.to_le_bytes())?;
+        Ok(())
+    }
+
+    ghost alone = { λ n. refl };
+
+    ghost one = { λ n. refl };
+
+    ghost listed = { λ ns. unfold data_of in refl };
+}
+
+impl TiffValue for i16 {
+    ghost value_type = { SSHORT };
+
+    ghost value_count = { λ _. 1 };
+
+    ghost field_data = { λ n. Ok (data_of (i16s (n ∷ []))) };
+
+    fn field_type() -> Type {
+        Type::SSHORT
+    }
+
+    fn count(&self) -> usize {
+        1
+    }
+
+    #[tactic(auto, unfolding(crate::specs::Data::data_of))]
+    fn data(&self, alloc: Global) -> TiffResult<Vec<u8>> {
+        Ok(Vec::from_slice(alloc, &self.to_le_bytes())?)
+    }
+
+    ghost sized = { λ n. unfold data_of in (refl, refl, refl) };
+}
+
+impl TiffScalar for i16 {
+    ghost scalars = { i16s };
+
+    ghost spelled = { signed_le w16 };
+
+    fn push_to(&self, out: &mut Vec<u8>) -> TiffResult<()> {
+        out.extend_from_slice(&self.to_le_bytes())?;
+        Ok(())
+    }
+
+    ghost alone = { λ n. refl };
+
+    ghost one = { λ n. refl };
+
+    ghost listed = { λ ns. unfold data_of in refl };
+}
+
+impl TiffValue for u32 {
+    ghost value_type = { LONG };
+
+    ghost value_count = { λ _. 1 };
+
+    ghost field_data = { λ n. Ok (data_of (u32s (n ∷ []))) };
+
+    fn field_type() -> Type {
+        Type::LONG
+    }
+
+    fn count(&self) -> usize {
+        1
+    }
+
+    #[tactic(auto, unfolding(crate::specs::Data::data_of))]
+    fn data(&self, alloc: Global) -> TiffResult<Vec<u8>> {
+        Ok(Vec::from_slice(alloc, &self.to_le_bytes())?)
+    }
+
+    ghost sized = { λ n. unfold data_of in (refl, refl, refl) };
+}
+
+impl TiffScalar for u32 {
+    ghost scalars = { u32s };
+
+    ghost spelled = { le 4 };
+
+    fn push_to(&self, out: &mut Vec<u8>) -> TiffResult<()> {
+        out.extend_from_slice(&self.to_le_bytes())?;
+        Ok(())
+    }
+
+    ghost alone = { λ n. refl };
+
+    ghost one = { λ n. refl };
+
+    ghost listed = { λ ns. unfold data_of in refl };
+}
+
+impl TiffValue for i32 {
+    ghost value_type = { SLONG };
+
+    ghost value_count = { λ _. 1 };
+
+    ghost field_data = { λ n. Ok (data_of (i32s (n ∷ []))) };
+
+    fn field_type() -> Type {
+        Type::SLONG
+    }
+
+    fn count(&self) -> usize {
+        1
+    }
+
+    #[tactic(auto, unfolding(crate::specs::Data::data_of))]
+    fn data(&self, alloc: Global) -> TiffResult<Vec<u8>> {
+        Ok(Vec::from_slice(alloc, &self.to_le_bytes())?)
+    }
+
+    ghost sized = { λ n. unfold data_of in (refl, refl, refl) };
+}
+
+impl TiffScalar for i32 {
+    ghost scalars = { i32s };
+
+    ghost spelled = { signed_le w32 };
+
+    fn push_to(&self, out: &mut Vec<u8>) -> TiffResult<()> {
+        out.extend_from_slice(&self.to_le_bytes())?;
+        Ok(())
+    }
+
+    ghost alone = { λ n. refl };
+
+    ghost one = { λ n. refl };
+
+    ghost listed = { λ ns. unfold data_of in refl };
+}
+
+impl TiffValue for u64 {
+    ghost value_type = { LONG8 };
+
+    ghost value_count = { λ _. 1 };
+
+    ghost field_data = { λ n. Ok (data_of (u64s (n ∷ []))) };
+
+    fn field_type() -> Type {
+        Type::LONG8
+    }
+
+    fn count(&self) -> usize {
+        1
+    }
+
+    #[tactic(auto, unfolding(crate::specs::Data::data_of))]
+    fn data(&self, alloc: Global) -> TiffResult<Vec<u8>> {
+        Ok(Vec::from_slice(alloc, &self.to_le_bytes())?)
+    }
+
+    ghost sized = { λ n. unfold data_of in (refl, refl, refl) };
+}
+
+impl TiffScalar for u64 {
+    ghost scalars = { u64s };
+
+    ghost spelled = { le 8 };
+
+    fn push_to(&self, out: &mut Vec<u8>) -> TiffResult<()> {
+        out.extend_from_slice(&self.to_le_bytes())?;
+        Ok(())
+    }
+
+    ghost alone = { λ n. refl };
+
+    ghost one = { λ n. refl };
+
+    ghost listed = { λ ns. unfold data_of in refl };
+}
+
+impl TiffValue for i64 {
+    ghost value_type = { SLONG8 };
+
+    ghost value_count = { λ _. 1 };
+
+    ghost field_data = { λ n. Ok (data_of (i64s (n ∷ []))) };
+
+    fn field_type() -> Type {
+        Type::SLONG8
+    }
+
+    fn count(&self) -> usize {
+        1
+    }
+
+    #[tactic(auto, unfolding(crate::specs::Data::data_of))]
+    fn data(&self, alloc: Global) -> TiffResult<Vec<u8>> {
+        Ok(Vec::from_slice(alloc, &self.to_le_bytes())?)
+    }
+
+    ghost sized = { λ n. unfold data_of in (refl, refl, refl) };
+}
+
+impl TiffScalar for i64 {
+    ghost scalars = { i64s };
+
+    ghost spelled = { signed_le w64 };
+
+    fn push_to(&self, out: &mut Vec<u8>) -> TiffResult<()> {
+        out.extend_from_slice(&self.to_le_bytes())?;
+        Ok(())
+    }
+
+    ghost alone = { λ n. refl };
+
+    ghost one = { λ n. refl };
+
+    ghost listed = { λ ns. unfold data_of in refl };
+}
+
+impl TiffValue for Bits32 {
+    ghost value_type = { FLOAT };
+
+    ghost value_count = { λ _. 1 };
+
+    ghost field_data = { λ n. Ok (data_of (bits32s (n.0 ∷ []))) };
+
+    fn field_type() -> Type {
+        Type::FLOAT
+    }
+
+    fn count(&self) -> usize {
+        1
+    }
+
+    #[tactic(auto, unfolding(crate::specs::Data::data_of))]
+    fn data(&self, alloc: Global) -> TiffResult<Vec<u8>> {
+        Ok(Vec::from_slice(alloc, &self.0.to_le_bytes())?)
+    }
+
+    ghost sized = { λ n. unfold data_of in (refl, refl, refl) };
+}
+
+impl TiffScalar for Bits32 {
+    ghost scalars = { λ ns. bits32s (map (λ n. n.0) ns) };
+
+    ghost spelled = { λ n. le 4 n.0 };
+
+    fn push_to(&self, out: &mut Vec<u8>) -> TiffResult<()> {
+        out.extend_from_slice(&self.0.to_le_bytes())?;
+        Ok(())
+    }
+
+    ghost alone = { λ n. refl };
+
+    ghost one = { λ n. refl };
+
+    ghost listed = { λ ns. unfold data_of in mapped FLOAT (λ n. n.0) (le 4) ns };
+}
+
+impl TiffValue for Bits64 {
+    ghost value_type = { DOUBLE };
+
+    ghost value_count = { λ _. 1 };
+
+    ghost field_data = { λ n. Ok (data_of (bits64s (n.0 ∷ []))) };
+
+    fn field_type() -> Type {
+        Type::DOUBLE
+    }
+
+    fn count(&self) -> usize {
+        1
+    }
+
+    #[tactic(auto, unfolding(crate::specs::Data::data_of))]
+    fn data(&self, alloc: Global) -> TiffResult<Vec<u8>> {
+        Ok(Vec::from_slice(alloc, &self.0.to_le_bytes())?)
+    }
+
+    ghost sized = { λ n. unfold data_of in (refl, refl, refl) };
+}
+
+impl TiffScalar for Bits64 {
+    ghost scalars = { λ ns. bits64s (map (λ n. n.0) ns) };
+
+    ghost spelled = { λ n. le 8 n.0 };
+
+    fn push_to(&self, out: &mut Vec<u8>) -> TiffResult<()> {
+        out.extend_from_slice(&self.0.to_le_bytes())?;
+        Ok(())
+    }
+
+    ghost alone = { λ n. refl };
+
+    ghost one = { λ n. refl };
+
+    ghost listed = { λ ns. unfold data_of in mapped DOUBLE (λ n. n.0) (le 8) ns };
+}
+
+impl TiffValue for Ifd {
+    ghost value_type = { IFD };
+
+    ghost value_count = { λ _. 1 };
+
+    ghost field_data = { λ n. Ok (data_of (ifds (n.0 ∷ []))) };
+
+    fn field_type() -> Type {
+        Type::IFD
+    }
+
+    fn count(&self) -> usize {
+        1
+    }
+
+    #[tactic(auto, unfolding(crate::specs::Data::data_of))]
+    fn data(&self, alloc: Global) -> TiffResult<Vec<u8>> {
+        Ok(Vec::from_slice(alloc, &self.0.to_le_bytes())?)
+    }
+
+    ghost sized = { λ n. unfold data_of in (refl, refl, refl) };
+}
+
+impl TiffScalar for Ifd {
+    ghost scalars = { λ ns. ifds (map (λ n. n.0) ns) };
+
+    ghost spelled = { λ n. le 4 n.0 };
+
+    fn push_to(&self, out: &mut Vec<u8>) -> TiffResult<()> {
+        out.extend_from_slice(&self.0.to_le_bytes())?;
+        Ok(())
+    }
+
+    ghost alone = { λ n. refl };
+
+    ghost one = { λ n. refl };
+
+    ghost listed = { λ ns. unfold data_of in mapped IFD (λ n. n.0) (le 4) ns };
+}
+
+impl TiffValue for Ifd8 {
+    ghost value_type = { IFD8 };
+
+    ghost value_count = { λ _. 1 };
+
+    ghost field_data = { λ n. Ok (data_of (ifd8s (n.0 ∷ []))) };
+
+    fn field_type() -> Type {
+        Type::IFD8
+    }
+
+    fn count(&self) -> usize {
+        1
+    }
+
+    #[tactic(auto, unfolding(crate::specs::Data::data_of))]
+    fn data(&self, alloc: Global) -> TiffResult<Vec<u8>> {
+        Ok(Vec::from_slice(alloc, &self.0.to_le_bytes())?)
+    }
+
+    ghost sized = { λ n. unfold data_of in (refl, refl, refl) };
+}
+
+impl TiffScalar for Ifd8 {
+    ghost scalars = { λ ns. ifd8s (map (λ n. n.0) ns) };
+
+    ghost spelled = { λ n. le 8 n.0 };
+
+    fn push_to(&self, out: &mut Vec<u8>) -> TiffResult<()> {
+        out.extend_from_slice(&self.0.to_le_bytes())?;
+        Ok(())
+    }
+
+    ghost alone = { λ n. refl };
+
+    ghost one = { λ n. refl };
+
+    ghost listed = { λ ns. unfold data_of in mapped IFD8 (λ n. n.0) (le 8) ns };
+}
