@@ -1,12 +1,15 @@
 //! Numbers and bytes are written at a place of a sink.
 
-ghost use Rattle.std.specs.Prelude.{◌≡◌, ℕ, ◌+◌, ◌-◌, ◌%◌, ◌<◌, ◌≤◌, List, length, replicate, take, IfOk, IfErr, MatchResult, false};
+ghost use Rattle.std.specs.Int.{w8, w16, w32, w64};
+ghost use Rattle.std.specs.Prelude.{◌≡◌, ℕ, ◌+◌, ◌-◌, ◌%◌, ◌<◌, ◌≤◌, List, [], ◌∷◌, length, replicate, take, IfOk, IfErr, MatchResult, false};
 ghost use Rattle.tiff_base.specs.Number.{le};
+ghost use Rattle.tiff_value.specs.Data.{signed_le};
 ghost use Rattle.tiff_value.specs.Written.{moved, Fails, Writes, WritesRaw};
 
 use std::marker::Model;
 use tiff_base::error::{TiffError, TiffResult, UsageError};
 use tiff_base::io::{IoKind, Sink, SinkFault};
+use tiff_base::tags::{Bits32, Bits64};
 
 /// Writes bytes at a place of a sink. After a fault of the sink each write answers `UsageError(WriterFailed)`.
 #[derive(Drop)]
@@ -145,9 +148,23 @@ impl<W: Sink> TiffWriter<W> {
         self.write_bytes(&n.to_le_bytes())
     }
 
+    /// Writes a signed byte. Errors are those of `write_bytes`.
+    pub fn write_i8(&mut self, n: i8) -> TiffResult<()>
+        ensures { Writes (signed_le w8 n) self.old self.new result }
+    {
+        self.write_bytes(&n.to_le_bytes())
+    }
+
     /// Writes 2 bytes, the least first. Errors are those of `write_bytes`.
     pub fn write_u16(&mut self, n: u16) -> TiffResult<()>
         ensures { Writes (le 2 n) self.old self.new result }
+    {
+        self.write_bytes(&n.to_le_bytes())
+    }
+
+    /// Writes a signed number of 2 bytes, the least byte first. Errors are those of `write_bytes`.
+    pub fn write_i16(&mut self, n: i16) -> TiffResult<()>
+        ensures { Writes (signed_le w16 n) self.old self.new result }
     {
         self.write_bytes(&n.to_le_bytes())
     }
@@ -159,11 +176,39 @@ impl<W: Sink> TiffWriter<W> {
         self.write_bytes(&n.to_le_bytes())
     }
 
+    /// Writes a signed number of 4 bytes, the least byte first. Errors are those of `write_bytes`.
+    pub fn write_i32(&mut self, n: i32) -> TiffResult<()>
+        ensures { Writes (signed_le w32 n) self.old self.new result }
+    {
+        self.write_bytes(&n.to_le_bytes())
+    }
+
     /// Writes 8 bytes, the least first. Errors are those of `write_bytes`.
     pub fn write_u64(&mut self, n: u64) -> TiffResult<()>
         ensures { Writes (le 8 n) self.old self.new result }
     {
         self.write_bytes(&n.to_le_bytes())
+    }
+
+    /// Writes a signed number of 8 bytes, the least byte first. Errors are those of `write_bytes`.
+    pub fn write_i64(&mut self, n: i64) -> TiffResult<()>
+        ensures { Writes (signed_le w64 n) self.old self.new result }
+    {
+        self.write_bytes(&n.to_le_bytes())
+    }
+
+    /// Writes the bits of a floating number of 4 bytes, the least byte first. Errors are those of `write_bytes`.
+    pub fn write_f32(&mut self, n: Bits32) -> TiffResult<()>
+        ensures { Writes (le 4 n.0) self.old self.new result }
+    {
+        self.write_bytes(&n.0.to_le_bytes())
+    }
+
+    /// Writes the bits of a floating number of 8 bytes, the least byte first. Errors are those of `write_bytes`.
+    pub fn write_f64(&mut self, n: Bits64) -> TiffResult<()>
+        ensures { Writes (le 8 n.0) self.old self.new result }
+    {
+        self.write_bytes(&n.0.to_le_bytes())
     }
 
     /// Writes zeros up to the next place that is a multiple of 4; `last_written` doesn't count them. Errors are those
@@ -188,4 +233,20 @@ impl<W: Sink> TiffWriter<W> {
         } = self;
         sink
     }
+}
+
+/// Writes the first bytes of a classic little-endian file, before the place of its first directory; `last_written` doesn't count
+/// them. Errors are those of `TiffWriter::write_bytes`.
+pub fn write_tiff_header<W: Sink>(writer: &mut TiffWriter<W>) -> TiffResult<()>
+    ensures { WritesRaw (73 ∷ 73 ∷ 42 ∷ 0 ∷ []) writer.old writer.new result }
+{
+    writer.write_raw(&[73, 73, 42, 0])
+}
+
+/// Writes the first bytes of a little-endian BigTIFF file, before the place of its first directory; `last_written` doesn't count
+/// them. Errors are those of `TiffWriter::write_bytes`.
+pub fn write_bigtiff_header<W: Sink>(writer: &mut TiffWriter<W>) -> TiffResult<()>
+    ensures { WritesRaw (73 ∷ 73 ∷ 43 ∷ 0 ∷ 8 ∷ 0 ∷ 0 ∷ 0 ∷ []) writer.old writer.new result }
+{
+    writer.write_raw(&[73, 73, 43, 0, 8, 0, 0, 0])
 }
