@@ -6,4 +6,5 @@ pub mod Buffer
 pub mod ColorTypes
 pub mod Differences
 pub mod Packed
+pub mod Packing
 pub mod Lends

@@ -1,0 +1,3 @@
+//! How the bytes of a strip or a tile are stored.
+
+mod packer;
