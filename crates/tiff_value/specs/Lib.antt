@@ -7,4 +7,6 @@ pub mod ColorTypes
 pub mod Differences
 pub mod Packed
 pub mod Packing
+pub mod Stored
+pub mod Compressors
 pub mod Lends
