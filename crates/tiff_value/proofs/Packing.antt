@@ -1,12 +1,12 @@
 -- Blocks, one after another.
-use Rattle.std.proofs.Common.{◌≡◌, ◌≢◌, ℕ, zero, suc, ◌+◌, ◌-◌, ◌*◌, ◌/◌, ◌<◌, ◌≤◌, Bool, true, false, not, ◌&&◌, cond, eqb, ltb, ◌==◌, List, [], ◌∷◌, ◌++◌, take, drop, get_or, length, replicate, refl, ap, sym, ◌∙◌, subst, inl, inr, ⊎_elim, append_assoc, append-nil, arith, length-append, length-drop}
+use Rattle.std.proofs.Common.{◌≡◌, ◌≢◌, ℕ, zero, suc, ◌+◌, ◌-◌, ◌*◌, ◌<◌, ◌≤◌, Bool, true, false, not, ◌&&◌, cond, eqb, ltb, ◌==◌, List, [], ◌∷◌, ◌++◌, take, drop, get_or, length, replicate, refl, ap, sym, ◌∙◌, subst, ⊎_elim, append_assoc, append-nil, arith, length-append, length-drop}
 use Rattle.std.proofs.lemmas.Bool.{ne_eqb, eq-eqb, cases_lt, lt-ltb, le-ltb}
 use Rattle.std.proofs.lemmas.Bool.Decides.{nat_tests, eqb_tells}
 use Rattle.std.proofs.lemmas.List.{drop_all, length-take-le, take_at, drop_at, take_all, drop-drop}
 use Rattle.std.proofs.Math.Seq.{take-add}
 use Rattle.std.specs.List.{list_all}
-use Rattle.tiff_base.specs.Runs.{Unpacked, Plain, Broken, before, repeated, runs, runs_after}
-use Rattle.tiff_value.specs.Packed.{followers, headers_after, literals_after, begins_with_two, holds_three, is_sparing, packed_bound, IsPacked}
+use Rattle.tiff_base.specs.Runs.{Unpacked, Plain, before, repeated, runs, runs_after}
+use Rattle.tiff_value.specs.Packed.{followers, headers_after, literals_after, begins_with_two, holds_three, is_sparing, IsPacked}
 use Rattle.tiff_value.specs.Packing.{IsRun, IsVaried, IsVariedFront, BeginsWithThree, owed, IsUsed, IsSparing, Packs, PacksAtEnd, HasPacked}
 
 -- ---- what one block unpacks to

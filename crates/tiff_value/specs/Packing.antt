@@ -1,5 +1,5 @@
 -- How one block is packed after another: what the packer's own functions say.
-use Rattle.std.specs.Prelude.{◌≡◌, ◌≢◌, ℕ, ◌+◌, ◌*◌, ◌<◌, ◌≤◌, ◌⊎◌, Bool, true, false, not, ◌==◌, ◌&&◌, if◌then◌else◌, List, [], ◌∷◌, ◌++◌, take, drop, replicate, slice_index, length}
+use Rattle.std.specs.Prelude.{◌≡◌, ◌≢◌, ℕ, ◌+◌, ◌*◌, ◌<◌, ◌≤◌, ◌⊎◌, true, false, not, ◌==◌, ◌&&◌, if◌then◌else◌, List, [], ◌∷◌, ◌++◌, take, drop, replicate, slice_index, length}
 use Rattle.std.specs.List.{list_all}
 use Rattle.tiff_base.specs.Runs.{before, runs}
 use Rattle.tiff_value.specs.Packed.{headers_after, literals_after, is_sparing}

@@ -1,5 +1,5 @@
 -- What a call that stores bytes by a method does to its writer.
-use Rattle.std.specs.Prelude.{◌≡◌, ℕ, ◌⊎◌, Bool, true, false, List, length, Option, Some, None, Result, MatchResult}
+use Rattle.std.specs.Prelude.{◌≡◌, ℕ, ◌⊎◌, Bool, true, false, List, length, Some, None, Result, MatchResult}
 use Rattle.tiff_base.specs.declared.error.TiffError.{TiffError}
 use Rattle.tiff_base.specs.declared.error.TiffError.TheVariants.{OutOfMemory}
 use Rattle.tiff_base.specs.declared.tags.CompressionMethod.{CompressionMethod}

@@ -65,10 +65,8 @@ impl CompressionAlgorithm for Uncompressed {
         writer: &mut TiffWriter<W>,
         bytes: &[u8],
     ) -> TiffResult<u64> {
-        match writer.write_bytes(bytes) {
-            Ok(()) => Ok(bytes.len() as u64),
-            Err(fault) => Err(fault),
-        }
+        writer.write_bytes(bytes)?;
+        Ok(bytes.len() as u64)
     }
 }
 
@@ -108,14 +106,9 @@ impl CompressionAlgorithm for Packbits {
         if bytes.is_empty() {
             return Err(TiffError::IoError(IoKind::WriteZero));
         }
-        let packed = match packer::pack(alloc, bytes) {
-            Ok(packed) => packed,
-            Err(fault) => return Err(fault),
-        };
-        match writer.write_bytes(&packed) {
-            Ok(()) => Ok(packed.len() as u64),
-            Err(fault) => Err(fault),
-        }
+        let packed = packer::pack(alloc, bytes)?;
+        writer.write_bytes(&packed)?;
+        Ok(packed.len() as u64)
     }
 }
 
