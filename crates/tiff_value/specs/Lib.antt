@@ -7,4 +7,7 @@ pub mod Buffer
 pub mod ColorTypes
 pub mod Differences
 pub mod Packed
+pub mod Packing
+pub mod Stored
+pub mod Compressors
 pub mod Lends

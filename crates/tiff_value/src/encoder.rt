@@ -1,6 +1,7 @@
 //! What files are written by.
 
 pub mod colortype;
+pub mod compression;
 mod fractions;
 mod names;
 mod numbers;

@@ -1,0 +1,66 @@
+-- How one block is packed after another: what the packer's own functions say.
+use Rattle.std.specs.Prelude.{◌≡◌, ◌≢◌, ℕ, ◌+◌, ◌*◌, ◌<◌, ◌≤◌, ◌⊎◌, true, false, not, ◌==◌, ◌&&◌, if◌then◌else◌, List, [], ◌∷◌, ◌++◌, take, drop, replicate, slice_index, length}
+use Rattle.std.specs.List.{list_all}
+use Rattle.tiff_base.specs.Runs.{before, runs}
+use Rattle.tiff_value.specs.Packed.{headers_after, literals_after, is_sparing}
+
+-- the first n bytes are one byte, and n is 128 or the byte behind them is another
+pub record IsRun (bytes : List ℕ) (n : ℕ) : Type 0 where
+  pub some : 0 < n
+  pub most : n ≤ 128
+  pub within : n ≤ length bytes
+  pub same : take n bytes ≡ replicate n (slice_index bytes 0)
+  pub longest : n < 128 → n < length bytes → slice_index bytes n ≢ slice_index bytes 0
+
+-- the bytes begin with three equal ones
+pub record BeginsWithThree (bytes : List ℕ) : Type 0 where
+  pub long : 2 < length bytes
+  pub first : slice_index bytes 0 ≡ slice_index bytes 1
+  pub second : slice_index bytes 1 ≡ slice_index bytes 2
+
+-- the bytes begin with no two equal ones, and hold no three in a row
+pub record IsVaried (bytes : List ℕ) : Type 0 where
+  pub first : 1 < length bytes → slice_index bytes 0 ≢ slice_index bytes 1
+  pub no_three : (k : ℕ) → k + 2 < length bytes → slice_index bytes k ≡ slice_index bytes (k + 1) → slice_index bytes (k + 1) ≢ slice_index bytes (k + 2)
+
+-- the first n bytes are varied, and n is 128, or the end, or three equal bytes follow
+pub record IsVariedFront (bytes : List ℕ) (n : ℕ) : Type 0 where
+  pub some : 0 < n
+  pub most : n ≤ 128
+  pub within : n ≤ length bytes
+  pub varied : IsVaried (take n bytes)
+  pub why : (n ≡ 128) ⊎ ((n ≡ length bytes) ⊎ BeginsWithThree (drop n bytes))
+
+-- what may be missing to the bound where these bytes are left, in 128ths of a byte
+abbrev pub owed : List ℕ → ℕ
+owed [] = 127
+owed (a ∷ []) = 0
+owed (a ∷ b ∷ []) = 0
+owed (a ∷ b ∷ c ∷ rest) = if (a == b) && (b == c) then 128 else 0
+
+abbrev pub IsUsed : List ℕ → Type 0
+IsUsed packed = list_all (λ header. not (header == 128)) (headers_after 0 packed) ≡ true
+
+abbrev pub IsSparing : List ℕ → Type 0
+IsSparing packed = list_all is_sparing (literals_after 0 packed) ≡ true
+
+-- whole blocks that stand for the bytes, whatever follows them
+pub record Packs (packed bytes : List ℕ) : Type 0 where
+  pub stands : (tail : List ℕ) → runs false (packed ++ tail) ≡ before bytes (runs false tail)
+  pub used : (tail : List ℕ) → IsUsed tail → IsUsed (packed ++ tail)
+  pub sparing : (tail : List ℕ) → IsSparing tail → IsSparing (packed ++ tail)
+
+-- new is old with blocks for the first n bytes at its end, and these are short enough
+pub record PacksAtEnd (old bytes : List ℕ) (n : ℕ) (new : List ℕ) : Type 0 where
+  pub some : 0 < n
+  pub within : n ≤ length bytes
+  pub packed : List ℕ
+  pub packs : Packs packed (take n bytes)
+  pub short : 128 * length packed + owed bytes ≤ 129 * n + owed (drop n bytes)
+  pub at_end : new ≡ old ++ packed
+
+-- these are blocks for the first n bytes, short enough in all
+pub record HasPacked (bytes : List ℕ) (n : ℕ) (packed : List ℕ) : Type 0 where
+  pub within : n ≤ length bytes
+  pub packs : Packs packed (take n bytes)
+  pub short : 128 * length packed ≤ 129 * n + owed (drop n bytes)
