@@ -1,6 +1,7 @@
 //! What files are written by.
 
 pub mod colortype;
+mod colours;
 mod fractions;
 mod names;
 mod numbers;
