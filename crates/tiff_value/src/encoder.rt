@@ -1,6 +1,7 @@
 //! What files are written by.
 
 pub mod colortype;
+mod colours;
 pub mod compression;
 mod fractions;
 mod names;

@@ -3,6 +3,12 @@
 ghost use Rattle.std.specs.Prelude.{◌≡◌};
 ghost use Rattle.tiff_value.specs.ColorType.{ColorTypeRecord};
 
+pub use super::colours::{
+    CMYK8, CMYK16, CMYK32, CMYK32Float, CMYK64, CMYK64Float, CMYKA8, Gray16, Gray32, Gray32Float,
+    Gray64, Gray64Float, GrayI8, GrayI16, GrayI32, GrayI64, RGB8, RGB16, RGB32, RGB32Float, RGB64,
+    RGB64Float, RGBA8, RGBA16, RGBA32, RGBA32Float, RGBA64, RGBA64Float, YCbCr8,
+};
+use super::tiff_value::TiffScalar;
 use tiff_base::tags::{PhotometricInterpretation, SampleFormat};
 
 /// What a page says of its samples.
@@ -10,9 +16,14 @@ pub trait ColorType {
     ghost use Rattle.std.specs.Prelude.{◌≡◌};
     ghost use Rattle.tiff_base.specs.declared.tags.PhotometricInterpretation.{PhotometricInterpretation};
     ghost use Rattle.tiff_value.specs.ColorType.{ColorTypeRecord};
+    ghost use Rattle.tiff_value.specs.ColorTypes.{colour_type, inner_type};
+    ghost use Rattle.tiff_value.specs.declared.encoder.colortype.ColorTypeName.{ColorTypeName};
 
     /// The type of a sample in memory.
-    type Inner;
+    type Inner: TiffScalar;
+
+    /// Its name.
+    ghost name: { ColorTypeName };
 
     /// All that the page says of its samples.
     ghost described: { ColorTypeRecord };
@@ -31,6 +42,11 @@ pub trait ColorType {
         ensures { result.now ≡ described.formats };
 
     ghost interpreted: { TIFF_VALUE ≡ described.interpretation };
+
+    // It is what its name says.
+    ghost named: { described ≡ colour_type name };
+
+    ghost in_memory: { Self.Inner.value_type ≡ inner_type name };
 }
 
 /// Gray, of 8 bits.
@@ -40,8 +56,12 @@ impl ColorType for Gray8 {
     ghost use Rattle.std.specs.Prelude.{[], ◌∷◌, refl};
     ghost use Rattle.tiff_base.specs.declared.tags.PhotometricInterpretation.TheVariants as interpretation;
     ghost use Rattle.tiff_base.specs.declared.tags.SampleFormat.TheVariants as format;
+    ghost use Rattle.tiff_value.specs.ColorTypes.{colour_type, inner_type};
+    ghost use Rattle.tiff_value.specs.declared.encoder.colortype.ColorTypeName.TheVariants as name;
 
     type Inner = u8;
+
+    ghost name = { name.Gray8 };
 
     ghost described = { record { interpretation = interpretation.BlackIsZero; bits = 8 ∷ []; formats = format.Uint ∷ [] } };
 
@@ -58,6 +78,10 @@ impl ColorType for Gray8 {
     }
 
     ghost interpreted = { refl };
+
+    ghost named = { unfold colour_type in refl };
+
+    ghost in_memory = { unfold inner_type in refl };
 }
 
 /// The name of each colour type of a page that is written.

@@ -1,0 +1,851 @@
+//! The colour types beside `Gray8`, named as in the Rust crate.
+
+ghost use Rattle.std.specs.Prelude.{refl};
+ghost use Rattle.tiff_base.specs.declared.tags.PhotometricInterpretation.TheVariants as interpretation;
+ghost use Rattle.tiff_base.specs.declared.tags.SampleFormat.TheVariants as format;
+ghost use Rattle.tiff_value.specs.declared.encoder.colortype.ColorTypeName.TheVariants as name;
+ghost use Rattle.tiff_value.specs.ColorTypes.{colour_type, inner_type, samples_of};
+
+use super::colortype::ColorType;
+use tiff_base::tags::{Bits32, Bits64, PhotometricInterpretation, SampleFormat};
+
+/// Gray, of 16 bits.
+pub struct Gray16;
+
+impl ColorType for Gray16 {
+    type Inner = u16;
+
+    ghost name = { name.Gray16 };
+
+    ghost described = { samples_of interpretation.BlackIsZero 1 16 format.Uint };
+
+    ghost TIFF_VALUE = { interpretation.BlackIsZero };
+
+    const TIFF_VALUE: PhotometricInterpretation = PhotometricInterpretation::BlackIsZero;
+
+    fn bits_per_sample() -> &'static [u16] {
+        &[16]
+    }
+
+    fn sample_format() -> &'static [SampleFormat] {
+        &[SampleFormat::Uint]
+    }
+
+    ghost interpreted = { refl };
+
+    ghost named = { unfold colour_type in refl };
+
+    ghost in_memory = { unfold inner_type in refl };
+}
+
+/// Gray, of 32 bits.
+pub struct Gray32;
+
+impl ColorType for Gray32 {
+    type Inner = u32;
+
+    ghost name = { name.Gray32 };
+
+    ghost described = { samples_of interpretation.BlackIsZero 1 32 format.Uint };
+
+    ghost TIFF_VALUE = { interpretation.BlackIsZero };
+
+    const TIFF_VALUE: PhotometricInterpretation = PhotometricInterpretation::BlackIsZero;
+
+    fn bits_per_sample() -> &'static [u16] {
+        &[32]
+    }
+
+    fn sample_format() -> &'static [SampleFormat] {
+        &[SampleFormat::Uint]
+    }
+
+    ghost interpreted = { refl };
+
+    ghost named = { unfold colour_type in refl };
+
+    ghost in_memory = { unfold inner_type in refl };
+}
+
+/// Gray, of 64 bits.
+pub struct Gray64;
+
+impl ColorType for Gray64 {
+    type Inner = u64;
+
+    ghost name = { name.Gray64 };
+
+    ghost described = { samples_of interpretation.BlackIsZero 1 64 format.Uint };
+
+    ghost TIFF_VALUE = { interpretation.BlackIsZero };
+
+    const TIFF_VALUE: PhotometricInterpretation = PhotometricInterpretation::BlackIsZero;
+
+    fn bits_per_sample() -> &'static [u16] {
+        &[64]
+    }
+
+    fn sample_format() -> &'static [SampleFormat] {
+        &[SampleFormat::Uint]
+    }
+
+    ghost interpreted = { refl };
+
+    ghost named = { unfold colour_type in refl };
+
+    ghost in_memory = { unfold inner_type in refl };
+}
+
+/// Gray, of signed numbers of 8 bits.
+pub struct GrayI8;
+
+impl ColorType for GrayI8 {
+    type Inner = i8;
+
+    ghost name = { name.GrayI8 };
+
+    ghost described = { samples_of interpretation.BlackIsZero 1 8 format.Int };
+
+    ghost TIFF_VALUE = { interpretation.BlackIsZero };
+
+    const TIFF_VALUE: PhotometricInterpretation = PhotometricInterpretation::BlackIsZero;
+
+    fn bits_per_sample() -> &'static [u16] {
+        &[8]
+    }
+
+    fn sample_format() -> &'static [SampleFormat] {
+        &[SampleFormat::Int]
+    }
+
+    ghost interpreted = { refl };
+
+    ghost named = { unfold colour_type in refl };
+
+    ghost in_memory = { unfold inner_type in refl };
+}
+
+/// Gray, of signed numbers of 16 bits.
+pub struct GrayI16;
+
+impl ColorType for GrayI16 {
+    type Inner = i16;
+
+    ghost name = { name.GrayI16 };
+
+    ghost described = { samples_of interpretation.BlackIsZero 1 16 format.Int };
+
+    ghost TIFF_VALUE = { interpretation.BlackIsZero };
+
+    const TIFF_VALUE: PhotometricInterpretation = PhotometricInterpretation::BlackIsZero;
+
+    fn bits_per_sample() -> &'static [u16] {
+        &[16]
+    }
+
+    fn sample_format() -> &'static [SampleFormat] {
+        &[SampleFormat::Int]
+    }
+
+    ghost interpreted = { refl };
+
+    ghost named = { unfold colour_type in refl };
+
+    ghost in_memory = { unfold inner_type in refl };
+}
+
+/// Gray, of signed numbers of 32 bits.
+pub struct GrayI32;
+
+impl ColorType for GrayI32 {
+    type Inner = i32;
+
+    ghost name = { name.GrayI32 };
+
+    ghost described = { samples_of interpretation.BlackIsZero 1 32 format.Int };
+
+    ghost TIFF_VALUE = { interpretation.BlackIsZero };
+
+    const TIFF_VALUE: PhotometricInterpretation = PhotometricInterpretation::BlackIsZero;
+
+    fn bits_per_sample() -> &'static [u16] {
+        &[32]
+    }
+
+    fn sample_format() -> &'static [SampleFormat] {
+        &[SampleFormat::Int]
+    }
+
+    ghost interpreted = { refl };
+
+    ghost named = { unfold colour_type in refl };
+
+    ghost in_memory = { unfold inner_type in refl };
+}
+
+/// Gray, of signed numbers of 64 bits.
+pub struct GrayI64;
+
+impl ColorType for GrayI64 {
+    type Inner = i64;
+
+    ghost name = { name.GrayI64 };
+
+    ghost described = { samples_of interpretation.BlackIsZero 1 64 format.Int };
+
+    ghost TIFF_VALUE = { interpretation.BlackIsZero };
+
+    const TIFF_VALUE: PhotometricInterpretation = PhotometricInterpretation::BlackIsZero;
+
+    fn bits_per_sample() -> &'static [u16] {
+        &[64]
+    }
+
+    fn sample_format() -> &'static [SampleFormat] {
+        &[SampleFormat::Int]
+    }
+
+    ghost interpreted = { refl };
+
+    ghost named = { unfold colour_type in refl };
+
+    ghost in_memory = { unfold inner_type in refl };
+}
+
+/// Gray, of floating numbers of 32 bits.
+pub struct Gray32Float;
+
+impl ColorType for Gray32Float {
+    type Inner = Bits32;
+
+    ghost name = { name.Gray32Float };
+
+    ghost described = { samples_of interpretation.BlackIsZero 1 32 format.IEEEFP };
+
+    ghost TIFF_VALUE = { interpretation.BlackIsZero };
+
+    const TIFF_VALUE: PhotometricInterpretation = PhotometricInterpretation::BlackIsZero;
+
+    fn bits_per_sample() -> &'static [u16] {
+        &[32]
+    }
+
+    fn sample_format() -> &'static [SampleFormat] {
+        &[SampleFormat::IEEEFP]
+    }
+
+    ghost interpreted = { refl };
+
+    ghost named = { unfold colour_type in refl };
+
+    ghost in_memory = { unfold inner_type in refl };
+}
+
+/// Gray, of floating numbers of 64 bits.
+pub struct Gray64Float;
+
+impl ColorType for Gray64Float {
+    type Inner = Bits64;
+
+    ghost name = { name.Gray64Float };
+
+    ghost described = { samples_of interpretation.BlackIsZero 1 64 format.IEEEFP };
+
+    ghost TIFF_VALUE = { interpretation.BlackIsZero };
+
+    const TIFF_VALUE: PhotometricInterpretation = PhotometricInterpretation::BlackIsZero;
+
+    fn bits_per_sample() -> &'static [u16] {
+        &[64]
+    }
+
+    fn sample_format() -> &'static [SampleFormat] {
+        &[SampleFormat::IEEEFP]
+    }
+
+    ghost interpreted = { refl };
+
+    ghost named = { unfold colour_type in refl };
+
+    ghost in_memory = { unfold inner_type in refl };
+}
+
+/// Red, green and blue, of 8 bits.
+pub struct RGB8;
+
+impl ColorType for RGB8 {
+    type Inner = u8;
+
+    ghost name = { name.RGB8 };
+
+    ghost described = { samples_of interpretation.RGB 3 8 format.Uint };
+
+    ghost TIFF_VALUE = { interpretation.RGB };
+
+    const TIFF_VALUE: PhotometricInterpretation = PhotometricInterpretation::RGB;
+
+    fn bits_per_sample() -> &'static [u16] {
+        &[8; 3]
+    }
+
+    fn sample_format() -> &'static [SampleFormat] {
+        &[SampleFormat::Uint; 3]
+    }
+
+    ghost interpreted = { refl };
+
+    ghost named = { unfold colour_type in refl };
+
+    ghost in_memory = { unfold inner_type in refl };
+}
+
+/// Red, green and blue, of 16 bits.
+pub struct RGB16;
+
+impl ColorType for RGB16 {
+    type Inner = u16;
+
+    ghost name = { name.RGB16 };
+
+    ghost described = { samples_of interpretation.RGB 3 16 format.Uint };
+
+    ghost TIFF_VALUE = { interpretation.RGB };
+
+    const TIFF_VALUE: PhotometricInterpretation = PhotometricInterpretation::RGB;
+
+    fn bits_per_sample() -> &'static [u16] {
+        &[16; 3]
+    }
+
+    fn sample_format() -> &'static [SampleFormat] {
+        &[SampleFormat::Uint; 3]
+    }
+
+    ghost interpreted = { refl };
+
+    ghost named = { unfold colour_type in refl };
+
+    ghost in_memory = { unfold inner_type in refl };
+}
+
+/// Red, green and blue, of 32 bits.
+pub struct RGB32;
+
+impl ColorType for RGB32 {
+    type Inner = u32;
+
+    ghost name = { name.RGB32 };
+
+    ghost described = { samples_of interpretation.RGB 3 32 format.Uint };
+
+    ghost TIFF_VALUE = { interpretation.RGB };
+
+    const TIFF_VALUE: PhotometricInterpretation = PhotometricInterpretation::RGB;
+
+    fn bits_per_sample() -> &'static [u16] {
+        &[32; 3]
+    }
+
+    fn sample_format() -> &'static [SampleFormat] {
+        &[SampleFormat::Uint; 3]
+    }
+
+    ghost interpreted = { refl };
+
+    ghost named = { unfold colour_type in refl };
+
+    ghost in_memory = { unfold inner_type in refl };
+}
+
+/// Red, green and blue, of 64 bits.
+pub struct RGB64;
+
+impl ColorType for RGB64 {
+    type Inner = u64;
+
+    ghost name = { name.RGB64 };
+
+    ghost described = { samples_of interpretation.RGB 3 64 format.Uint };
+
+    ghost TIFF_VALUE = { interpretation.RGB };
+
+    const TIFF_VALUE: PhotometricInterpretation = PhotometricInterpretation::RGB;
+
+    fn bits_per_sample() -> &'static [u16] {
+        &[64; 3]
+    }
+
+    fn sample_format() -> &'static [SampleFormat] {
+        &[SampleFormat::Uint; 3]
+    }
+
+    ghost interpreted = { refl };
+
+    ghost named = { unfold colour_type in refl };
+
+    ghost in_memory = { unfold inner_type in refl };
+}
+
+/// Red, green and blue, of floating numbers of 32 bits.
+pub struct RGB32Float;
+
+impl ColorType for RGB32Float {
+    type Inner = Bits32;
+
+    ghost name = { name.RGB32Float };
+
+    ghost described = { samples_of interpretation.RGB 3 32 format.IEEEFP };
+
+    ghost TIFF_VALUE = { interpretation.RGB };
+
+    const TIFF_VALUE: PhotometricInterpretation = PhotometricInterpretation::RGB;
+
+    fn bits_per_sample() -> &'static [u16] {
+        &[32; 3]
+    }
+
+    fn sample_format() -> &'static [SampleFormat] {
+        &[SampleFormat::IEEEFP; 3]
+    }
+
+    ghost interpreted = { refl };
+
+    ghost named = { unfold colour_type in refl };
+
+    ghost in_memory = { unfold inner_type in refl };
+}
+
+/// Red, green and blue, of floating numbers of 64 bits.
+pub struct RGB64Float;
+
+impl ColorType for RGB64Float {
+    type Inner = Bits64;
+
+    ghost name = { name.RGB64Float };
+
+    ghost described = { samples_of interpretation.RGB 3 64 format.IEEEFP };
+
+    ghost TIFF_VALUE = { interpretation.RGB };
+
+    const TIFF_VALUE: PhotometricInterpretation = PhotometricInterpretation::RGB;
+
+    fn bits_per_sample() -> &'static [u16] {
+        &[64; 3]
+    }
+
+    fn sample_format() -> &'static [SampleFormat] {
+        &[SampleFormat::IEEEFP; 3]
+    }
+
+    ghost interpreted = { refl };
+
+    ghost named = { unfold colour_type in refl };
+
+    ghost in_memory = { unfold inner_type in refl };
+}
+
+/// Red, green, blue and alpha, of 8 bits.
+pub struct RGBA8;
+
+impl ColorType for RGBA8 {
+    type Inner = u8;
+
+    ghost name = { name.RGBA8 };
+
+    ghost described = { samples_of interpretation.RGB 4 8 format.Uint };
+
+    ghost TIFF_VALUE = { interpretation.RGB };
+
+    const TIFF_VALUE: PhotometricInterpretation = PhotometricInterpretation::RGB;
+
+    fn bits_per_sample() -> &'static [u16] {
+        &[8; 4]
+    }
+
+    fn sample_format() -> &'static [SampleFormat] {
+        &[SampleFormat::Uint; 4]
+    }
+
+    ghost interpreted = { refl };
+
+    ghost named = { unfold colour_type in refl };
+
+    ghost in_memory = { unfold inner_type in refl };
+}
+
+/// Red, green, blue and alpha, of 16 bits.
+pub struct RGBA16;
+
+impl ColorType for RGBA16 {
+    type Inner = u16;
+
+    ghost name = { name.RGBA16 };
+
+    ghost described = { samples_of interpretation.RGB 4 16 format.Uint };
+
+    ghost TIFF_VALUE = { interpretation.RGB };
+
+    const TIFF_VALUE: PhotometricInterpretation = PhotometricInterpretation::RGB;
+
+    fn bits_per_sample() -> &'static [u16] {
+        &[16; 4]
+    }
+
+    fn sample_format() -> &'static [SampleFormat] {
+        &[SampleFormat::Uint; 4]
+    }
+
+    ghost interpreted = { refl };
+
+    ghost named = { unfold colour_type in refl };
+
+    ghost in_memory = { unfold inner_type in refl };
+}
+
+/// Red, green, blue and alpha, of 32 bits.
+pub struct RGBA32;
+
+impl ColorType for RGBA32 {
+    type Inner = u32;
+
+    ghost name = { name.RGBA32 };
+
+    ghost described = { samples_of interpretation.RGB 4 32 format.Uint };
+
+    ghost TIFF_VALUE = { interpretation.RGB };
+
+    const TIFF_VALUE: PhotometricInterpretation = PhotometricInterpretation::RGB;
+
+    fn bits_per_sample() -> &'static [u16] {
+        &[32; 4]
+    }
+
+    fn sample_format() -> &'static [SampleFormat] {
+        &[SampleFormat::Uint; 4]
+    }
+
+    ghost interpreted = { refl };
+
+    ghost named = { unfold colour_type in refl };
+
+    ghost in_memory = { unfold inner_type in refl };
+}
+
+/// Red, green, blue and alpha, of 64 bits.
+pub struct RGBA64;
+
+impl ColorType for RGBA64 {
+    type Inner = u64;
+
+    ghost name = { name.RGBA64 };
+
+    ghost described = { samples_of interpretation.RGB 4 64 format.Uint };
+
+    ghost TIFF_VALUE = { interpretation.RGB };
+
+    const TIFF_VALUE: PhotometricInterpretation = PhotometricInterpretation::RGB;
+
+    fn bits_per_sample() -> &'static [u16] {
+        &[64; 4]
+    }
+
+    fn sample_format() -> &'static [SampleFormat] {
+        &[SampleFormat::Uint; 4]
+    }
+
+    ghost interpreted = { refl };
+
+    ghost named = { unfold colour_type in refl };
+
+    ghost in_memory = { unfold inner_type in refl };
+}
+
+/// Red, green, blue and alpha, of floating numbers of 32 bits.
+pub struct RGBA32Float;
+
+impl ColorType for RGBA32Float {
+    type Inner = Bits32;
+
+    ghost name = { name.RGBA32Float };
+
+    ghost described = { samples_of interpretation.RGB 4 32 format.IEEEFP };
+
+    ghost TIFF_VALUE = { interpretation.RGB };
+
+    const TIFF_VALUE: PhotometricInterpretation = PhotometricInterpretation::RGB;
+
+    fn bits_per_sample() -> &'static [u16] {
+        &[32; 4]
+    }
+
+    fn sample_format() -> &'static [SampleFormat] {
+        &[SampleFormat::IEEEFP; 4]
+    }
+
+    ghost interpreted = { refl };
+
+    ghost named = { unfold colour_type in refl };
+
+    ghost in_memory = { unfold inner_type in refl };
+}
+
+/// Red, green, blue and alpha, of floating numbers of 64 bits.
+pub struct RGBA64Float;
+
+impl ColorType for RGBA64Float {
+    type Inner = Bits64;
+
+    ghost name = { name.RGBA64Float };
+
+    ghost described = { samples_of interpretation.RGB 4 64 format.IEEEFP };
+
+    ghost TIFF_VALUE = { interpretation.RGB };
+
+    const TIFF_VALUE: PhotometricInterpretation = PhotometricInterpretation::RGB;
+
+    fn bits_per_sample() -> &'static [u16] {
+        &[64; 4]
+    }
+
+    fn sample_format() -> &'static [SampleFormat] {
+        &[SampleFormat::IEEEFP; 4]
+    }
+
+    ghost interpreted = { refl };
+
+    ghost named = { unfold colour_type in refl };
+
+    ghost in_memory = { unfold inner_type in refl };
+}
+
+/// Cyan, magenta, yellow and black, of 8 bits.
+pub struct CMYK8;
+
+impl ColorType for CMYK8 {
+    type Inner = u8;
+
+    ghost name = { name.CMYK8 };
+
+    ghost described = { samples_of interpretation.CMYK 4 8 format.Uint };
+
+    ghost TIFF_VALUE = { interpretation.CMYK };
+
+    const TIFF_VALUE: PhotometricInterpretation = PhotometricInterpretation::CMYK;
+
+    fn bits_per_sample() -> &'static [u16] {
+        &[8; 4]
+    }
+
+    fn sample_format() -> &'static [SampleFormat] {
+        &[SampleFormat::Uint; 4]
+    }
+
+    ghost interpreted = { refl };
+
+    ghost named = { unfold colour_type in refl };
+
+    ghost in_memory = { unfold inner_type in refl };
+}
+
+/// Cyan, magenta, yellow and black, of 16 bits.
+pub struct CMYK16;
+
+impl ColorType for CMYK16 {
+    type Inner = u16;
+
+    ghost name = { name.CMYK16 };
+
+    ghost described = { samples_of interpretation.CMYK 4 16 format.Uint };
+
+    ghost TIFF_VALUE = { interpretation.CMYK };
+
+    const TIFF_VALUE: PhotometricInterpretation = PhotometricInterpretation::CMYK;
+
+    fn bits_per_sample() -> &'static [u16] {
+        &[16; 4]
+    }
+
+    fn sample_format() -> &'static [SampleFormat] {
+        &[SampleFormat::Uint; 4]
+    }
+
+    ghost interpreted = { refl };
+
+    ghost named = { unfold colour_type in refl };
+
+    ghost in_memory = { unfold inner_type in refl };
+}
+
+/// Cyan, magenta, yellow and black, of 32 bits.
+pub struct CMYK32;
+
+impl ColorType for CMYK32 {
+    type Inner = u32;
+
+    ghost name = { name.CMYK32 };
+
+    ghost described = { samples_of interpretation.CMYK 4 32 format.Uint };
+
+    ghost TIFF_VALUE = { interpretation.CMYK };
+
+    const TIFF_VALUE: PhotometricInterpretation = PhotometricInterpretation::CMYK;
+
+    fn bits_per_sample() -> &'static [u16] {
+        &[32; 4]
+    }
+
+    fn sample_format() -> &'static [SampleFormat] {
+        &[SampleFormat::Uint; 4]
+    }
+
+    ghost interpreted = { refl };
+
+    ghost named = { unfold colour_type in refl };
+
+    ghost in_memory = { unfold inner_type in refl };
+}
+
+/// Cyan, magenta, yellow and black, of 64 bits.
+pub struct CMYK64;
+
+impl ColorType for CMYK64 {
+    type Inner = u64;
+
+    ghost name = { name.CMYK64 };
+
+    ghost described = { samples_of interpretation.CMYK 4 64 format.Uint };
+
+    ghost TIFF_VALUE = { interpretation.CMYK };
+
+    const TIFF_VALUE: PhotometricInterpretation = PhotometricInterpretation::CMYK;
+
+    fn bits_per_sample() -> &'static [u16] {
+        &[64; 4]
+    }
+
+    fn sample_format() -> &'static [SampleFormat] {
+        &[SampleFormat::Uint; 4]
+    }
+
+    ghost interpreted = { refl };
+
+    ghost named = { unfold colour_type in refl };
+
+    ghost in_memory = { unfold inner_type in refl };
+}
+
+/// Cyan, magenta, yellow and black, of floating numbers of 32 bits.
+pub struct CMYK32Float;
+
+impl ColorType for CMYK32Float {
+    type Inner = Bits32;
+
+    ghost name = { name.CMYK32Float };
+
+    ghost described = { samples_of interpretation.CMYK 4 32 format.IEEEFP };
+
+    ghost TIFF_VALUE = { interpretation.CMYK };
+
+    const TIFF_VALUE: PhotometricInterpretation = PhotometricInterpretation::CMYK;
+
+    fn bits_per_sample() -> &'static [u16] {
+        &[32; 4]
+    }
+
+    fn sample_format() -> &'static [SampleFormat] {
+        &[SampleFormat::IEEEFP; 4]
+    }
+
+    ghost interpreted = { refl };
+
+    ghost named = { unfold colour_type in refl };
+
+    ghost in_memory = { unfold inner_type in refl };
+}
+
+/// Cyan, magenta, yellow and black, of floating numbers of 64 bits.
+pub struct CMYK64Float;
+
+impl ColorType for CMYK64Float {
+    type Inner = Bits64;
+
+    ghost name = { name.CMYK64Float };
+
+    ghost described = { samples_of interpretation.CMYK 4 64 format.IEEEFP };
+
+    ghost TIFF_VALUE = { interpretation.CMYK };
+
+    const TIFF_VALUE: PhotometricInterpretation = PhotometricInterpretation::CMYK;
+
+    fn bits_per_sample() -> &'static [u16] {
+        &[64; 4]
+    }
+
+    fn sample_format() -> &'static [SampleFormat] {
+        &[SampleFormat::IEEEFP; 4]
+    }
+
+    ghost interpreted = { refl };
+
+    ghost named = { unfold colour_type in refl };
+
+    ghost in_memory = { unfold inner_type in refl };
+}
+
+/// Brightness and two colour differences, of 8 bits.
+pub struct YCbCr8;
+
+impl ColorType for YCbCr8 {
+    type Inner = u8;
+
+    ghost name = { name.YCbCr8 };
+
+    ghost described = { samples_of interpretation.YCbCr 3 8 format.Uint };
+
+    ghost TIFF_VALUE = { interpretation.YCbCr };
+
+    const TIFF_VALUE: PhotometricInterpretation = PhotometricInterpretation::YCbCr;
+
+    fn bits_per_sample() -> &'static [u16] {
+        &[8; 3]
+    }
+
+    fn sample_format() -> &'static [SampleFormat] {
+        &[SampleFormat::Uint; 3]
+    }
+
+    ghost interpreted = { refl };
+
+    ghost named = { unfold colour_type in refl };
+
+    ghost in_memory = { unfold inner_type in refl };
+}
+
+/// Cyan, magenta, yellow, black and alpha, of 8 bits.
+pub struct CMYKA8;
+
+impl ColorType for CMYKA8 {
+    type Inner = u8;
+
+    ghost name = { name.CMYKA8 };
+
+    ghost described = { samples_of interpretation.CMYK 5 8 format.Uint };
+
+    ghost TIFF_VALUE = { interpretation.CMYK };
+
+    const TIFF_VALUE: PhotometricInterpretation = PhotometricInterpretation::CMYK;
+
+    fn bits_per_sample() -> &'static [u16] {
+        &[8; 5]
+    }
+
+    fn sample_format() -> &'static [SampleFormat] {
+        &[SampleFormat::Uint; 5]
+    }
+
+    ghost interpreted = { refl };
+
+    ghost named = { unfold colour_type in refl };
+
+    ghost in_memory = { unfold inner_type in refl };
+}
