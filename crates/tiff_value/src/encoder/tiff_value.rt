@@ -65,7 +65,7 @@ pub trait TiffValue {
         writer.write_bytes(&data)
     }
 
-    // Its bytes are as many as its count and its type say, and it is refused as no text alone.
+    // Its bytes are as many as its count and its type say; all that it can be refused as is no text.
     ghost sized: { (x : Self) → IsValue value_type (value_count x) (field_data x) };
 }
 
@@ -80,11 +80,11 @@ pub trait TiffScalar: TiffValue + Sized {
     // The bytes of one.
     ghost spelled: { Self → List ℕ };
 
-    /// Appends its bytes.
+    /// Appends its bytes. Its only error is `OutOfMemory`, after which `out` may hold anything.
     fn push_to(&self, out: &mut Vec<u8>) -> TiffResult<()>
         ensures { MatchResult result (λ _. out.new.items ≡ out.old.items ++ spelled self.now) (λ e. e ≡ TiffError.OutOfMemory) };
 
-    /// Appends the bytes of several values.
+    /// Appends the bytes of several values. Errors are those of `push_to`.
     fn push_all(items: &[Self], out: &mut Vec<u8>) -> TiffResult<()>
         ensures { MatchResult result (λ _. out.new.items ≡ out.old.items ++ flat_map spelled items.now) (λ e. e ≡ TiffError.OutOfMemory) }
     {
@@ -97,6 +97,7 @@ pub trait TiffScalar: TiffValue + Sized {
     // A value is written as a list of it alone.
     ghost alone: { (x : Self) → Self.field_data x ≡ Ok (data_of (scalars (x ∷ []))) };
 
+    // It is one value.
     ghost one: { (x : Self) → Self.value_count x ≡ 1 };
 
     // The bytes of several are those of each.
