@@ -1,5 +1,5 @@
 -- Bytes as they are written one by one.
-use Rattle.std.proofs.Common.{◌≡◌, ℕ, ◌%◌, ◌<◌, List, [], ◌∷◌, get_or, Fits, w8, refl, ap, ◌∙◌, arith, suc}
+use Rattle.std.proofs.Common.{◌≡◌, ℕ, ◌%◌, List, [], ◌∷◌, get_or, Fits, w8, refl, ap, ◌∙◌, arith, suc}
 use Rattle.std.specs.List.{flat_map}
 use Rattle.tiff_base.specs.Number.{le}
 

@@ -4,3 +4,4 @@ pub mod Values
 pub mod Bytes
 pub mod ColorTypes
 pub mod Differences
+pub mod Predicted

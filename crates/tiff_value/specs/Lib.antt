@@ -5,5 +5,6 @@ pub mod Values
 pub mod Buffer
 pub mod ColorTypes
 pub mod Differences
+pub mod Predicted
 pub mod Packed
 pub mod Lends

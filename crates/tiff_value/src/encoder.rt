@@ -2,6 +2,7 @@
 
 pub mod colortype;
 mod colours;
+pub mod differences;
 mod fractions;
 mod names;
 mod numbers;
