@@ -38,10 +38,10 @@ undone x d m last b z e (suc c) h =
     let w : x c + (x (suc c) + m - x c) ≡ x (suc c) + m = omega (arith, b c) in
     rw (total_more d (suc c), ← mod-add-mod, ih, e c (omega arith), add-mod-mod, w, add-mod_right) (mod-eq_of_lt (b (suc c)))
 
-first_kept : (m l s : ℕ) (row : List ℕ) (i : ℕ) → i < l → i < s → kept Horizontal m l s row i ≡ get_or row i 0
+pub first_kept : (m l s : ℕ) (row : List ℕ) (i : ℕ) → i < l → i < s → kept Horizontal m l s row i ≡ get_or row i 0
 first_kept m l s row i a b = rw (mod-eq_of_lt a, lt-ltb i s b) refl
 
-later_kept : (m l s : ℕ) (row : List ℕ) (i : ℕ) → i < l → s ≤ i → kept Horizontal m l s row i ≡ (get_or row i 0 + m - get_or row (i - s) 0) % m
+pub later_kept : (m l s : ℕ) (row : List ℕ) (i : ℕ) → i < l → s ≤ i → kept Horizontal m l s row i ≡ (get_or row i 0 + m - get_or row (i - s) 0) % m
 later_kept m l s row i a b = rw (mod-eq_of_lt a, le-ltb i s b) refl
 
 -- a number of a row of differences
@@ -49,7 +49,7 @@ difference_at : (m s : ℕ) (row : List ℕ) (i : ℕ) → i < length row → ge
 unfolding differences
 difference_at m s row i h = get_or-map-range_with_len (kept Horizontal m (length row) s row) 0 (length row) i i 0 h (omega arith)
 
-predicted : (m s : ℕ) (row : List ℕ) → 0 < s → s ≤ length row → predicted_row m s row ≡ differences Horizontal m (length row) s row
+pub predicted : (m s : ℕ) (row : List ℕ) → 0 < s → s ≤ length row → predicted_row m s row ≡ differences Horizontal m (length row) s row
 predicted m s row some whole =
     let z : (s == 0) ≡ false = grind (arith, nat_tests) in
     rw (z, le-ltb (length row) s whole) refl

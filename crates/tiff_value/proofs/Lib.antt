@@ -5,3 +5,4 @@ pub mod Bytes
 pub mod ColorTypes
 pub mod Differences
 pub mod Packing
+pub mod Predicted

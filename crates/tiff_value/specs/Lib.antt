@@ -6,6 +6,7 @@ pub mod ValueLaws
 pub mod Buffer
 pub mod ColorTypes
 pub mod Differences
+pub mod Predicted
 pub mod Packed
 pub mod Packing
 pub mod Stored

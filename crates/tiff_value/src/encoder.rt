@@ -3,6 +3,7 @@
 pub mod colortype;
 mod colours;
 pub mod compression;
+pub mod differences;
 mod fractions;
 mod names;
 mod numbers;

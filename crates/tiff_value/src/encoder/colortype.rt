@@ -8,19 +8,22 @@ pub use super::colours::{
     Gray64, Gray64Float, GrayI8, GrayI16, GrayI32, GrayI64, RGB8, RGB16, RGB32, RGB32Float, RGB64,
     RGB64Float, RGBA8, RGBA16, RGBA32, RGBA32Float, RGBA64, RGBA64Float, YCbCr8,
 };
-use super::tiff_value::TiffScalar;
+use super::differences::Sample;
+use tiff_base::error::TiffResult;
 use tiff_base::tags::{PhotometricInterpretation, SampleFormat};
 
 /// What a page says of its samples.
 pub trait ColorType {
-    ghost use Rattle.std.specs.Prelude.{◌≡◌};
+    ghost use Rattle.std.specs.Prelude.{◌≡◌, length, map};
     ghost use Rattle.tiff_base.specs.declared.tags.PhotometricInterpretation.{PhotometricInterpretation};
     ghost use Rattle.tiff_value.specs.ColorType.{ColorTypeRecord};
     ghost use Rattle.tiff_value.specs.ColorTypes.{colour_type, inner_type};
+    ghost use Rattle.tiff_value.specs.Differences.{horizontal_row};
+    ghost use Rattle.tiff_value.specs.Predicted.{AppendsRow};
     ghost use Rattle.tiff_value.specs.declared.encoder.colortype.ColorTypeName.{ColorTypeName};
 
     /// The type of a sample in memory.
-    type Inner: TiffScalar;
+    type Inner: Sample;
 
     /// Its name.
     ghost name: { ColorTypeName };
@@ -40,6 +43,26 @@ pub trait ColorType {
     /// The format of each sample of a pixel.
     fn sample_format() -> &'static [SampleFormat]
         ensures { result.now ≡ described.formats };
+
+    /// Appends a row's first `stride` samples, then each less, modulo its width, the one `stride` before it (this
+    /// project's). Nothing is appended for a stride of 0, or a row shorter than it. Floating samples:
+    /// `UsageError(PredictorIncompatible)`.
+    final fn horizontal_predict_stride(
+        row: &[Self::Inner],
+        stride: usize,
+        out: &mut Vec<Self::Inner>,
+    ) -> TiffResult<()>
+        ensures { AppendsRow Self.Inner.bits (horizontal_row name stride (map Self.Inner.bits row.now)) out.old.items out.new.items result }
+    {
+        Self::Inner::predict_row(row, stride, out)
+    }
+
+    /// The same with a stride of a pixel's samples.
+    final fn horizontal_predict(row: &[Self::Inner], out: &mut Vec<Self::Inner>) -> TiffResult<()>
+        ensures { AppendsRow Self.Inner.bits (horizontal_row name (length described.bits) (map Self.Inner.bits row.now)) out.old.items out.new.items result }
+    {
+        Self::horizontal_predict_stride(row, Self::bits_per_sample().len(), out)
+    }
 
     ghost interpreted: { TIFF_VALUE ≡ described.interpretation };
 

@@ -1,0 +1,215 @@
+//! Rows of samples as differences: each sample less the one a stride before it.
+
+ghost use Rattle.std.specs.Int.{w8, w16, w32, w64, cast_unsigned};
+ghost use Rattle.std.specs.Prelude.{◌≡◌, ◌+◌, ◌-◌, ◌^◌, ◌%◌, map, Ok};
+ghost use Rattle.tiff_value.specs.Differences.{predicted_row};
+ghost use Rattle.tiff_value.specs.Predicted.{AppendsRow};
+
+use super::tiff_value::TiffScalar;
+use tiff_base::error::{TiffError, TiffResult, UsageError};
+use tiff_base::tags::{Bits32, Bits64};
+
+/// A number that a sample is in memory (this project's).
+pub trait Sample: TiffScalar {
+    ghost use Rattle.std.specs.Prelude.{ℕ};
+    ghost use Rattle.tiff_value.specs.Predicted.{row_of_type};
+
+    // Its bits, as a number from 0 on.
+    ghost bits: { Self → ℕ };
+
+    /// Appends a row's first `stride` samples, then each less, modulo its width, the one `stride` before it. Nothing is
+    /// appended for a stride of 0, or a row shorter than it. Floating numbers: `UsageError(PredictorIncompatible)`.
+    fn predict_row(row: &[Self], stride: usize, out: &mut Vec<Self>) -> TiffResult<()>
+        ensures { AppendsRow bits (row_of_type Self.value_type stride (map bits row.now)) out.old.items out.new.items result };
+}
+
+// A whole number of so many bits.
+trait Whole: Copy {
+    ghost use Rattle.std.specs.Prelude.{ℕ};
+
+    ghost bits: { Self → ℕ };
+
+    // How many such numbers there are.
+    ghost modulus: { ℕ };
+
+    fn less(self, other: Self) -> Self
+        ensures { bits result ≡ (bits self + modulus - bits other) % modulus };
+}
+
+fn push_differences<T: Whole>(row: &[T], stride: usize, out: &mut Vec<T>) -> TiffResult<()>
+    ensures { AppendsRow T.bits (Ok (predicted_row T.modulus stride (map T.bits row.now))) out.old.items out.new.items result }
+{
+    if stride == 0 || row.len() < stride {
+        return Ok(());
+    }
+    out.reserve(row.len())?;
+    out.extend_from_slice(&row[..stride])?;
+    for i in stride..row.len() {
+        out.push_reserved(row[i].less(row[i - stride]));
+    }
+    Ok(())
+}
+
+impl Whole for u8 {
+    ghost bits = { λ n. n };
+
+    ghost modulus = { 2 ^ 8 };
+
+    fn less(self, other: u8) -> u8 {
+        self.wrapping_sub(other)
+    }
+}
+
+impl Sample for u8 {
+    ghost bits = { λ n. n };
+
+    fn predict_row(row: &[u8], stride: usize, out: &mut Vec<u8>) -> TiffResult<()> {
+        push_differences(row, stride, out)
+    }
+}
+
+impl Whole for i8 {
+    ghost bits = { cast_unsigned w8 };
+
+    ghost modulus = { 2 ^ 8 };
+
+    #[tactic(auto, using(crate::proofs::Predicted::signed_less))]
+    fn less(self, other: i8) -> i8 {
+        self.wrapping_sub(other)
+    }
+}
+
+impl Sample for i8 {
+    ghost bits = { cast_unsigned w8 };
+
+    fn predict_row(row: &[i8], stride: usize, out: &mut Vec<i8>) -> TiffResult<()> {
+        push_differences(row, stride, out)
+    }
+}
+
+impl Whole for u16 {
+    ghost bits = { λ n. n };
+
+    ghost modulus = { 2 ^ 16 };
+
+    fn less(self, other: u16) -> u16 {
+        self.wrapping_sub(other)
+    }
+}
+
+impl Sample for u16 {
+    ghost bits = { λ n. n };
+
+    fn predict_row(row: &[u16], stride: usize, out: &mut Vec<u16>) -> TiffResult<()> {
+        push_differences(row, stride, out)
+    }
+}
+
+impl Whole for i16 {
+    ghost bits = { cast_unsigned w16 };
+
+    ghost modulus = { 2 ^ 16 };
+
+    #[tactic(auto, using(crate::proofs::Predicted::signed_less))]
+    fn less(self, other: i16) -> i16 {
+        self.wrapping_sub(other)
+    }
+}
+
+impl Sample for i16 {
+    ghost bits = { cast_unsigned w16 };
+
+    fn predict_row(row: &[i16], stride: usize, out: &mut Vec<i16>) -> TiffResult<()> {
+        push_differences(row, stride, out)
+    }
+}
+
+impl Whole for u32 {
+    ghost bits = { λ n. n };
+
+    ghost modulus = { 2 ^ 32 };
+
+    fn less(self, other: u32) -> u32 {
+        self.wrapping_sub(other)
+    }
+}
+
+impl Sample for u32 {
+    ghost bits = { λ n. n };
+
+    fn predict_row(row: &[u32], stride: usize, out: &mut Vec<u32>) -> TiffResult<()> {
+        push_differences(row, stride, out)
+    }
+}
+
+impl Whole for i32 {
+    ghost bits = { cast_unsigned w32 };
+
+    ghost modulus = { 2 ^ 32 };
+
+    #[tactic(auto, using(crate::proofs::Predicted::signed_less))]
+    fn less(self, other: i32) -> i32 {
+        self.wrapping_sub(other)
+    }
+}
+
+impl Sample for i32 {
+    ghost bits = { cast_unsigned w32 };
+
+    fn predict_row(row: &[i32], stride: usize, out: &mut Vec<i32>) -> TiffResult<()> {
+        push_differences(row, stride, out)
+    }
+}
+
+impl Whole for u64 {
+    ghost bits = { λ n. n };
+
+    ghost modulus = { 2 ^ 64 };
+
+    fn less(self, other: u64) -> u64 {
+        self.wrapping_sub(other)
+    }
+}
+
+impl Sample for u64 {
+    ghost bits = { λ n. n };
+
+    fn predict_row(row: &[u64], stride: usize, out: &mut Vec<u64>) -> TiffResult<()> {
+        push_differences(row, stride, out)
+    }
+}
+
+impl Whole for i64 {
+    ghost bits = { cast_unsigned w64 };
+
+    ghost modulus = { 2 ^ 64 };
+
+    #[tactic(auto, using(crate::proofs::Predicted::signed_less))]
+    fn less(self, other: i64) -> i64 {
+        self.wrapping_sub(other)
+    }
+}
+
+impl Sample for i64 {
+    ghost bits = { cast_unsigned w64 };
+
+    fn predict_row(row: &[i64], stride: usize, out: &mut Vec<i64>) -> TiffResult<()> {
+        push_differences(row, stride, out)
+    }
+}
+
+impl Sample for Bits32 {
+    ghost bits = { λ n. n.0 };
+
+    fn predict_row(row: &[Bits32], stride: usize, out: &mut Vec<Bits32>) -> TiffResult<()> {
+        Err(TiffError::UsageError(UsageError::PredictorIncompatible))
+    }
+}
+
+impl Sample for Bits64 {
+    ghost bits = { λ n. n.0 };
+
+    fn predict_row(row: &[Bits64], stride: usize, out: &mut Vec<Bits64>) -> TiffResult<()> {
+        Err(TiffError::UsageError(UsageError::PredictorIncompatible))
+    }
+}
