@@ -38,9 +38,11 @@ owed (a ∷ []) = 0
 owed (a ∷ b ∷ []) = 0
 owed (a ∷ b ∷ c ∷ rest) = if (a == b) && (b == c) then 128 else 0
 
+-- none of the headers is 128
 abbrev pub IsUsed : List ℕ → Type 0
 IsUsed packed = list_all (λ header. not (header == 128)) (headers_after 0 packed) ≡ true
 
+-- each literal is sparing
 abbrev pub IsSparing : List ℕ → Type 0
 IsSparing packed = list_all is_sparing (literals_after 0 packed) ≡ true
 

@@ -13,6 +13,8 @@ mod layout;
 #[cfg(test)]
 mod packed;
 #[cfg(test)]
+mod packing;
+#[cfg(test)]
 mod pages;
 #[cfg(test)]
 mod pixels;
