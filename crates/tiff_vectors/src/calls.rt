@@ -1,13 +1,16 @@
 //! The decoder's calls with their contracts left out: a test needs none, for it sees what it asserts.
 
 use std::alloc::Global;
-use tiff_base::color::ColorType;
+use std::process::Abort;
+use std::slice;
+use std::test::Fail;
 use tiff_base::error::TiffResult;
 use tiff_base::io::{MemorySource, Source};
-use tiff_base::tags::{ByteOrder, IfdPointer, Tag};
+use tiff_base::tags::Tag;
 use tiff_decode::decoder::{Decoder, DecodingResult};
+use tiff_decode::script::{Call, Reply, run_calls};
 use tiff_ifd::limits::Limits;
-use tiff_ifd::value::Value;
+use tiff_page::layout::TiffCodingUnit;
 use tiff_value::buffer::ValueBuffer;
 
 /// A decoder.
@@ -39,68 +42,27 @@ impl<S: Source + Drop> Reader<S> {
         }
     }
 
-    pub fn byte_order(&self) -> ByteOrder {
-        self.decoder.byte_order()
+    /// Makes a call, and puts its reply behind the others.
+    pub fn run(&mut self, call: &Call, replies: &mut Vec<Reply>) -> TiffResult<()> {
+        run_calls(&mut self.decoder, slice::from_ref(call), replies)
     }
 
-    pub fn colortype(&mut self) -> TiffResult<ColorType> {
-        self.decoder.colortype()
+    pub fn read_image_bytes(&mut self, buffer: &mut [u8]) -> TiffResult<()> {
+        self.decoder.read_image_bytes(buffer)
     }
 
-    pub fn dimensions(&mut self) -> TiffResult<(u32, u32)> {
-        self.decoder.dimensions()
+    pub fn read_chunk_to_buffer(
+        &mut self,
+        samples: &mut DecodingResult,
+        chunk: u32,
+        stride: usize,
+    ) -> TiffResult<()> {
+        self.decoder.read_chunk_to_buffer(samples, chunk, stride)
     }
 
-    /// The samples of the page's image, which have 8 bits each.
-    pub fn read_samples(&mut self) -> TiffResult<Option<Vec<u8>>> {
-        match self.decoder.read_image()? {
-            DecodingResult::U8(samples) => Ok(Some(samples)),
-            _ => Ok(None),
-        }
-    }
-
-    pub fn ifd_pointer(&mut self) -> Option<IfdPointer> {
-        self.decoder.ifd_pointer()
-    }
-
-    pub fn more_images(&self) -> bool {
-        self.decoder.more_images()
-    }
-
-    pub fn next_image(&mut self) -> TiffResult<()> {
-        self.decoder.next_image()
-    }
-
-    pub fn seek_to_image(&mut self, index: usize) -> TiffResult<()> {
-        self.decoder.seek_to_image(index)
-    }
-
-    pub fn goto_offset(&mut self, at: u32) -> TiffResult<()> {
-        self.decoder.goto_offset(at)
-    }
-
-    pub fn read_byte(&mut self) -> TiffResult<u8> {
-        self.decoder.read_byte()
-    }
-
-    pub fn read_short(&mut self) -> TiffResult<u16> {
-        self.decoder.read_short()
-    }
-
-    pub fn read_long(&mut self) -> TiffResult<u32> {
-        self.decoder.read_long()
-    }
-
-    pub fn read_string(&mut self, len: usize) -> TiffResult<String> {
-        self.decoder.read_string(len)
-    }
-
-    pub fn read_offset(&mut self) -> TiffResult<[u8; 4]> {
-        self.decoder.read_offset()
-    }
-
-    pub fn find_tag(&mut self, tag: Tag) -> TiffResult<Option<Value>> {
-        self.decoder.find_tag(tag)
+    pub fn read_unit(&mut self, unit: u32, buffer: &mut [u8]) -> TiffResult<()> {
+        self.decoder
+            .read_coding_unit_bytes(TiffCodingUnit(unit), buffer)
     }
 
     pub fn find_tag_u16(&mut self, tag: Tag) -> TiffResult<Option<u16>> {
@@ -109,26 +71,6 @@ impl<S: Source + Drop> Reader<S> {
 
     pub fn find_tag_u16_vec(&mut self, tag: Tag) -> TiffResult<Option<Vec<u16>>> {
         self.decoder.find_tag_unsigned_vec(tag)
-    }
-
-    pub fn get_tag(&mut self, tag: Tag) -> TiffResult<Value> {
-        self.decoder.get_tag(tag)
-    }
-
-    pub fn get_tag_u32(&mut self, tag: Tag) -> TiffResult<u32> {
-        self.decoder.get_tag_u32(tag)
-    }
-
-    pub fn get_tag_u64(&mut self, tag: Tag) -> TiffResult<u64> {
-        self.decoder.get_tag_u64(tag)
-    }
-
-    pub fn get_tag_u8_vec(&mut self, tag: Tag) -> TiffResult<Vec<u8>> {
-        self.decoder.get_tag_u8_vec(tag)
-    }
-
-    pub fn get_tag_u16_vec(&mut self, tag: Tag) -> TiffResult<Vec<u16>> {
-        self.decoder.get_tag_u16_vec(tag)
     }
 
     /// How many entries the page's directory has.
@@ -149,4 +91,67 @@ impl<S: Source + Drop> Reader<S> {
     pub fn has_in_buffer(&mut self, tag: Tag, buf: &mut ValueBuffer) -> TiffResult<bool> {
         Ok(self.decoder.image_ifd().find_tag_buf(tag, buf)?.is_some())
     }
+}
+
+/// The reply to a call.
+pub fn reply<S: Source + Drop>(
+    alloc: Global,
+    reader: &mut Reader<S>,
+    call: &Call,
+) -> TiffResult<Option<Reply>> {
+    let mut replies = Vec::new(alloc);
+    reader.run(call, &mut replies)?;
+    Ok(replies.pop())
+}
+
+/// The text of the reply to a call.
+pub fn told<S: Source + Drop>(
+    alloc: Global,
+    reader: &mut Reader<S>,
+    call: &Call,
+) -> TiffResult<String> {
+    match reply(alloc, reader, call)? {
+        Some(reply) => Ok(format!(in alloc; "{reply:?}")?),
+        None => Ok(String::new(alloc)),
+    }
+}
+
+/// A call, and the text of its reply.
+pub type Step = (Call, &'static str);
+
+/// Asserts the replies to calls of a decoder, one after another.
+pub fn expect(
+    rt: &impl Abort,
+    alloc: Global,
+    reader: &mut Reader<MemorySource>,
+    steps: &[Step],
+) -> Result<(), Fail> {
+    for (call, text) in steps {
+        assert_eq!(rt; told(alloc, reader, call)?.as_str(), *text, "{call:?}");
+    }
+    Ok(())
+}
+
+/// Asserts the replies to calls of a decoder of a file.
+pub fn expect_of(
+    rt: &impl Abort,
+    alloc: Global,
+    file: TiffResult<Vec<u8>>,
+    steps: &[Step],
+) -> Result<(), Fail> {
+    let mut reader = opened(alloc, file?)?;
+    expect(rt, alloc, &mut reader, steps)
+}
+
+/// The name of a fault, with what it carries; `none` where there is none.
+pub fn fault(alloc: Global, answer: TiffResult<()>) -> TiffResult<String> {
+    match answer {
+        Ok(()) => Ok(String::from_str(alloc, "none")?),
+        Err(fault) => Ok(format!(in alloc; "{fault:?}")?),
+    }
+}
+
+/// The name of the fault of opening a file.
+pub fn open_fault(alloc: Global, file: TiffResult<Vec<u8>>) -> TiffResult<String> {
+    fault(alloc, opened(alloc, file?).map(|_| ()))
 }

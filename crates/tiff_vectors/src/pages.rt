@@ -1,132 +1,23 @@
 //! Pages by what their tags say: checks, colours, counts of chunks, and buffers.
 
+use crate::calls::{Step, expect_of, open_fault, opened, reply};
 use crate::files::one_sample;
 use crate::layout::{Field, LaidEntry, Layout, patch};
 use std::alloc::Global;
 use std::test::Fail;
-use tiff_base::color::{ChunkType, ColorType};
 use tiff_base::error::TiffResult;
-use tiff_base::io::MemorySource;
 use tiff_base::tags::{ByteOrder, FileKind};
 use tiff_decode::buffer::DecodingBuffer;
-use tiff_decode::decoder::{Decoder, DecodingResult};
+use tiff_decode::decoder::DecodingResult;
+use tiff_decode::script::{Call, Reply};
 use tiff_ifd::limits::Limits;
-use tiff_page::layout::{BufferLayoutPreference, DecodingSampleType, TiffCodingUnit};
-
-// A decoder's calls for its page, with their contracts left out: a test needs none, for it sees what it asserts.
-#[derive(Drop)]
-struct PageReader {
-    decoder: Decoder<MemorySource>,
-}
-
-impl PageReader {
-    fn new(alloc: Global, file: Vec<u8>) -> TiffResult<Self> {
-        Ok(PageReader {
-            decoder: Decoder::new(alloc, MemorySource::new(file))?,
-        })
-    }
-
-    fn colortype(&mut self) -> TiffResult<ColorType> {
-        self.decoder.colortype()
-    }
-
-    fn get_chunk_type(&self) -> ChunkType {
-        self.decoder.get_chunk_type()
-    }
-
-    fn strip_count(&mut self) -> TiffResult<u32> {
-        self.decoder.strip_count()
-    }
-
-    fn tile_count(&mut self) -> TiffResult<u32> {
-        self.decoder.tile_count()
-    }
-
-    fn chunk_dimensions(&self) -> (u32, u32) {
-        self.decoder.chunk_dimensions()
-    }
-
-    fn chunk_data_dimensions(&self, chunk: u32) -> (u32, u32) {
-        self.decoder.chunk_data_dimensions(chunk)
-    }
-
-    fn image_layout(&mut self) -> TiffResult<BufferLayoutPreference> {
-        self.decoder.image_buffer_layout()
-    }
-
-    fn chunk_layout(&mut self, chunk: u32) -> TiffResult<BufferLayoutPreference> {
-        self.decoder.image_chunk_buffer_layout(chunk)
-    }
-
-    fn unit_layout(&mut self, unit: u32) -> TiffResult<BufferLayoutPreference> {
-        self.decoder.image_coding_unit_layout(TiffCodingUnit(unit))
-    }
-}
-
-// A list of samples in the same way.
-#[derive(Drop)]
-struct Samples {
-    list: DecodingResult,
-}
-
-impl Samples {
-    // No samples, of 8 bits.
-    fn none(alloc: Global) -> Self {
-        Samples {
-            list: DecodingResult::U8(Vec::new(alloc)),
-        }
-    }
-
-    fn resize_to(&mut self, layout: &BufferLayoutPreference, limits: &Limits) -> TiffResult<()> {
-        self.list.resize_to(layout, limits)
-    }
-
-    fn as_u16(&self) -> Option<&[u16]> {
-        match &self.list {
-            DecodingResult::U16(samples) => Some(samples.as_slice()),
-            _ => None,
-        }
-    }
-}
-
-fn put(buffer: &mut DecodingBuffer<'_>, n: u16) {
-    if let DecodingBuffer::U16(samples) = buffer {
-        if let Some(first) = samples.first_mut() {
-            *first = n;
-        }
-    }
-}
-
-fn byte_len(buffer: &DecodingBuffer<'_>) -> usize {
-    buffer.byte_len()
-}
-
-fn as_bytes(buffer: &DecodingBuffer<'_>, alloc: Global) -> TiffResult<Vec<u8>> {
-    buffer.as_bytes(alloc)
-}
-
-// The name of the fault that a call answers, with what it carries.
-fn fault<T: Drop>(alloc: Global, answer: TiffResult<T>) -> TiffResult<String> {
-    match answer {
-        Ok(_) => Ok(String::from_str(alloc, "none")?),
-        Err(fault) => Ok(format!(in alloc; "{fault:?}")?),
-    }
-}
+use tiff_page::layout::{BufferLayoutPreference, TiffCodingUnit};
 
 // The file of one gray sample, with these bytes over its own.
 fn with_bytes(alloc: Global, at: usize, bytes: &[u8]) -> TiffResult<Vec<u8>> {
     let mut file = one_sample(alloc, ByteOrder::LittleEndian)?;
     patch(file.as_mut_slice(), at, bytes);
     Ok(file)
-}
-
-fn reader_with(alloc: Global, at: usize, bytes: &[u8]) -> TiffResult<PageReader> {
-    PageReader::new(alloc, with_bytes(alloc, at, bytes)?)
-}
-
-// The first fault of opening the file with these bytes.
-fn open_fault(alloc: Global, at: usize, bytes: &[u8]) -> TiffResult<String> {
-    fault(alloc, reader_with(alloc, at, bytes))
 }
 
 // An entry of one number, or of several from a place on; in a little-endian file a SHORT stands as a LONG does.
@@ -202,8 +93,8 @@ fn page_file(alloc: Global, page: &PageForm) -> TiffResult<Vec<u8>> {
     Ok(file.into_vec())
 }
 
-// Gray of 20 by 20 samples.
-fn gray_tiles(alloc: Global, samples: u32, depth: u32, side: u32) -> TiffResult<PageReader> {
+// The file of 20 by 20 gray samples.
+fn gray_tiles(alloc: Global, samples: u32, depth: u32, side: u32) -> TiffResult<Vec<u8>> {
     let page = PageForm {
         width: 20,
         height: 20,
@@ -214,7 +105,7 @@ fn gray_tiles(alloc: Global, samples: u32, depth: u32, side: u32) -> TiffResult<
         chunk: Chunk::Tile { side },
         chunks: 4 * u64::from(samples),
     };
-    PageReader::new(alloc, page_file(alloc, &page)?)
+    page_file(alloc, &page)
 }
 
 const REFUSED: [(usize, &[u8], &str); 7] = [
@@ -230,124 +121,151 @@ const REFUSED: [(usize, &[u8], &str); 7] = [
 #[test]
 fn pages_are_refused_by_their_first_fault(rt: HostRuntime) -> Result<(), Fail> {
     for (at, bytes, name) in REFUSED {
-        assert_eq!(rt; open_fault(rt.alloc(), at, bytes)?.as_str(), name);
+        let told = open_fault(rt.alloc(), with_bytes(rt.alloc(), at, bytes))?;
+        assert_eq!(rt; told.as_str(), name);
     }
     Ok(())
 }
 
+const PALETTE: &[Step] = &[(
+    Call::Colortype,
+    "Colortype(Err(UnsupportedError(InterpretationWithBits(RGBPalette, [8]))))",
+)];
+
+const LAB: &[Step] = &[(
+    Call::Colortype,
+    "Colortype(Err(UnsupportedError(InterpretationWithBits(ItuLab, [8]))))",
+)];
+
+const BITS_12: &[Step] = &[
+    (Call::Colortype, "Colortype(Ok(Gray(12)))"),
+    (
+        Call::ImageBufferLayout,
+        "ImageBufferLayout(Ok(BufferLayoutPreference { len: 2, sample_format: Uint, sample_type: Some(U16), row_stride: Some(2), planes: 1, plane_stride: Some(2), complete_len: 2 }))",
+    ),
+];
+
+const BANDS: &[Step] = &[(
+    Call::Colortype,
+    "Colortype(Ok(Multiband { bit_depth: 8, num_samples: 2 }))",
+)];
+
+const FLOAT_8: &[Step] = &[
+    (
+        Call::ImageBufferLayout,
+        "ImageBufferLayout(Ok(BufferLayoutPreference { len: 1, sample_format: IEEEFP, sample_type: None, row_stride: Some(1), planes: 1, plane_stride: Some(1), complete_len: 1 }))",
+    ),
+    (
+        Call::ImageChunkBufferLayout(0),
+        "ImageChunkBufferLayout(Err(UnsupportedError(UnsupportedSampleDepth(8))))",
+    ),
+];
+
+// Bytes of the file of one gray sample, what they are set to, and what its page then tells.
+const CHANGES: [(usize, &[u8], &[Step]); 5] = [
+    (83, &[3], PALETTE),
+    (83, &[10], LAB),
+    (59, &[12], BITS_12),
+    (107, &[2], BANDS),
+    (191, &[3], FLOAT_8),
+];
+
 #[test]
-fn a_page_without_a_colour_opens(rt: HostRuntime) -> Result<(), Fail> {
-    let mut palette = reader_with(rt.alloc(), 83, &[3])?;
-    assert_eq!(rt;
-        fault(rt.alloc(), palette.colortype())?.as_str(),
-        "UnsupportedError(InterpretationWithBits(RGBPalette, [8]))"
-    );
-    let mut lab = reader_with(rt.alloc(), 83, &[10])?;
-    assert_eq!(rt;
-        fault(rt.alloc(), lab.colortype())?.as_str(),
-        "UnsupportedError(InterpretationWithBits(ItuLab, [8]))"
-    );
+fn a_page_tells_its_colour_and_its_layout(rt: HostRuntime) -> Result<(), Fail> {
+    for (at, bytes, steps) in CHANGES {
+        expect_of(&rt, rt.alloc(), with_bytes(rt.alloc(), at, bytes), steps)?;
+    }
     Ok(())
 }
 
-#[test]
-fn samples_of_12_bits_are_of_16(rt: HostRuntime) -> Result<(), Fail> {
-    let mut gray = reader_with(rt.alloc(), 59, &[12])?;
-    assert_eq!(rt; gray.colortype()?, ColorType::Gray(12));
-    let layout = gray.image_layout()?;
-    assert_eq!(rt; layout.row_stride, Some(2));
-    assert_eq!(rt; layout.sample_type, Some(DecodingSampleType::U16));
-    Ok(())
-}
-
-#[test]
-fn two_gray_samples_are_bands(rt: HostRuntime) -> Result<(), Fail> {
-    let mut bands = reader_with(rt.alloc(), 107, &[2])?;
-    assert_eq!(rt;
-        bands.colortype()?,
-        ColorType::Multiband {
-            bit_depth: 8,
-            num_samples: 2
-        }
-    );
-    Ok(())
-}
-
-#[test]
-fn floating_samples_of_8_bits_have_no_type(rt: HostRuntime) -> Result<(), Fail> {
-    let mut float = reader_with(rt.alloc(), 191, &[3])?;
-    assert_eq!(rt; float.image_layout()?.sample_type, None);
-    assert_eq!(rt;
-        fault(rt.alloc(), float.chunk_layout(0))?.as_str(),
-        "UnsupportedError(UnsupportedSampleDepth(8))"
-    );
-    Ok(())
-}
+const TILES: &[Step] = &[
+    (Call::GetChunkType, "GetChunkType(Tile)"),
+    (Call::TileCount, "TileCount(Ok(8))"),
+    (
+        Call::StripCount,
+        "StripCount(Err(UsageError(InvalidChunkType(Strip, Tile))))",
+    ),
+    (Call::ChunkDimensions, "ChunkDimensions((16, 16))"),
+    (Call::ChunkDataDimensions(1), "ChunkDataDimensions((4, 16))"),
+    (Call::ChunkDataDimensions(2), "ChunkDataDimensions((16, 4))"),
+    (Call::ChunkDataDimensions(3), "ChunkDataDimensions((4, 4))"),
+    (Call::ChunkDataDimensions(7), "ChunkDataDimensions((4, 4))"),
+];
 
 #[test]
 fn tiles_are_counted_by_plane(rt: HostRuntime) -> Result<(), Fail> {
-    let mut page = gray_tiles(rt.alloc(), 2, 8, 16)?;
-    assert_eq!(rt; page.get_chunk_type(), ChunkType::Tile);
-    assert_eq!(rt; page.tile_count()?, 8);
-    assert_eq!(rt;
-        fault(rt.alloc(), page.strip_count())?.as_str(),
-        "UsageError(InvalidChunkType(Strip, Tile))"
-    );
-    assert_eq!(rt; page.chunk_dimensions(), (16, 16));
-    assert_eq!(rt; page.chunk_data_dimensions(1), (4, 16));
-    assert_eq!(rt; page.chunk_data_dimensions(2), (16, 4));
-    assert_eq!(rt; page.chunk_data_dimensions(3), (4, 4));
-    assert_eq!(rt; page.chunk_data_dimensions(7), (4, 4));
-    Ok(())
+    expect_of(&rt, rt.alloc(), gray_tiles(rt.alloc(), 2, 8, 16), TILES)
 }
+
+const UNITS: &[Step] = &[
+    (
+        Call::ImageCodingUnitLayout(TiffCodingUnit(3)),
+        "ImageCodingUnitLayout(Ok(BufferLayoutPreference { len: 16, sample_format: Uint, sample_type: Some(U8), row_stride: Some(4), planes: 2, plane_stride: Some(16), complete_len: 32 }))",
+    ),
+    (
+        Call::ImageCodingUnitLayout(TiffCodingUnit(4)),
+        "ImageCodingUnitLayout(Err(UsageError(InvalidCodingUnit(4, 4))))",
+    ),
+];
 
 #[test]
 fn a_coding_unit_is_of_all_planes(rt: HostRuntime) -> Result<(), Fail> {
-    let mut page = gray_tiles(rt.alloc(), 2, 8, 16)?;
-    let unit = page.unit_layout(3)?;
-    assert_eq!(rt; unit.len, 16);
-    assert_eq!(rt; unit.row_stride, Some(4));
-    assert_eq!(rt; unit.planes, 2);
-    assert_eq!(rt; unit.complete_len, 32);
-    assert_eq!(rt;
-        fault(rt.alloc(), page.unit_layout(4))?.as_str(),
-        "UsageError(InvalidCodingUnit(4, 4))"
-    );
-    Ok(())
+    expect_of(&rt, rt.alloc(), gray_tiles(rt.alloc(), 2, 8, 16), UNITS)
 }
+
+const BROKEN_BYTES: &[Step] = &[
+    (
+        Call::ImageBufferLayout,
+        "ImageBufferLayout(Err(UnsupportedError(MisalignedTileBoundaries)))",
+    ),
+    (
+        Call::ImageChunkBufferLayout(0),
+        "ImageChunkBufferLayout(Ok(BufferLayoutPreference { len: 120, sample_format: Uint, sample_type: Some(U8), row_stride: Some(8), planes: 1, plane_stride: Some(120), complete_len: 120 }))",
+    ),
+];
 
 #[test]
 fn tiles_of_broken_bytes_lie_alone(rt: HostRuntime) -> Result<(), Fail> {
-    let mut page = gray_tiles(rt.alloc(), 1, 4, 15)?;
-    assert_eq!(rt;
-        fault(rt.alloc(), page.image_layout())?.as_str(),
-        "UnsupportedError(MisalignedTileBoundaries)"
-    );
-    let chunk = page.chunk_layout(0)?;
-    assert_eq!(rt; chunk.row_stride, Some(8));
-    assert_eq!(rt; chunk.len, 120);
-    Ok(())
+    expect_of(
+        &rt,
+        rt.alloc(),
+        gray_tiles(rt.alloc(), 1, 4, 15),
+        BROKEN_BYTES,
+    )
+}
+
+const ONE_STRIP: &[Step] = &[
+    (Call::GetChunkType, "GetChunkType(Strip)"),
+    (Call::StripCount, "StripCount(Ok(1))"),
+    (Call::ChunkDimensions, "ChunkDimensions((1, 4294967295))"),
+];
+
+const TOO_MANY_STRIPS: &[Step] = &[
+    (Call::StripCount, "StripCount(Err(IntSizeError))"),
+    (
+        Call::TileCount,
+        "TileCount(Err(UsageError(InvalidChunkType(Tile, Strip))))",
+    ),
+];
+
+// The file of one gray sample in strips of 2^32 - 1 rows, with this byte over one of its height.
+fn long_strips(alloc: Global, byte: u8) -> TiffResult<Vec<u8>> {
+    let mut file = with_bytes(alloc, 119, &[255; 4])?;
+    patch(file.as_mut_slice(), 47, &[byte]);
+    Ok(file)
 }
 
 #[test]
 fn strips_are_counted_below_2_to_32_rows(rt: HostRuntime) -> Result<(), Fail> {
-    let mut file = with_bytes(rt.alloc(), 119, &[255; 4])?;
-    let mut page = PageReader::new(rt.alloc(), file.clone()?)?;
-    assert_eq!(rt; page.get_chunk_type(), ChunkType::Strip);
-    assert_eq!(rt; page.strip_count()?, 1);
-    assert_eq!(rt; page.chunk_dimensions(), (1, 4_294_967_295));
-    patch(file.as_mut_slice(), 47, &[2]);
-    let mut page = PageReader::new(rt.alloc(), file)?;
-    assert_eq!(rt;
-        fault(rt.alloc(), page.strip_count())?.as_str(),
-        "IntSizeError"
-    );
-    assert_eq!(rt;
-        fault(rt.alloc(), page.tile_count())?.as_str(),
-        "UsageError(InvalidChunkType(Tile, Strip))"
-    );
-    Ok(())
+    let low = with_bytes(rt.alloc(), 119, &[255; 4]);
+    expect_of(&rt, rt.alloc(), low, ONE_STRIP)?;
+    expect_of(&rt, rt.alloc(), long_strips(rt.alloc(), 2), TOO_MANY_STRIPS)
 }
+
+const PLANES: &[Step] = &[(
+    Call::ImageBufferLayout,
+    "ImageBufferLayout(Ok(BufferLayoutPreference { len: 186626, sample_format: Uint, sample_type: Some(U8), row_stride: Some(374), planes: 3, plane_stride: Some(186626), complete_len: 559878 }))",
+)];
 
 #[test]
 fn planes_stand_one_behind_the_other(rt: HostRuntime) -> Result<(), Fail> {
@@ -361,47 +279,71 @@ fn planes_stand_one_behind_the_other(rt: HostRuntime) -> Result<(), Fail> {
         chunk: Chunk::Strip { rows: 499 },
         chunks: 3,
     };
-    let layout = PageReader::new(rt.alloc(), page_file(rt.alloc(), &page)?)?.image_layout()?;
-    assert_eq!(rt; layout.planes, 3);
-    assert_eq!(rt; layout.len, 186_626);
-    assert_eq!(rt; layout.plane_stride, Some(186_626));
-    assert_eq!(rt; layout.complete_len, 559_878);
-    Ok(())
+    expect_of(&rt, rt.alloc(), page_file(rt.alloc(), &page), PLANES)
+}
+
+// The layout of the page of one sample of 12 bits.
+fn layout_of_12_bits(alloc: Global) -> TiffResult<Option<BufferLayoutPreference>> {
+    let mut reader = opened(alloc, with_bytes(alloc, 59, &[12])?)?;
+    match reply(alloc, &mut reader, &Call::ImageBufferLayout)? {
+        Some(Reply::ImageBufferLayout(Ok(layout))) => Ok(Some(layout)),
+        _ => Ok(None),
+    }
+}
+
+// What resizing a list to a layout answers, and the list afterwards.
+fn resized(
+    alloc: Global,
+    list: &mut DecodingResult,
+    layout: &BufferLayoutPreference,
+) -> TiffResult<String> {
+    let answer = list.resize_to(layout, &Limits::default());
+    Ok(format!(in alloc; "{answer:?} {list:?}")?)
 }
 
 #[test]
 fn a_list_is_made_as_long_as_its_layout(rt: HostRuntime) -> Result<(), Fail> {
-    let mut layout = reader_with(rt.alloc(), 59, &[12])?.image_layout()?;
+    let mut list = DecodingResult::U8(Vec::new(rt.alloc()));
+    let mut layout = layout_of_12_bits(rt.alloc())?.ok_or("no layout")?;
     layout.complete_len = 3;
-    let mut samples = Samples::none(rt.alloc());
-    let limits = Limits::default();
-    samples.resize_to(&layout, &limits)?;
-    assert_eq!(rt; samples.as_u16(), Some([0, 0].as_slice()));
-    layout.complete_len = limits.decoding_buffer_size + 1;
-    assert_eq!(rt;
-        fault(rt.alloc(), samples.resize_to(&layout, &limits))?.as_str(),
-        "LimitsExceeded"
-    );
+    let made = resized(rt.alloc(), &mut list, &layout)?;
+    assert_eq!(rt; made.as_str(), "Ok(()) U16([0, 0])");
+    layout.complete_len = Limits::default().decoding_buffer_size + 1;
+    let long = resized(rt.alloc(), &mut list, &layout)?;
+    assert_eq!(rt; long.as_str(), "Err(LimitsExceeded) U16([0, 0])");
     layout.sample_type = None;
+    let other = resized(rt.alloc(), &mut list, &layout)?;
     assert_eq!(rt;
-        fault(rt.alloc(), samples.resize_to(&layout, &limits))?.as_str(),
-        "UnsupportedError(UnknownInterpretation)"
+        other.as_str(),
+        "Err(UnsupportedError(UnknownInterpretation)) U16([0, 0])"
     );
-    assert_eq!(rt; samples.as_u16(), Some([0, 0].as_slice()));
     Ok(())
+}
+
+fn put(buffer: &mut DecodingBuffer<'_>, n: u16) {
+    if let DecodingBuffer::U16(samples) = buffer {
+        if let Some(first) = samples.first_mut() {
+            *first = n;
+        }
+    }
+}
+
+// The length and the bytes of a buffer from sample 1 of two on, once a number stands there.
+fn written(alloc: Global, list: &mut DecodingResult, n: u16) -> TiffResult<String> {
+    *list = DecodingResult::U16(vec![in alloc; 0; 2]?);
+    let mut buffer = list.as_buffer(1);
+    put(&mut buffer, n);
+    let bytes = buffer.as_bytes(alloc)?;
+    Ok(format!(in alloc; "{} {bytes:?}", buffer.byte_len())?)
 }
 
 #[test]
 fn samples_are_written_in_place(rt: HostRuntime) -> Result<(), Fail> {
-    let mut list = DecodingResult::U16(vec![in rt.alloc(); 0; 2]?);
-    let mut buffer = list.as_buffer(1);
-    put(&mut buffer, 258);
-    assert_eq!(rt; byte_len(&buffer), 2);
+    let mut list = DecodingResult::U16(Vec::new(rt.alloc()));
+    assert_eq!(rt; written(rt.alloc(), &mut list, 258)?.as_str(), "2 [2, 1]");
     assert_eq!(rt;
-        as_bytes(&buffer, rt.alloc())?.as_slice(),
-        [2, 1].as_slice()
+        format!(in rt.alloc(); "{list:?}")?.as_str(),
+        "U16([0, 258])"
     );
-    let samples = Samples { list };
-    assert_eq!(rt; samples.as_u16(), Some([0, 258].as_slice()));
     Ok(())
 }

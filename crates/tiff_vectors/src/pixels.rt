@@ -1,94 +1,17 @@
 //! Pixels of pages of many forms, laid byte by byte.
 
+use crate::calls::{Reader, Step, expect, expect_of, fault, opened, reply};
 use crate::files::{long, one_sample, short};
 use crate::layout::{Field, LaidEntry, Layout, patch};
 use std::alloc::Global;
+use std::process::Abort;
 use std::test::Fail;
 use tiff_base::error::TiffResult;
 use tiff_base::io::MemorySource;
 use tiff_base::tags::{ByteOrder, FileKind};
-use tiff_decode::decoder::{Decoder, DecodingResult};
+use tiff_decode::decoder::DecodingResult;
+use tiff_decode::script::{Call, Reply};
 use tiff_ifd::limits::Limits;
-use tiff_page::layout::{BufferLayoutPreference, TiffCodingUnit};
-
-// A decoder's calls that read pixels, with their contracts left out: a test needs none, for it sees what it asserts.
-#[derive(Drop)]
-struct PixelReader {
-    decoder: Decoder<MemorySource>,
-}
-
-impl PixelReader {
-    fn new(alloc: Global, file: Vec<u8>) -> TiffResult<Self> {
-        Ok(PixelReader {
-            decoder: Decoder::new(alloc, MemorySource::new(file))?,
-        })
-    }
-
-    fn set_limits(&mut self, limits: Limits) {
-        self.decoder.set_limits(limits);
-    }
-
-    fn read_image(&mut self) -> TiffResult<DecodingResult> {
-        self.decoder.read_image()
-    }
-
-    fn read_image_to_buffer(
-        &mut self,
-        samples: &mut DecodingResult,
-    ) -> TiffResult<BufferLayoutPreference> {
-        self.decoder.read_image_to_buffer(samples)
-    }
-
-    fn read_image_bytes(&mut self, buffer: &mut [u8]) -> TiffResult<()> {
-        self.decoder.read_image_bytes(buffer)
-    }
-
-    fn read_chunk(&mut self, chunk: u32) -> TiffResult<DecodingResult> {
-        self.decoder.read_chunk(chunk)
-    }
-
-    fn read_chunk_bytes(&mut self, chunk: u32, buffer: &mut [u8]) -> TiffResult<()> {
-        self.decoder.read_chunk_bytes(chunk, buffer)
-    }
-
-    fn read_chunk_to_buffer(
-        &mut self,
-        samples: &mut DecodingResult,
-        chunk: u32,
-        stride: usize,
-    ) -> TiffResult<()> {
-        self.decoder.read_chunk_to_buffer(samples, chunk, stride)
-    }
-
-    fn read_unit(&mut self, unit: u32, buffer: &mut [u8]) -> TiffResult<()> {
-        self.decoder
-            .read_coding_unit_bytes(TiffCodingUnit(unit), buffer)
-    }
-}
-
-// Samples of 8 bits.
-fn as_u8(samples: &DecodingResult) -> Option<&[u8]> {
-    match samples {
-        DecodingResult::U8(samples) => Some(samples.as_slice()),
-        _ => None,
-    }
-}
-
-// Samples of 16 bits.
-fn as_u16(samples: &DecodingResult) -> Option<&[u16]> {
-    match samples {
-        DecodingResult::U16(samples) => Some(samples.as_slice()),
-        _ => None,
-    }
-}
-
-// The name of the fault that a call answers, with what it carries.
-fn fault<T: Drop>(alloc: Global, answer: TiffResult<T>) -> TiffResult<String> {
-    match answer {
-        Ok(_) => Ok(String::from_str(alloc, "none")?),
-        Err(fault) => Ok(format!(in alloc; "{fault:?}")?),
-    }
-}
 
 // A page by what these tests change of it: in one strip a plane, or in square tiles.
 #[derive(Clone, Copy)]
@@ -232,35 +155,47 @@ fn page_file(alloc: Global, page: &PageForm, chunks: &[&[u8]]) -> TiffResult<Vec
     Ok(file.into_vec())
 }
 
-fn reader(alloc: Global, page: &PageForm, chunks: &[&[u8]]) -> TiffResult<PixelReader> {
-    PixelReader::new(alloc, page_file(alloc, page, chunks)?)
+// Asserts the replies to calls of a decoder of a page of one chunk.
+fn expect_page(
+    rt: &impl Abort,
+    alloc: Global,
+    page: &PageForm,
+    stored: &[u8],
+    steps: &[Step],
+) -> Result<(), Fail> {
+    expect_of(rt, alloc, page_file(alloc, page, &[stored]), steps)
 }
 
-// The bytes of the one chunk of a page.
-fn chunk_bytes(alloc: Global, page: &PageForm, stored: &[u8], len: usize) -> TiffResult<Vec<u8>> {
-    let mut bytes = vec![in alloc; 0u8; len]?;
-    reader(alloc, page, &[stored])?.read_chunk_bytes(0, bytes.as_mut_slice())?;
-    Ok(bytes)
-}
+const CUT: &[Step] = &[(Call::ReadChunk(0), "ReadChunk(Err(IoError(UnexpectedEof)))")];
+
+const COLOURS: &[Step] = &[(
+    Call::ReadChunkBytes { chunk: 0, len: 6 },
+    "ReadChunkBytes(Ok(()), [10, 20, 30, 0, 0, 0])",
+)];
+
+const FLOATS: &[Step] = &[(
+    Call::ReadChunkBytes { chunk: 0, len: 4 },
+    "ReadChunkBytes(Ok(()), [0, 60, 0, 60])",
+)];
+
+const INVERTED: &[Step] = &[(
+    Call::ReadChunkBytes { chunk: 0, len: 2 },
+    "ReadChunkBytes(Ok(()), [237, 192])",
+)];
 
 #[test]
 fn chunks_are_undone(rt: HostRuntime) -> Result<(), Fail> {
-    let colours = chunk_bytes(
-        rt.alloc(),
-        &rgb_differences(2, 3),
-        &[0x0A, 0x14, 0x1E, 0xF6, 0xEC, 0xE2],
-        6,
-    )?;
-    assert_eq!(rt; colours.as_slice(), [0x0A, 0x14, 0x1E, 0, 0, 0].as_slice());
-    let floats = chunk_bytes(rt.alloc(), &byte_planes(2, 1), &[0x3C, 0, 0xC4, 0], 4)?;
-    assert_eq!(rt; floats.as_slice(), [0, 0x3C, 0, 0x3C].as_slice());
+    let colours = [0x0A, 0x14, 0x1E, 0xF6, 0xEC, 0xE2];
+    expect_page(&rt, rt.alloc(), &rgb_differences(2, 3), &colours, COLOURS)?;
+    let floats = [0x3C, 0, 0xC4, 0];
+    expect_page(&rt, rt.alloc(), &byte_planes(2, 1), &floats, FLOATS)?;
     let mut white = gray(3, 1);
     white.depth = 4;
     white.interpretation = 0;
-    let inverted = chunk_bytes(rt.alloc(), &white, &[0x12, 0x3F], 2)?;
-    assert_eq!(rt; inverted.as_slice(), [0xED, 0xC0].as_slice());
-    Ok(())
+    expect_page(&rt, rt.alloc(), &white, &[0x12, 0x3F], INVERTED)
 }
+
+const TURNED: &[Step] = &[(Call::ReadChunk(0), "ReadChunk(Ok(U16([1, 0])))")];
 
 #[test]
 fn numbers_are_turned_before_they_are_summed(rt: HostRuntime) -> Result<(), Fail> {
@@ -268,21 +203,17 @@ fn numbers_are_turned_before_they_are_summed(rt: HostRuntime) -> Result<(), Fail
     page.order = ByteOrder::BigEndian;
     page.depth = 16;
     page.predictor = 2;
-    let samples = reader(rt.alloc(), &page, &[&[0, 1, 0xFF, 0xFF]])?.read_chunk(0)?;
-    assert_eq!(rt; as_u16(&samples), Some([1, 0].as_slice()));
-    Ok(())
+    expect_page(&rt, rt.alloc(), &page, &[0, 1, 0xFF, 0xFF], TURNED)
 }
+
+const DROPPED: &[Step] = &[(Call::ReadChunk(0), "ReadChunk(Ok(U8([1, 2, 3, 2, 4, 6])))")];
 
 #[test]
 fn samples_are_dropped_after_they_are_summed(rt: HostRuntime) -> Result<(), Fail> {
     let mut page = rgb_differences(2, 4);
     page.extra = Some(0);
-    let stored = [1, 2, 3, 9, 1, 2, 3, 0];
-    let samples = reader(rt.alloc(), &page, &[&stored])?.read_chunk(0)?;
-    assert_eq!(rt; as_u8(&samples), Some([1, 2, 3, 2, 4, 6].as_slice()));
-    let cut = reader(rt.alloc(), &page, &[&stored[..7]])?.read_chunk(0);
-    assert_eq!(rt; fault(rt.alloc(), cut)?.as_str(), "IoError(UnexpectedEof)");
-    Ok(())
+    expect_page(&rt, rt.alloc(), &page, &[1, 2, 3, 9, 1, 2, 3, 0], DROPPED)?;
+    expect_page(&rt, rt.alloc(), &page, &[1, 2, 3, 9, 1, 2, 3], CUT)
 }
 
 // The fault of reading chunk 1 of a page of four tiles, which has so many bytes and ends the source.
@@ -290,8 +221,14 @@ fn cut_tile(alloc: Global, page: &PageForm, len: usize) -> TiffResult<String> {
     let mut page = *page;
     page.tile = Some(16);
     let data = vec![in alloc; 1u8; len]?;
-    let mut reader = reader(alloc, &page, &[&[], data.as_slice(), &[], &[]])?;
-    fault(alloc, reader.read_chunk(1))
+    let mut reader = opened(
+        alloc,
+        page_file(alloc, &page, &[&[], data.as_slice(), &[], &[]])?,
+    )?;
+    match reply(alloc, &mut reader, &Call::ReadChunk(1))? {
+        Some(Reply::ReadChunk(answer)) => fault(alloc, answer.map(|_| ())),
+        _ => Ok(String::new(alloc)),
+    }
 }
 
 #[test]
@@ -308,57 +245,77 @@ fn the_last_row_of_a_tile_may_be_cut(rt: HostRuntime) -> Result<(), Fail> {
     Ok(())
 }
 
+const UNPACKED: &[Step] = &[(
+    Call::ReadChunk(0),
+    "ReadChunk(Ok(U8([7, 7, 7, 7, 1, 2, 3, 4])))",
+)];
+
 #[test]
 fn packed_chunks_are_cut_at_their_byte_count(rt: HostRuntime) -> Result<(), Fail> {
     let mut page = gray(4, 2);
     page.method = 32773;
-    let stored = [0xFD, 7, 3, 1, 2, 3, 4];
-    let samples = reader(rt.alloc(), &page, &[&stored])?.read_chunk(0)?;
-    assert_eq!(rt; as_u8(&samples), Some([7, 7, 7, 7, 1, 2, 3, 4].as_slice()));
-    let cut = reader(rt.alloc(), &page, &[&stored[..6]])?.read_chunk(0);
-    assert_eq!(rt; fault(rt.alloc(), cut)?.as_str(), "IoError(UnexpectedEof)");
-    Ok(())
+    expect_page(&rt, rt.alloc(), &page, &[0xFD, 7, 3, 1, 2, 3, 4], UNPACKED)?;
+    expect_page(&rt, rt.alloc(), &page, &[0xFD, 7, 3, 1, 2, 3], CUT)
 }
+
+const METHOD: &[Step] = &[(
+    Call::ReadChunk(0),
+    "ReadChunk(Err(UnsupportedError(UnsupportedCompressionMethod(LZW))))",
+)];
+
+const LIMITED: &[Step] = &[(Call::ReadChunk(0), "ReadChunk(Err(LimitsExceeded))")];
 
 #[test]
 fn a_byte_count_is_limited_before_the_method(rt: HostRuntime) -> Result<(), Fail> {
     let mut page = gray(1, 1);
     page.method = 5;
-    let mut reader = reader(rt.alloc(), &page, &[&[7, 7]])?;
-    assert_eq!(rt;
-        fault(rt.alloc(), reader.read_chunk(0))?.as_str(),
-        "UnsupportedError(UnsupportedCompressionMethod(LZW))"
-    );
+    let mut reader = opened(rt.alloc(), page_file(rt.alloc(), &page, &[&[7, 7]])?)?;
+    expect(&rt, rt.alloc(), &mut reader, METHOD)?;
     let mut limits = Limits::default();
     limits.intermediate_buffer_size = 1;
     reader.set_limits(limits);
-    assert_eq!(rt;
-        fault(rt.alloc(), reader.read_chunk(0))?.as_str(),
-        "LimitsExceeded"
-    );
-    Ok(())
+    expect(&rt, rt.alloc(), &mut reader, LIMITED)
+}
+
+// The page of tiles of 16 by 16, of which chunk 1 has each byte once.
+fn counted_tile(alloc: Global) -> TiffResult<Reader<MemorySource>> {
+    let mut page = gray(20, 20);
+    page.tile = Some(16);
+    let mut stored = Vec::new(alloc);
+    for n in 0..=255 {
+        stored.push(n)?;
+    }
+    opened(
+        alloc,
+        page_file(alloc, &page, &[&[], stored.as_slice(), &[], &[]])?,
+    )
+}
+
+// The length, the first five and the last samples of chunk 1 in rows of 16.
+fn rows_apart(
+    alloc: Global,
+    reader: &mut Reader<MemorySource>,
+    samples: &mut DecodingResult,
+) -> TiffResult<String> {
+    reader.read_chunk_to_buffer(samples, 1, 16)?;
+    match samples {
+        DecodingResult::U8(bytes) => Ok(format!(in alloc;
+            "{} {:?} {:?}",
+            bytes.len(),
+            bytes.get(..5),
+            bytes.get(239..)
+        )?),
+        _ => Ok(String::new(alloc)),
+    }
 }
 
 #[test]
 fn rows_of_a_chunk_stand_apart(rt: HostRuntime) -> Result<(), Fail> {
-    let mut page = gray(20, 20);
-    page.tile = Some(16);
-    let mut stored = Vec::new(rt.alloc());
-    for n in 0..=255 {
-        stored.push(n)?;
-    }
-    let mut reader = reader(rt.alloc(), &page, &[&[], stored.as_slice(), &[], &[]])?;
+    let mut reader = counted_tile(rt.alloc())?;
     let mut samples = DecodingResult::U16(Vec::new(rt.alloc()));
-    reader.read_chunk_to_buffer(&mut samples, 1, 16)?;
-    let bytes = as_u8(&samples).unwrap_or(&[]);
-    assert_eq!(rt; bytes.len(), 256);
-    assert_eq!(rt; bytes.get(..5), Some([0, 1, 2, 3, 0].as_slice()));
     assert_eq!(rt;
-        bytes.get(239..),
-        Some([
-            0, 0xF0, 0xF1, 0xF2, 0xF3, 0, 0, 0, 0, 0, 0, 0, 0, 0, 0, 0, 0
-        ]
-        .as_slice())
+        rows_apart(rt.alloc(), &mut reader, &mut samples)?.as_str(),
+        "256 Some([0, 1, 2, 3, 0]) Some([0, 240, 241, 242, 243, 0, 0, 0, 0, 0, 0, 0, 0, 0, 0, 0, 0])"
     );
     let narrow = reader.read_chunk_to_buffer(&mut samples, 1, 3);
     assert_eq!(rt;
@@ -368,61 +325,106 @@ fn rows_of_a_chunk_stand_apart(rt: HostRuntime) -> Result<(), Fail> {
     Ok(())
 }
 
-#[test]
-fn all_planes_are_read_where_the_limit_lets_them(rt: HostRuntime) -> Result<(), Fail> {
+// A page of three planes of 374 by 499.
+fn three_planes(alloc: Global) -> TiffResult<Reader<MemorySource>> {
     let mut page = gray(374, 499);
     page.interpretation = 2;
     page.samples = 3;
     page.planar = 2;
-    let plane = vec![in rt.alloc(); 1u8; 186_626]?;
+    let plane = vec![in alloc; 1u8; 186_626]?;
     let plane = plane.as_slice();
-    let mut reader = reader(rt.alloc(), &page, &[plane, plane, plane])?;
+    opened(alloc, page_file(alloc, &page, &[plane, plane, plane])?)
+}
+
+// How many samples of 8 bits these are.
+fn len_of_u8(samples: &DecodingResult) -> usize {
+    match samples {
+        DecodingResult::U8(samples) => samples.len(),
+        _ => 0,
+    }
+}
+
+// How many planes the image has, and how many bytes of it are read under this limit.
+fn read_under(
+    alloc: Global,
+    reader: &mut Reader<MemorySource>,
+    limit: usize,
+) -> TiffResult<(usize, usize)> {
+    let mut limits = Limits::default();
+    limits.decoding_buffer_size = limit;
+    reader.set_limits(limits);
+    if let Some(Reply::ReadImageToBuffer(layout, samples)) = reply(
+        alloc,
+        reader,
+        &Call::ReadImageToBuffer,
+    )? {
+        return Ok((layout?.planes, len_of_u8(&samples)));
+    }
+    Ok((0, 0))
+}
+
+#[test]
+fn all_planes_are_read_where_the_limit_lets_them(rt: HostRuntime) -> Result<(), Fail> {
+    let mut reader = three_planes(rt.alloc())?;
     for (limit, len) in [
         (186_626, 186_626),
         (373_252, 186_626),
         (559_878, 559_878),
         (746_504, 559_878),
     ] {
-        let mut limits = Limits::default();
-        limits.decoding_buffer_size = limit;
-        reader.set_limits(limits);
-        let mut samples = DecodingResult::U8(Vec::new(rt.alloc()));
-        let layout = reader.read_image_to_buffer(&mut samples)?;
-        assert_eq!(rt; layout.planes, 3);
-        assert_eq!(rt; as_u8(&samples).map(|s| s.len()), Some(len));
+        assert_eq!(rt; read_under(rt.alloc(), &mut reader, limit)?, (3, len));
     }
     Ok(())
 }
 
-// The image of the file of one gray sample with this byte over its own, or the name of its fault.
-fn image_with(alloc: Global, at: usize, byte: u8) -> TiffResult<String> {
+// The file of one gray sample with this byte over its own.
+fn with_byte(alloc: Global, at: usize, byte: u8) -> TiffResult<Vec<u8>> {
     let mut file = one_sample(alloc, ByteOrder::LittleEndian)?;
     patch(file.as_mut_slice(), at, &[byte]);
-    match PixelReader::new(alloc, file)?.read_image() {
-        Ok(samples) => Ok(format!(in alloc; "{samples:?}")?),
-        Err(fault) => Ok(format!(in alloc; "{fault:?}")?),
-    }
+    Ok(file)
 }
 
-const IMAGES: [(usize, u8, &str); 6] = [
-    (131, 0, "U8([7])"),
-    (107, 2, "U8([7, 14])"),
-    (83, 0, "U8([248])"),
-    (71, 5, "UnsupportedError(UnsupportedCompressionMethod(LZW))"),
-    (191, 3, "UnsupportedError(UnsupportedSampleDepth(8))"),
-    (191, 4, "UnsupportedError(UnsupportedSampleFormat([Void]))"),
+// A byte of that file, what it is set to, and the image then, or its fault.
+const IMAGES: [(usize, u8, &[Step]); 6] = [
+    (131, 0, &[(Call::ReadImage, "ReadImage(Ok(U8([7])))")]),
+    (107, 2, &[(Call::ReadImage, "ReadImage(Ok(U8([7, 14])))")]),
+    (83, 0, &[(Call::ReadImage, "ReadImage(Ok(U8([248])))")]),
+    (
+        71,
+        5,
+        &[(
+            Call::ReadImage,
+            "ReadImage(Err(UnsupportedError(UnsupportedCompressionMethod(LZW))))",
+        )],
+    ),
+    (
+        191,
+        3,
+        &[(
+            Call::ReadImage,
+            "ReadImage(Err(UnsupportedError(UnsupportedSampleDepth(8))))",
+        )],
+    ),
+    (
+        191,
+        4,
+        &[(
+            Call::ReadImage,
+            "ReadImage(Err(UnsupportedError(UnsupportedSampleFormat([Void]))))",
+        )],
+    ),
 ];
 
 #[test]
 fn an_image_is_read_or_its_first_fault_is_told(rt: HostRuntime) -> Result<(), Fail> {
-    for (at, byte, text) in IMAGES {
-        assert_eq!(rt; image_with(rt.alloc(), at, byte)?.as_str(), text);
+    for (at, byte, steps) in IMAGES {
+        expect_of(&rt, rt.alloc(), with_byte(rt.alloc(), at, byte), steps)?;
     }
     Ok(())
 }
 
 // The page of two planes, each byte of chunk c of which is c + 1.
-fn numbered_tiles(alloc: Global) -> TiffResult<PixelReader> {
+fn numbered_tiles(alloc: Global) -> TiffResult<Reader<MemorySource>> {
     let mut tiles = Vec::new(alloc);
     for n in 1u8..9 {
         tiles.push(vec![in alloc; n; 256]?)?;
@@ -431,70 +433,106 @@ fn numbered_tiles(alloc: Global) -> TiffResult<PixelReader> {
     for tile in tiles.iter() {
         chunks.push(tile.as_slice())?;
     }
-    reader(alloc, &two_planes(), chunks.as_slice())
+    opened(alloc, page_file(alloc, &two_planes(), chunks.as_slice())?)
+}
+
+// Whether these are places of the bytes that all hold n.
+fn holds(bytes: &[u8], from: usize, to: usize, n: u8) -> bool {
+    match bytes.get(from..to) {
+        Some(part) => part.iter().all(|byte| *byte == n),
+        None => false,
+    }
+}
+
+// The first plane of that page.
+fn first_plane(alloc: Global) -> TiffResult<Vec<u8>> {
+    match reply(alloc, &mut numbered_tiles(alloc)?, &Call::ReadImage)? {
+        Some(Reply::ReadImage(Ok(DecodingResult::U8(samples)))) => Ok(samples),
+        _ => Ok(Vec::new(alloc)),
+    }
 }
 
 #[test]
 fn an_image_shows_its_tiles(rt: HostRuntime) -> Result<(), Fail> {
-    let samples = numbered_tiles(rt.alloc())?.read_image()?;
-    let numbers = as_u8(&samples).unwrap_or(&[]);
+    let numbers = first_plane(rt.alloc())?;
     assert_eq!(rt; numbers.len(), 400);
     for (k, row) in numbers.chunks(20).enumerate() {
         let (left, right) = if k < 16 { (1, 2) } else { (3, 4) };
-        assert_eq!(rt; row.get(..16), Some([left; 16].as_slice()));
-        assert_eq!(rt; row.get(16..), Some([right; 4].as_slice()));
+        assert!(rt; holds(row, 0, 16, left));
+        assert!(rt; holds(row, 16, 20, right));
     }
     Ok(())
 }
 
+// A slice of so many bytes 0xAA after the image, or one unit of it, was read into it.
+fn filled(
+    alloc: Global,
+    reader: &mut Reader<MemorySource>,
+    unit: Option<u32>,
+    len: usize,
+) -> TiffResult<Vec<u8>> {
+    let mut bytes = vec![in alloc; 0xAAu8; len]?;
+    match unit {
+        Some(unit) => reader.read_unit(unit, bytes.as_mut_slice())?,
+        None => reader.read_image_bytes(bytes.as_mut_slice())?,
+    }
+    Ok(bytes)
+}
+
+// A unit, or the image, how long the slice is, and a stretch of it with what it holds afterwards.
+const STRETCHES: [(Option<u32>, usize, usize, usize, u8); 11] = [
+    (None, 805, 0, 1, 1),
+    (None, 805, 399, 400, 4),
+    (None, 805, 400, 401, 5),
+    (None, 805, 799, 800, 8),
+    (None, 805, 800, 805, 0xAA),
+    (None, 799, 399, 400, 4),
+    (None, 799, 400, 799, 0xAA),
+    (Some(3), 32, 0, 16, 4),
+    (Some(3), 32, 16, 32, 8),
+    (Some(3), 31, 0, 16, 4),
+    (Some(3), 31, 16, 31, 0xAA),
+];
+
 #[test]
-fn a_slice_takes_whole_planes(rt: HostRuntime) -> Result<(), Fail> {
+fn a_slice_takes_as_many_whole_planes_as_fit(rt: HostRuntime) -> Result<(), Fail> {
     let mut reader = numbered_tiles(rt.alloc())?;
-    let mut both = [0xAA; 805];
-    reader.read_image_bytes(&mut both)?;
-    assert_eq!(rt; both[0], 1);
-    assert_eq!(rt; both[399], 4);
-    assert_eq!(rt; both[400], 5);
-    assert_eq!(rt; both[799], 8);
-    assert_eq!(rt; &both[800..], [0xAA; 5].as_slice());
-    let mut one = [0xAA; 799];
-    reader.read_image_bytes(&mut one)?;
-    assert_eq!(rt; one[399], 4);
-    assert_eq!(rt; &one[400..], [0xAA; 399].as_slice());
-    let mut none = [0xAA; 399];
-    let short = reader.read_image_bytes(&mut none);
+    for (unit, len, from, to, n) in STRETCHES {
+        let bytes = filled(rt.alloc(), &mut reader, unit, len)?;
+        assert!(rt;
+            holds(bytes.as_slice(), from, to, n),
+            "{unit:?} {len} {from}"
+        );
+    }
+    Ok(())
+}
+
+const LAST_TILE: &[Step] = &[(
+    Call::ReadChunk(7),
+    "ReadChunk(Ok(U8([8, 8, 8, 8, 8, 8, 8, 8, 8, 8, 8, 8, 8, 8, 8, 8])))",
+)];
+
+#[test]
+fn a_slice_that_takes_no_plane_is_told(rt: HostRuntime) -> Result<(), Fail> {
+    let mut reader = numbered_tiles(rt.alloc())?;
+    let short = filled(rt.alloc(), &mut reader, None, 399).map(|_| ());
     assert_eq!(rt;
         fault(rt.alloc(), short)?.as_str(),
         "UsageError(InsufficientOutputBufferSize { needed: 400, provided: 399 })"
     );
-    Ok(())
-}
-
-#[test]
-fn a_unit_is_of_as_many_planes_as_fit(rt: HostRuntime) -> Result<(), Fail> {
-    let mut reader = numbered_tiles(rt.alloc())?;
-    let mut both = [0xAA; 32];
-    reader.read_unit(3, &mut both)?;
-    assert_eq!(rt; &both[..16], [4; 16].as_slice());
-    assert_eq!(rt; &both[16..], [8; 16].as_slice());
-    let mut one = [0xAA; 31];
-    reader.read_unit(3, &mut one)?;
-    assert_eq!(rt; &one[..16], [4; 16].as_slice());
-    assert_eq!(rt; &one[16..], [0xAA; 15].as_slice());
+    let past = filled(rt.alloc(), &mut reader, Some(4), 32).map(|_| ());
     assert_eq!(rt;
-        fault(rt.alloc(), reader.read_unit(4, &mut both))?.as_str(),
+        fault(rt.alloc(), past)?.as_str(),
         "UsageError(InvalidCodingUnit(4, 4))"
     );
-    let second = reader.read_chunk(7)?;
-    assert_eq!(rt; as_u8(&second), Some([8; 16].as_slice()));
-    Ok(())
+    expect(&rt, rt.alloc(), &mut reader, LAST_TILE)
 }
+
+const FORGED: &[Step] = &[(Call::ReadImage, "ReadImage(Err(IoError(UnexpectedEof)))")];
 
 #[test]
 fn a_forged_tile_is_cut_at_once(rt: HostRuntime) -> Result<(), Fail> {
     let mut page = byte_planes(1, 1);
     page.tile = Some(4_294_967_295);
-    let cut = reader(rt.alloc(), &page, &[&[7, 7]])?.read_image();
-    assert_eq!(rt; fault(rt.alloc(), cut)?.as_str(), "IoError(UnexpectedEof)");
-    Ok(())
+    expect_page(&rt, rt.alloc(), &page, &[7, 7], FORGED)
 }

@@ -1,13 +1,13 @@
 //! Files that are read.
 
-use crate::calls::Reader;
+use crate::calls::{Reader, Step, expect_of, reply, told};
 use crate::doubles::FailingSource;
+use crate::layout::patch;
 use std::alloc::Global;
 use std::test::Fail;
-use tiff_base::color::ColorType;
-use tiff_base::error::{TiffError, TiffResult};
-use tiff_base::io::{IoKind, MemorySource};
-use tiff_base::tags::ByteOrder;
+use tiff_base::error::TiffResult;
+use tiff_base::io::MemorySource;
+use tiff_decode::script::{Call, Reply};
 
 /// A page of 3 by 2 samples, laid out by hand.
 pub const PAGE: [u8; 204] = [
@@ -27,27 +27,26 @@ fn source(alloc: Global, bytes: &[u8]) -> TiffResult<MemorySource> {
 // The text of the fault that opening a file, or reading its image, answers; `read` where there is none.
 fn text(alloc: Global, bytes: &[u8]) -> TiffResult<String> {
     let fault = match Reader::new(alloc, source(alloc, bytes)?) {
-        Ok(mut decoder) => match decoder.read_samples() {
-            Ok(_) => return Ok(String::from_str(alloc, "read")?),
-            Err(fault) => fault,
+        Ok(mut reader) => match reply(alloc, &mut reader, &Call::ReadImage)? {
+            Some(Reply::ReadImage(Err(fault))) => fault,
+            _ => return Ok(String::from_str(alloc, "read")?),
         },
         Err(fault) => fault,
     };
     Ok(format!(in alloc; "{fault}")?)
 }
 
+const READ: &[Step] = &[
+    (Call::Dimensions, "Dimensions(Ok((3, 2)))"),
+    (Call::Colortype, "Colortype(Ok(Gray(8)))"),
+    (Call::ByteOrder, "ByteOrder(LittleEndian)"),
+    (Call::ReadImage, "ReadImage(Ok(U8([1, 2, 3, 4, 5, 6])))"),
+];
+
 #[test]
 fn a_page_is_read(rt: HostRuntime) -> Result<(), Fail> {
-    let mut decoder = Reader::new(rt.alloc(), source(rt.alloc(), &PAGE)?)?;
-    assert_eq!(rt; decoder.dimensions()?, (3, 2));
-    assert_eq!(rt; decoder.colortype()?, ColorType::Gray(8));
-    assert_eq!(rt; decoder.byte_order(), ByteOrder::LittleEndian);
-    let samples = decoder.read_samples()?;
-    assert_eq!(rt;
-        samples.as_ref().map(|s| s.as_slice()),
-        Some([1, 2, 3, 4, 5, 6].as_slice())
-    );
-    Ok(())
+    let file = Vec::from_slice(rt.alloc(), &PAGE)?;
+    expect_of(&rt, rt.alloc(), Ok(file), READ)
 }
 
 const HEADERS: [(&[u8], &str); 8] = [
@@ -138,7 +137,7 @@ fn a_changed_byte_is_told(rt: HostRuntime) -> Result<(), Fail> {
     for (at, value, answer) in CHANGES {
         let mut bytes = PAGE;
         assert!(rt; at < bytes.len());
-        bytes[at] = value;
+        patch(&mut bytes, at, &[value]);
         assert_eq!(rt; text(rt.alloc(), &bytes)?.as_str(), answer, "byte {at}");
     }
     Ok(())
@@ -156,25 +155,27 @@ fn every_cut_is_told(rt: HostRuntime) -> Result<(), Fail> {
     Ok(())
 }
 
-// Whether a decoder of a source that fails after so many reads has read the page by then.
-fn is_read(rt: &impl std::process::Abort, alloc: Global, left: u64) -> TiffResult<bool> {
+// What reading the page from a source that fails after so many reads answers, in opening it too.
+fn read_in(alloc: Global, left: u64) -> TiffResult<String> {
     let source = FailingSource::new(source(alloc, &PAGE)?, left);
-    let fault = match Reader::new(alloc, source) {
-        Ok(mut decoder) => match decoder.read_samples() {
-            Ok(_) => return Ok(true),
-            Err(fault) => fault,
-        },
-        Err(fault) => fault,
-    };
-    assert!(rt; matches!(fault, TiffError::IoError(IoKind::Device)));
-    Ok(false)
+    match Reader::new(alloc, source) {
+        Ok(mut reader) => told(alloc, &mut reader, &Call::ReadImage),
+        Err(fault) => Ok(format!(in alloc; "ReadImage(Err({fault:?}))")?),
+    }
 }
 
 #[test]
 fn each_failing_read_is_told(rt: HostRuntime) -> Result<(), Fail> {
     for left in 0..188 {
-        assert!(rt; !is_read(&rt, rt.alloc(), left)?, "{left}");
+        assert_eq!(rt;
+            read_in(rt.alloc(), left)?.as_str(),
+            "ReadImage(Err(IoError(Device)))",
+            "{left}"
+        );
     }
-    assert!(rt; is_read(&rt, rt.alloc(), 188)?);
+    assert_eq!(rt;
+        read_in(rt.alloc(), 188)?.as_str(),
+        "ReadImage(Ok(U8([1, 2, 3, 4, 5, 6])))"
+    );
     Ok(())
 }
