@@ -38,3 +38,4 @@ pub mod Streams
 pub mod Walks
 pub mod Pieces
 pub mod Undone
+pub mod Spelled

@@ -39,3 +39,4 @@ pub mod Streams
 pub mod Walks
 pub mod Pieces
 pub mod Undone
+pub mod Spelled

@@ -29,6 +29,7 @@ pub mod query;
 pub mod runs;
 pub mod sample;
 pub mod slice;
+pub mod spell;
 pub mod steps;
 pub mod stream;
 pub mod task;

@@ -1,0 +1,13 @@
+-- Each example is proved in proofs/Spelled.antt.
+use Rattle.tiff_examples.proofs.Spelled as p
+use Rattle.tiff_examples.proofs.spell.chunks.Goals as goal
+
+pub returns : goal.returns
+returns c = (
+  p.eight_chunks,
+  p.four_chunks,
+  p.corner_row,
+  p.corner_bytes,
+  p.corner_at_chunk,
+  p.corner_at_image,
+)
