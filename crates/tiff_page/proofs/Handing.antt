@@ -12,6 +12,7 @@ use Rattle.tiff_base.specs.declared.tags.ByteOrder.{ByteOrder}
 use Rattle.tiff_base.specs.declared.tags.ByteOrder.TheVariants.{LittleEndian}
 use Rattle.tiff_base.specs.declared.tags.PhotometricInterpretation.{PhotometricInterpretation}
 use Rattle.tiff_base.specs.declared.tags.PhotometricInterpretation.TheVariants as meaning
+use Rattle.tiff_base.specs.declared.tags.Predictor.{Predictor}
 use Rattle.tiff_base.specs.declared.tags.Predictor.TheVariants as predictor
 use Rattle.tiff_base.specs.Number.{number}
 use Rattle.tiff_page.specs.Layout.{shown, row_bits, row_bytes}
@@ -257,6 +258,16 @@ pub stored_count : (p : PageRecord) (n : ℕ) → IsSize (p.depth / 8) → p.dep
 stored_count p n z e l =
     let f : n ≡ p.chunk_width * stored_samples p * (p.depth / 8) + 0 = omega (arith, l, stored_bytes p e) in
     ap (λ (x : ℕ). x / (p.depth / 8)) f ∙ div-mul-add (p.chunk_width * stored_samples p) (p.depth / 8) 0 (some_size (p.depth / 8) z)
+
+pub stored_whole : (p : PageRecord) (n : ℕ) → IsSize (p.depth / 8) → p.depth ≡ p.depth / 8 * 8 → n ≡ stored_row_bytes p → n / (p.depth / 8) * (p.depth / 8) ≡ n
+stored_whole p n z e l =
+    let f : p.chunk_width * stored_samples p * (p.depth / 8) ≡ n = omega (arith, l, stored_bytes p e) in
+    ap (λ (x : ℕ). x * (p.depth / 8)) (stored_count p n z e l) ∙ f
+
+pub no_byte_plane : (q : Predictor) → (q ≡ predictor.FloatingPoint → ⊥) → is_byte_plane q ≡ false
+no_byte_plane predictor.FloatingPoint h = Prim.absurd (h refl)
+no_byte_plane predictor.None h = refl
+no_byte_plane predictor.Horizontal h = refl
 
 pub whole_deep : (p : PageRecord) (c : ColorType) → IsRead p c → needs_whole_rows p c ≡ true → 8 ≤ p.depth
 whole_deep p c r h =

@@ -1,8 +1,8 @@
-use Rattle.std.proofs.Common.{◌≡◌, ◌∙◌, ◌/◌, ℕ, length, subst}
+use Rattle.std.proofs.Common.{◌≡◌, ◌∙◌, ◌*◌, ◌/◌, ℕ, length, subst, sym, ap, inr, arith}
 use Rattle.tiff_page.specs.View as view
-use Rattle.tiff_page.specs.Pixels.{stored_samples}
-use Rattle.tiff_page.specs.Row.{Became, joined_number}
-use Rattle.tiff_page.proofs.Handing.{joined_numbers, stored_count}
+use Rattle.tiff_page.specs.Pixels.{stored_samples, is_byte_plane}
+use Rattle.tiff_page.specs.Row.{IsSize, Became, joined_number}
+use Rattle.tiff_page.proofs.Handing.{joined_numbers, stored_count, stored_whole, no_byte_plane}
 use Rattle.tiff_page.proofs.handed.undo_whole.Goals as goal
 
 pub returns-in-FloatingPoint-clause-numbers : goal.returns-in-FloatingPoint-clause-numbers
@@ -16,3 +16,21 @@ returns-in-FloatingPoint-clause-numbers c =
     (stored_count (view.page c.args.page.now) (length c.args.row.now) c.requires.size c.requires.deep c.requires.row)
     (subst (λ (n : ℕ). Became (c.args.page.now.depth / 8) (joined_number (c.args.page.now.depth / 8) n (length c.args.row.now / (c.args.page.now.depth / 8)) c.args.row.now)
     c.args.row.now c.undo_byte_plane.new.row) s b)
+
+pub undo_byte_plane-requires : goal.undo_byte_plane-requires
+undo_byte_plane-requires c =
+    let e : c.from.result ≡ c.args.page.now.depth / 8 = c.from.ensures in
+    record {
+      size = subst IsSize (sym e) c.requires.size;
+      stored = omega arith;
+      whole = subst (λ (n : ℕ). length c.args.row.now / n * n ≡ length c.args.row.now) (sym e)
+          (stored_whole (view.page c.args.page.now) (length c.args.row.now) c.requires.size c.requires.deep c.requires.row);
+      room = c.requires.room (ap is_byte_plane c.in-FloatingPoint.is);
+    }
+
+pub undo_numbers-requires : goal.undo_numbers-requires
+undo_numbers-requires c = record {
+  sizes = inr c.requires.size;
+  deep = inr c.requires.deep;
+  in_place = no_byte_plane c.args.page.now.predictor c.in_default.not-FloatingPoint;
+}
