@@ -39,17 +39,17 @@ fn zeros(
     ensures { IfOk result (λ r. decoded_as r ≡ record { sample_type = sample_type; numbers = replicate len 0 }) }
 {
     match sample_type {
-        DecodingSampleType::U8 => Ok(DecodingResult::U8(vec![in alloc; 0; len]?)),
-        DecodingSampleType::U16 => Ok(DecodingResult::U16(vec![in alloc; 0; len]?)),
-        DecodingSampleType::U32 => Ok(DecodingResult::U32(vec![in alloc; 0; len]?)),
-        DecodingSampleType::U64 => Ok(DecodingResult::U64(vec![in alloc; 0; len]?)),
-        DecodingSampleType::F16 => Ok(DecodingResult::F16(vec![in alloc; Bits16(0); len]?)),
-        DecodingSampleType::F32 => Ok(DecodingResult::F32(vec![in alloc; Bits32(0); len]?)),
-        DecodingSampleType::F64 => Ok(DecodingResult::F64(vec![in alloc; Bits64(0); len]?)),
-        DecodingSampleType::I8 => Ok(DecodingResult::I8(vec![in alloc; 0; len]?)),
-        DecodingSampleType::I16 => Ok(DecodingResult::I16(vec![in alloc; 0; len]?)),
-        DecodingSampleType::I32 => Ok(DecodingResult::I32(vec![in alloc; 0; len]?)),
-        DecodingSampleType::I64 => Ok(DecodingResult::I64(vec![in alloc; 0; len]?)),
+        DecodingSampleType::U8 => vec![in alloc; 0; len].map(DecodingResult::U8),
+        DecodingSampleType::U16 => vec![in alloc; 0; len].map(DecodingResult::U16),
+        DecodingSampleType::U32 => vec![in alloc; 0; len].map(DecodingResult::U32),
+        DecodingSampleType::U64 => vec![in alloc; 0; len].map(DecodingResult::U64),
+        DecodingSampleType::F16 => vec![in alloc; Bits16(0); len].map(DecodingResult::F16),
+        DecodingSampleType::F32 => vec![in alloc; Bits32(0); len].map(DecodingResult::F32),
+        DecodingSampleType::F64 => vec![in alloc; Bits64(0); len].map(DecodingResult::F64),
+        DecodingSampleType::I8 => vec![in alloc; 0; len].map(DecodingResult::I8),
+        DecodingSampleType::I16 => vec![in alloc; 0; len].map(DecodingResult::I16),
+        DecodingSampleType::I32 => vec![in alloc; 0; len].map(DecodingResult::I32),
+        DecodingSampleType::I64 => vec![in alloc; 0; len].map(DecodingResult::I64),
     }
 }
 

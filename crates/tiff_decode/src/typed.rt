@@ -165,6 +165,30 @@ fn numbers_of<T: Number<N>, const N: usize>(
     Ok(numbers)
 }
 
+// The numbers of a number type that some bytes hold, the last filled up by zeros.
+#[tactic(auto, using(tiff_page::proofs::Strip::numbers_are))]
+fn made_of(
+    alloc: Global,
+    sample_type: DecodingSampleType,
+    bytes: &[u8],
+) -> Result<DecodingResult, AllocError>
+    ensures { IfOk result (λ r. decoded_as r ≡ decoded sample_type bytes.now) }
+{
+    match sample_type {
+        DecodingSampleType::U8 => Vec::from_slice(alloc, bytes).map(DecodingResult::U8),
+        DecodingSampleType::U16 => numbers_of(alloc, bytes).map(DecodingResult::U16),
+        DecodingSampleType::U32 => numbers_of(alloc, bytes).map(DecodingResult::U32),
+        DecodingSampleType::U64 => numbers_of(alloc, bytes).map(DecodingResult::U64),
+        DecodingSampleType::F16 => numbers_of(alloc, bytes).map(DecodingResult::F16),
+        DecodingSampleType::F32 => numbers_of(alloc, bytes).map(DecodingResult::F32),
+        DecodingSampleType::F64 => numbers_of(alloc, bytes).map(DecodingResult::F64),
+        DecodingSampleType::I8 => numbers_of(alloc, bytes).map(DecodingResult::I8),
+        DecodingSampleType::I16 => numbers_of(alloc, bytes).map(DecodingResult::I16),
+        DecodingSampleType::I32 => numbers_of(alloc, bytes).map(DecodingResult::I32),
+        DecodingSampleType::I64 => numbers_of(alloc, bytes).map(DecodingResult::I64),
+    }
+}
+
 /// The little-endian numbers of a number type that a list of bytes holds; the last is filled up by zeros. A list of `U8`
 /// is the bytes themselves; for the others memory for the numbers is taken once, and `AllocError` says that there is none.
 #[tactic(auto, using(tiff_page::proofs::Strip::numbers_are))]
@@ -179,15 +203,6 @@ pub(crate) fn typed(
 {
     match sample_type {
         DecodingSampleType::U8 => Ok(DecodingResult::U8(bytes)),
-        DecodingSampleType::U16 => Ok(DecodingResult::U16(numbers_of(alloc, &bytes)?)),
-        DecodingSampleType::U32 => Ok(DecodingResult::U32(numbers_of(alloc, &bytes)?)),
-        DecodingSampleType::U64 => Ok(DecodingResult::U64(numbers_of(alloc, &bytes)?)),
-        DecodingSampleType::F16 => Ok(DecodingResult::F16(numbers_of(alloc, &bytes)?)),
-        DecodingSampleType::F32 => Ok(DecodingResult::F32(numbers_of(alloc, &bytes)?)),
-        DecodingSampleType::F64 => Ok(DecodingResult::F64(numbers_of(alloc, &bytes)?)),
-        DecodingSampleType::I8 => Ok(DecodingResult::I8(numbers_of(alloc, &bytes)?)),
-        DecodingSampleType::I16 => Ok(DecodingResult::I16(numbers_of(alloc, &bytes)?)),
-        DecodingSampleType::I32 => Ok(DecodingResult::I32(numbers_of(alloc, &bytes)?)),
-        DecodingSampleType::I64 => Ok(DecodingResult::I64(numbers_of(alloc, &bytes)?)),
+        other => made_of(alloc, other, &bytes),
     }
 }
