@@ -1,11 +1,5 @@
 pub mod Opening
-mod Once
-pub mod Laid
-pub mod Whole
-pub mod WhereChunks
-pub mod Covered
-pub mod Made
-pub mod FirstRefused
+pub mod After
 pub mod Required
 pub mod Numbers
 pub mod Along
@@ -13,5 +7,4 @@ pub mod Items
 pub mod TagList
 pub mod Samples
 pub mod Pieces
-pub mod Back
 pub mod Turns

@@ -15,7 +15,7 @@ use Rattle.tiff_decode.specs.Outcome as outcome
 use Rattle.tiff_decode.specs.Reader.{TagsRead}
 use Rattle.tiff_decode.specs.Step.{Step, items_of}
 use Rattle.tiff_decode.specs.Steps.{Steps, Ran}
-use Rattle.tiff_decode.proofs.Once.{along}
+use Rattle.tiff_decode.proofs.After.{along}
 
 -- a decoder that is left as it was
 pub stands_here : (d : Decoding) → StandsAt d.state d d

@@ -5,8 +5,7 @@ pub mod Outcome
 pub mod Failures
 pub mod Step
 pub mod Steps
-pub mod Once
+pub mod After
 pub mod Reader
 pub mod Along
-pub mod Whole
 pub mod Items

@@ -20,3 +20,8 @@ pub record Ran (old : Decoding) (calls : List Call) (earlier all : List Reply) (
   pub added : all ≡ earlier ++ replies
   pub steps : Steps old calls replies new
   pub failed : old.failures + all_failures replies ≤ new.failures
+
+-- A call was made: it had some reply.
+pub record Called (old : Decoding) (which : Call) (new : Decoding) : Type 0 where
+  pub reply : Reply
+  pub step : Step old which reply new

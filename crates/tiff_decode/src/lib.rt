@@ -2,11 +2,12 @@
 #![tactic(auto)]
 
 pub mod buffer;
+mod call_name;
 pub mod decoder;
-pub mod laws;
 pub mod layouts;
 pub mod low_level;
 pub mod pixels;
+pub mod reply;
 pub mod result;
 pub mod script;
 pub mod tag_iter;

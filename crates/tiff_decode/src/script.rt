@@ -26,7 +26,7 @@ use tiff_value::buffer::ValueBuffer;
 
 /// A call of a decoder, or of the tags of its page. A slice is given by its length and starts as zeros; a list of samples
 /// starts empty, and a buffer of values as an empty one of `Type::BYTE`. Calls with a number type are of `u64`.
-#[derive(Debug, Drop)]
+#[derive(Drop)]
 pub enum Call {
     SetLimits(Limits),
     Dimensions,
@@ -90,7 +90,7 @@ pub enum Call {
 }
 
 /// What a call answered, and the slice, the list of samples or the buffer as the call left it.
-#[derive(Debug, Drop)]
+#[derive(Drop)]
 pub enum Reply {
     SetLimits,
     Dimensions(TiffResult<(u32, u32)>),
@@ -274,8 +274,8 @@ fn tag_bytes<R: Source>(
     (result, bytes)
 }
 
-// Makes one call.
-fn run_call<R: Source>(decoder: &mut Decoder<R>, call: &Call) -> Reply
+/// Makes one call.
+pub fn run_call<R: Source>(decoder: &mut Decoder<R>, call: &Call) -> Reply
     ensures { Step decoder.old call.now result decoder.new }
 {
     match call {

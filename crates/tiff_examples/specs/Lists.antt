@@ -18,7 +18,8 @@ use Rattle.tiff_decode.specs.declared.script.Reply.{Reply}
 use Rattle.tiff_decode.specs.declared.script.Reply.TheVariants as reply
 use Rattle.tiff_decode.specs.Outcome as outcome
 use Rattle.tiff_decode.specs.Failures.{all_failures, fault_in}
-use Rattle.tiff_decode.specs.Once.{next_state, IsNamed, SameAnswer}
+use Rattle.tiff_decode.specs.After.{next_state, IsNamed}
+use Rattle.tiff_laws.specs.Once.{SameAnswer}
 use Rattle.tiff_decode.specs.Step.{Step, ItemsAre, Items, BufferLeft}
 use Rattle.tiff_decode.specs.Steps.{Steps, Ran}
 use Rattle.tiff_examples.specs.Shown.{pixel_page}

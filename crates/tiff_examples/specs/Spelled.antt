@@ -15,7 +15,7 @@ use Rattle.tiff_value.specs.Stored.{takes_memory, StoreWants, Stores}
 use Rattle.tiff_value.specs.Values.{values_in, IsValue, byte_count, IsWanting, IsRefused, WritesValue}
 use Rattle.tiff_value.specs.Written.{Written}
 use Rattle.tiff_page.specs.Layout.{LayoutRecord}
-use Rattle.tiff_decode.specs.Whole.{chunks_used, chunk_row, at_chunk, at_image, chunk_bytes}
+use Rattle.tiff_laws.specs.Whole.{chunks_used, chunk_row, at_chunk, at_image, chunk_bytes}
 use Rattle.tiff_encode.specs.Kind.{WritesWithin}
 use Rattle.tiff_examples.specs.Pages.{planar_tiles}
 use Rattle.tiff_examples.specs.Lists.{Never}

@@ -1,5 +1,0 @@
-use Rattle.tiff_decode.proofs.Covered.{planes_covered}
-use Rattle.tiff_decode.proofs.laws.planes_covered.Goals as goal
-
-pub returns : goal.returns
-returns c = planes_covered c.one_chunk.ensures

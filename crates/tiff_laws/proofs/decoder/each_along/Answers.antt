@@ -1,0 +1,5 @@
+use Rattle.tiff_decode.proofs.After.{along}
+use Rattle.tiff_laws.proofs.decoder.each_along.Goals as goal
+
+pub returns : goal.returns
+returns c = along

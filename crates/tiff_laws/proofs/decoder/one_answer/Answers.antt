@@ -1,0 +1,5 @@
+use Rattle.tiff_laws.proofs.Once.{once}
+use Rattle.tiff_laws.proofs.decoder.one_answer.Goals as goal
+
+pub returns : goal.returns
+returns c = once

@@ -1,0 +1,67 @@
+//! The laws of a decoder's calls, each the contract of a function with no work.
+
+ghost use Rattle.tiff_laws.specs.Once.{IsEachAlong, IsOneAnswer};
+ghost use Rattle.tiff_decode.specs.Result.{BytesAgain};
+ghost use Rattle.tiff_laws.specs.Whole.{ImageIsItsChunks, PlaneOfChunks, PlanesCovered, ReadWhereChunks, RefusedWhereChunks};
+
+use tiff_page::laws;
+
+/// A call leaves the file, counts its failed reads, and goes to its next state, or with want of memory and a fault of the
+/// device stays.
+pub fn each_along()
+    ensures { IsEachAlong }
+{}
+
+/// A call's answer is one, but for want of memory and faults of the device.
+pub fn one_answer()
+    ensures { IsOneAnswer }
+{}
+
+/// The numbers that some bytes hold have those bytes again, and behind them the zeros that fill up the last number.
+pub fn bytes_again()
+    ensures { BytesAgain }
+{}
+
+/// Each chunk, read alone, stands in the image that is read whole.
+pub fn plane_of_chunks()
+    ensures { PlaneOfChunks }
+{
+    laws::chunks_within();
+    laws::placed_each();
+    laws::whole_rows();
+    laws::image_of_chunks();
+}
+
+/// Each byte of an image's planes is of a chunk.
+pub fn planes_covered()
+    ensures { PlanesCovered }
+{
+    laws::one_chunk();
+}
+
+/// An image is read exactly where its chunks are.
+pub fn read_where_chunks()
+    ensures { ReadWhereChunks }
+{
+    laws::chunks_within();
+    laws::no_fault();
+}
+
+/// An image is read whole exactly as its chunks make it, read one by one and placed.
+pub fn image_is_its_chunks()
+    ensures { ImageIsItsChunks }
+{
+    laws::placed_each();
+    plane_of_chunks();
+    planes_covered();
+    read_where_chunks();
+}
+
+/// An image is refused with the fault of the first chunk that is refused.
+pub fn refused_where_chunks()
+    ensures { RefusedWhereChunks }
+{
+    laws::chunks_within();
+    laws::no_fault();
+    laws::first_fault();
+}

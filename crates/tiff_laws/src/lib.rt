@@ -1,0 +1,4 @@
+//! Laws of what is read and written, proved over the definitions of the crates below.
+#![tactic(auto)]
+
+pub mod decoder;
