@@ -1,29 +1,16 @@
-//! Sources and sinks that answer in pieces or fail, and tests that cross the crates.
+//! Sources and sinks that answer in pieces or fail, and tests that cross the crates: those that no list of calls of a
+//! decoder can say.
 #![tactic(auto)]
 
-#[cfg(test)]
-mod calls;
 #[cfg(test)]
 mod chain;
 pub mod doubles;
 #[cfg(test)]
-mod files;
-#[cfg(test)]
-mod layout;
+mod lent;
 #[cfg(test)]
 mod packed;
 #[cfg(test)]
 mod packing;
-#[cfg(test)]
-mod pages;
-#[cfg(test)]
-mod pixels;
-#[cfg(test)]
-mod reading;
-#[cfg(test)]
-mod script;
-#[cfg(test)]
-mod tags;
 #[cfg(test)]
 mod undone;
 #[cfg(test)]

@@ -38,86 +38,113 @@ fn read_all<R: Source>(
     Ok((bytes, None))
 }
 
-fn is(fault: &Option<TiffError>, kind: IoKind) -> bool {
-    match fault {
-        Some(TiffError::IoError(found)) => *found == kind,
-        _ => false,
-    }
+// The bytes that a reader gives in pieces of some size, and the fault behind them, if any.
+fn told<R: Source>(
+    alloc: Global,
+    reader: &mut PackBitsReader<R>,
+    piece: usize,
+) -> TiffResult<String> {
+    let (bytes, fault) = read_all(alloc, reader, piece)?;
+    Ok(format!(in alloc; "{bytes:?} {fault:?}")?)
 }
 
-// Packed bytes, their length, what they unpack to, and whether their end is broken.
-const ROWS: [(&[u8], u64, &[u8], bool); 9] = [
-    (&THREE_RUNS, 15, &UNPACKED, false),
-    (&[0x02, 0x80, 0x00], 3, &[0x80, 0x00], false),
-    (&[0x02, 0x80, 0x00], 4, &[0x80, 0x00], false),
-    (&[0xFE], 1, &[], true),
-    (&[0xFE, 0x07], 1, &[], true),
-    (&[0x00, 0x41], 3, &[0x41], true),
-    (&[0x00, 0x41, 0x00, 0x42], 2, &[0x41], false),
-    (&[0x80], 1, &[], false),
-    (&[], 0, &[], false),
+// What a reader of packed bytes gives in pieces, and what it gives behind that.
+fn told_twice(alloc: Global, packed: &[u8], length: u64, piece: usize) -> TiffResult<String> {
+    let mut reader = PackBitsReader::new(source(alloc, packed)?, 0, length);
+    let first = told(alloc, &mut reader, piece)?;
+    let behind = told(alloc, &mut reader, piece)?;
+    Ok(format!(in alloc; "{first}, {behind}")?)
+}
+
+const WHOLE: &str = "None";
+
+const BROKEN: &str = "Some(IoError(UnexpectedEof))";
+
+// Packed bytes, their length, what they unpack to, and the fault at their end.
+const ROWS: [(&[u8], u64, &[u8], &str); 9] = [
+    (&THREE_RUNS, 15, &UNPACKED, WHOLE),
+    (&[0x02, 0x80, 0x00], 3, &[0x80, 0x00], WHOLE),
+    (&[0x02, 0x80, 0x00], 4, &[0x80, 0x00], WHOLE),
+    (&[0xFE], 1, &[], BROKEN),
+    (&[0xFE, 0x07], 1, &[], BROKEN),
+    (&[0x00, 0x41], 3, &[0x41], BROKEN),
+    (&[0x00, 0x41, 0x00, 0x42], 2, &[0x41], WHOLE),
+    (&[0x80], 1, &[], WHOLE),
+    (&[], 0, &[], WHOLE),
 ];
 
 #[test]
 fn packed_rows_unpack_in_pieces(rt: HostRuntime) -> Result<(), Fail> {
-    for (packed, length, unpacked, broken) in ROWS {
+    for (packed, length, unpacked, fault) in ROWS {
+        let wanted = format!(in rt.alloc(); "{unpacked:?} {fault}, [] {fault}")?;
         for piece in 1..30 {
-            let mut reader = PackBitsReader::new(source(rt.alloc(), packed)?, 0, length);
-            for wanted in [unpacked, &[]] {
-                let (bytes, fault) = read_all(rt.alloc(), &mut reader, piece)?;
-                assert_eq!(rt; bytes.as_slice(), wanted, "{packed:?} by {piece}");
-                assert_eq!(rt;
-                    is(&fault, IoKind::UnexpectedEof),
-                    broken,
-                    "{packed:?} by {piece}"
-                );
-            }
+            let told = told_twice(rt.alloc(), packed, length, piece)?;
+            assert_eq!(rt; told, wanted, "{packed:?} by {piece}");
         }
     }
     Ok(())
 }
 
+// What a source of the three runs gives that answers so many reads, a byte each.
+fn told_slowly(alloc: Global, left: u64) -> TiffResult<(Vec<u8>, Option<TiffError>)> {
+    let slow = FailingSource::new(source(alloc, &THREE_RUNS)?, left);
+    read_all(alloc, &mut PackBitsReader::new(slow, 0, 15), 7)
+}
+
 #[test]
 fn a_source_that_gives_single_bytes_is_unpacked(rt: HostRuntime) -> Result<(), Fail> {
-    let slow = FailingSource::new(source(rt.alloc(), &THREE_RUNS)?, 1000);
-    let mut reader = PackBitsReader::new(slow, 0, 15);
-    let (bytes, fault) = read_all(rt.alloc(), &mut reader, 7)?;
+    let (bytes, fault) = told_slowly(rt.alloc(), 1000)?;
     assert_eq!(rt; bytes.as_slice(), UNPACKED.as_slice());
     assert!(rt; fault.is_none());
     Ok(())
 }
 
+// Whether a source that fails behind so many reads gives the front of the bytes, and then its fault.
+fn is_cut_short(alloc: Global, left: u64) -> TiffResult<bool> {
+    let (bytes, fault) = told_slowly(alloc, left)?;
+    let failed = matches!(fault, Some(TiffError::IoError(IoKind::Device)));
+    Ok(failed && UNPACKED.starts_with(&bytes))
+}
+
 #[test]
 fn a_source_that_fails_is_told(rt: HostRuntime) -> Result<(), Fail> {
     for left in 0..14 {
-        let failing = FailingSource::new(source(rt.alloc(), &THREE_RUNS)?, left);
-        let mut reader = PackBitsReader::new(failing, 0, 15);
-        let (bytes, fault) = read_all(rt.alloc(), &mut reader, 7)?;
-        assert!(rt; UNPACKED.starts_with(&bytes));
-        assert!(rt; is(&fault, IoKind::Device));
+        assert!(rt; is_cut_short(rt.alloc(), left)?, "{left}");
     }
     Ok(())
 }
 
+// How many bytes an empty read gives, and what comes behind it.
+fn told_behind_nothing(alloc: Global) -> TiffResult<String> {
+    let mut reader = PackBitsReader::new(source(alloc, &THREE_RUNS)?, 0, 15);
+    let none = reader.read(&mut [])?;
+    let rest = told(alloc, &mut reader, 5)?;
+    Ok(format!(in alloc; "{none} {rest}")?)
+}
+
 #[test]
 fn an_empty_read_passes_nothing(rt: HostRuntime) -> Result<(), Fail> {
-    let mut reader = PackBitsReader::new(source(rt.alloc(), &THREE_RUNS)?, 0, 15);
-    assert_eq!(rt; reader.read(&mut [])?, 0);
-    let (bytes, _) = read_all(rt.alloc(), &mut reader, 5)?;
-    assert_eq!(rt; bytes.as_slice(), UNPACKED.as_slice());
+    let wanted = format!(in rt.alloc(); "0 {UNPACKED:?} {WHOLE}")?;
+    assert_eq!(rt; told_behind_nothing(rt.alloc())?, wanted);
     Ok(())
+}
+
+// A row of three, the refusal of another one, and the one byte that is left.
+fn rows_filled(alloc: Global) -> TiffResult<String> {
+    let mut reader = PackBitsReader::new(source(alloc, &[9, 0xFE, 7, 0, 8])?, 1, 4);
+    let mut row = [0u8; 3];
+    reader.read_exact(&mut row)?;
+    let refusal = reader.read_exact(&mut [0u8; 3]);
+    let mut last = [0u8; 1];
+    reader.read_exact(&mut last)?;
+    Ok(format!(in alloc; "{row:?} {refusal:?} {last:?}")?)
 }
 
 #[test]
 fn rows_are_filled_or_stay_to_be_read(rt: HostRuntime) -> Result<(), Fail> {
-    let mut reader = PackBitsReader::new(source(rt.alloc(), &[9, 0xFE, 7, 0, 8])?, 1, 4);
-    let mut row = [0u8; 3];
-    reader.read_exact(&mut row)?;
-    assert_eq!(rt; row, [7, 7, 7]);
-    let fault = reader.read_exact(&mut row).err();
-    assert!(rt; is(&fault, IoKind::UnexpectedEof));
-    let mut last = [0u8; 1];
-    reader.read_exact(&mut last)?;
-    assert_eq!(rt; last, [8]);
+    assert_eq!(rt;
+        rows_filled(rt.alloc())?.as_str(),
+        "[7, 7, 7] Err(IoError(UnexpectedEof)) [8]"
+    );
     Ok(())
 }

@@ -1,0 +1,61 @@
+//! A source in memory that may give one byte at a time, and may fail once.
+
+ghost use Rattle.tiff_replay.specs.Failed.{failed};
+
+use tiff_base::io::{DeviceFault, MemorySource, Source};
+
+/// When a source fails.
+#[derive(Drop)]
+pub enum Failure {
+    /// At no read.
+    Never,
+    /// At the read behind so many others.
+    Behind(u64),
+    /// It has failed, and does not again.
+    Past,
+}
+
+/// A source in memory that may give one byte at a time, and may fail once.
+#[derive(Drop)]
+pub struct ScriptedSource {
+    inner: MemorySource,
+    bytewise: bool,
+    failure: Failure,
+}
+
+impl ScriptedSource {
+    /// The source of these bytes.
+    pub fn new(bytes: Vec<u8>, bytewise: bool, failure: Failure) -> Self {
+        ScriptedSource {
+            inner: MemorySource::new(bytes),
+            bytewise,
+            failure,
+        }
+    }
+}
+
+impl Source for ScriptedSource {
+    ghost bytes = { λ s. ⟦<MemorySource as Source>⟧.bytes s.inner };
+
+    ghost failures = { λ s. failed s.failure };
+
+    ghost places = { λ s. s.inner.places };
+
+    ghost octets = { λ s. s.inner.octets };
+
+    fn read_at(&mut self, at: u64, buf: &mut [u8]) -> Result<usize, DeviceFault> {
+        match self.failure {
+            Failure::Behind(0) => {
+                self.failure = Failure::Past;
+                return Err(DeviceFault);
+            }
+            Failure::Behind(reads) => self.failure = Failure::Behind(reads - 1),
+            Failure::Never | Failure::Past => {}
+        }
+        if !self.bytewise {
+            return self.inner.read_at(at, buf);
+        }
+        let len = buf.len().min(1);
+        self.inner.read_at(at, &mut buf[..len])
+    }
+}

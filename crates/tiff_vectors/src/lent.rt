@@ -1,0 +1,279 @@
+//! Slices, lists and buffers that a caller lends to a decoder, with contents of its own.
+
+use std::alloc::Global;
+use std::boxed::Box;
+use std::test::Fail;
+use tiff_base::error::TiffResult;
+use tiff_base::io::MemorySource;
+use tiff_base::tags::{ByteOrder, Tag, Type};
+use tiff_decode::buffer::DecodingBuffer;
+use tiff_decode::decoder::{Decoder, DecodingResult};
+use tiff_ifd::limits::Limits;
+use tiff_page::layout::{BufferLayoutPreference, DecodingSampleType, TiffCodingUnit};
+use tiff_value::buffer::ValueBuffer;
+
+// Two pixels of two gray samples, in planes, one strip each, big-endian; the field of the unnamed tag is cut.
+const PAGE: [u8; 166] = [
+    0x4d, 0x4d, 0x00, 0x2a, 0x00, 0x00, 0x00, 0x1c, // header
+    0x07, 0x08, 0x09, 0x0a, // samples
+    0x00, 0x00, 0x00, 0x08, 0x00, 0x00, 0x00, 0x0a, // places
+    0x00, 0x00, 0x00, 0x02, 0x00, 0x00, 0x00, 0x02, // byte counts
+    0x00, 0x0b, // directory
+    0x01, 0x00, 0x00, 0x04, 0x00, 0x00, 0x00, 0x01, 0x00, 0x00, 0x00, 0x02, //
+    0x01, 0x01, 0x00, 0x04, 0x00, 0x00, 0x00, 0x01, 0x00, 0x00, 0x00, 0x01, //
+    0x01, 0x02, 0x00, 0x03, 0x00, 0x00, 0x00, 0x01, 0x00, 0x08, 0x00, 0x00, //
+    0x01, 0x06, 0x00, 0x03, 0x00, 0x00, 0x00, 0x01, 0x00, 0x01, 0x00, 0x00, //
+    0x01, 0x11, 0x00, 0x04, 0x00, 0x00, 0x00, 0x02, 0x00, 0x00, 0x00, 0x0c, //
+    0x01, 0x15, 0x00, 0x03, 0x00, 0x00, 0x00, 0x01, 0x00, 0x02, 0x00, 0x00, //
+    0x01, 0x16, 0x00, 0x04, 0x00, 0x00, 0x00, 0x01, 0x00, 0x01, 0x00, 0x00, //
+    0x01, 0x17, 0x00, 0x04, 0x00, 0x00, 0x00, 0x02, 0x00, 0x00, 0x00, 0x14, //
+    0x01, 0x1a, 0x00, 0x05, 0x00, 0x00, 0x00, 0x01, 0x00, 0x00, 0x00, 0x14, //
+    0x01, 0x1c, 0x00, 0x03, 0x00, 0x00, 0x00, 0x01, 0x00, 0x02, 0x00, 0x00, //
+    0xfd, 0xe8, 0x00, 0x03, 0x00, 0x00, 0x00, 0x03, 0x00, 0x00, 0x00, 0xa4, //
+    0x00, 0x00, 0x00, 0x00, // link
+];
+
+const UNNAMED: Tag = Tag::Unknown(65000);
+
+// A decoder of the page.
+fn opened(alloc: Global) -> TiffResult<Box<Decoder<MemorySource>>> {
+    let file = Vec::from_slice(alloc, &PAGE)?;
+    let decoder = Decoder::new(alloc, MemorySource::new(file))?;
+    Ok(Box::new(alloc, decoder)?)
+}
+
+// Where a copy of a value of eight bytes begins, how many it copies, and the slice of three nines afterwards.
+const COPIES: [(u64, &str); 4] = [
+    (3, "Some(3) [2, 0, 0]"),
+    (7, "Some(1) [2, 9, 9]"),
+    (8, "Some(0) [9, 9, 9]"),
+    (u64::MAX, "Some(0) [9, 9, 9]"),
+];
+
+// How many bytes of the byte counts are copied from a place on, and the slice afterwards.
+fn copied(alloc: Global, decoder: &mut Decoder<MemorySource>, at: u64) -> TiffResult<String> {
+    let mut buf = [9u8; 3];
+    let answer = decoder
+        .image_ifd()
+        .find_tag_bytes(Tag::StripByteCounts, &mut buf, at)?;
+    Ok(format!(in alloc; "{answer:?} {buf:?}")?)
+}
+
+#[test]
+fn a_copy_leaves_the_rest_of_a_slice(rt: HostRuntime) -> Result<(), Fail> {
+    let mut decoder = opened(rt.alloc())?;
+    for (at, text) in COPIES {
+        let told = copied(rt.alloc(), &mut decoder, at)?;
+        assert_eq!(rt; told.as_str(), text, "{at}");
+    }
+    Ok(())
+}
+
+// Whether the page has a tag, and the type, the count and the bytes of the buffer then.
+fn held(
+    alloc: Global,
+    decoder: &mut Decoder<MemorySource>,
+    tag: Tag,
+    buf: &mut ValueBuffer,
+) -> TiffResult<String> {
+    let answer = decoder
+        .image_ifd()
+        .find_tag_buf(tag, buf)
+        .map(|entry| entry.is_some());
+    Ok(format!(in alloc;
+        "{answer:?} {:?} {} {:?}",
+        buf.data_type(),
+        buf.count(),
+        buf.as_bytes()
+    )?)
+}
+
+#[test]
+fn a_buffer_holds_the_bytes_of_a_field(rt: HostRuntime) -> Result<(), Fail> {
+    let mut decoder = opened(rt.alloc())?;
+    let mut buf = ValueBuffer::empty(rt.alloc(), Type::BYTE);
+    let width = held(rt.alloc(), &mut decoder, Tag::ImageWidth, &mut buf)?;
+    assert_eq!(rt; width.as_str(), "Ok(true) LONG 1 [0, 0, 0, 2]");
+    assert_eq!(rt; buf.byte_order(), ByteOrder::BigEndian);
+    let none = held(rt.alloc(), &mut decoder, Tag::Artist, &mut buf)?;
+    assert_eq!(rt; none.as_str(), "Ok(false) LONG 1 [0, 0, 0, 2]");
+    let cut = held(rt.alloc(), &mut decoder, UNNAMED, &mut buf)?;
+    assert_eq!(rt; cut.as_str(), "Err(IoError(UnexpectedEof)) SHORT 0 []");
+    Ok(())
+}
+
+// What finding a number below 2^16, and a list of them, answers.
+fn found_u16(alloc: Global, decoder: &mut Decoder<MemorySource>, tag: Tag) -> TiffResult<String> {
+    let one = decoder.find_tag_unsigned::<u16>(tag);
+    let list = decoder.find_tag_unsigned_vec::<u16>(tag);
+    Ok(format!(in alloc; "{one:?} {list:?}")?)
+}
+
+// Tags, and what finding them as numbers below 2^16 answers.
+const NUMBERS: [(Tag, &str); 3] = [
+    (Tag::ImageWidth, "Ok(Some(2)) Ok(Some([2]))"),
+    (
+        Tag::RowsPerStrip,
+        "Err(FormatError(InvalidTagValueType(RowsPerStrip))) Err(FormatError(InvalidTagValueType(RowsPerStrip)))",
+    ),
+    (Tag::Artist, "Ok(None) Ok(None)"),
+];
+
+#[test]
+fn numbers_are_of_the_type_that_is_asked_for(rt: HostRuntime) -> Result<(), Fail> {
+    let mut decoder = opened(rt.alloc())?;
+    for (tag, text) in NUMBERS {
+        let told = found_u16(rt.alloc(), &mut decoder, tag)?;
+        assert_eq!(rt; told.as_str(), text, "{tag:?}");
+    }
+    Ok(())
+}
+
+// A decoder of the page that has a limit from the start.
+fn limited(alloc: Global, limit: usize) -> TiffResult<Box<Decoder<MemorySource>>> {
+    let mut limits = Limits::default();
+    limits.decoding_buffer_size = limit;
+    let file = Vec::from_slice(alloc, &PAGE)?;
+    let decoder = Decoder::new(alloc, MemorySource::new(file))?;
+    Ok(Box::new(alloc, decoder.with_limits(limits))?)
+}
+
+// What finding a list of two numbers answers under a limit.
+fn found_under(alloc: Global, limit: usize) -> TiffResult<String> {
+    let answer = limited(alloc, limit)?.find_tag(Tag::StripOffsets);
+    Ok(format!(in alloc; "{answer:?}")?)
+}
+
+#[test]
+fn a_decoder_is_made_with_limits(rt: HostRuntime) -> Result<(), Fail> {
+    assert_eq!(rt;
+        found_under(rt.alloc(), 64)?.as_str(),
+        "Ok(Some(List(ValueList { items: [Unsigned(8), Unsigned(10)] })))"
+    );
+    assert_eq!(rt;
+        found_under(rt.alloc(), 63)?.as_str(),
+        "Err(LimitsExceeded)"
+    );
+    Ok(())
+}
+
+// A slice of so many bytes 0xAA after the image was read into it.
+fn image_in(alloc: Global, decoder: &mut Decoder<MemorySource>, len: usize) -> TiffResult<Vec<u8>> {
+    let mut bytes = vec![in alloc; 0xAAu8; len]?;
+    decoder.read_image_bytes(&mut bytes)?;
+    Ok(bytes)
+}
+
+// A slice of so many bytes 0xAA after the one coding unit was read into it.
+fn unit_in(alloc: Global, decoder: &mut Decoder<MemorySource>, len: usize) -> TiffResult<Vec<u8>> {
+    let mut bytes = vec![in alloc; 0xAAu8; len]?;
+    decoder.read_coding_unit_bytes(TiffCodingUnit(0), &mut bytes)?;
+    Ok(bytes)
+}
+
+// Slices that the image, or the unit, leaves: as many whole planes as fit, and the rest as it was.
+const SLICES: [&[u8]; 4] = [&[7, 8], &[7, 8, 0xAA], &[7, 8, 9, 10], &[7, 8, 9, 10, 0xAA]];
+
+#[test]
+fn the_rest_of_a_slice_stays(rt: HostRuntime) -> Result<(), Fail> {
+    let mut decoder = opened(rt.alloc())?;
+    for slice in SLICES {
+        let image = image_in(rt.alloc(), &mut decoder, slice.len())?;
+        assert_eq!(rt; image.as_slice(), slice);
+        let unit = unit_in(rt.alloc(), &mut decoder, slice.len())?;
+        assert_eq!(rt; unit.as_slice(), slice);
+    }
+    Ok(())
+}
+
+// The samples of the second plane, which are read into a list of others, in rows of four bytes.
+fn listed(alloc: Global, decoder: &mut Decoder<MemorySource>) -> TiffResult<String> {
+    let mut list = DecodingResult::U16(vec![in alloc; 5; 9]?);
+    decoder.read_chunk_to_buffer(&mut list, 1, 4)?;
+    Ok(format!(in alloc; "{list:?}")?)
+}
+
+#[test]
+fn a_list_takes_the_type_and_the_length_of_a_chunk(rt: HostRuntime) -> Result<(), Fail> {
+    let mut decoder = opened(rt.alloc())?;
+    let text = listed(rt.alloc(), &mut decoder)?;
+    assert_eq!(rt; text.as_str(), "U8([9, 10, 0, 0])");
+    Ok(())
+}
+
+// The layout of the page, with another number type and length.
+fn layout_of(
+    decoder: &mut Decoder<MemorySource>,
+    sample_type: Option<DecodingSampleType>,
+    len: usize,
+) -> TiffResult<BufferLayoutPreference> {
+    let mut layout = decoder.image_buffer_layout()?;
+    layout.sample_type = sample_type;
+    layout.complete_len = len;
+    Ok(layout)
+}
+
+// What resizing a list to a layout answers, and the list afterwards.
+fn resized(
+    alloc: Global,
+    list: &mut DecodingResult,
+    layout: &BufferLayoutPreference,
+) -> TiffResult<String> {
+    let answer = list.resize_to(layout, &Limits::default());
+    Ok(format!(in alloc; "{answer:?} {list:?}")?)
+}
+
+// Number types and lengths of a layout, and what resizing a list to it one after another leaves.
+const LAYOUTS: [(Option<DecodingSampleType>, usize, &str); 3] = [
+    (Some(DecodingSampleType::U16), 3, "Ok(()) U16([0, 0])"),
+    (
+        Some(DecodingSampleType::U16),
+        268_435_457,
+        "Err(LimitsExceeded) U16([0, 0])",
+    ),
+    (
+        None,
+        268_435_457,
+        "Err(UnsupportedError(UnknownInterpretation)) U16([0, 0])",
+    ),
+];
+
+#[test]
+fn a_list_is_made_as_long_as_its_layout(rt: HostRuntime) -> Result<(), Fail> {
+    let mut decoder = opened(rt.alloc())?;
+    let mut list = DecodingResult::U8(Vec::new(rt.alloc()));
+    for (sample_type, len, text) in LAYOUTS {
+        let layout = layout_of(&mut decoder, sample_type, len)?;
+        let told = resized(rt.alloc(), &mut list, &layout)?;
+        assert_eq!(rt; told.as_str(), text);
+    }
+    Ok(())
+}
+
+fn put(buffer: &mut DecodingBuffer<'_>, n: u16) {
+    if let DecodingBuffer::U16(samples) = buffer {
+        if let Some(first) = samples.first_mut() {
+            *first = n;
+        }
+    }
+}
+
+// The length and the bytes of a buffer from sample 1 of two on, once a number stands there.
+fn written(alloc: Global, list: &mut DecodingResult, n: u16) -> TiffResult<String> {
+    *list = DecodingResult::U16(vec![in alloc; 0; 2]?);
+    let mut buffer = list.as_buffer(1);
+    put(&mut buffer, n);
+    let bytes = buffer.as_bytes(alloc)?;
+    Ok(format!(in alloc; "{} {bytes:?}", buffer.byte_len())?)
+}
+
+#[test]
+fn samples_are_written_in_place(rt: HostRuntime) -> Result<(), Fail> {
+    let mut list = DecodingResult::U16(Vec::new(rt.alloc()));
+    assert_eq!(rt; written(rt.alloc(), &mut list, 258)?.as_str(), "2 [2, 1]");
+    assert_eq!(rt;
+        format!(in rt.alloc(); "{list:?}")?.as_str(),
+        "U16([0, 258])"
+    );
+    Ok(())
+}
