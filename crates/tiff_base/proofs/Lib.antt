@@ -6,3 +6,4 @@ pub mod Blocks
 mod Named
 mod Extended
 pub mod After
+pub mod Fits

@@ -43,7 +43,8 @@ pub record IsKept {S W : Type 0} (told_of : S → W) (failures_of : S → ℕ) (
   pub told : told_of new ≡ told_of old
   pub failures : failures_of old ≤ failures_of new
 
--- A source or a sink that was handed over failed: some state that it came to has more failures.
-pub record FailsFrom {S : Type 0} (failures_of : S → ℕ) (old : S) : Type 0 where
+-- A source or a sink that was handed over failed: some state that it came to tells the same, and has more failures.
+pub record FailsFrom {S W : Type 0} (told_of : S → W) (failures_of : S → ℕ) (old : S) : Type 0 where
   pub last : S
+  pub told : told_of last ≡ told_of old
   pub grew : failures_of old < failures_of last

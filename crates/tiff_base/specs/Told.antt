@@ -1,8 +1,10 @@
 -- What a source tells, and what a sink takes.
 use Rattle.std.specs.Prelude.{◌≡◌, ℕ, ◌+◌, ◌-◌, ◌≤◌, ◌<◌, List, ◌++◌, length, take, drop, if◌then◌else◌, nat_le, slice_index, Result, Ok, Err}
 use Rattle.tiff_base.specs.declared.error.TiffError.{TiffError}
-use Rattle.tiff_base.specs.declared.error.TiffError.TheVariants.{IoError}
-use Rattle.tiff_base.specs.declared.io.IoKind.TheVariants.{UnexpectedEof}
+use Rattle.tiff_base.specs.declared.error.TiffError.TheVariants.{IoError, OutOfMemory}
+use Rattle.tiff_base.specs.declared.io.IoKind.TheVariants.{UnexpectedEof, Device}
+use Rattle.tiff_base.specs.declared.io.SinkFault.{SinkFault}
+use Rattle.tiff_base.specs.declared.io.SinkFault.TheVariants as fault
 
 -- the bytes from a place on, or fewer at the end
 abbrev pub bytes_at : List ℕ → ℕ → ℕ → List ℕ
@@ -39,3 +41,8 @@ pub record Overwrites (old : List ℕ) (at : ℕ) (bytes : List ℕ) (n : ℕ) (
   pub in_bytes : n ≤ length bytes
   pub some : 0 < length bytes → 0 < n
   pub next : new ≡ put old at (take n bytes)
+
+-- the error that a caller is told of a sink's fault
+abbrev pub sink_error : SinkFault → TiffError
+sink_error fault.Device = IoError Device
+sink_error fault.OutOfMemory = OutOfMemory

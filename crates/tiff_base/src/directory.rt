@@ -1,13 +1,13 @@
 //! Directories: a field for each of some tags.
 
-ghost use Rattle.std.specs.Prelude.{◌≡◌, ◌++◌, ◌∷◌, [], List, IfErr, IfOk, OnOk, OnErr, None, option_map, slice_get, unwrap_or, ◌==◌};
+ghost use Rattle.std.specs.Prelude.{◌≡◌, ℕ, ◌^◌, ◌<◌, ◌++◌, ◌∷◌, [], List, IfErr, IfOk, OnOk, OnErr, None, option_map, slice_get, unwrap_or, ◌==◌};
 ghost use Rattle.std.specs.FinMap as map;
 ghost use Rattle.std.specs.Iterator.{Drains, ExtendsWithItems, IsFinite, YieldsFirstBy, item_count};
 ghost use Rattle.tiff_base.specs.Tags.{tag_number};
 ghost use Rattle.tiff_base.specs.declared.tags.Tag.{Tag};
 ghost use Rattle.tiff_base.specs.declared.error.TiffError.TheVariants.{OutOfMemory};
 ghost use Rattle.tiff_base.specs.Directory.{extended, fields_after, link};
-ghost use Rattle.tiff_base.specs.Field.{Field};
+ghost use Rattle.tiff_base.specs.Field.{AreEntries, Field, IsEntry};
 
 use crate::error::TiffResult;
 use crate::tags::{IfdPointer, Tag, Type};
@@ -25,11 +25,15 @@ pub struct Entry {
 }
 
 impl Model for Entry {
+    ghost use Rattle.std.specs.Prelude.{◌≡◌, ◌^◌, ◌<◌, length};
     ghost use Rattle.tiff_base.specs.Field.{Field};
+    ghost use Rattle.tiff_base.specs.Told.{AreOctets};
 
     ghost Value = { Field };
 
     ghost view = { λ e. record { field_type = e.field_type; count = e.count; value = e.value } };
+
+    ghost invariant = { λ e. (e.count < 2 ^ 64) × (length e.value ≡ 8) × AreOctets e.value };
 
     ghost inverse = { λ f. record { field_type = f.field_type; count = f.count; value = f.value } };
 }
@@ -41,11 +45,7 @@ impl Entry {
     {
         let mut wide = [0u8; 8];
         wide[..4].copy_from_slice(&value);
-        Entry {
-            field_type,
-            count: u64::from(count),
-            value: wide,
-        }
+        Entry::new_u64(field_type, u64::from(count), wide)
     }
 
     /// A field whose value field has 8 bytes.
@@ -79,6 +79,13 @@ impl Entry {
     {
         self.value
     }
+
+    /// Under each tag number of 16 bits it is an entry that a directory can have.
+    pub fn fits(&self)
+        ensures { (tag : ℕ) → tag < 2 ^ 16 → IsEntry (tag, self.now) }
+    {
+        let _count = &self.count;
+    }
 }
 
 /// The fields of a directory by their tags, and the place of the next directory.
@@ -90,7 +97,8 @@ pub struct Directory {
 
 impl Model for Directory {
     ghost use Rattle.std.specs.FinMap as map;
-    ghost use Rattle.tiff_base.specs.Field.{DirectoryRecord};
+    ghost use Rattle.std.specs.Prelude.{ℕ};
+    ghost use Rattle.tiff_base.specs.Field.{DirectoryRecord, Field, In, IsEntry};
 
     ghost Value = { DirectoryRecord };
 
@@ -101,6 +109,8 @@ impl Model for Directory {
     ghost use Rattle.tiff_base.specs.Directory.{link};
 
     ghost view = { λ d. record { entries = map.from_entries d.entries.entries; next = link d.next } };
+
+    ghost invariant = { λ d. (e : ℕ × Field) → In e d.entries.entries → IsEntry e };
 }
 
 impl Directory {
@@ -146,6 +156,13 @@ impl Directory {
         self.len() == 0
     }
 
+    /// Each field, with its tag number, is an entry that a directory can have.
+    pub fn entries_fit(&self)
+        ensures { AreEntries self.now.entries }
+    {
+        let _next = &self.next;
+    }
+
     /// The place of the next directory.
     pub fn next(&self) -> Option<IfdPointer>
         ensures { option_map (λ p. p.0) result ≡ self.now.next }
@@ -183,8 +200,18 @@ impl Directory {
         ensures ok { OnOk result (self.new ≡ record self.old { entries = map.insert self.old.entries tag entry }) }
         ensures err { OnErr result (self.new ≡ self.old) }
     {
+        entry.fits();
         self.entries.insert(tag, entry)?;
         Ok(())
+    }
+
+    /// Takes the field of a tag out, and answers it.
+    #[tactic(auto, using(crate::proofs::Maps::get_of_tree, crate::proofs::Maps::remove_of_tree))]
+    pub fn remove(&mut self, tag: Tag) -> Option<Entry>
+        ensures taken { result ≡ map.get self.old.entries (tag_number tag) }
+        ensures left { self.new ≡ record self.old { entries = map.remove self.old.entries (tag_number tag) } }
+    {
+        self.entries.remove(&tag.to_u16())
     }
 
     /// Sets the fields of tags in turn: of a number that comes twice the last stands. Where memory is refused, those that

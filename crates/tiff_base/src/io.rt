@@ -1,7 +1,8 @@
 //! Where bytes come from and go to.
 
-ghost use Rattle.std.specs.Prelude.{◌≡◌, ℕ, ◌+◌, ◌^◌, ◌≤◌, ◌<◌, List, length, IfOk, OnOk, OnErr};
+ghost use Rattle.std.specs.Prelude.{◌≡◌, ℕ, ◌+◌, ◌^◌, ◌≤◌, ◌<◌, List, length, Option, None, Some, IfErr, IfOk, OnOk, OnErr};
 ghost use Rattle.tiff_base.specs.Told.{AreOctets, Reads, Appends, Overwrites};
+ghost use Rattle.tiff_base.specs.declared.io.SinkFault.{SinkFault};
 
 use crate::count::Count;
 use thiserror::Error;
@@ -69,6 +70,9 @@ pub trait Sink {
     /// How many writes failed so far.
     ghost failures: { Self → ℕ };
 
+    /// What the last write answered, where it failed.
+    ghost fault: { Self → Option SinkFault };
+
     /// How many bytes there are.
     fn len(&self) -> u64
         ensures { result ≡ length (told self.now) };
@@ -78,8 +82,8 @@ pub trait Sink {
     fn append(&mut self, bytes: &[u8]) -> Result<usize, SinkFault>
         ensures ok { IfOk result (λ n. Appends (told self.old) bytes.now n (told self.new)) }
         ensures err { OnErr result (told self.new ≡ told self.old) }
-        ensures answered { OnOk result (failures self.new ≡ failures self.old) }
-        ensures failed { OnErr result (failures self.old < failures self.new) };
+        ensures answered { OnOk result ((failures self.new ≡ failures self.old) × (fault self.new ≡ None)) }
+        ensures failed { IfErr result (λ e. (failures self.new ≡ failures self.old + 1) × (fault self.new ≡ Some e)) };
 
     /// Writes over the bytes from `at` on, as many as it takes, but none only of an empty list. After a fault the
     /// bytes are as they were.
@@ -87,8 +91,8 @@ pub trait Sink {
         requires { at + length bytes.now ≤ length (told self.old) }
         ensures ok { IfOk result (λ n. Overwrites (told self.old) at bytes.now n (told self.new)) }
         ensures err { OnErr result (told self.new ≡ told self.old) }
-        ensures answered { OnOk result (failures self.new ≡ failures self.old) }
-        ensures failed { OnErr result (failures self.old < failures self.new) };
+        ensures answered { OnOk result ((failures self.new ≡ failures self.old) × (fault self.new ≡ None)) }
+        ensures failed { IfErr result (λ e. (failures self.new ≡ failures self.old + 1) × (fault self.new ≡ Some e)) };
 
     /// A sink holds less than 2^63 bytes.
     ghost short: { (s : Self) → length (told s) < 2 ^ 63 };
@@ -142,6 +146,7 @@ impl Source for MemorySource {
 pub struct MemorySink {
     items: Vec<u8>,
     failed: Count,
+    refused: bool,
 }
 
 impl MemorySink {
@@ -154,6 +159,7 @@ impl MemorySink {
         MemorySink {
             items,
             failed: Count::new(),
+            refused: false,
         }
     }
 
@@ -161,18 +167,26 @@ impl MemorySink {
     pub fn into_vec(self) -> Vec<u8>
         ensures { result.items ≡ sink_bytes self }
     {
-        let MemorySink { items, failed: _ } = self;
+        let MemorySink {
+            items,
+            failed: _,
+            refused: _,
+        } = self;
         items
     }
 }
 
 impl Sink for MemorySink {
     ghost use Rattle.std.proofs.Common.{arith};
+    ghost use Rattle.std.specs.Prelude.{if◌then◌else◌};
+    ghost use Rattle.tiff_base.specs.declared.io.SinkFault.TheVariants.{OutOfMemory};
     ghost use Rattle.tiff_base.specs.Memory.{sink_bytes};
 
     ghost told = { sink_bytes };
 
     ghost failures = { λ s. s.failed };
+
+    ghost fault = { λ s. if s.refused then Some OutOfMemory else None };
 
     ghost short = { λ s. Prim.omega (arith, s.items.ok, s.items.small) };
 
@@ -183,8 +197,10 @@ impl Sink for MemorySink {
     fn append(&mut self, bytes: &[u8]) -> Result<usize, SinkFault> {
         if self.items.extend_from_slice(bytes).is_err() {
             self.failed.add();
+            self.refused = true;
             return Err(SinkFault::OutOfMemory);
         }
+        self.refused = false;
         Ok(bytes.len())
     }
 
@@ -192,6 +208,7 @@ impl Sink for MemorySink {
         let from = at as usize;
         let to = from + bytes.len();
         self.items[from..to].copy_from_slice(bytes);
+        self.refused = false;
         Ok(bytes.len())
     }
 }

@@ -300,7 +300,7 @@ impl<R: Source + Drop> Decoder<R> {
     /// Opens a file at its first page, under the limits by default. The first fault of the header, the directory or the
     /// page is answered.
     pub fn new(alloc: Global, source: R) -> TiffResult<Self>
-        ensures answer { AnswersBut (Unit {0}) (FailsFrom R.failures source) (λ (d : Decoding). record d { failures = R.failures source }) result (begun (R.bytes source) (R.failures source)) }
+        ensures answer { AnswersBut (Unit {0}) (FailsFrom R.bytes R.failures source) (λ (d : Decoding). record d { failures = R.failures source }) result (begun (R.bytes source) (R.failures source)) }
         ensures count { IfOk result (λ d. R.failures source ≤ d.failures) }
     {
         let mut source = source;

@@ -90,6 +90,7 @@ pub struct FailingSink {
     inner: MemorySink,
     left: u64,
     failed: Failures,
+    last: Option<SinkFault>,
 }
 
 impl FailingSink {
@@ -99,6 +100,7 @@ impl FailingSink {
             inner,
             left,
             failed: Failures::none(),
+            last: None,
         }
     }
 
@@ -108,6 +110,7 @@ impl FailingSink {
             inner,
             left: _,
             failed: _,
+            last: _,
         } = self;
         inner.into_vec()
     }
@@ -120,6 +123,8 @@ impl Sink for FailingSink {
 
     ghost failures = { λ s. ⟦<MemorySink as Sink>⟧.failures s.inner + s.failed };
 
+    ghost fault = { λ s. s.last };
+
     ghost short = { λ s. Prim.omega (arith, s.inner.items.ok, s.inner.items.small) };
 
     fn len(&self) -> u64 {
@@ -129,18 +134,24 @@ impl Sink for FailingSink {
     fn append(&mut self, bytes: &[u8]) -> Result<usize, SinkFault> {
         if self.left == 0 {
             self.failed.add();
+            self.last = Some(SinkFault::Device);
             return Err(SinkFault::Device);
         }
         self.left -= 1;
-        self.inner.append(&bytes[..bytes.len().min(1)])
+        let answer = self.inner.append(&bytes[..bytes.len().min(1)]);
+        self.last = answer.err();
+        answer
     }
 
     fn overwrite(&mut self, at: u64, bytes: &[u8]) -> Result<usize, SinkFault> {
         if self.left == 0 {
             self.failed.add();
+            self.last = Some(SinkFault::Device);
             return Err(SinkFault::Device);
         }
         self.left -= 1;
-        self.inner.overwrite(at, &bytes[..bytes.len().min(1)])
+        let answer = self.inner.overwrite(at, &bytes[..bytes.len().min(1)]);
+        self.last = answer.err();
+        answer
     }
 }

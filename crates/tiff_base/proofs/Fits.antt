@@ -1,0 +1,78 @@
+-- Each entry of a directory is one that memory can hold, and stays so.
+use Rattle.std.proofs.Common.{ℕ, ◌^◌, ◌<◌, Bool, true, false, cond, List, [], ◌∷◌, refl, sym, subst, inl, inr}
+use Rattle.std.specs.declared.cmp.Ordering.{Ordering}
+use Rattle.std.specs.declared.cmp.Ordering.TheVariants.{Less, Equal, Greater}
+use Rattle.std.specs.BTreeMap.{insert_entry}
+use Rattle.std.specs.Cmp.{nat_cmp_total}
+use Rattle.std.specs.FinMap.{entries, put, from_entries, entries-insert}
+use Rattle.std.specs.FinMap.Entries.{by_order}
+use Rattle.std.specs.Map.{remove_entry}
+use Rattle.std.specs.Ordering.{nat_cmp, match_ordering}
+use Rattle.tiff_base.proofs.Maps.{entries_of_empty}
+use Rattle.tiff_base.specs.Field.{Field, In, IsEntry, AreEntries}
+
+-- each of a list is such an entry
+abbrev pub Fit : List (ℕ × Field) → Type 0
+Fit es = (e : ℕ × Field) → In e es → IsEntry e
+
+pub none_fits : Fit []
+none_fits e h = absurd h
+
+more_fits : (x : ℕ × Field) (es : List (ℕ × Field)) → IsEntry x → Fit es → Fit (x ∷ es)
+more_fits x es new old e (inl h) = subst IsEntry (sym h) new
+more_fits x es new old e (inr h) = old e h
+
+fewer_fit : (x : ℕ × Field) (es : List (ℕ × Field)) → Fit (x ∷ es) → Fit es
+fewer_fit x es all e h = all e (inr h)
+
+first_fits : (x : ℕ × Field) (es : List (ℕ × Field)) → Fit (x ∷ es) → IsEntry x
+first_fits x es all = all x (inl refl)
+
+-- the same field under another number
+under : (k n : ℕ) (f : Field) → n < 2 ^ 16 → IsEntry (k, f) → IsEntry (n, f)
+under k n f h e = record { tag = h; count = e.count; whole = e.whole; octets = e.octets }
+
+order_fits : (o : Ordering) (a b c : List (ℕ × Field)) → Fit a → Fit b → Fit c → Fit (match_ordering o a b c)
+order_fits Less a b c p q r = p
+order_fits Equal a b c p q r = q
+order_fits Greater a b c p q r = r
+
+-- one more entry of a tree
+pub insert_fits : (k : ℕ) (f : Field) (es : List (ℕ × Field)) → IsEntry (k, f) → Fit es → Fit (insert_entry nat_cmp es k f)
+insert_fits k f [] new all = more_fits (k, f) [] new all
+insert_fits k f (x ∷ es) new all =
+    order_fits (nat_cmp k x.0) ((k, f) ∷ x ∷ es) ((x.0, f) ∷ es) (x ∷ insert_entry nat_cmp es k f)
+    (more_fits (k, f) (x ∷ es) new all)
+    (more_fits (x.0, f) es (under k x.0 f (first_fits x es all).tag new) (fewer_fit x es all))
+    (more_fits x (insert_entry nat_cmp es k f) (first_fits x es all) (insert_fits k f es new (fewer_fit x es all)))
+
+either_fits : (b : Bool) (xs ys : List (ℕ × Field)) → Fit xs → Fit ys → Fit (cond b xs ys)
+either_fits true xs ys p q = p
+either_fits false xs ys p q = q
+
+-- one fewer
+pub remove_fits : (test : ℕ → Bool) (es : List (ℕ × Field)) → Fit es → Fit (remove_entry test es)
+remove_fits test [] all = all
+remove_fits test (x ∷ es) all =
+    either_fits (test x.0) es (x ∷ remove_entry test es) (fewer_fit x es all)
+    (more_fits x (remove_entry test es) (first_fits x es all) (remove_fits test es (fewer_fit x es all)))
+
+choice_fits : (o : Ordering) (a b c : List (ℕ × Field)) → Fit a → Fit b → Fit c → Fit (by_order o a b c)
+choice_fits Less a b c p q r = p
+choice_fits Equal a b c p q r = q
+choice_fits Greater a b c p q r = r
+
+put_fits : (k : ℕ) (f : Field) (es : List (ℕ × Field)) → IsEntry (k, f) → Fit es → Fit (put nat_cmp k f es)
+put_fits k f [] new all = more_fits (k, f) [] new all
+put_fits k f (x ∷ es) new all =
+    choice_fits (nat_cmp k x.0) ((k, f) ∷ x ∷ es) ((x.0, f) ∷ es) (x ∷ put nat_cmp k f es)
+    (more_fits (k, f) (x ∷ es) new all)
+    (more_fits (x.0, f) es (under k x.0 f (first_fits x es all).tag new) (fewer_fit x es all))
+    (more_fits x (put nat_cmp k f es) (first_fits x es all) (put_fits k f es new (fewer_fit x es all)))
+
+-- the map of a tree's entries has such entries alone
+pub tree_fits : (es : List (ℕ × Field)) → Fit es → AreEntries (from_entries es)
+tree_fits [] all = subst Fit (sym entries_of_empty) none_fits
+tree_fits (x ∷ es) all =
+    subst Fit (sym (entries-insert nat_cmp_total (from_entries es) x.0 x.1))
+    (put_fits x.0 x.1 (entries (from_entries es)) (first_fits x es all) (tree_fits es (fewer_fit x es all)))
