@@ -1,38 +1,40 @@
--- The samples of each colour type are alike.
-use Rattle.std.proofs.Common.{refl, lit<}
+-- Each name is that of a colour type.
+use Rattle.std.proofs.Common.{lit<}
+use Rattle.tiff_base.specs.declared.tags.PhotometricInterpretation.TheVariants.{BlackIsZero, RGB, CMYK, YCbCr}
 use Rattle.tiff_base.specs.declared.tags.SampleFormat.TheVariants.{Uint, Int, IEEEFP}
 use Rattle.tiff_value.specs.declared.encoder.colortype.ColorTypeName.TheVariants as n
-use Rattle.tiff_value.specs.ColorTypes.{colour_type, inner_type, AreEven}
+use Rattle.tiff_value.specs.ColorLaws.{samples_alike}
+use Rattle.tiff_value.specs.ColorTypes.{colour_type, inner_type, AreColorTypes}
 
-pub are_even : AreEven
+pub are_colour_types : AreColorTypes
 unfolding colour_type inner_type
-are_even n.Gray8 = record { samples = 1; some = lit< tt; few = lit< tt; format = Uint; even = refl }
-are_even n.Gray16 = record { samples = 1; some = lit< tt; few = lit< tt; format = Uint; even = refl }
-are_even n.Gray32 = record { samples = 1; some = lit< tt; few = lit< tt; format = Uint; even = refl }
-are_even n.Gray64 = record { samples = 1; some = lit< tt; few = lit< tt; format = Uint; even = refl }
-are_even n.GrayI8 = record { samples = 1; some = lit< tt; few = lit< tt; format = Int; even = refl }
-are_even n.GrayI16 = record { samples = 1; some = lit< tt; few = lit< tt; format = Int; even = refl }
-are_even n.GrayI32 = record { samples = 1; some = lit< tt; few = lit< tt; format = Int; even = refl }
-are_even n.GrayI64 = record { samples = 1; some = lit< tt; few = lit< tt; format = Int; even = refl }
-are_even n.Gray32Float = record { samples = 1; some = lit< tt; few = lit< tt; format = IEEEFP; even = refl }
-are_even n.Gray64Float = record { samples = 1; some = lit< tt; few = lit< tt; format = IEEEFP; even = refl }
-are_even n.RGB8 = record { samples = 3; some = lit< tt; few = lit< tt; format = Uint; even = refl }
-are_even n.RGB16 = record { samples = 3; some = lit< tt; few = lit< tt; format = Uint; even = refl }
-are_even n.RGB32 = record { samples = 3; some = lit< tt; few = lit< tt; format = Uint; even = refl }
-are_even n.RGB64 = record { samples = 3; some = lit< tt; few = lit< tt; format = Uint; even = refl }
-are_even n.RGB32Float = record { samples = 3; some = lit< tt; few = lit< tt; format = IEEEFP; even = refl }
-are_even n.RGB64Float = record { samples = 3; some = lit< tt; few = lit< tt; format = IEEEFP; even = refl }
-are_even n.RGBA8 = record { samples = 4; some = lit< tt; few = lit< tt; format = Uint; even = refl }
-are_even n.RGBA16 = record { samples = 4; some = lit< tt; few = lit< tt; format = Uint; even = refl }
-are_even n.RGBA32 = record { samples = 4; some = lit< tt; few = lit< tt; format = Uint; even = refl }
-are_even n.RGBA64 = record { samples = 4; some = lit< tt; few = lit< tt; format = Uint; even = refl }
-are_even n.RGBA32Float = record { samples = 4; some = lit< tt; few = lit< tt; format = IEEEFP; even = refl }
-are_even n.RGBA64Float = record { samples = 4; some = lit< tt; few = lit< tt; format = IEEEFP; even = refl }
-are_even n.CMYK8 = record { samples = 4; some = lit< tt; few = lit< tt; format = Uint; even = refl }
-are_even n.CMYK16 = record { samples = 4; some = lit< tt; few = lit< tt; format = Uint; even = refl }
-are_even n.CMYK32 = record { samples = 4; some = lit< tt; few = lit< tt; format = Uint; even = refl }
-are_even n.CMYK64 = record { samples = 4; some = lit< tt; few = lit< tt; format = Uint; even = refl }
-are_even n.CMYK32Float = record { samples = 4; some = lit< tt; few = lit< tt; format = IEEEFP; even = refl }
-are_even n.CMYK64Float = record { samples = 4; some = lit< tt; few = lit< tt; format = IEEEFP; even = refl }
-are_even n.YCbCr8 = record { samples = 3; some = lit< tt; few = lit< tt; format = Uint; even = refl }
-are_even n.CMYKA8 = record { samples = 5; some = lit< tt; few = lit< tt; format = Uint; even = refl }
+are_colour_types n.Gray8 = samples_alike BlackIsZero 1 1 Uint (lit< tt) (lit< tt)
+are_colour_types n.Gray16 = samples_alike BlackIsZero 1 2 Uint (lit< tt) (lit< tt)
+are_colour_types n.Gray32 = samples_alike BlackIsZero 1 4 Uint (lit< tt) (lit< tt)
+are_colour_types n.Gray64 = samples_alike BlackIsZero 1 8 Uint (lit< tt) (lit< tt)
+are_colour_types n.GrayI8 = samples_alike BlackIsZero 1 1 Int (lit< tt) (lit< tt)
+are_colour_types n.GrayI16 = samples_alike BlackIsZero 1 2 Int (lit< tt) (lit< tt)
+are_colour_types n.GrayI32 = samples_alike BlackIsZero 1 4 Int (lit< tt) (lit< tt)
+are_colour_types n.GrayI64 = samples_alike BlackIsZero 1 8 Int (lit< tt) (lit< tt)
+are_colour_types n.Gray32Float = samples_alike BlackIsZero 1 4 IEEEFP (lit< tt) (lit< tt)
+are_colour_types n.Gray64Float = samples_alike BlackIsZero 1 8 IEEEFP (lit< tt) (lit< tt)
+are_colour_types n.RGB8 = samples_alike RGB 3 1 Uint (lit< tt) (lit< tt)
+are_colour_types n.RGB16 = samples_alike RGB 3 2 Uint (lit< tt) (lit< tt)
+are_colour_types n.RGB32 = samples_alike RGB 3 4 Uint (lit< tt) (lit< tt)
+are_colour_types n.RGB64 = samples_alike RGB 3 8 Uint (lit< tt) (lit< tt)
+are_colour_types n.RGB32Float = samples_alike RGB 3 4 IEEEFP (lit< tt) (lit< tt)
+are_colour_types n.RGB64Float = samples_alike RGB 3 8 IEEEFP (lit< tt) (lit< tt)
+are_colour_types n.RGBA8 = samples_alike RGB 4 1 Uint (lit< tt) (lit< tt)
+are_colour_types n.RGBA16 = samples_alike RGB 4 2 Uint (lit< tt) (lit< tt)
+are_colour_types n.RGBA32 = samples_alike RGB 4 4 Uint (lit< tt) (lit< tt)
+are_colour_types n.RGBA64 = samples_alike RGB 4 8 Uint (lit< tt) (lit< tt)
+are_colour_types n.RGBA32Float = samples_alike RGB 4 4 IEEEFP (lit< tt) (lit< tt)
+are_colour_types n.RGBA64Float = samples_alike RGB 4 8 IEEEFP (lit< tt) (lit< tt)
+are_colour_types n.CMYK8 = samples_alike CMYK 4 1 Uint (lit< tt) (lit< tt)
+are_colour_types n.CMYK16 = samples_alike CMYK 4 2 Uint (lit< tt) (lit< tt)
+are_colour_types n.CMYK32 = samples_alike CMYK 4 4 Uint (lit< tt) (lit< tt)
+are_colour_types n.CMYK64 = samples_alike CMYK 4 8 Uint (lit< tt) (lit< tt)
+are_colour_types n.CMYK32Float = samples_alike CMYK 4 4 IEEEFP (lit< tt) (lit< tt)
+are_colour_types n.CMYK64Float = samples_alike CMYK 4 8 IEEEFP (lit< tt) (lit< tt)
+are_colour_types n.YCbCr8 = samples_alike YCbCr 3 1 Uint (lit< tt) (lit< tt)
+are_colour_types n.CMYKA8 = samples_alike CMYK 5 1 Uint (lit< tt) (lit< tt)

@@ -6,3 +6,4 @@ pub mod ColorTypes
 pub mod Differences
 pub mod Packing
 pub mod Predicted
+pub mod Lowest

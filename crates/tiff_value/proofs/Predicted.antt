@@ -1,15 +1,11 @@
 -- Rows of samples as differences.
-use Rattle.std.proofs.Common.{◌≡◌, ℕ, ◌+◌, ◌-◌, ◌%◌, ◌^◌, ◌<◌, ◌≤◌, List, [], ◌∷◌, ◌++◌, map, get_or, length, take, Result, ap, sym, ◌∙◌, subst, arith, append_assoc}
+use Rattle.std.proofs.Common.{◌≡◌, ℕ, ◌+◌, ◌-◌, ◌%◌, ◌^◌, ◌<◌, ◌≤◌, List, [], ◌∷◌, ◌++◌, map, get_or, length, take, ap, sym, ◌∙◌, arith, append_assoc}
 use Rattle.std.specs.List.{range_with_len}
 use Rattle.std.proofs.lemmas.List.{get_or-map, get_or-take, take-map, map-append, length-map, length-take-le}
 use Rattle.std.proofs.lemmas.List.FromFn.{fill_by_all, map-range_with_len_more}
 use Rattle.tiff_base.specs.declared.tags.Predictor.TheVariants.{Horizontal}
-use Rattle.tiff_base.specs.declared.error.TiffError.{TiffError}
-use Rattle.tiff_base.specs.declared.tags.«Type».{«Type»}
-use Rattle.tiff_value.specs.ColorTypes.{inner_type}
-use Rattle.tiff_value.specs.declared.encoder.colortype.ColorTypeName.{ColorTypeName}
-use Rattle.tiff_value.specs.Differences.{kept, differences, predicted_row, horizontal_row}
-use Rattle.tiff_value.specs.Predicted.{row_of_type, AppendsRow, IsAppended}
+use Rattle.tiff_value.specs.Differences.{kept, differences, predicted_row}
+use Rattle.tiff_value.specs.Predicted.{IsAppended}
 use Rattle.tiff_value.proofs.Differences.{first_kept, later_kept, predicted}
 use Rattle.std.specs.Int.{Width, cast_unsigned, int_wrapping_sub}
 use Rattle.std.specs.Int.RustNames.{FitsSigned}
@@ -87,9 +83,3 @@ module _ {A : Type 0} (b : A → ℕ) (m s : ℕ) (row : List A) where
   pub ends : (i : ℕ) (old new : List A) → 0 < s → s ≤ length row → i ≡ length row → IsAppended b (made i) old new
       → IsAppended b (predicted_row m s (map b row)) old new
   ends i old new some whole last was = record { added = was.added; whole = was.whole; same = was.same ∙ ap made last ∙ whole_row some whole }
-
--- a row of a colour type's numbers is one of their type
-pub named_row : {A B : Type 0} (type : «Type») (name : ColorTypeName) (stride : ℕ) (b : A → ℕ) (row old new : List A) (r : Result B TiffError)
-    → type ≡ inner_type name → AppendsRow b (row_of_type type stride (map b row)) old new r → AppendsRow b (horizontal_row name stride (map b row)) old new r
-unfolding horizontal_row
-named_row type name stride b row old new r e h = subst (λ (t : «Type»). AppendsRow b (row_of_type t stride (map b row)) old new r) e h

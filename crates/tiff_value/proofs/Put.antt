@@ -1,5 +1,5 @@
 -- Bytes written one piece after another.
-use Rattle.std.proofs.Common.{◌≡◌, ℕ, ◌+◌, ◌<◌, ◌≤◌, List, [], ◌++◌, length, take, drop, refl, false, true, ap, sym, ◌∙◌, subst, arith, append-nil, length-append, replicate, ◌∷◌}
+use Rattle.std.proofs.Common.{◌≡◌, ℕ, ◌+◌, ◌<◌, ◌≤◌, List, [], ◌++◌, length, take, drop, Some, None, refl, ap, sym, ◌∙◌, arith, append-nil, length-append, replicate, ◌∷◌}
 use Rattle.std.proofs.lemmas.List.{take_all, drop_all, drop-take, take-take, length-take-le, take-append-drop, take-replicate}
 use Rattle.std.proofs.lemmas.List.Edits.{paste_all, paste-paste}
 use lib.Seq.{paste}
@@ -40,15 +40,15 @@ pub moved_more : (w : Written) (xs : List ℕ) (d n : ℕ) → w.at ≤ length w
 moved_more w xs d n h = moved-moved w (take d xs) (take n (drop d xs)) h ∙ ap (moved w) (take_split xs d n)
 
 -- a fault of the sink after a beginning of the bytes
-pub cut_from : (w v new : Written) (xs : List ℕ) (d : ℕ) (e : TiffError) → w.failed ≡ false → d ≤ length xs → v ≡ moved w (take d xs) → Fails e v new → IsCut xs e w new
-cut_from w v new xs d y a h e f = record {
+pub cut_from : (w v new : Written) (xs : List ℕ) (d : ℕ) (e : TiffError) → w.fault ≡ None → d < length xs → v ≡ moved w (take d xs) → Fails e v new → IsCut xs e w new
+cut_from w v new xs d e a h s f = record {
   fresh = a;
   fault = f.fault;
-  grew = let P : ℕ → Type 0 = λ n. n < new.failures in subst P (ap (λ u. u.failures) e) f.grew;
+  answer = f.answer;
   count = d;
   within = h;
-  state = f.state ∙ (λ i. record (e i) { failed = true; failures = new.failures })
-      ∙ (λ i. record w { bytes = put w.bytes w.at (take d xs); at = w.at + length-take-le d xs h i; failed = true; failures = new.failures });
+  state = f.state ∙ (λ i. record (s i) { fault = Some f.fault; failures = (s i).failures + 1 })
+      ∙ (λ i. record w { bytes = put w.bytes w.at (take d xs); at = w.at + length-take-le d xs (omega (arith, h)) i; fault = Some f.fault; failures = w.failures + 1 });
 }
 
 pub zeros : (n : ℕ) → n ≤ 3 → let z : List ℕ = 0 ∷ 0 ∷ 0 ∷ [] in take n z ≡ replicate n 0

@@ -1,5 +1,5 @@
 -- What each colour type says of its samples (TIFF 6.0 sections 4 to 6, 16, 19, 21; their names as in the Rust crate).
-use Rattle.std.specs.Prelude.{◌≡◌, ℕ, ◌*◌, ◌^◌, ◌<◌, replicate}
+use Rattle.std.specs.Prelude.{ℕ, replicate}
 use Rattle.tiff_base.specs.declared.tags.PhotometricInterpretation.{PhotometricInterpretation}
 use Rattle.tiff_base.specs.declared.tags.PhotometricInterpretation.TheVariants.{BlackIsZero, RGB, CMYK, YCbCr}
 use Rattle.tiff_base.specs.declared.tags.SampleFormat.{SampleFormat}
@@ -9,7 +9,7 @@ use Rattle.tiff_base.specs.declared.tags.«Type».TheVariants as t
 use Rattle.tiff_base.specs.Types.{type_size}
 use Rattle.tiff_value.specs.declared.encoder.colortype.ColorTypeName.{ColorTypeName}
 use Rattle.tiff_value.specs.declared.encoder.colortype.ColorTypeName.TheVariants as n
-use Rattle.tiff_value.specs.ColorType.{ColorTypeRecord}
+use Rattle.tiff_value.specs.ColorType.{ColorTypeRecord, IsColorType}
 
 -- so many samples of one depth and format
 abbrev pub samples_of : PhotometricInterpretation → ℕ → ℕ → SampleFormat → ColorTypeRecord
@@ -88,13 +88,6 @@ inner_size name = type_size (inner_type name)
 
 -- ---- its law
 
--- There are samples, no more than a count of two bytes can tell, all of the bits of a number in memory and of one format.
-pub record IsEven (name : ColorTypeName) : Type 0 where
-  pub samples : ℕ
-  pub some : 0 < samples
-  pub few : samples < 2 ^ 16
-  pub format : SampleFormat
-  pub even : colour_type name ≡ samples_of (colour_type name).interpretation samples (8 * inner_size name) format
-
-abbrev pub AreEven : Type 0
-AreEven = (name : ColorTypeName) → IsEven name
+-- Each name is that of a colour type.
+abbrev pub AreColorTypes : Type 0
+AreColorTypes = (name : ColorTypeName) → IsColorType (inner_size name) (colour_type name)

@@ -1,15 +1,10 @@
 -- Samples as differences along their row (TIFF 6.0 section 14).
-use Rattle.std.specs.Prelude.{◌≡◌, ℕ, ◌+◌, ◌-◌, ◌*◌, ◌/◌, ◌%◌, ◌^◌, ◌<◌, ◌≤◌, Bool, true, false, if◌then◌else◌, ◌==◌, nat_lt, List, [], map, get_or, length, sum_by, Result, Ok, Err}
+use Rattle.std.specs.Prelude.{◌≡◌, ℕ, ◌+◌, ◌-◌, ◌*◌, ◌/◌, ◌%◌, ◌<◌, ◌≤◌, Bool, true, false, if◌then◌else◌, ◌==◌, nat_lt, List, [], map, get_or, length, sum_by}
 use Rattle.std.specs.List.{range_with_len}
-use Rattle.tiff_base.specs.declared.error.TiffError.{TiffError}
-use Rattle.tiff_base.specs.declared.error.TiffError.TheVariants.{UsageError}
-use Rattle.tiff_base.specs.declared.error.UsageError.TheVariants.{PredictorIncompatible}
 use Rattle.tiff_base.specs.declared.tags.Predictor.{Predictor}
 use Rattle.tiff_base.specs.declared.tags.Predictor.TheVariants.{Horizontal}
 use Rattle.tiff_base.specs.declared.tags.«Type».{«Type»}
 use Rattle.tiff_base.specs.declared.tags.«Type».TheVariants.{FLOAT, DOUBLE}
-use Rattle.tiff_value.specs.declared.encoder.colortype.ColorTypeName.{ColorTypeName}
-use Rattle.tiff_value.specs.ColorTypes.{inner_type, inner_size}
 
 -- what is written in place of number k of rows of l numbers below m, a pixel having s: those of a row's first pixel as
 -- they are, each other less the one s before it, modulo m; without the horizontal predictor each as it is
@@ -31,12 +26,6 @@ abbrev pub is_floating : «Type» → Bool
 is_floating FLOAT = true
 is_floating DOUBLE = true
 is_floating type = false
-
--- what is appended for a row of a colour type's numbers: their differences modulo their width, signed numbers by their
--- bits; floating numbers have none
-unfoldable pub horizontal_row : ColorTypeName → ℕ → List ℕ → Result (List ℕ) TiffError
-horizontal_row name stride row =
-    if is_floating (inner_type name) then Err (UsageError PredictorIncompatible) else Ok (predicted_row (256 ^ inner_size name) stride row)
 
 -- ---- its law
 

@@ -12,3 +12,4 @@ pub mod Packing
 pub mod Stored
 pub mod Compressors
 pub mod Lends
+pub mod ColorLaws

@@ -7,7 +7,8 @@ use Rattle.tiff_base.specs.declared.tags.«Type».{«Type»}
 use Rattle.tiff_base.specs.Types.{type_size}
 use Rattle.tiff_value.specs.Differences.{is_floating, predicted_row}
 
--- what is appended for a row of numbers of a type in memory
+-- what is appended for a row of numbers of a type in memory: their differences modulo their width, signed numbers by their
+-- bits; floating numbers have none
 abbrev pub row_of_type : «Type» → ℕ → List ℕ → Result (List ℕ) TiffError
 row_of_type type stride row =
     if is_floating type then Err (UsageError PredictorIncompatible) else Ok (predicted_row (256 ^ type_size type) stride row)

@@ -1,5 +1,5 @@
 -- What a value that is written is, and what its write does.
-use Rattle.std.specs.Prelude.{◌≡◌, ℕ, ◌*◌, ◌^◌, ◌-◌, ◌⊎◌, min, false, List, Result, Ok, Err, MatchResult}
+use Rattle.std.specs.Prelude.{◌≡◌, ℕ, ◌*◌, ◌^◌, ◌-◌, ◌⊎◌, min, None, List, Result, Ok, Err, MatchResult}
 use Rattle.tiff_base.specs.declared.error.TiffError.{TiffError}
 use Rattle.tiff_base.specs.declared.error.TiffError.TheVariants.{FormatError, OutOfMemory}
 use Rattle.tiff_base.specs.declared.error.TiffFormatError.TheVariants.{InvalidTag}
@@ -23,20 +23,22 @@ byte_count count type = min (count * type_size type) (2 ^ 64 - 1)
 
 -- There was no memory for the bytes: nothing is done.
 pub record IsWanting (e : TiffError) (old new : Written) : Type 0 where
-  pub fault : e ≡ OutOfMemory
+  pub fresh : old.fault ≡ None
+  pub answer : e ≡ OutOfMemory
   pub same : new ≡ old
 
 -- The field can't be given the value, for this fault: nothing is done.
 pub record IsRefused (given e : TiffError) (old new : Written) : Type 0 where
-  pub fault : e ≡ given
+  pub fresh : old.fault ≡ None
+  pub answer : e ≡ given
   pub same : new ≡ old
 
 module _ {A : Type 0} where
-  -- The bytes of a value went out as they are, or there was no memory for them, or their write failed. A value that a
-  -- field can't be given is refused.
+  -- The bytes of a value went out as they are; or an earlier write failed; or else there was no memory for them, or their
+  -- write failed. A value that a field can't be given is refused, unless an earlier write failed.
   abbrev pub WritesValue : Result FieldData TiffError → Written → Written → Result A TiffError → Type 0
   WritesValue (Ok d) old new r =
       MatchResult r
-      (λ _. (old.failed ≡ false) × (new ≡ written old d.bytes))
-      (λ e. IsWanting e old new ⊎ (IsStopped e old new ⊎ IsCut d.bytes e old new))
-  WritesValue (Err given) old new r = MatchResult r (λ _. ⊥) (λ e. IsWanting e old new ⊎ IsRefused given e old new)
+      (λ _. (old.fault ≡ None) × (new ≡ written old d.bytes))
+      (λ e. IsStopped e old new ⊎ (IsWanting e old new ⊎ IsCut d.bytes e old new))
+  WritesValue (Err given) old new r = MatchResult r (λ _. ⊥) (λ e. IsStopped e old new ⊎ (IsWanting e old new ⊎ IsRefused given e old new))

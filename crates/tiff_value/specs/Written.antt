@@ -1,19 +1,27 @@
 -- What a writer has written, and what each write does to it.
-use Rattle.std.specs.Prelude.{◌≡◌, ℕ, ◌+◌, ◌<◌, ◌≤◌, ◌⊎◌, List, length, take, Bool, true, false, Result, MatchResult}
-use Rattle.tiff_base.specs.Told.{put}
+use Rattle.std.specs.Prelude.{◌≡◌, ℕ, ◌+◌, ◌<◌, ◌⊎◌, List, length, take, Option, Some, None, IsSome, Result, MatchResult}
+use Rattle.tiff_base.specs.Told.{put, sink_error}
 use Rattle.tiff_base.specs.declared.error.TiffError.{TiffError}
-use Rattle.tiff_base.specs.declared.error.TiffError.TheVariants.{IoError, UsageError, OutOfMemory}
+use Rattle.tiff_base.specs.declared.error.TiffError.TheVariants.{UsageError}
 use Rattle.tiff_base.specs.declared.error.UsageError.TheVariants.{WriterFailed}
-use Rattle.tiff_base.specs.declared.io.IoKind.TheVariants.{Device}
+use Rattle.tiff_base.specs.declared.io.SinkFault.{SinkFault}
+use Rattle.tiff_base.specs.declared.tags.CompressionMethod.{CompressionMethod}
+use Rattle.tiff_base.specs.declared.tags.CompressionMethod.TheVariants as method
 
--- a writer: the bytes of its sink, the place that is written next, whether a write failed earlier, how many writes of
--- its sink failed, and the byte count of the last write
+-- a writer: the bytes of its sink, the place that is written next, the fault of the sink that ended all writing, how many
+-- writes of its sink failed, the byte count of the last write, and the method that bytes are packed by
 pub record Written : Type 0 where
   pub bytes : List ℕ
   pub at : ℕ
-  pub failed : Bool
+  pub fault : Option SinkFault
   pub failures : ℕ
   pub last : ℕ
+  pub method : CompressionMethod
+
+-- a new writer over a sink that holds these bytes, some of whose writes failed before
+abbrev pub new_writer : List ℕ → ℕ → Written
+new_writer told failures =
+    record { bytes = told; at = length told; fault = None; failures = failures; last = 0; method = method.None }
 
 -- the writer after bytes went out at its place
 abbrev pub moved : Written → List ℕ → Written
@@ -23,38 +31,39 @@ moved w xs = record w { bytes = put w.bytes w.at xs; at = w.at + length xs }
 abbrev pub written : Written → List ℕ → Written
 written w xs = record w { bytes = put w.bytes w.at xs; at = w.at + length xs; last = length xs }
 
--- what a sink answers when it fails
-abbrev pub IsSinkFault : TiffError → Type 0
-IsSinkFault e = (e ≡ OutOfMemory) ⊎ (e ≡ IoError Device)
-
--- One call of the sink failed: its bytes stay, and the writer is marked.
+-- One call of the sink failed: its bytes stay, and its fault ends all writing.
 pub record Fails (e : TiffError) (old new : Written) : Type 0 where
-  pub fault : IsSinkFault e
-  pub grew : old.failures < new.failures
-  pub state : new ≡ record old { failed = true; failures = new.failures }
+  pub fault : SinkFault
+  pub answer : e ≡ sink_error fault
+  pub state : new ≡ record old { fault = Some fault; failures = old.failures + 1 }
 
 -- An earlier write failed: nothing is done.
 pub record IsStopped (e : TiffError) (old new : Written) : Type 0 where
-  pub fault : e ≡ UsageError WriterFailed
-  pub failed : old.failed ≡ true
+  pub answer : e ≡ UsageError WriterFailed
+  pub failed : IsSome old.fault
   pub same : new ≡ old
 
--- The sink failed while these bytes were written: a beginning of them stands, and the writer is marked.
+-- The sink failed while these bytes were written: a beginning of them stands, and nothing is written after it.
 pub record IsCut (xs : List ℕ) (e : TiffError) (old new : Written) : Type 0 where
-  pub fresh : old.failed ≡ false
-  pub fault : IsSinkFault e
-  pub grew : old.failures < new.failures
+  pub fresh : old.fault ≡ None
+  pub fault : SinkFault
+  pub answer : e ≡ sink_error fault
   pub count : ℕ
-  pub within : count ≤ length xs
-  pub state : new ≡ record old { bytes = put old.bytes old.at (take count xs); at = old.at + count; failed = true; failures = new.failures }
+  pub within : count < length xs
+  pub state : new ≡ record old {
+    bytes = put old.bytes old.at (take count xs);
+    at = old.at + count;
+    fault = Some fault;
+    failures = old.failures + 1;
+  }
 
 module _ {A : Type 0} where
   -- the bytes went out, or a beginning of them as the sink failed, or nothing since an earlier write failed
   abbrev pub WritesRaw : List ℕ → Written → Written → Result A TiffError → Type 0
   WritesRaw xs old new r =
-      MatchResult r (λ _. (old.failed ≡ false) × (new ≡ moved old xs)) (λ e. IsStopped e old new ⊎ IsCut xs e old new)
+      MatchResult r (λ _. (old.fault ≡ None) × (new ≡ moved old xs)) (λ e. IsStopped e old new ⊎ IsCut xs e old new)
 
   -- the same, with the count kept for `last_written`
   abbrev pub Writes : List ℕ → Written → Written → Result A TiffError → Type 0
   Writes xs old new r =
-      MatchResult r (λ _. (old.failed ≡ false) × (new ≡ written old xs)) (λ e. IsStopped e old new ⊎ IsCut xs e old new)
+      MatchResult r (λ _. (old.fault ≡ None) × (new ≡ written old xs)) (λ e. IsStopped e old new ⊎ IsCut xs e old new)

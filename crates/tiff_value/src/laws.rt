@@ -1,11 +1,16 @@
 //! Laws of the definitions, each the contract of a function with no work.
 
-ghost use Rattle.std.specs.Prelude.{◌≡◌, [], ◌∷◌};
-ghost use Rattle.tiff_value.specs.ColorTypes.{AreEven};
+ghost use Rattle.std.specs.Prelude.{◌≡◌, ◌^◌, ◌<◌, [], ◌∷◌};
+ghost use Rattle.tiff_base.specs.Number.{le};
+ghost use Rattle.tiff_base.specs.Types.{type_size};
+ghost use Rattle.tiff_value.specs.ColorType.{IsColorType, sample_number};
+ghost use Rattle.tiff_value.specs.ColorTypes.{colour_type, inner_type, AreColorTypes};
 ghost use Rattle.tiff_value.specs.Data.{DataIsWhole, TextIsWhole, data_of};
 ghost use Rattle.tiff_value.specs.Differences.{IsUndone};
 ghost use Rattle.tiff_value.specs.Values.{IsValue};
 
+use crate::encoder::colortype::{ColorType, NamedColorType};
+use crate::encoder::differences::Sample;
 use crate::encoder::tiff_value::{TiffScalar, TiffValue};
 
 /// The bytes of values are as many as their count and their type say.
@@ -29,9 +34,27 @@ pub fn scalar_is_single<T: TiffScalar>()
     ensures data { (x : T) → T.field_data x ≡ Ok (data_of (T.scalars (x ∷ []))) }
 {}
 
-/// The samples of each colour type are alike, and have the bits of its numbers in memory.
-pub fn are_even()
-    ensures { AreEven }
+/// What the name of each colour type says is what a page can say of its samples.
+pub fn are_colour_types()
+    ensures { AreColorTypes }
+{}
+
+/// So is what any colour type says, with a name or without.
+pub fn colour_type_is_lawful<C: ColorType>()
+    ensures { IsColorType (type_size C.Inner.value_type) C.described }
+{}
+
+/// A colour type with a name is what its name says.
+pub fn named_is_known<C: NamedColorType>()
+    ensures described { C.described ≡ colour_type C.name }
+    ensures in_memory { C.Inner.value_type ≡ inner_type C.name }
+{}
+
+/// A sample is written as the bytes of its number, the lowest first, which they hold.
+#[tactic(auto, using(crate::proofs::Lowest::spelled_by))]
+pub fn sample_is_spelled<S: Sample>()
+    ensures { (x : S) → (S.spelled x ≡ le (type_size S.value_type) (sample_number (type_size S.value_type) S.bits x))
+        × (sample_number (type_size S.value_type) S.bits x < 256 ^ type_size S.value_type) }
 {}
 
 /// A row that was written as differences is given back by undoing them.

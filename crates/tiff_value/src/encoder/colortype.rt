@@ -16,17 +16,12 @@ use tiff_base::tags::{PhotometricInterpretation, SampleFormat};
 pub trait ColorType {
     ghost use Rattle.std.specs.Prelude.{◌≡◌, length, map};
     ghost use Rattle.tiff_base.specs.declared.tags.PhotometricInterpretation.{PhotometricInterpretation};
-    ghost use Rattle.tiff_value.specs.ColorType.{ColorTypeRecord};
-    ghost use Rattle.tiff_value.specs.ColorTypes.{colour_type, inner_type};
-    ghost use Rattle.tiff_value.specs.Differences.{horizontal_row};
-    ghost use Rattle.tiff_value.specs.Predicted.{AppendsRow};
-    ghost use Rattle.tiff_value.specs.declared.encoder.colortype.ColorTypeName.{ColorTypeName};
+    ghost use Rattle.tiff_base.specs.Types.{type_size};
+    ghost use Rattle.tiff_value.specs.ColorType.{ColorTypeRecord, IsColorType};
+    ghost use Rattle.tiff_value.specs.Predicted.{row_of_type, AppendsRow};
 
     /// The type of a sample in memory.
     type Inner: Sample;
-
-    /// Its name.
-    ghost name: { ColorTypeName };
 
     /// All that the page says of its samples.
     ghost described: { ColorTypeRecord };
@@ -52,22 +47,35 @@ pub trait ColorType {
         stride: usize,
         out: &mut Vec<Self::Inner>,
     ) -> TiffResult<()>
-        ensures { AppendsRow Self.Inner.bits (horizontal_row name stride (map Self.Inner.bits row.now)) out.old.items out.new.items result }
+        ensures { AppendsRow Self.Inner.bits (row_of_type Self.Inner.value_type stride (map Self.Inner.bits row.now)) out.old.items out.new.items result }
     {
         Self::Inner::predict_row(row, stride, out)
     }
 
     /// The same with a stride of a pixel's samples.
     final fn horizontal_predict(row: &[Self::Inner], out: &mut Vec<Self::Inner>) -> TiffResult<()>
-        ensures { AppendsRow Self.Inner.bits (horizontal_row name (length described.bits) (map Self.Inner.bits row.now)) out.old.items out.new.items result }
+        ensures { AppendsRow Self.Inner.bits (row_of_type Self.Inner.value_type (length described.bits) (map Self.Inner.bits row.now)) out.old.items out.new.items result }
     {
         Self::horizontal_predict_stride(row, Self::bits_per_sample().len(), out)
     }
 
     ghost interpreted: { TIFF_VALUE ≡ described.interpretation };
 
+    // What it says is what a page can say of such samples.
+    ghost lawful: { IsColorType (type_size Self.Inner.value_type) described };
+}
+
+/// A colour type that the Rust crate has (this project's).
+pub trait NamedColorType: ColorType {
+    ghost use Rattle.std.specs.Prelude.{◌≡◌};
+    ghost use Rattle.tiff_value.specs.ColorTypes.{colour_type, inner_type};
+    ghost use Rattle.tiff_value.specs.declared.encoder.colortype.ColorTypeName.{ColorTypeName};
+
+    // Its name.
+    ghost name: { ColorTypeName };
+
     // It is what its name says.
-    ghost named: { described ≡ colour_type name };
+    ghost named: { Self.described ≡ colour_type name };
 
     ghost in_memory: { Self.Inner.value_type ≡ inner_type name };
 }
@@ -76,15 +84,12 @@ pub trait ColorType {
 pub struct Gray8;
 
 impl ColorType for Gray8 {
-    ghost use Rattle.std.specs.Prelude.{[], ◌∷◌, refl};
+    ghost use Rattle.std.proofs.Common.{[], ◌∷◌, refl, lit<};
     ghost use Rattle.tiff_base.specs.declared.tags.PhotometricInterpretation.TheVariants as interpretation;
     ghost use Rattle.tiff_base.specs.declared.tags.SampleFormat.TheVariants as format;
-    ghost use Rattle.tiff_value.specs.ColorTypes.{colour_type, inner_type};
-    ghost use Rattle.tiff_value.specs.declared.encoder.colortype.ColorTypeName.TheVariants as name;
+    ghost use Rattle.tiff_value.specs.ColorLaws.{samples_alike};
 
     type Inner = u8;
-
-    ghost name = { name.Gray8 };
 
     ghost described = { record { interpretation = interpretation.BlackIsZero; bits = 8 ∷ []; formats = format.Uint ∷ [] } };
 
@@ -101,6 +106,16 @@ impl ColorType for Gray8 {
     }
 
     ghost interpreted = { refl };
+
+    ghost lawful = { samples_alike interpretation.BlackIsZero 1 1 format.Uint (lit< tt) (lit< tt) };
+}
+
+impl NamedColorType for Gray8 {
+    ghost use Rattle.std.specs.Prelude.{refl};
+    ghost use Rattle.tiff_value.specs.ColorTypes.{colour_type, inner_type};
+    ghost use Rattle.tiff_value.specs.declared.encoder.colortype.ColorTypeName.TheVariants as name;
+
+    ghost name = { name.Gray8 };
 
     ghost named = { unfold colour_type in refl };
 

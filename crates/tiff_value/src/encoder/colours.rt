@@ -1,12 +1,13 @@
 //! The colour types beside `Gray8`, named as in the Rust crate.
 
-ghost use Rattle.std.specs.Prelude.{refl};
+ghost use Rattle.std.proofs.Common.{refl, lit<};
 ghost use Rattle.tiff_base.specs.declared.tags.PhotometricInterpretation.TheVariants as interpretation;
 ghost use Rattle.tiff_base.specs.declared.tags.SampleFormat.TheVariants as format;
 ghost use Rattle.tiff_value.specs.declared.encoder.colortype.ColorTypeName.TheVariants as name;
+ghost use Rattle.tiff_value.specs.ColorLaws.{samples_alike};
 ghost use Rattle.tiff_value.specs.ColorTypes.{colour_type, inner_type, samples_of};
 
-use super::colortype::ColorType;
+use super::colortype::{ColorType, NamedColorType};
 use tiff_base::tags::{Bits32, Bits64, PhotometricInterpretation, SampleFormat};
 
 /// Gray, of 16 bits.
@@ -14,8 +15,6 @@ pub struct Gray16;
 
 impl ColorType for Gray16 {
     type Inner = u16;
-
-    ghost name = { name.Gray16 };
 
     ghost described = { samples_of interpretation.BlackIsZero 1 16 format.Uint };
 
@@ -33,6 +32,12 @@ impl ColorType for Gray16 {
 
     ghost interpreted = { refl };
 
+    ghost lawful = { samples_alike interpretation.BlackIsZero 1 2 format.Uint (lit< tt) (lit< tt) };
+}
+
+impl NamedColorType for Gray16 {
+    ghost name = { name.Gray16 };
+
     ghost named = { unfold colour_type in refl };
 
     ghost in_memory = { unfold inner_type in refl };
@@ -43,8 +48,6 @@ pub struct Gray32;
 
 impl ColorType for Gray32 {
     type Inner = u32;
-
-    ghost name = { name.Gray32 };
 
     ghost described = { samples_of interpretation.BlackIsZero 1 32 format.Uint };
 
@@ -62,6 +65,12 @@ impl ColorType for Gray32 {
 
     ghost interpreted = { refl };
 
+    ghost lawful = { samples_alike interpretation.BlackIsZero 1 4 format.Uint (lit< tt) (lit< tt) };
+}
+
+impl NamedColorType for Gray32 {
+    ghost name = { name.Gray32 };
+
     ghost named = { unfold colour_type in refl };
 
     ghost in_memory = { unfold inner_type in refl };
@@ -72,8 +81,6 @@ pub struct Gray64;
 
 impl ColorType for Gray64 {
     type Inner = u64;
-
-    ghost name = { name.Gray64 };
 
     ghost described = { samples_of interpretation.BlackIsZero 1 64 format.Uint };
 
@@ -91,6 +98,12 @@ impl ColorType for Gray64 {
 
     ghost interpreted = { refl };
 
+    ghost lawful = { samples_alike interpretation.BlackIsZero 1 8 format.Uint (lit< tt) (lit< tt) };
+}
+
+impl NamedColorType for Gray64 {
+    ghost name = { name.Gray64 };
+
     ghost named = { unfold colour_type in refl };
 
     ghost in_memory = { unfold inner_type in refl };
@@ -101,8 +114,6 @@ pub struct GrayI8;
 
 impl ColorType for GrayI8 {
     type Inner = i8;
-
-    ghost name = { name.GrayI8 };
 
     ghost described = { samples_of interpretation.BlackIsZero 1 8 format.Int };
 
@@ -120,6 +131,12 @@ impl ColorType for GrayI8 {
 
     ghost interpreted = { refl };
 
+    ghost lawful = { samples_alike interpretation.BlackIsZero 1 1 format.Int (lit< tt) (lit< tt) };
+}
+
+impl NamedColorType for GrayI8 {
+    ghost name = { name.GrayI8 };
+
     ghost named = { unfold colour_type in refl };
 
     ghost in_memory = { unfold inner_type in refl };
@@ -130,8 +147,6 @@ pub struct GrayI16;
 
 impl ColorType for GrayI16 {
     type Inner = i16;
-
-    ghost name = { name.GrayI16 };
 
     ghost described = { samples_of interpretation.BlackIsZero 1 16 format.Int };
 
@@ -149,6 +164,12 @@ impl ColorType for GrayI16 {
 
     ghost interpreted = { refl };
 
+    ghost lawful = { samples_alike interpretation.BlackIsZero 1 2 format.Int (lit< tt) (lit< tt) };
+}
+
+impl NamedColorType for GrayI16 {
+    ghost name = { name.GrayI16 };
+
     ghost named = { unfold colour_type in refl };
 
     ghost in_memory = { unfold inner_type in refl };
@@ -159,8 +180,6 @@ pub struct GrayI32;
 
 impl ColorType for GrayI32 {
     type Inner = i32;
-
-    ghost name = { name.GrayI32 };
 
     ghost described = { samples_of interpretation.BlackIsZero 1 32 format.Int };
 
@@ -178,6 +197,12 @@ impl ColorType for GrayI32 {
 
     ghost interpreted = { refl };
 
+    ghost lawful = { samples_alike interpretation.BlackIsZero 1 4 format.Int (lit< tt) (lit< tt) };
+}
+
+impl NamedColorType for GrayI32 {
+    ghost name = { name.GrayI32 };
+
     ghost named = { unfold colour_type in refl };
 
     ghost in_memory = { unfold inner_type in refl };
@@ -188,8 +213,6 @@ pub struct GrayI64;
 
 impl ColorType for GrayI64 {
     type Inner = i64;
-
-    ghost name = { name.GrayI64 };
 
     ghost described = { samples_of interpretation.BlackIsZero 1 64 format.Int };
 
@@ -207,6 +230,12 @@ impl ColorType for GrayI64 {
 
     ghost interpreted = { refl };
 
+    ghost lawful = { samples_alike interpretation.BlackIsZero 1 8 format.Int (lit< tt) (lit< tt) };
+}
+
+impl NamedColorType for GrayI64 {
+    ghost name = { name.GrayI64 };
+
     ghost named = { unfold colour_type in refl };
 
     ghost in_memory = { unfold inner_type in refl };
@@ -217,8 +246,6 @@ pub struct Gray32Float;
 
 impl ColorType for Gray32Float {
     type Inner = Bits32;
-
-    ghost name = { name.Gray32Float };
 
     ghost described = { samples_of interpretation.BlackIsZero 1 32 format.IEEEFP };
 
@@ -236,6 +263,12 @@ impl ColorType for Gray32Float {
 
     ghost interpreted = { refl };
 
+    ghost lawful = { samples_alike interpretation.BlackIsZero 1 4 format.IEEEFP (lit< tt) (lit< tt) };
+}
+
+impl NamedColorType for Gray32Float {
+    ghost name = { name.Gray32Float };
+
     ghost named = { unfold colour_type in refl };
 
     ghost in_memory = { unfold inner_type in refl };
@@ -246,8 +279,6 @@ pub struct Gray64Float;
 
 impl ColorType for Gray64Float {
     type Inner = Bits64;
-
-    ghost name = { name.Gray64Float };
 
     ghost described = { samples_of interpretation.BlackIsZero 1 64 format.IEEEFP };
 
@@ -265,6 +296,12 @@ impl ColorType for Gray64Float {
 
     ghost interpreted = { refl };
 
+    ghost lawful = { samples_alike interpretation.BlackIsZero 1 8 format.IEEEFP (lit< tt) (lit< tt) };
+}
+
+impl NamedColorType for Gray64Float {
+    ghost name = { name.Gray64Float };
+
     ghost named = { unfold colour_type in refl };
 
     ghost in_memory = { unfold inner_type in refl };
@@ -275,8 +312,6 @@ pub struct RGB8;
 
 impl ColorType for RGB8 {
     type Inner = u8;
-
-    ghost name = { name.RGB8 };
 
     ghost described = { samples_of interpretation.RGB 3 8 format.Uint };
 
@@ -294,6 +329,12 @@ impl ColorType for RGB8 {
 
     ghost interpreted = { refl };
 
+    ghost lawful = { samples_alike interpretation.RGB 3 1 format.Uint (lit< tt) (lit< tt) };
+}
+
+impl NamedColorType for RGB8 {
+    ghost name = { name.RGB8 };
+
     ghost named = { unfold colour_type in refl };
 
     ghost in_memory = { unfold inner_type in refl };
@@ -304,8 +345,6 @@ pub struct RGB16;
 
 impl ColorType for RGB16 {
     type Inner = u16;
-
-    ghost name = { name.RGB16 };
 
     ghost described = { samples_of interpretation.RGB 3 16 format.Uint };
 
@@ -323,6 +362,12 @@ impl ColorType for RGB16 {
 
     ghost interpreted = { refl };
 
+    ghost lawful = { samples_alike interpretation.RGB 3 2 format.Uint (lit< tt) (lit< tt) };
+}
+
+impl NamedColorType for RGB16 {
+    ghost name = { name.RGB16 };
+
     ghost named = { unfold colour_type in refl };
 
     ghost in_memory = { unfold inner_type in refl };
@@ -333,8 +378,6 @@ pub struct RGB32;
 
 impl ColorType for RGB32 {
     type Inner = u32;
-
-    ghost name = { name.RGB32 };
 
     ghost described = { samples_of interpretation.RGB 3 32 format.Uint };
 
@@ -352,6 +395,12 @@ impl ColorType for RGB32 {
 
     ghost interpreted = { refl };
 
+    ghost lawful = { samples_alike interpretation.RGB 3 4 format.Uint (lit< tt) (lit< tt) };
+}
+
+impl NamedColorType for RGB32 {
+    ghost name = { name.RGB32 };
+
     ghost named = { unfold colour_type in refl };
 
     ghost in_memory = { unfold inner_type in refl };
@@ -362,8 +411,6 @@ pub struct RGB64;
 
 impl ColorType for RGB64 {
     type Inner = u64;
-
-    ghost name = { name.RGB64 };
 
     ghost described = { samples_of interpretation.RGB 3 64 format.Uint };
 
@@ -381,6 +428,12 @@ impl ColorType for RGB64 {
 
     ghost interpreted = { refl };
 
+    ghost lawful = { samples_alike interpretation.RGB 3 8 format.Uint (lit< tt) (lit< tt) };
+}
+
+impl NamedColorType for RGB64 {
+    ghost name = { name.RGB64 };
+
     ghost named = { unfold colour_type in refl };
 
     ghost in_memory = { unfold inner_type in refl };
@@ -391,8 +444,6 @@ pub struct RGB32Float;
 
 impl ColorType for RGB32Float {
     type Inner = Bits32;
-
-    ghost name = { name.RGB32Float };
 
     ghost described = { samples_of interpretation.RGB 3 32 format.IEEEFP };
 
@@ -410,6 +461,12 @@ impl ColorType for RGB32Float {
 
     ghost interpreted = { refl };
 
+    ghost lawful = { samples_alike interpretation.RGB 3 4 format.IEEEFP (lit< tt) (lit< tt) };
+}
+
+impl NamedColorType for RGB32Float {
+    ghost name = { name.RGB32Float };
+
     ghost named = { unfold colour_type in refl };
 
     ghost in_memory = { unfold inner_type in refl };
@@ -420,8 +477,6 @@ pub struct RGB64Float;
 
 impl ColorType for RGB64Float {
     type Inner = Bits64;
-
-    ghost name = { name.RGB64Float };
 
     ghost described = { samples_of interpretation.RGB 3 64 format.IEEEFP };
 
@@ -439,6 +494,12 @@ impl ColorType for RGB64Float {
 
     ghost interpreted = { refl };
 
+    ghost lawful = { samples_alike interpretation.RGB 3 8 format.IEEEFP (lit< tt) (lit< tt) };
+}
+
+impl NamedColorType for RGB64Float {
+    ghost name = { name.RGB64Float };
+
     ghost named = { unfold colour_type in refl };
 
     ghost in_memory = { unfold inner_type in refl };
@@ -449,8 +510,6 @@ pub struct RGBA8;
 
 impl ColorType for RGBA8 {
     type Inner = u8;
-
-    ghost name = { name.RGBA8 };
 
     ghost described = { samples_of interpretation.RGB 4 8 format.Uint };
 
@@ -468,6 +527,12 @@ impl ColorType for RGBA8 {
 
     ghost interpreted = { refl };
 
+    ghost lawful = { samples_alike interpretation.RGB 4 1 format.Uint (lit< tt) (lit< tt) };
+}
+
+impl NamedColorType for RGBA8 {
+    ghost name = { name.RGBA8 };
+
     ghost named = { unfold colour_type in refl };
 
     ghost in_memory = { unfold inner_type in refl };
@@ -478,8 +543,6 @@ pub struct RGBA16;
 
 impl ColorType for RGBA16 {
     type Inner = u16;
-
-    ghost name = { name.RGBA16 };
 
     ghost described = { samples_of interpretation.RGB 4 16 format.Uint };
 
@@ -497,6 +560,12 @@ impl ColorType for RGBA16 {
 
     ghost interpreted = { refl };
 
+    ghost lawful = { samples_alike interpretation.RGB 4 2 format.Uint (lit< tt) (lit< tt) };
+}
+
+impl NamedColorType for RGBA16 {
+    ghost name = { name.RGBA16 };
+
     ghost named = { unfold colour_type in refl };
 
     ghost in_memory = { unfold inner_type in refl };
@@ -507,8 +576,6 @@ pub struct RGBA32;
 
 impl ColorType for RGBA32 {
     type Inner = u32;
-
-    ghost name = { name.RGBA32 };
 
     ghost described = { samples_of interpretation.RGB 4 32 format.Uint };
 
@@ -526,6 +593,12 @@ impl ColorType for RGBA32 {
 
     ghost interpreted = { refl };
 
+    ghost lawful = { samples_alike interpretation.RGB 4 4 format.Uint (lit< tt) (lit< tt) };
+}
+
+impl NamedColorType for RGBA32 {
+    ghost name = { name.RGBA32 };
+
     ghost named = { unfold colour_type in refl };
 
     ghost in_memory = { unfold inner_type in refl };
@@ -536,8 +609,6 @@ pub struct RGBA64;
 
 impl ColorType for RGBA64 {
     type Inner = u64;
-
-    ghost name = { name.RGBA64 };
 
     ghost described = { samples_of interpretation.RGB 4 64 format.Uint };
 
@@ -555,6 +626,12 @@ impl ColorType for RGBA64 {
 
     ghost interpreted = { refl };
 
+    ghost lawful = { samples_alike interpretation.RGB 4 8 format.Uint (lit< tt) (lit< tt) };
+}
+
+impl NamedColorType for RGBA64 {
+    ghost name = { name.RGBA64 };
+
     ghost named = { unfold colour_type in refl };
 
     ghost in_memory = { unfold inner_type in refl };
@@ -565,8 +642,6 @@ pub struct RGBA32Float;
 
 impl ColorType for RGBA32Float {
     type Inner = Bits32;
-
-    ghost name = { name.RGBA32Float };
 
     ghost described = { samples_of interpretation.RGB 4 32 format.IEEEFP };
 
@@ -584,6 +659,12 @@ impl ColorType for RGBA32Float {
 
     ghost interpreted = { refl };
 
+    ghost lawful = { samples_alike interpretation.RGB 4 4 format.IEEEFP (lit< tt) (lit< tt) };
+}
+
+impl NamedColorType for RGBA32Float {
+    ghost name = { name.RGBA32Float };
+
     ghost named = { unfold colour_type in refl };
 
     ghost in_memory = { unfold inner_type in refl };
@@ -594,8 +675,6 @@ pub struct RGBA64Float;
 
 impl ColorType for RGBA64Float {
     type Inner = Bits64;
-
-    ghost name = { name.RGBA64Float };
 
     ghost described = { samples_of interpretation.RGB 4 64 format.IEEEFP };
 
@@ -613,6 +692,12 @@ impl ColorType for RGBA64Float {
 
     ghost interpreted = { refl };
 
+    ghost lawful = { samples_alike interpretation.RGB 4 8 format.IEEEFP (lit< tt) (lit< tt) };
+}
+
+impl NamedColorType for RGBA64Float {
+    ghost name = { name.RGBA64Float };
+
     ghost named = { unfold colour_type in refl };
 
     ghost in_memory = { unfold inner_type in refl };
@@ -623,8 +708,6 @@ pub struct CMYK8;
 
 impl ColorType for CMYK8 {
     type Inner = u8;
-
-    ghost name = { name.CMYK8 };
 
     ghost described = { samples_of interpretation.CMYK 4 8 format.Uint };
 
@@ -642,6 +725,12 @@ impl ColorType for CMYK8 {
 
     ghost interpreted = { refl };
 
+    ghost lawful = { samples_alike interpretation.CMYK 4 1 format.Uint (lit< tt) (lit< tt) };
+}
+
+impl NamedColorType for CMYK8 {
+    ghost name = { name.CMYK8 };
+
     ghost named = { unfold colour_type in refl };
 
     ghost in_memory = { unfold inner_type in refl };
@@ -652,8 +741,6 @@ pub struct CMYK16;
 
 impl ColorType for CMYK16 {
     type Inner = u16;
-
-    ghost name = { name.CMYK16 };
 
     ghost described = { samples_of interpretation.CMYK 4 16 format.Uint };
 
@@ -671,6 +758,12 @@ impl ColorType for CMYK16 {
 
     ghost interpreted = { refl };
 
+    ghost lawful = { samples_alike interpretation.CMYK 4 2 format.Uint (lit< tt) (lit< tt) };
+}
+
+impl NamedColorType for CMYK16 {
+    ghost name = { name.CMYK16 };
+
     ghost named = { unfold colour_type in refl };
 
     ghost in_memory = { unfold inner_type in refl };
@@ -681,8 +774,6 @@ pub struct CMYK32;
 
 impl ColorType for CMYK32 {
     type Inner = u32;
-
-    ghost name = { name.CMYK32 };
 
     ghost described = { samples_of interpretation.CMYK 4 32 format.Uint };
 
@@ -700,6 +791,12 @@ impl ColorType for CMYK32 {
 
     ghost interpreted = { refl };
 
+    ghost lawful = { samples_alike interpretation.CMYK 4 4 format.Uint (lit< tt) (lit< tt) };
+}
+
+impl NamedColorType for CMYK32 {
+    ghost name = { name.CMYK32 };
+
     ghost named = { unfold colour_type in refl };
 
     ghost in_memory = { unfold inner_type in refl };
@@ -710,8 +807,6 @@ pub struct CMYK64;
 
 impl ColorType for CMYK64 {
     type Inner = u64;
-
-    ghost name = { name.CMYK64 };
 
     ghost described = { samples_of interpretation.CMYK 4 64 format.Uint };
 
@@ -729,6 +824,12 @@ impl ColorType for CMYK64 {
 
     ghost interpreted = { refl };
 
+    ghost lawful = { samples_alike interpretation.CMYK 4 8 format.Uint (lit< tt) (lit< tt) };
+}
+
+impl NamedColorType for CMYK64 {
+    ghost name = { name.CMYK64 };
+
     ghost named = { unfold colour_type in refl };
 
     ghost in_memory = { unfold inner_type in refl };
@@ -739,8 +840,6 @@ pub struct CMYK32Float;
 
 impl ColorType for CMYK32Float {
     type Inner = Bits32;
-
-    ghost name = { name.CMYK32Float };
 
     ghost described = { samples_of interpretation.CMYK 4 32 format.IEEEFP };
 
@@ -758,6 +857,12 @@ impl ColorType for CMYK32Float {
 
     ghost interpreted = { refl };
 
+    ghost lawful = { samples_alike interpretation.CMYK 4 4 format.IEEEFP (lit< tt) (lit< tt) };
+}
+
+impl NamedColorType for CMYK32Float {
+    ghost name = { name.CMYK32Float };
+
     ghost named = { unfold colour_type in refl };
 
     ghost in_memory = { unfold inner_type in refl };
@@ -768,8 +873,6 @@ pub struct CMYK64Float;
 
 impl ColorType for CMYK64Float {
     type Inner = Bits64;
-
-    ghost name = { name.CMYK64Float };
 
     ghost described = { samples_of interpretation.CMYK 4 64 format.IEEEFP };
 
@@ -787,6 +890,12 @@ impl ColorType for CMYK64Float {
 
     ghost interpreted = { refl };
 
+    ghost lawful = { samples_alike interpretation.CMYK 4 8 format.IEEEFP (lit< tt) (lit< tt) };
+}
+
+impl NamedColorType for CMYK64Float {
+    ghost name = { name.CMYK64Float };
+
     ghost named = { unfold colour_type in refl };
 
     ghost in_memory = { unfold inner_type in refl };
@@ -797,8 +906,6 @@ pub struct YCbCr8;
 
 impl ColorType for YCbCr8 {
     type Inner = u8;
-
-    ghost name = { name.YCbCr8 };
 
     ghost described = { samples_of interpretation.YCbCr 3 8 format.Uint };
 
@@ -816,6 +923,12 @@ impl ColorType for YCbCr8 {
 
     ghost interpreted = { refl };
 
+    ghost lawful = { samples_alike interpretation.YCbCr 3 1 format.Uint (lit< tt) (lit< tt) };
+}
+
+impl NamedColorType for YCbCr8 {
+    ghost name = { name.YCbCr8 };
+
     ghost named = { unfold colour_type in refl };
 
     ghost in_memory = { unfold inner_type in refl };
@@ -826,8 +939,6 @@ pub struct CMYKA8;
 
 impl ColorType for CMYKA8 {
     type Inner = u8;
-
-    ghost name = { name.CMYKA8 };
 
     ghost described = { samples_of interpretation.CMYK 5 8 format.Uint };
 
@@ -844,6 +955,12 @@ impl ColorType for CMYKA8 {
     }
 
     ghost interpreted = { refl };
+
+    ghost lawful = { samples_alike interpretation.CMYK 5 1 format.Uint (lit< tt) (lit< tt) };
+}
+
+impl NamedColorType for CMYKA8 {
+    ghost name = { name.CMYKA8 };
 
     ghost named = { unfold colour_type in refl };
 

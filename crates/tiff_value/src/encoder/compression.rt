@@ -21,7 +21,7 @@ pub trait CompressionAlgorithm {
 
     /// Writes what stands for the bytes at the writer's place, and answers how many bytes that is. After an earlier
     /// fault: `UsageError(WriterFailed)`; no bytes that are to be packed: `IoError(WriteZero)`; no memory to pack
-    /// them: `OutOfMemory`; and nothing is done. Further errors are those of `write_bytes`.
+    /// them: `OutOfMemory`; and nothing is done. Further errors are those of `write_plain`.
     fn write_to<W: Sink>(
         &mut self,
         alloc: Global,
@@ -65,7 +65,7 @@ impl CompressionAlgorithm for Uncompressed {
         writer: &mut TiffWriter<W>,
         bytes: &[u8],
     ) -> TiffResult<u64> {
-        writer.write_bytes(bytes)?;
+        writer.write_plain(bytes)?;
         Ok(bytes.len() as u64)
     }
 }
@@ -107,7 +107,7 @@ impl CompressionAlgorithm for Packbits {
             return Err(TiffError::IoError(IoKind::WriteZero));
         }
         let packed = packer::pack(alloc, bytes)?;
-        writer.write_bytes(&packed)?;
+        writer.write_plain(&packed)?;
         Ok(packed.len() as u64)
     }
 }

@@ -1,7 +1,7 @@
 //! Rows of samples as differences: each sample less the one a stride before it.
 
 ghost use Rattle.std.specs.Int.{w8, w16, w32, w64, cast_unsigned};
-ghost use Rattle.std.specs.Prelude.{◌≡◌, ◌+◌, ◌-◌, ◌^◌, ◌%◌, map, Ok};
+ghost use Rattle.std.specs.Prelude.{◌≡◌, ◌+◌, ◌-◌, ◌^◌, ◌%◌, map, Ok, refl};
 ghost use Rattle.tiff_value.specs.Differences.{predicted_row};
 ghost use Rattle.tiff_value.specs.Predicted.{AppendsRow};
 
@@ -11,7 +11,9 @@ use tiff_base::tags::{Bits32, Bits64};
 
 /// A number that a sample is in memory (this project's).
 pub trait Sample: TiffScalar {
-    ghost use Rattle.std.specs.Prelude.{ℕ};
+    ghost use Rattle.std.specs.Prelude.{◌≡◌, ℕ};
+    ghost use Rattle.tiff_base.specs.Number.{le};
+    ghost use Rattle.tiff_base.specs.Types.{type_size};
     ghost use Rattle.tiff_value.specs.Predicted.{row_of_type};
 
     // Its bits, as a number from 0 on.
@@ -21,6 +23,9 @@ pub trait Sample: TiffScalar {
     /// appended for a stride of 0, or a row shorter than it. Floating numbers: `UsageError(PredictorIncompatible)`.
     fn predict_row(row: &[Self], stride: usize, out: &mut Vec<Self>) -> TiffResult<()>
         ensures { AppendsRow bits (row_of_type Self.value_type stride (map bits row.now)) out.old.items out.new.items result };
+
+    // It is written as the bytes of its bits, the lowest first.
+    ghost by_bits: { (x : Self) → Self.spelled x ≡ le (type_size Self.value_type) (bits x) };
 }
 
 // A whole number of so many bits.
@@ -66,6 +71,8 @@ impl Sample for u8 {
     fn predict_row(row: &[u8], stride: usize, out: &mut Vec<u8>) -> TiffResult<()> {
         push_differences(row, stride, out)
     }
+
+    ghost by_bits = { λ x. refl };
 }
 
 impl Whole for i8 {
@@ -85,6 +92,8 @@ impl Sample for i8 {
     fn predict_row(row: &[i8], stride: usize, out: &mut Vec<i8>) -> TiffResult<()> {
         push_differences(row, stride, out)
     }
+
+    ghost by_bits = { λ x. refl };
 }
 
 impl Whole for u16 {
@@ -103,6 +112,8 @@ impl Sample for u16 {
     fn predict_row(row: &[u16], stride: usize, out: &mut Vec<u16>) -> TiffResult<()> {
         push_differences(row, stride, out)
     }
+
+    ghost by_bits = { λ x. refl };
 }
 
 impl Whole for i16 {
@@ -122,6 +133,8 @@ impl Sample for i16 {
     fn predict_row(row: &[i16], stride: usize, out: &mut Vec<i16>) -> TiffResult<()> {
         push_differences(row, stride, out)
     }
+
+    ghost by_bits = { λ x. refl };
 }
 
 impl Whole for u32 {
@@ -140,6 +153,8 @@ impl Sample for u32 {
     fn predict_row(row: &[u32], stride: usize, out: &mut Vec<u32>) -> TiffResult<()> {
         push_differences(row, stride, out)
     }
+
+    ghost by_bits = { λ x. refl };
 }
 
 impl Whole for i32 {
@@ -159,6 +174,8 @@ impl Sample for i32 {
     fn predict_row(row: &[i32], stride: usize, out: &mut Vec<i32>) -> TiffResult<()> {
         push_differences(row, stride, out)
     }
+
+    ghost by_bits = { λ x. refl };
 }
 
 impl Whole for u64 {
@@ -177,6 +194,8 @@ impl Sample for u64 {
     fn predict_row(row: &[u64], stride: usize, out: &mut Vec<u64>) -> TiffResult<()> {
         push_differences(row, stride, out)
     }
+
+    ghost by_bits = { λ x. refl };
 }
 
 impl Whole for i64 {
@@ -196,6 +215,8 @@ impl Sample for i64 {
     fn predict_row(row: &[i64], stride: usize, out: &mut Vec<i64>) -> TiffResult<()> {
         push_differences(row, stride, out)
     }
+
+    ghost by_bits = { λ x. refl };
 }
 
 impl Sample for Bits32 {
@@ -204,6 +225,8 @@ impl Sample for Bits32 {
     fn predict_row(row: &[Bits32], stride: usize, out: &mut Vec<Bits32>) -> TiffResult<()> {
         Err(TiffError::UsageError(UsageError::PredictorIncompatible))
     }
+
+    ghost by_bits = { λ x. refl };
 }
 
 impl Sample for Bits64 {
@@ -212,4 +235,6 @@ impl Sample for Bits64 {
     fn predict_row(row: &[Bits64], stride: usize, out: &mut Vec<Bits64>) -> TiffResult<()> {
         Err(TiffError::UsageError(UsageError::PredictorIncompatible))
     }
+
+    ghost by_bits = { λ x. refl };
 }

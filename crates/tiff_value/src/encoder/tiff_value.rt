@@ -9,7 +9,7 @@ ghost use Rattle.tiff_value.specs.Values.{byte_count, values_in, WritesValue};
 
 use crate::encoder::writer::TiffWriter;
 use std::alloc::Global;
-use tiff_base::error::{TiffError, TiffFormatError, TiffResult};
+use tiff_base::error::{TiffError, TiffFormatError, TiffResult, UsageError};
 use tiff_base::io::Sink;
 use tiff_base::tags::Type;
 
@@ -56,13 +56,17 @@ pub trait TiffValue {
     fn data(&self, alloc: Global) -> TiffResult<Vec<u8>>
         ensures { AnswersHere (λ v. values_in value_type (value_count self.now) v.items) result (field_data self.now) };
 
-    /// Writes its bytes at the writer's place, as they are. Errors are those of `data` and of `write_bytes`.
-    #[tactic(auto, using(crate::proofs::Values::value_written))]
+    /// Writes its bytes at the writer's place, as they are. After an earlier fault: `UsageError(WriterFailed)`. Further
+    /// errors are those of `data` and of `write_plain`.
+    #[tactic(auto, using(crate::proofs::Values::value_written, crate::proofs::Values::value_stopped, crate::proofs::Values::value_wanting, crate::proofs::Values::value_refused))]
     final fn write<W: Sink>(&self, alloc: Global, writer: &mut TiffWriter<W>) -> TiffResult<()>
         ensures { WritesValue (field_data self.now) writer.old writer.new result }
     {
+        if writer.has_failed() {
+            return Err(TiffError::UsageError(UsageError::WriterFailed));
+        }
         let data = self.data(alloc)?;
-        writer.write_bytes(&data)
+        writer.write_plain(&data)
     }
 
     // Its bytes are as many as its count and its type say; all that it can be refused as is no text.

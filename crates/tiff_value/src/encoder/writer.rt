@@ -1,11 +1,16 @@
 //! Numbers and bytes are written at a place of a sink.
 
 ghost use Rattle.std.specs.Int.{w8, w16, w32, w64};
-ghost use Rattle.std.specs.Prelude.{◌≡◌, ℕ, ◌+◌, ◌-◌, ◌%◌, ◌<◌, ◌≤◌, List, [], ◌∷◌, length, replicate, take, IfOk, IfErr, MatchResult, false};
+ghost use Rattle.std.specs.Prelude.{◌≡◌, ℕ, ◌+◌, ◌-◌, ◌%◌, ◌<◌, ◌≤◌, List, [], ◌∷◌, length, replicate, take, is_some, IsSome, IfOk, IfErr, MatchResult, None};
 ghost use Rattle.tiff_base.specs.Number.{le};
+ghost use Rattle.tiff_base.specs.declared.tags.CompressionMethod.TheVariants as method;
+ghost use Rattle.tiff_value.specs.Compressors.{compressor_method};
 ghost use Rattle.tiff_value.specs.Data.{signed_le};
-ghost use Rattle.tiff_value.specs.Written.{moved, Fails, Writes, WritesRaw};
+ghost use Rattle.tiff_value.specs.Stored.{StoresBytes};
+ghost use Rattle.tiff_value.specs.Written.{moved, new_writer, Fails, Writes, WritesRaw};
 
+use crate::encoder::compression::{CompressionAlgorithm, Compressor, Uncompressed};
+use std::alloc::Global;
 use std::marker::Model;
 use tiff_base::error::{TiffError, TiffResult, UsageError};
 use tiff_base::io::{IoKind, Sink, SinkFault};
@@ -18,23 +23,33 @@ pub struct TiffWriter<W: Sink> {
     at: u64,
     last: u64,
     failed: bool,
+    compressor: Compressor,
 }
 
 impl<W: Sink> Model for TiffWriter<W> {
-    ghost use Rattle.std.specs.Prelude.{◌≤◌, length};
+    ghost use Rattle.std.specs.Prelude.{◌≡◌, ◌≤◌, length, is_some, None, if◌then◌else◌};
+    ghost use Rattle.tiff_value.specs.Compressors.{compressor_method};
     ghost use Rattle.tiff_value.specs.Written.{Written};
 
     ghost Value = { Written };
 
-    ghost view = { λ w. record { bytes = W.told w.sink; at = w.at; failed = w.failed; failures = W.failures w.sink; last = w.last } };
+    // The fault is the one that the sink told last.
+    ghost view = { λ w. record {
+      bytes = W.told w.sink;
+      at = w.at;
+      fault = (if w.failed then W.fault w.sink else None);
+      failures = W.failures w.sink;
+      last = w.last;
+      method = compressor_method w.compressor;
+    } };
 
-    ghost invariant = { λ w. w.at ≤ length (W.told w.sink) };
+    ghost invariant = { λ w. (w.at ≤ length (W.told w.sink)) × (w.failed ≡ is_some (if w.failed then W.fault w.sink else None)) };
 }
 
 impl<W: Sink> TiffWriter<W> {
-    /// A writer that stands at the sink's end.
+    /// A writer that stands at the sink's end, and packs nothing.
     pub fn new(sink: W) -> Self
-        ensures { result ≡ record { bytes = W.told sink; at = length (W.told sink); failed = false; failures = W.failures sink; last = 0 } }
+        ensures { result ≡ new_writer (W.told sink) (W.failures sink) }
     {
         let at = sink.len();
         TiffWriter {
@@ -42,7 +57,22 @@ impl<W: Sink> TiffWriter<W> {
             at,
             last: 0,
             failed: false,
+            compressor: Compressor::Uncompressed(Uncompressed),
         }
+    }
+
+    /// From here on `write_bytes` stores bytes by this compressor.
+    pub fn set_compression(&mut self, compressor: Compressor)
+        ensures { self.new ≡ record self.old { method = compressor_method compressor } }
+    {
+        self.compressor = compressor;
+    }
+
+    /// From here on `write_bytes` stores bytes as they are.
+    pub fn reset_compression(&mut self)
+        ensures { self.new ≡ record self.old { method = method.None } }
+    {
+        self.compressor = Compressor::Uncompressed(Uncompressed);
     }
 
     /// The place that is written next, at most the count of bytes.
@@ -62,7 +92,7 @@ impl<W: Sink> TiffWriter<W> {
 
     /// Whether a write failed earlier.
     pub fn has_failed(&self) -> bool
-        ensures { result ≡ self.now.failed }
+        ensures { result ≡ is_some self.now.fault }
     {
         self.failed
     }
@@ -83,7 +113,8 @@ impl<W: Sink> TiffWriter<W> {
 
     // One call of the sink.
     fn write_some(&mut self, bytes: &[u8]) -> TiffResult<usize>
-        requires { 0 < length bytes.now }
+        requires some { 0 < length bytes.now }
+        requires fresh { self.old.fault ≡ None }
         ensures ok { IfOk result (λ n. (0 < n) × (n ≤ length bytes.now) × (self.new ≡ moved self.old (take n bytes.now))) }
         ensures err { IfErr result (λ e. Fails e self.old self.new) }
     {
@@ -127,9 +158,24 @@ impl<W: Sink> TiffWriter<W> {
         Ok(())
     }
 
-    /// Writes bytes. After an earlier fault: `UsageError(WriterFailed)`, and nothing is done. A fault of the sink:
-    /// `IoError(Device)` or `OutOfMemory`, and a beginning of the bytes is written.
-    pub fn write_bytes(&mut self, bytes: &[u8]) -> TiffResult<()>
+    /// Stores bytes by the compressor that was set. Errors are those of its `write_to`.
+    pub fn write_bytes(&mut self, alloc: Global, bytes: &[u8]) -> TiffResult<()>
+        ensures { StoresBytes self.old.method bytes.now self.old self.new result }
+    {
+        match self.compressor {
+            Compressor::Uncompressed(mut algorithm) => {
+                algorithm.write_to(alloc, self, bytes)?;
+            }
+            Compressor::Packbits(mut algorithm) => {
+                algorithm.write_to(alloc, self, bytes)?;
+            }
+        }
+        Ok(())
+    }
+
+    /// Writes bytes as they are (this project's). After an earlier fault: `UsageError(WriterFailed)`, and nothing is
+    /// done. A fault of the sink: `IoError(Device)` or `OutOfMemory`, and a beginning of the bytes is written.
+    pub fn write_plain(&mut self, bytes: &[u8]) -> TiffResult<()>
         ensures { Writes bytes.now self.old self.new result }
     {
         match self.write_raw(bytes) {
@@ -141,78 +187,78 @@ impl<W: Sink> TiffWriter<W> {
         }
     }
 
-    /// Writes a byte. Errors are those of `write_bytes`.
+    /// Writes a byte. Errors are those of `write_plain`.
     pub fn write_u8(&mut self, n: u8) -> TiffResult<()>
         ensures { Writes (le 1 n) self.old self.new result }
     {
-        self.write_bytes(&n.to_le_bytes())
+        self.write_plain(&n.to_le_bytes())
     }
 
-    /// Writes a signed byte. Errors are those of `write_bytes`.
+    /// Writes a signed byte. Errors are those of `write_plain`.
     pub fn write_i8(&mut self, n: i8) -> TiffResult<()>
         ensures { Writes (signed_le w8 n) self.old self.new result }
     {
-        self.write_bytes(&n.to_le_bytes())
+        self.write_plain(&n.to_le_bytes())
     }
 
-    /// Writes 2 bytes, the least first. Errors are those of `write_bytes`.
+    /// Writes 2 bytes, the least first. Errors are those of `write_plain`.
     pub fn write_u16(&mut self, n: u16) -> TiffResult<()>
         ensures { Writes (le 2 n) self.old self.new result }
     {
-        self.write_bytes(&n.to_le_bytes())
+        self.write_plain(&n.to_le_bytes())
     }
 
-    /// Writes a signed number of 2 bytes, the least byte first. Errors are those of `write_bytes`.
+    /// Writes a signed number of 2 bytes, the least byte first. Errors are those of `write_plain`.
     pub fn write_i16(&mut self, n: i16) -> TiffResult<()>
         ensures { Writes (signed_le w16 n) self.old self.new result }
     {
-        self.write_bytes(&n.to_le_bytes())
+        self.write_plain(&n.to_le_bytes())
     }
 
-    /// Writes 4 bytes, the least first. Errors are those of `write_bytes`.
+    /// Writes 4 bytes, the least first. Errors are those of `write_plain`.
     pub fn write_u32(&mut self, n: u32) -> TiffResult<()>
         ensures { Writes (le 4 n) self.old self.new result }
     {
-        self.write_bytes(&n.to_le_bytes())
+        self.write_plain(&n.to_le_bytes())
     }
 
-    /// Writes a signed number of 4 bytes, the least byte first. Errors are those of `write_bytes`.
+    /// Writes a signed number of 4 bytes, the least byte first. Errors are those of `write_plain`.
     pub fn write_i32(&mut self, n: i32) -> TiffResult<()>
         ensures { Writes (signed_le w32 n) self.old self.new result }
     {
-        self.write_bytes(&n.to_le_bytes())
+        self.write_plain(&n.to_le_bytes())
     }
 
-    /// Writes 8 bytes, the least first. Errors are those of `write_bytes`.
+    /// Writes 8 bytes, the least first. Errors are those of `write_plain`.
     pub fn write_u64(&mut self, n: u64) -> TiffResult<()>
         ensures { Writes (le 8 n) self.old self.new result }
     {
-        self.write_bytes(&n.to_le_bytes())
+        self.write_plain(&n.to_le_bytes())
     }
 
-    /// Writes a signed number of 8 bytes, the least byte first. Errors are those of `write_bytes`.
+    /// Writes a signed number of 8 bytes, the least byte first. Errors are those of `write_plain`.
     pub fn write_i64(&mut self, n: i64) -> TiffResult<()>
         ensures { Writes (signed_le w64 n) self.old self.new result }
     {
-        self.write_bytes(&n.to_le_bytes())
+        self.write_plain(&n.to_le_bytes())
     }
 
-    /// Writes the bits of a floating number of 4 bytes, the least byte first. Errors are those of `write_bytes`.
+    /// Writes the bits of a floating number of 4 bytes, the least byte first. Errors are those of `write_plain`.
     pub fn write_f32(&mut self, n: Bits32) -> TiffResult<()>
         ensures { Writes (le 4 n.0) self.old self.new result }
     {
-        self.write_bytes(&n.0.to_le_bytes())
+        self.write_plain(&n.0.to_le_bytes())
     }
 
-    /// Writes the bits of a floating number of 8 bytes, the least byte first. Errors are those of `write_bytes`.
+    /// Writes the bits of a floating number of 8 bytes, the least byte first. Errors are those of `write_plain`.
     pub fn write_f64(&mut self, n: Bits64) -> TiffResult<()>
         ensures { Writes (le 8 n.0) self.old self.new result }
     {
-        self.write_bytes(&n.0.to_le_bytes())
+        self.write_plain(&n.0.to_le_bytes())
     }
 
     /// Writes zeros up to the next place that is a multiple of 4; `last_written` doesn't count them. Errors are those
-    /// of `write_bytes`.
+    /// of `write_plain`.
     pub fn pad_word_boundary(&mut self) -> TiffResult<()>
         ensures { WritesRaw (replicate ((4 - self.old.at % 4) % 4) 0) self.old self.new result }
     {
@@ -224,19 +270,21 @@ impl<W: Sink> TiffWriter<W> {
     pub fn into_inner(self) -> W
         ensures bytes { W.told result ≡ self.bytes }
         ensures failures { W.failures result ≡ self.failures }
+        ensures fault { IsSome self.fault → W.fault result ≡ self.fault }
     {
         let TiffWriter {
             sink,
             at: _,
             last: _,
             failed: _,
+            compressor: _,
         } = self;
         sink
     }
 }
 
 /// Writes the first bytes of a classic little-endian file, before the place of its first directory; `last_written` doesn't count
-/// them. Errors are those of `TiffWriter::write_bytes`.
+/// them. Errors are those of `TiffWriter::write_plain`.
 pub fn write_tiff_header<W: Sink>(writer: &mut TiffWriter<W>) -> TiffResult<()>
     ensures { WritesRaw (73 ∷ 73 ∷ 42 ∷ 0 ∷ []) writer.old writer.new result }
 {
@@ -244,7 +292,7 @@ pub fn write_tiff_header<W: Sink>(writer: &mut TiffWriter<W>) -> TiffResult<()>
 }
 
 /// Writes the first bytes of a little-endian BigTIFF file, before the place of its first directory; `last_written` doesn't count
-/// them. Errors are those of `TiffWriter::write_bytes`.
+/// them. Errors are those of `TiffWriter::write_plain`.
 pub fn write_bigtiff_header<W: Sink>(writer: &mut TiffWriter<W>) -> TiffResult<()>
     ensures { WritesRaw (73 ∷ 73 ∷ 43 ∷ 0 ∷ 8 ∷ 0 ∷ 0 ∷ 0 ∷ []) writer.old writer.new result }
 {

@@ -7,7 +7,10 @@ use Rattle.tiff_value.proofs.encoder.writer.TiffWriter.write_raw.Goals as goal
 pub returns-in-Err : goal.returns-in-Err
 returns-in-Err g c =
     let i = c.loop-done.invariant in
-    inr (cut_from _ _ _ c.args.bytes.now c.loop-done.done _ i.fresh i.within i.same c.in-Err.ensures.err)
+    inr (cut_from _ _ _ c.args.bytes.now c.loop-done.done _ i.fresh c.loop-done-test.true i.same c.in-Err.ensures.err)
+
+pub write_some-requires-clause-fresh : goal.write_some-requires-clause-fresh
+write_some-requires-clause-fresh g c = ap (λ w. w.fault) c.loop-done.invariant.same ∙ c.loop-done.invariant.fresh
 
 pub loop-done-preserved : goal.loop-done-preserved
 loop-done-preserved g c =

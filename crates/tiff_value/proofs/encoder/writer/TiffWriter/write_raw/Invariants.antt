@@ -1,4 +1,4 @@
-use Rattle.std.proofs.Common.{length, ◌-◌, ◌≡◌, ◌≤◌, take, false}
+use Rattle.std.proofs.Common.{length, ◌-◌, ◌≡◌, ◌≤◌, take, None}
 use Rattle.tiff_value.specs.Written.{moved}
 use Rattle.tiff_value.proofs.encoder.writer.TiffWriter.write_raw.Given as goal
 
@@ -7,7 +7,7 @@ invariant-loop-done g l = record {
   within : l.done ≤ length l.bytes;
   place : l.initial.self.at ≤ length l.initial.self.bytes;
   same : l.self ≡ moved l.initial.self (take l.done l.bytes);
-  fresh : l.initial.self.failed ≡ false;
+  fresh : l.initial.self.fault ≡ None;
 }
 
 abbrev pub decreases-loop-done : goal.decreases-loop-done

@@ -1,0 +1,21 @@
+-- What the laws of colour types rest on.
+use Rattle.std.specs.Prelude.{◌≡◌, ℕ, ◌*◌, ◌^◌, ◌<◌}
+use Rattle.std.proofs.Common.{refl, sym, ◌∙◌, arith}
+use Rattle.std.proofs.lemmas.List.{length-replicate}
+use Rattle.std.proofs.lemmas.List.Elements.{All-replicate}
+use Rattle.tiff_base.specs.declared.tags.PhotometricInterpretation.{PhotometricInterpretation}
+use Rattle.tiff_base.specs.declared.tags.SampleFormat.{SampleFormat}
+use Rattle.tiff_value.specs.ColorType.{IsColorType}
+use Rattle.tiff_value.specs.ColorTypes.{samples_of}
+
+-- a colour type may have so many samples of the bits of its bytes in memory and of one format
+pub samples_alike : (interpretation : PhotometricInterpretation) (samples size : ℕ) (format : SampleFormat)
+    → 0 < samples → samples < 2 ^ 16 → IsColorType size (samples_of interpretation samples (8 * size) format)
+samples_alike interpretation samples size format some few = record {
+  some = omega (arith, some, length-replicate samples (8 * size));
+  few = omega (arith, few, length-replicate samples (8 * size));
+  as_many = length-replicate samples format ∙ sym (length-replicate samples (8 * size));
+  full = All-replicate (λ (bits : ℕ). bits ≡ 8 * size) samples (8 * size) refl;
+  format = format;
+  alike = All-replicate (λ (f : SampleFormat). f ≡ format) samples format refl;
+}
