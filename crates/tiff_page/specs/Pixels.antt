@@ -16,7 +16,7 @@ use Rattle.tiff_base.specs.declared.tags.Predictor.TheVariants as predictor
 use Rattle.tiff_base.specs.Number.{number}
 use Rattle.tiff_base.specs.Runs.{runs}
 use Rattle.tiff_page.specs.Page.{PageRecord}
-use Rattle.tiff_page.specs.Rect.{across, chunks_of_plane, rect}
+use Rattle.tiff_page.specs.Rect.{across, chunks_of_plane, rect, chunk_of_pixel}
 use Rattle.tiff_page.specs.Layout.{shown, row_bytes}
 
 -- f 0, f 1 .. below n
@@ -114,7 +114,7 @@ module _ (file : List ℕ) (order : ByteOrder) (p : PageRecord) where
 
   -- the chunk of a plane that holds a pixel
   abbrev pub chunk_at : ℕ → ℕ → ℕ → ℕ
-  chunk_at plane x y = plane * chunks_of_plane p + (y / p.chunk_height * across p + x / p.chunk_width)
+  chunk_at plane x y = chunk_of_pixel p plane x y
 
   -- a sample of a pixel, at depths of whole bytes
   unfoldable pub shown_sample : ℕ → ℕ → ℕ → ℕ

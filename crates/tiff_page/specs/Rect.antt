@@ -1,5 +1,5 @@
 -- A chunk's place in the image.
-use Rattle.std.specs.Prelude.{ℕ, ◌-◌, ◌*◌, ◌/◌, ◌%◌, min}
+use Rattle.std.specs.Prelude.{ℕ, ◌+◌, ◌-◌, ◌*◌, ◌/◌, ◌%◌, min}
 use Rattle.tiff_page.specs.Counts.{parts}
 use Rattle.tiff_page.specs.Page.{PageRecord}
 
@@ -35,3 +35,7 @@ rect p i = rect_at p (i / chunks_of_plane p) (i % chunks_of_plane p)
 -- the width and the height of a chunk in the image
 abbrev pub chunk_data_dimensions : PageRecord → ℕ → ℕ × ℕ
 chunk_data_dimensions p i = ((rect p i).width, (rect p i).height)
+
+-- the chunk of a plane that holds a pixel
+abbrev pub chunk_of_pixel : PageRecord → ℕ → ℕ → ℕ → ℕ
+chunk_of_pixel p plane x y = plane * chunks_of_plane p + (y / p.chunk_height * across p + x / p.chunk_width)
