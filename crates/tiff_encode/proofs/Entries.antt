@@ -1,5 +1,5 @@
 -- Entries and maps of fields that were written are the ones that are read.
-use Rattle.std.proofs.Common.{suc, ◌≡◌, ℕ, ◌+◌, ◌*◌, List, [], ◌∷◌, ◌++◌, length, take, reverse, Bool, true, false, cond, Option, Some, None, T, ◌&&◌, refl, ap, sym, ◌∙◌, inl, inr, arith, append_assoc, length-append}
+use Rattle.std.proofs.Common.{suc, ◌≡◌, ℕ, ◌+◌, ◌*◌, ◌^◌, ◌<◌, List, [], ◌∷◌, ◌++◌, length, take, reverse, Bool, true, false, cond, Option, Some, None, T, ◌&&◌, refl, ap, sym, ◌∙◌, inl, inr, arith, append_assoc, length-append}
 use Rattle.std.proofs.lemmas.List.{take_at, take_all, length-take-le, reverse-append}
 use Rattle.std.specs.Int.{w16}
 use Rattle.std.specs.Option.{option_map}
@@ -22,7 +22,6 @@ use Rattle.tiff_base.specs.Number.{number, le}
 use Rattle.tiff_base.specs.Directory.{place_width, entry_len, value_of, field_of, entry_of, entries_from, last_of_each}
 use Rattle.tiff_encode.specs.Written.{place_len, entry_bytes}
 use Rattle.tiff_encode.specs.Model.{In}
-use Rattle.tiff_encode.specs.Laws.{IsWritable}
 use Rattle.tiff_encode.proofs.Slices.{exact_mid, is_exact, length-le, number-le, is_place_width}
 
 -- ---- the map of a list in order
@@ -98,6 +97,13 @@ last_of_entries fields =
     (entries_of_reverse (entries fields) (entries_sorted fields))
 
 -- ---- entries
+
+-- a field that stands in an entry as it is
+pub record IsWritable (kind : FileKind) (tag : ℕ) (f : Field) : Type 0 where
+  pub tag_fits : tag < 2 ^ 16
+  pub count : f.count < 256 ^ place_len kind
+  pub whole : length f.value ≡ 8
+  pub filled : (kind ≡ Classic) → f.value ≡ take 4 f.value ++ (0 ∷ 0 ∷ 0 ∷ 0 ∷ [])
 
 -- the number of a type that is written is the type's
 type_read : (t : «Type») → type_of (number LittleEndian w16 (le 2 (type_number t))) ≡ Some t

@@ -11,16 +11,18 @@ use Rattle.tiff_base.specs.declared.tags.FileKind.TheVariants.{Classic, Big}
 use Rattle.tiff_base.specs.declared.tags.ByteOrder.TheVariants.{LittleEndian}
 use Rattle.tiff_base.specs.Field.{Field}
 use Rattle.tiff_base.specs.FieldBytes.{field_len, field_place, field_bytes}
-use Rattle.tiff_base.specs.Told.{exactly_at}
+use Rattle.tiff_base.specs.Told.{exactly_at, put}
 use Rattle.tiff_base.specs.Number.{number_at, le}
 use Rattle.tiff_base.specs.Directory.{count_width, place_width, entry_len, entries_from, last_of_each, link, first_entry, directory_at}
 use Rattle.tiff_encode.specs.Written.{place_len, count_len, entry_bytes, directory_bytes}
-use Rattle.tiff_encode.specs.Model.{In, FinishedDirectory, HandedField, Region, Model, header_link, own_link, IsLink, IsClear, body_len, IsApart, Stands, with_directory, with_handed}
-use Rattle.tiff_encode.specs.Laws.{GrownByRegion, GrownByInline, GrownByPlaced, GrownByDirectory, Finished}
+use Rattle.tiff_encode.specs.Model.{AreApart, In, FinishedDirectory, HandedField, Region, Model, header_link, own_link, IsLink, IsClear, body_len, whole_len, IsApart, Stands, relinked, with_directory, with_handed}
+use Rattle.tiff_encode.specs.Laws.{GrownByRegion, GrownByInline, GrownByPlaced, GrownByListing, Finished}
+use Rattle.tiff_encode.specs.Deeds.{standing_fields}
 use Rattle.tiff_encode.proofs.Slices.{is_exact, exact_end, length-le, number_mid, is_place_width, is_count_width}
 use Rattle.tiff_encode.proofs.Kept.{directory_from, directory_within, kept_by_appending, kept_by_patching}
 use Rattle.tiff_encode.proofs.Header.{zero_fits}
 use Rattle.tiff_encode.proofs.Entries.{AllWritable, length-entries, entries_read, last_of_entries}
+use Rattle.tiff_encode.proofs.Standing.{len_standing, bytes_standing, standing_writable}
 
 -- ---- bytes
 
@@ -50,15 +52,22 @@ grown_by_region kind m file more h =
         | inl e ↦ elim j [
           | inl f ↦ inl (e ∙ sym f)
           | inr b ↦ (let P : Region → Type 0 =
-              λ x. (x ≡ s) ⊎ ((x.place + length x.bytes ≤ s.place) ⊎ (s.place + length s.bytes ≤ x.place)) in
+              λ x. (x ≡ s) ⊎ AreApart x.place (length x.bytes) s.place (length s.bytes) in
               subst P (sym e) (inr (inr (behind s b))))
         ]
         | inr a ↦ elim j [
           | inl f ↦ (let P : Region → Type 0 =
-              λ x. (r ≡ x) ⊎ ((r.place + length r.bytes ≤ x.place) ⊎ (x.place + length x.bytes ≤ r.place)) in
+              λ x. (r ≡ x) ⊎ AreApart r.place (length r.bytes) x.place (length x.bytes) in
               subst P (sym f) (inr (inl (behind r a))))
           | inr b ↦ h.disjoint r s a b
         ]
+      ];
+      directories_within = g.directories_within;
+      directories_apart = h.directories_apart;
+      regions_apart = λ d r i j. elim j [
+        | inl e ↦ (let P : Region → Type 0 = λ x. AreApart d.place (whole_len kind d) x.place (length x.bytes) in
+            subst P (sym e) (inl (h.directories_within d i)))
+        | inr b ↦ h.regions_apart d r i b
       ];
       apart = λ q l.
           let a = g.apart q l in
@@ -99,6 +108,9 @@ grown_by_handed kind m file new b c h = record {
   regions = h.regions;
   within = h.within;
   disjoint = h.disjoint;
+  directories_within = h.directories_within;
+  directories_apart = h.directories_apart;
+  regions_apart = h.regions_apart;
   apart = λ q l.
       let a = h.apart q l in
       record {
@@ -271,6 +283,10 @@ module _ (kind : FileKind) (m : Model) (file : List ℕ) (fields : FinMap nat_cm
         x,
       )
 
+  -- so it lies in the file
+  fresh_within : length file + whole_len kind fresh ≤ length grown_file
+  fresh_within = let x = length-grown in omega (arith, x)
+
   -- each former link lies in the former file
   old_within : (p : ℕ) → IsLink kind m p → p + place_len kind ≤ length file
   old_within p l = (h.apart p l).within
@@ -329,6 +345,45 @@ module _ (kind : FileKind) (m : Model) (file : List ℕ) (fields : FinMap nat_cm
     ];
   }
 
+  -- all directories lie in the file
+  all_within : Stands kind grown_file m → (d : FinishedDirectory) → In d (with_directory kind m fresh).directories
+      → d.place + whole_len kind d ≤ length grown_file
+  all_within g d i = elim i [
+    | inl s ↦ (let P : FinishedDirectory → Type 0 = λ x. x.place + whole_len kind x ≤ length grown_file in
+        subst P (sym s) fresh_within)
+    | inr j ↦ g.directories_within d j
+  ]
+
+  -- no two overlap
+  all_apart : (d e : FinishedDirectory) → In d (with_directory kind m fresh).directories
+      → In e (with_directory kind m fresh).directories
+      → (d ≡ e) ⊎ AreApart d.place (whole_len kind d) e.place (whole_len kind e)
+  all_apart d e i j = elim i [
+    | inl s ↦ elim j [
+      | inl t ↦ inl (s ∙ sym t)
+      | inr b ↦ (let P : FinishedDirectory → Type 0 =
+          λ x. (x ≡ e) ⊎ AreApart x.place (whole_len kind x) e.place (whole_len kind e) in
+          subst P (sym s) (inr (inr (h.directories_within e b))))
+    ]
+    | inr a ↦ elim j [
+      | inl t ↦ (let P : FinishedDirectory → Type 0 =
+          λ x. (d ≡ x) ⊎ AreApart d.place (whole_len kind d) x.place (whole_len kind x) in
+          subst P (sym t) (inr (inl (h.directories_within d a))))
+      | inr b ↦ h.directories_apart d e a b
+    ]
+  ]
+
+  -- nor does one overlap a region
+  all_apart_of_regions : (d : FinishedDirectory) (r : Region) → In d (with_directory kind m fresh).directories
+      → In r m.regions
+      → AreApart d.place (whole_len kind d) r.place (length r.bytes)
+  all_apart_of_regions d r i j = elim i [
+    | inl s ↦ (let P : FinishedDirectory → Type 0 =
+        λ x. AreApart x.place (whole_len kind x) r.place (length r.bytes) in
+        subst P (sym s) (inr (h.within r j)))
+    | inr a ↦ h.regions_apart d r a j
+  ]
+
   -- so the directory stands
   directory_stands : Stands kind grown_file (with_directory kind m fresh)
   directory_stands =
@@ -358,6 +413,9 @@ module _ (kind : FileKind) (m : Model) (file : List ℕ) (fields : FinMap nat_cm
         regions = g.regions;
         within = g.within;
         disjoint = g.disjoint;
+        directories_within = all_within g;
+        directories_apart = all_apart;
+        regions_apart = all_apart_of_regions;
         apart = λ q l. elim l [
           | inl s ↦ old_apart q (inl s) (g.apart q (inl s))
           | inr y ↦ elim y.1.0 [
@@ -368,13 +426,30 @@ module _ (kind : FileKind) (m : Model) (file : List ℕ) (fields : FinMap nat_cm
         ];
       }
 
+-- a directory that is appended and linked to stands, where its fields stand in entries as they are
+pub finished_filled : (kind : FileKind) (m : Model) (file : List ℕ) (fields : FinMap nat_cmp Field) (parent : ℕ)
+    → AllWritable kind (entries fields) → len fields < 256 ^ count_len kind
+    → length file < 256 ^ place_len kind → IsLink kind m parent → Stands kind file m
+    → Stands kind (put (file ++ directory_bytes kind fields) parent (le (place_len kind) (length file)))
+    (relinked kind (with_directory kind m (record { place = length file; fields = fields })) parent (length file))
+finished_filled kind m file fields parent w b l i h =
+    let d : FinishedDirectory = record { place = length file; fields = fields } in
+    kept_by_patching kind (with_directory kind m d) (file ++ directory_bytes kind fields) parent (length file)
+    (elim i [ inl x ↦ inl x | inr y ↦ inr (y.0, (inr y.1.0, y.1.1)) ]) l (directory_stands kind m file fields w b h)
+
 -- a directory that is appended stands, with no next one
-pub grown_by_directory : GrownByDirectory
-grown_by_directory kind m file fields w b h = directory_stands kind m file fields w b h
+pub grown_by_listing : GrownByListing
+grown_by_listing kind m file fields a h =
+    let stood : FinMap nat_cmp Field = standing_fields kind fields in
+    let d : FinishedDirectory = record { place = length file; fields = stood } in
+    let few : len stood < 256 ^ count_len kind = (let f = a.few in omega (arith, f, len_standing kind fields)) in
+    let P : List ℕ → Type 0 = λ bytes. Stands kind (file ++ bytes) (with_directory kind m d) in
+    subst P (sym (bytes_standing kind fields a.each))
+    (directory_stands kind m file stood (standing_writable kind fields a.each) few h)
 
 -- a directory that is appended and linked to stands
 pub finished : Finished
-finished kind m file fields parent w b l i h =
-    let d : FinishedDirectory = record { place = length file; fields = fields } in
+finished kind m file fields parent a l i h =
+    let d : FinishedDirectory = record { place = length file; fields = standing_fields kind fields } in
     kept_by_patching kind (with_directory kind m d) (file ++ directory_bytes kind fields) parent (length file)
-    (elim i [ inl x ↦ inl x | inr y ↦ inr (y.0, (inr y.1.0, y.1.1)) ]) l (grown_by_directory kind m file fields w b h)
+    (elim i [ inl x ↦ inl x | inr y ↦ inr (y.0, (inr y.1.0, y.1.1)) ]) l (grown_by_listing kind m file fields a h)

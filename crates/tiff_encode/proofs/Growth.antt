@@ -1,5 +1,5 @@
 -- Appends one after another.
-use Rattle.std.proofs.Common.{◌≡◌, ℕ, ◌+◌, ◌<◌, ◌≤◌, List, ◌++◌, length, take, false, true, ap, sym, ◌∙◌, subst, arith, append_assoc, length-append, inl, inr}
+use Rattle.std.proofs.Common.{◌≡◌, ℕ, ◌+◌, ◌<◌, ◌≤◌, List, ◌++◌, length, take, Some, false, true, ap, sym, ◌∙◌, arith, append_assoc, length-append, inl, inr}
 use Rattle.std.proofs.lemmas.Bool.{false≢true}
 use Rattle.std.proofs.lemmas.List.{take-append-le}
 use Rattle.std.proofs.Math.Seq.{take-append-add}
@@ -21,10 +21,15 @@ stops_within old new xs ys e h = elim h as (λ _. Stops (xs ++ ys) e old new) [
     | inl c ↦ inr (inl (record {
       fresh = c.fresh;
       fault = c.fault;
-      grew = c.grew;
+      answer = c.answer;
       count = c.count;
-      within = let w : c.count ≤ length xs = c.within in omega (arith, length-append xs ys);
-      state = c.state ∙ λ i. record old { bytes = old.bytes ++ sym (take-append-le c.count xs ys c.within) i; failures = new.failures; failed = true };
+      within = let w : c.count < length xs = c.within in omega (arith, length-append xs ys);
+      state = let w : c.count < length xs = c.within in c.state ∙ λ i. record old {
+        bytes = old.bytes ++ sym (take-append-le c.count xs ys (omega (arith, w))) i;
+        failures = old.failures + 1;
+        failed = true;
+        fault = Some c.fault;
+      };
     }))
     | inr w ↦ inr (inr (record {
       fresh = w.fresh;
@@ -46,11 +51,12 @@ stops_after old mid new xs ys e fresh s h =
         | inl c ↦ inr (inl (record {
           fresh = fresh;
           fault = c.fault;
-          grew = let P : ℕ → Type 0 = λ n. n < new.failures in subst P (ap (λ m. m.failures) s) c.grew;
+          answer = c.answer;
           count = length xs + c.count;
-          within = let w : c.count ≤ length ys = c.within in omega (arith, length-append xs ys);
-          state = c.state ∙ (λ i. record (s i) { bytes = (s i).bytes ++ take c.count ys; failures = new.failures; failed = true })
-              ∙ (λ i. record old { bytes = joined c.count i; failures = new.failures; failed = true });
+          within = let w : c.count < length ys = c.within in omega (arith, length-append xs ys);
+          state = c.state
+              ∙ (λ i. record (s i) { bytes = (s i).bytes ++ take c.count ys; failures = (s i).failures + 1; failed = true; fault = Some c.fault })
+              ∙ (λ i. record old { bytes = joined c.count i; failures = old.failures + 1; failed = true; fault = Some c.fault });
         }))
         | inr w ↦ inr (inr (record {
           fresh = fresh;

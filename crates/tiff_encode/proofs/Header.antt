@@ -37,6 +37,9 @@ header_stands kind =
       regions = λ r i. absurd i;
       within = λ r i. absurd i;
       disjoint = λ r s i j. absurd i;
+      directories_within = λ d i. absurd i;
+      directories_apart = λ d e i j. absurd i;
+      regions_apart = λ d r i j. absurd i;
       apart = λ q l.
           let e = only_link kind q l in
           record {

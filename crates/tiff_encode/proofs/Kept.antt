@@ -206,6 +206,9 @@ kept_by_appending kind m file more h =
       regions = λ r i. exact_append file more _ _ _ (h.regions r i);
       within = λ r i. let w = h.within r i in omega (arith, w, length-append file more);
       disjoint = h.disjoint;
+      directories_within = λ d i. let w = h.directories_within d i in omega (arith, w, length-append file more);
+      directories_apart = h.directories_apart;
+      regions_apart = h.regions_apart;
       apart = λ q l.
           let a = h.apart q l in
           let w = a.within in
@@ -289,6 +292,11 @@ module _ (kind : FileKind) (file : List ℕ) (q : ℕ) (over : List ℕ) (t : �
     regions = λ r i. clear_kept r.place (length r.bytes) r.bytes (a.regions r i) (h.regions r i);
     within = λ r i. let w = h.within r i in omega (arith, w, length_put file q over (omega arith));
     disjoint = h.disjoint;
+    directories_within = λ d i.
+        let w = h.directories_within d i in
+        omega (arith, w, length_put file q over (omega arith));
+    directories_apart = h.directories_apart;
+    regions_apart = h.regions_apart;
     apart = λ p i.
         let z = h.apart p i in
         let w = z.within in

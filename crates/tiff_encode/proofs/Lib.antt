@@ -2,9 +2,12 @@ pub mod Slices
 pub mod Kept
 pub mod Header
 pub mod Entries
+pub mod Standing
 pub mod Grown
+pub mod Deeds
 pub mod Agree
 pub mod Runs
+pub mod CallFits
 pub mod Pages
 pub mod Fields
 pub mod Shows

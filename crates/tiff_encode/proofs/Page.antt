@@ -147,13 +147,14 @@ module _ (gray : Bool) (width height : ℕ) (samples : List ℕ) (old : Encoded)
         record {
           fresh = p.before.fresh;
           fault = t.fault;
-          grew = t.grew;
+          answer = t.answer;
           count = t.count;
           within = t.within;
           state = t.state ∙ λ i. record old {
             bytes = put (file_is i) old.chain (take t.count (le 4 (length_begun p.enough i)));
-            failures = new.failures;
+            failures = old.failures + 1;
             failed = true;
+            fault = Some t.fault;
           };
         },
       ))))

@@ -16,11 +16,11 @@ use Rattle.tiff_base.specs.Told.{put}
 use Rattle.tiff_base.specs.Number.{number, le}
 use Rattle.tiff_encode.specs.Written.{place_len, count_len, directory_bytes, padding, rows_per_strip, short_field, long_field, rational_field, one_to_one, gray_fields, resolutions_place, strip_place, directory_place, page_head, page_map, page_bytes, with_page}
 use Rattle.tiff_encode.specs.Model.{In, Model, IsLink, Stands, relinked, with_directory, with_region, with_handed}
-use Rattle.tiff_encode.specs.Laws.{IsWritable, handed_short, handed_long, handed_resolution, gray_handed, page_model, PageStands}
+use Rattle.tiff_encode.specs.Laws.{handed_short, handed_long, handed_resolution, gray_handed, page_model, PageStands}
 use Rattle.tiff_encode.proofs.Slices.{length-le, number-le}
 use Rattle.tiff_encode.proofs.Kept.{kept_by_appending}
-use Rattle.tiff_encode.proofs.Entries.{AllWritable, entries_of}
-use Rattle.tiff_encode.proofs.Grown.{grown_by_region, grown_by_inline, grown_by_placed, finished}
+use Rattle.tiff_encode.proofs.Entries.{IsWritable, AllWritable, entries_of}
+use Rattle.tiff_encode.proofs.Grown.{grown_by_region, grown_by_inline, grown_by_placed, finished_filled}
 
 -- ---- fields of one number
 
@@ -161,7 +161,7 @@ finished_at : (m : Model) (file : List ℕ) (fields : FinMap nat_cmp Field) (lin
 finished_at m file fields link p e w b l i h =
     let P : ℕ → Type 0 = λ x. Stands Classic (put (file ++ directory_bytes Classic fields) link (le 4 x))
     (relinked Classic (with_directory Classic m (record { place = x; fields = fields })) link x) in
-    subst P e (finished Classic m file fields link w b (omega (arith, e, l)) i h)
+    subst P e (finished_filled Classic m file fields link w b (omega (arith, e, l)) i h)
 
 -- what is appended piece by piece is appended as a whole
 regroup : (file a b c d e : List ℕ) → ((((file ++ a) ++ b) ++ c) ++ d) ++ e ≡ file ++ ((a ++ (b ++ c)) ++ (d ++ e))

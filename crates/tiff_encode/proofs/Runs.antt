@@ -6,14 +6,15 @@ use Rattle.std.specs.FinMap.{len}
 use Rattle.tiff_base.specs.declared.error.TiffError.{TiffError}
 use Rattle.tiff_base.specs.declared.error.TiffError.TheVariants.{IntSizeError, UsageError}
 use Rattle.tiff_base.specs.declared.error.UsageError.TheVariants.{ZeroIfdPointer}
+use Rattle.tiff_base.specs.declared.io.SinkFault.{SinkFault}
 use Rattle.tiff_base.specs.declared.tags.CompressionMethod.{CompressionMethod}
 use Rattle.tiff_base.specs.declared.tags.FileKind.{FileKind}
 use Rattle.tiff_base.specs.Directory.{link_place}
 use Rattle.tiff_base.specs.Field.{Field}
 use Rattle.tiff_encode.specs.Machine.{FileState, OpenDirectory, OpenImage, Writing, by_cause}
-use Rattle.tiff_encode.specs.Causes.{is_past, end_of, finish_cause, offset_cause}
+use Rattle.tiff_encode.specs.Causes.{is_past, end_of, unless_ended, finish_cause, offset_cause}
 use Rattle.tiff_encode.specs.Calls.{Offsets, offsets_of, result_by, finish, new_offset}
-use Rattle.tiff_encode.specs.Stored.{strip_bytes}
+use Rattle.tiff_encode.specs.Stored.{chunk_bytes}
 use Rattle.tiff_encode.specs.RunLaws.{IsOneStep, OneStep, OneStored, OffsetsAgree}
 use Rattle.tiff_value.specs.Packed.{IsStored}
 use Rattle.tiff_encode.proofs.Slices.{ok_inj}
@@ -29,9 +30,9 @@ one_step = (one_of Field, (one_of ℕ, (one_of OpenDirectory, (one_of OpenImage,
 
 pub one_stored : OneStored
 one_stored i samples stored other p a b =
-    let P : CompressionMethod → List ℕ → Type 0 = λ m xs. IsStored m xs (strip_bytes i samples) in
-    let x : stored ≡ strip_bytes i samples = subst (λ m. P m stored) p a in
-    let y : other ≡ strip_bytes i samples = subst (λ m. P m other) p b in
+    let P : CompressionMethod → List ℕ → Type 0 = λ m xs. IsStored m xs (chunk_bytes i samples) in
+    let x : stored ≡ chunk_bytes i samples = subst (λ m. P m stored) p a in
+    let y : other ≡ chunk_bytes i samples = subst (λ m. P m other) p b in
     x ∙ sym y
 
 -- a fault is no answer, and some cause is not none
@@ -48,17 +49,17 @@ uncaused None call file x h = (refl, h)
 uncaused (Some e) call file x h = absurd (err_ok h)
 
 -- the last of the tests of a directory's end
-last_test : (f a b c : Bool) (d e : TiffError) (rest : Option TiffError)
-    → cond f (Some d) (cond (a || (b || c)) (Some e) rest) ≡ None → c ≡ false
-last_test true a b c d e rest h = absurd (some_none h)
-last_test false true b c d e rest h = absurd (some_none h)
-last_test false false true c d e rest h = absurd (some_none h)
-last_test false false false true d e rest h = absurd (some_none h)
-last_test false false false false d e rest h = refl
+last_test : (o : Option SinkFault) (a b c : Bool) (e : TiffError) (rest : Option TiffError)
+    → unless_ended o (cond (a || (b || c)) (Some e) rest) ≡ None → c ≡ false
+last_test (Some f) a b c e rest h = absurd (some_none h)
+last_test None true b c e rest h = absurd (some_none h)
+last_test None false true c e rest h = absurd (some_none h)
+last_test None false false true e rest h = absurd (some_none h)
+last_test None false false false e rest h = refl
 
-near : (file : FileState) (d : OpenDirectory) → finish_cause file d ≡ None → is_past file.kind (end_of file) ≡ false
+pub near : (file : FileState) (d : OpenDirectory) → finish_cause file d ≡ None → is_past file.kind (end_of file) ≡ false
 unfolding finish_cause
-near file d h = last_test _ _ _ _ _ _ _ h
+near file d h = last_test file.fault _ _ _ _ _ h
 
 -- the tests of an offset
 tests : (kind : FileKind) (p n : ℕ) → is_past kind p ≡ false → 0 < p → link_place kind p n < 2 ^ 64 → offset_cause kind p n ≡ None

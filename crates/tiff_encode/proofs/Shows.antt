@@ -28,6 +28,7 @@ use Rattle.tiff_ifd.specs.Look.{looked, look_in}
 use Rattle.tiff_page.specs.declared.layout.DecodingSampleType.TheVariants.{U8}
 use Rattle.tiff_page.specs.Page.{PageRecord}
 use Rattle.tiff_page.specs.Checks.{page_of}
+use Rattle.tiff_page.specs.Counts.{all_chunks}
 use Rattle.tiff_page.specs.Rect.{chunks_of_plane, rect}
 use Rattle.tiff_page.specs.Layout.{colour_of, sample_type_of, row_bits, layout_of}
 use Rattle.tiff_page.specs.PixelFault.{depth_fault, predictor_fault, white_fault, form_fault}
@@ -220,7 +221,7 @@ module _ (m : Model) (file : List ℕ) (link width height : ℕ) (samples : List
 
   -- each sample is the one that was handed in
   sample_is : (x y sample : ℕ) → x < width → y < height → sample < 1
-      → shown_sample new LittleEndian the_page x y sample ≡ slice_index shown ((y * width + x) * 1 + sample)
+      → shown_sample new LittleEndian the_page x y sample ≡ slice_index shown (y * width + x)
   sample_is x y sample a b f =
       let k : ℕ = y * width + x in
       let e : take (width * height) (drop strip new) ≡ shown = (is_exact new strip (width * height) shown strip_is).1 in
@@ -228,13 +229,20 @@ module _ (m : Model) (file : List ℕ) (link width height : ℕ) (samples : List
       let c : (y + 1) * width ≤ height * width = mul-le-mul_right width z in
       let i : k < width * height = omega (arith, c, add-mul y 1 width, mul_comm width height) in
       let first : sample ≡ 0 = omega arith in
-      let q : k ≡ k * 1 + sample = omega arith in
       ap (shown_sample new LittleEndian the_page x y) first
       ∙ shown_is new LittleEndian width height [] (2, 2) Strip (rows_per_strip width) (strip ∷ []) (width * height ∷ [])
       x y a (omega (arith, g.one_strip))
       ∙ sym (get_or-take (width * height) (drop strip new) k 0 i)
       ∙ ap (λ (l : List ℕ). get_or l k 0) e
-      ∙ ap (slice_index shown) q
+
+  -- its strip has enough data
+  whole_is : (chunk : ℕ) → chunk < all_chunks the_page → is_short new LittleEndian the_page (Gray 8) chunk ≡ false
+  whole_is chunk l =
+      let one = one_chunk new LittleEndian width height [] (2, 2) Strip (rows_per_strip width) strip unlimited g.wide g.high g.one_strip in
+      let first : 0 ≡ chunk = omega (arith, one) in
+      subst (λ (k : ℕ). is_short new LittleEndian the_page (Gray 8) k ≡ false) first
+      (not_short new LittleEndian width height [] (2, 2) Strip (rows_per_strip width) strip unlimited g.wide g.high g.one_strip
+      (is_exact new strip (width * height) shown strip_is).0)
 
   -- the page shows its image
   image_shows : Shows Classic new place (gray_image width height samples)
@@ -242,20 +250,10 @@ module _ (m : Model) (file : List ℕ) (link width height : ℕ) (samples : List
   image_shows = record {
     page = the_page;
     is_page = page_is unlimited;
-    width = refl;
-    height = refl;
-    interpretation = refl;
-    format = refl;
-    depth = refl;
-    samples = refl;
-    extra = refl;
-    method = refl;
-    predictor = refl;
-    rows = refl;
+    is_image = refl;
     colour = Gray 8;
     is_colour = refl;
-    image = decoded U8 (image_bytes new LittleEndian the_page (Gray 8));
-    is_read = let fits = size_fits in bytes_read unlimited (omega arith) (omega arith);
+    whole = whole_is;
     shows = sample_is;
   }
 

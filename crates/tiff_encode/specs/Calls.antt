@@ -1,7 +1,9 @@
 -- What each call of the writer answers and does, and where the encoder stands then (this project's).
-use Rattle.std.specs.Prelude.{ℕ, ◌*◌, ◌==◌, Bool, true, false, List, [], ◌∷◌, ◌++◌, length, take, drop, map, replicate, Option, Some, None, Result, Ok, Err, if◌then◌else◌}
-use Rattle.std.specs.FinMap.{empty, insert, len}
+use Rattle.std.specs.Prelude.{ℕ, ◌*◌, ◌==◌, Bool, true, false, List, [], ◌∷◌, ◌++◌, length, map, replicate, Option, Some, None, Result, Ok, Err, if◌then◌else◌}
+use Rattle.std.specs.FinMap.{empty, insert, remove, len}
 use Rattle.std.specs.List.{fold}
+use Rattle.tiff_base.specs.declared.color.ChunkType.{ChunkType}
+use Rattle.tiff_base.specs.declared.color.ChunkType.TheVariants.{Strip, Tile}
 use Rattle.tiff_base.specs.declared.error.TiffError.{TiffError}
 use Rattle.tiff_base.specs.declared.tags.CompressionMethod.{CompressionMethod}
 use Rattle.tiff_base.specs.declared.tags.CompressionMethod.TheVariants as method
@@ -9,6 +11,8 @@ use Rattle.tiff_base.specs.declared.tags.ExtraSamples.{ExtraSamples}
 use Rattle.tiff_base.specs.declared.tags.FileKind.{FileKind}
 use Rattle.tiff_base.specs.declared.tags.PhotometricInterpretation.{PhotometricInterpretation}
 use Rattle.tiff_base.specs.declared.tags.PhotometricInterpretation.TheVariants.{YCbCr}
+use Rattle.tiff_base.specs.declared.tags.PlanarConfiguration.{PlanarConfiguration}
+use Rattle.tiff_base.specs.declared.tags.PlanarConfiguration.TheVariants.{Chunky, Planar}
 use Rattle.tiff_base.specs.declared.tags.Predictor.{Predictor}
 use Rattle.tiff_base.specs.declared.tags.ResolutionUnit.{ResolutionUnit}
 use Rattle.tiff_base.specs.declared.tags.ResolutionUnit.TheVariants as unit
@@ -23,10 +27,12 @@ use Rattle.tiff_encode.specs.declared.encoder.settings.Compression.{Compression}
 use Rattle.tiff_encode.specs.declared.encoder.settings.Compression.TheVariants.{Uncompressed, Packbits}
 use Rattle.tiff_encode.specs.Written.{padding, rows_per_strip}
 use Rattle.tiff_value.specs.Buffer.{BufferRecord}
-use Rattle.tiff_value.specs.Data.{FieldData, Scalars, u16s, u32s, methods, interpretations, predictors, units, formats, extras, rationals, data_of}
+use Rattle.tiff_value.specs.Data.{FieldData, Scalars, u16s, u32s, methods, interpretations, planars, predictors, units, formats, extras, rationals, data_of}
 use Rattle.tiff_encode.specs.Value.{places, data_in, buffer_data, is_long, field_at}
-use Rattle.tiff_encode.specs.Machine.{FileState, OpenDirectory, OpenImage, Deed, Appended, Handed, Listed, Linked, Writing, answers, gives, does, by_cause, ◌>>=◌}
-use Rattle.tiff_encode.specs.Causes.{begin_cause, write_tag_cause, write_buf_cause, write_entry_bytes_cause, write_data_cause, write_data_buf_cause, finish_cause, offset_cause, new_image_cause, all_samples, next_sample_count, extra_samples_cause, rows_per_strip_cause, resolution_cause, one_resolution_cause, resolution_unit_cause, write_strip_cause, write_image_data_cause, end_of}
+use Rattle.tiff_encode.specs.Deeds.{Deed, Appended, Handed, Listed, Linked}
+use Rattle.tiff_encode.specs.Machine.{FileState, OpenDirectory, Form, OpenImage, Writing, answers, gives, does, by_cause, ◌>>=◌}
+use Rattle.tiff_encode.specs.Chunks.{all_samples, parts_left}
+use Rattle.tiff_encode.specs.Causes.{begin_cause, write_tag_cause, write_buf_cause, write_entry_bytes_cause, write_data_cause, write_data_buf_cause, finish_cause, offset_cause, new_image_cause, extra_samples_cause, rows_per_strip_cause, tiles_cause, planar_cause, resolution_cause, one_resolution_cause, resolution_unit_cause, write_strip_cause, write_chunk_cause, write_image_data_cause, end_of}
 
 -- ---- settings
 
@@ -66,6 +72,10 @@ extra_directory file = by_cause (begin_cause file) (do
 -- the directory with a field for a tag, in place of one that it had
 abbrev pub with_field : OpenDirectory → Tag → Field → OpenDirectory
 with_field d t field = record d { fields = insert d.fields (tag_number t) field }
+
+-- the directory without the field of a tag
+abbrev pub without_field : OpenDirectory → Tag → OpenDirectory
+without_field d t = record d { fields = remove d.fields (tag_number t) }
 
 -- a value is handed in for a field: its bytes are appended, where they don't fit into the entry
 abbrev pub placed : FieldData → Writing Field
@@ -181,6 +191,13 @@ abbrev pub chroma_tags : PhotometricInterpretation → List (Tag × Scalars)
 chroma_tags YCbCr = (tag.ChromaSubsampling, u16s (1 ∷ 1 ∷ [])) ∷ []
 chroma_tags _ = []
 
+-- strips of so many rows, which are as wide as the image; and tiles
+abbrev pub strips_of : ℕ → ℕ → PlanarConfiguration → Form
+strips_of width rows planar = record { chunk_type = Strip; chunk_width = width; chunk_height = rows; planar = planar }
+
+abbrev pub tiles_of : ℕ → ℕ → PlanarConfiguration → Form
+tiles_of width length planar = record { chunk_type = Tile; chunk_width = width; chunk_height = length; planar = planar }
+
 -- the tags that a new image writes, in their order
 unfoldable pub first_tags : OpenImage → List (Tag × Scalars)
 first_tags i =
@@ -190,14 +207,14 @@ first_tags i =
     ∷ (tag.Predictor, predictors (i.predictor ∷ []))
     ∷ (tag.PhotometricInterpretation, interpretations (i.colour.interpretation ∷ []))
     ∷ chroma_tags i.colour.interpretation
-    ++ ((tag.RowsPerStrip, u32s (i.rows ∷ []))
+    ++ ((tag.RowsPerStrip, u32s (i.form.chunk_height ∷ []))
     ∷ (tag.SamplesPerPixel, u16s (length i.colour.bits ∷ []))
     ∷ (tag.XResolution, rationals ((1, 1) ∷ []))
     ∷ (tag.YResolution, rationals ((1, 1) ∷ []))
     ∷ (tag.ResolutionUnit, units (unit.None ∷ []))
     ∷ [])
 
--- an image of these sides with no strip yet, in a directory; `size` is that of a sample in bytes
+-- an image of these sides with no chunk yet, in a directory; `size` is that of a sample in bytes
 abbrev pub image_in : FileState → OpenDirectory → ColorTypeRecord → ℕ → ℕ → ℕ → OpenImage
 image_in file d colour size width height = record {
   directory = d;
@@ -208,7 +225,7 @@ image_in file d colour size width height = record {
   extra = [];
   predictor = file.predictor;
   method = file.method;
-  rows = default_rows file.method (width * (length colour.bits * size));
+  form = strips_of width (default_rows file.method (width * (length colour.bits * size))) Chunky;
   chunks = [];
 }
 
@@ -233,7 +250,19 @@ extra_samples i extra file = by_cause (extra_samples_cause file i extra) (do
 unfoldable pub set_rows_per_strip : OpenImage → ℕ → Writing OpenImage
 set_rows_per_strip i rows file = by_cause (rows_per_strip_cause file i rows) (do
   d ← write_tag i.directory tag.RowsPerStrip (Ok (data_of (u32s (rows ∷ []))))
-  gives (record i { directory = d; rows = rows })) file
+  gives (record i { directory = d; form = strips_of i.width rows i.form.planar })) file
+
+-- `tiles`: the tag of the rows of a strip is taken away; a later call replaces the sides
+unfoldable pub tiles : OpenImage → ℕ → ℕ → Writing OpenImage
+tiles i width length file = by_cause (tiles_cause file i width length) (do
+  d ← write_tags i.directory ((tag.TileWidth, u32s (width ∷ [])) ∷ (tag.TileLength, u32s (length ∷ [])) ∷ [])
+  gives (record i { directory = without_field d tag.RowsPerStrip; form = tiles_of width length i.form.planar })) file
+
+-- `planar`: each chunk has the samples of one plane
+unfoldable pub planar : OpenImage → Writing OpenImage
+planar i file = by_cause (planar_cause file i) (do
+  d ← write_tag i.directory tag.PlanarConfiguration (Ok (data_of (planars (Planar ∷ []))))
+  gives (record i { directory = d; form = record i.form { planar = Planar } })) file
 
 -- an image with some tags more
 abbrev pub with_tags : OpenImage → List (Tag × Scalars) → Writing OpenImage
@@ -261,16 +290,22 @@ y_resolution i value file = by_cause (one_resolution_cause file) (with_tags i ((
 unfoldable pub resolution_unit : OpenImage → ResolutionUnit → Writing OpenImage
 resolution_unit i u file = by_cause (resolution_unit_cause file) (with_tags i ((tag.ResolutionUnit, units (u ∷ [])) ∷ [])) file
 
--- the image with one more strip
-abbrev pub with_chunk : OpenImage → ℕ → ℕ → List ℕ → OpenImage
-with_chunk i place stored samples =
-    record i { chunks = i.chunks ++ (record { place = place; stored = stored; samples = samples }) ∷ [] }
+-- the image with one more chunk
+abbrev pub with_chunk : OpenImage → ℕ → ℕ → OpenImage
+with_chunk i place stored = record i { chunks = i.chunks ++ (record { place = place; stored = stored }) ∷ [] }
 
--- `write_strip` of these samples, which are stored as these bytes
-unfoldable pub write_strip : OpenImage → List ℕ → List ℕ → Writing OpenImage
-write_strip i samples stored file = by_cause (write_strip_cause file i (length samples) (length stored)) (do
+-- a chunk is appended, as these bytes
+abbrev pub appends_chunk : OpenImage → List ℕ → Writing OpenImage
+appends_chunk i stored = do
   place ← appends stored
-  gives (with_chunk i place (length stored) samples)) file
+  gives (with_chunk i place (length stored))
+
+-- `write_strip`, `write_chunk`, of so many samples, which are stored as these bytes
+unfoldable pub write_strip : OpenImage → ℕ → List ℕ → Writing OpenImage
+write_strip i count stored file = by_cause (write_strip_cause file i count (length stored)) (appends_chunk i stored) file
+
+unfoldable pub write_chunk : OpenImage → ℕ → List ℕ → Writing OpenImage
+write_chunk i count stored file = by_cause (write_chunk_cause file i count (length stored)) (appends_chunk i stored) file
 
 -- one more for each extra sample, as the first is
 abbrev pub repeated : {A : Type 0} → List A → ℕ → List A
@@ -281,33 +316,37 @@ repeated (x ∷ xs) count = (x ∷ xs) ++ replicate count x
 abbrev pub sample_tags : OpenImage → List (Tag × Scalars)
 sample_tags i = if length i.extra == 0 then [] else (tag.SamplesPerPixel, u16s (all_samples i ∷ [])) ∷ []
 
+-- where the chunks stand, and how many bytes each has there
+abbrev pub chunk_tags : ChunkType → Scalars → Scalars → List (Tag × Scalars)
+chunk_tags Strip offsets byte_counts = (tag.StripOffsets, offsets) ∷ (tag.StripByteCounts, byte_counts) ∷ []
+chunk_tags Tile offsets byte_counts = (tag.TileOffsets, offsets) ∷ (tag.TileByteCounts, byte_counts) ∷ []
+
 -- the tags that the end of an image writes, in their order
 unfoldable pub last_tags : FileKind → OpenImage → List (Tag × Scalars)
 last_tags kind i =
     (tag.BitsPerSample, u16s (repeated i.colour.bits (length i.extra)))
     ∷ sample_tags i
     ++ ((tag.SampleFormat, formats (repeated i.colour.formats (length i.extra)))
-    ∷ (tag.StripOffsets, places kind (map (λ chunk. chunk.place) i.chunks))
-    ∷ (tag.StripByteCounts, places kind (map (λ chunk. chunk.stored) i.chunks))
-    ∷ [])
+    ∷ chunk_tags i.form.chunk_type (places kind (map (λ chunk. chunk.place) i.chunks)) (places kind (map (λ chunk. chunk.stored) i.chunks)))
 
--- `finish` and `discard` of an image, with strips missing too: tag by tag, then as of its directory
+-- `finish` and `discard` of an image, with chunks missing too: tag by tag, then as of its directory
 unfoldable pub finish_image : OpenImage → Writing Offsets
 finish_image i file = (do
   d ← write_tags i.directory (last_tags file.kind i)
   finish d) file
 
--- the strips that are left, from the front of these samples; each is stored as the bytes given
-abbrev pub write_strips : OpenImage → List ℕ → List (List ℕ) → Writing OpenImage
-write_strips i samples [] = gives i
-write_strips i samples (stored ∷ more) = do
-  next ← write_strip i (take (next_sample_count i) samples) stored
-  write_strips next (drop (next_sample_count i) samples) more
+-- chunks of these samples are written one after another, each as the bytes that are given for it, as far as some are
+abbrev pub write_chunks : OpenImage → List (List ℕ) → List (List ℕ) → Writing OpenImage
+write_chunks i [] stored = gives i
+write_chunks i (samples ∷ more) [] = gives i
+write_chunks i (samples ∷ more) (stored ∷ others) = do
+  next ← write_chunk i (length samples) stored
+  write_chunks next more others
 
--- `write_data` of an image: the strips that are left, then its end
+-- `write_data` of an image: the chunks that are left, then its end
 unfoldable pub write_image_data : OpenImage → List ℕ → List (List ℕ) → Writing Offsets
 write_image_data i samples stored file = by_cause (write_image_data_cause file i (length samples)) (do
-  last ← write_strips i samples stored
+  last ← write_chunks i (parts_left i samples) stored
   finish_image last) file
 
 -- `write_image`

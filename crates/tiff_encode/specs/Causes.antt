@@ -1,13 +1,14 @@
 -- Why a call of the writer is refused: for each call its causes, the first that holds (this project's order).
-use Rattle.std.specs.Prelude.{ℕ, ◌+◌, ◌-◌, ◌*◌, ◌%◌, ◌^◌, ◌&&◌, ◌||◌, ◌==◌, Bool, true, false, not, List, [], ◌∷◌, length, min, nat_lt, nat_le, Option, Some, None, Result, Ok, Err, if◌then◌else◌}
+use Rattle.std.specs.Prelude.{ℕ, ◌+◌, ◌*◌, ◌%◌, ◌^◌, ◌&&◌, ◌||◌, ◌==◌, Bool, true, false, not, List, [], ◌∷◌, length, nat_lt, nat_le, Option, Some, None, Result, Ok, Err, if◌then◌else◌}
 use Rattle.std.specs.FinMap.{len, entries}
-use Rattle.std.specs.Int.{div_ceil}
 use Rattle.std.specs.List.{list_any}
+use Rattle.tiff_base.specs.declared.color.ChunkType.TheVariants.{Strip, Tile}
 use Rattle.tiff_base.specs.declared.error.TiffError.{TiffError}
 use Rattle.tiff_base.specs.declared.error.TiffError.TheVariants.{FormatError, IoError, IntSizeError, UsageError}
 use Rattle.tiff_base.specs.declared.error.TiffFormatError.TheVariants.{InvalidDimensions}
-use Rattle.tiff_base.specs.declared.error.UsageError.TheVariants.{PredictorIncompatible, PredictorUnavailable, ZeroIfdPointer, ReconfiguredAfterImageWrite, ByteOrderMismatch, MismatchedEntryLength, ParentNotWritten, WriterFailed}
+use Rattle.tiff_base.specs.declared.error.UsageError.TheVariants.{PredictorIncompatible, PredictorUnavailable, ZeroIfdPointer, ReconfiguredAfterImageWrite, ByteOrderMismatch, MismatchedEntryLength, InvalidChunkType, ParentNotWritten, WriterFailed}
 use Rattle.tiff_base.specs.declared.io.IoKind.TheVariants.{InvalidData, InvalidInput}
+use Rattle.tiff_base.specs.declared.io.SinkFault.{SinkFault}
 use Rattle.tiff_base.specs.declared.tags.ByteOrder.{ByteOrder}
 use Rattle.tiff_base.specs.declared.tags.ByteOrder.TheVariants.{LittleEndian, BigEndian}
 use Rattle.tiff_base.specs.declared.tags.ExtraSamples.{ExtraSamples}
@@ -21,16 +22,22 @@ use Rattle.tiff_base.specs.declared.tags.«Type».{«Type»}
 use Rattle.tiff_base.specs.Directory.{link_place}
 use Rattle.tiff_base.specs.Types.{type_size}
 use Rattle.tiff_value.specs.ColorType.{ColorTypeRecord}
-use Rattle.tiff_encode.specs.Encoder.{is_too_far}
-use Rattle.tiff_encode.specs.Written.{place_len, resolutions_place}
 use Rattle.tiff_value.specs.Buffer.{BufferRecord}
 use Rattle.tiff_value.specs.Data.{FieldData, extras, rationals, data_of}
+use Rattle.tiff_page.specs.Counts.{all_chunks}
+use Rattle.tiff_encode.specs.Encoder.{is_too_far}
+use Rattle.tiff_encode.specs.Written.{place_len, resolutions_place}
 use Rattle.tiff_encode.specs.Value.{data_in, buffer_data, is_long}
 use Rattle.tiff_encode.specs.Machine.{FileState, OpenDirectory, OpenImage}
+use Rattle.tiff_encode.specs.Chunks.{all_samples, image_page, is_tile, is_begun, is_left, is_in_order, next_chunk_sample_count}
 
 -- the causes of a call that writes: before all others an earlier write that failed
+abbrev pub unless_ended : Option SinkFault → Option TiffError → Option TiffError
+unless_ended None cause = cause
+unless_ended (Some fault) cause = Some (UsageError WriterFailed)
+
 abbrev pub unless_failed : FileState → Option TiffError → Option TiffError
-unless_failed file cause = if file.failed then Some (UsageError WriterFailed) else cause
+unless_failed file cause = unless_ended file.fault cause
 
 -- a number that no place, count or length of a kind of file can be: none is too large for a BigTIFF file
 abbrev pub is_past : FileKind → ℕ → Bool
@@ -139,26 +146,6 @@ new_image_cause file colour width height =
     else predictor_cause file.predictor colour.formats
     (if is_past file.kind (resolutions_place (end_of file) + 8) then Some IntSizeError else None))
 
--- all samples of a pixel
-abbrev pub all_samples : OpenImage → ℕ
-all_samples i = length i.colour.bits + length i.extra
-
--- whether a strip was written
-abbrev pub is_begun : OpenImage → Bool
-is_begun i = nat_lt 0 (length i.chunks)
-
--- the strips of an image; its rows of a strip are not 0
-abbrev pub chunk_count : OpenImage → ℕ
-chunk_count i = div_ceil i.height i.rows
-
--- the rows of the strip that is written next, 0 behind the last one
-abbrev pub next_rows : OpenImage → ℕ
-next_rows i = min i.rows (i.height - length i.chunks * i.rows)
-
--- `next_strip_sample_count`: its samples, or the largest number that the call can answer
-unfoldable pub next_sample_count : OpenImage → ℕ
-next_sample_count i = min (next_rows i * (i.width * all_samples i)) (2 ^ 64 - 1)
-
 -- `extra_samples`
 unfoldable pub extra_samples_cause : FileState → OpenImage → List ExtraSamples → Option TiffError
 extra_samples_cause file i extra =
@@ -167,9 +154,26 @@ extra_samples_cause file i extra =
     else if nat_lt 65535 (length i.colour.bits + length extra) then Some IntSizeError
     else field_cause file (data_of (extras extra)))
 
--- `rows_per_strip`
+-- `rows_per_strip`: tiles have none
 unfoldable pub rows_per_strip_cause : FileState → OpenImage → ℕ → Option TiffError
-rows_per_strip_cause file i rows = unless_failed file (if rows == 0 || is_begun i then Some (IoError InvalidInput) else None)
+rows_per_strip_cause file i rows =
+    unless_failed file (if rows == 0 || (is_begun i || is_tile i.form.chunk_type) then Some (IoError InvalidInput) else None)
+
+-- a side of a tile is a multiple of 16
+abbrev pub is_no_side : ℕ → Bool
+is_no_side n = n == 0 || not (n % 16 == 0)
+
+-- `tiles`
+unfoldable pub tiles_cause : FileState → OpenImage → ℕ → ℕ → Option TiffError
+tiles_cause file i width length =
+    unless_failed file
+    (if is_begun i then Some (UsageError ReconfiguredAfterImageWrite)
+    else if is_no_side width || is_no_side length then Some (IoError InvalidInput)
+    else None)
+
+-- `planar`
+unfoldable pub planar_cause : FileState → OpenImage → Option TiffError
+planar_cause file i = unless_failed file (if is_begun i then Some (UsageError ReconfiguredAfterImageWrite) else None)
 
 -- `resolution`: the place of either of its two, before one is written
 unfoldable pub resolution_cause : FileState → Option TiffError
@@ -183,18 +187,38 @@ one_resolution_cause file = unless_failed file (field_cause file (data_of (ratio
 unfoldable pub resolution_unit_cause : FileState → Option TiffError
 resolution_unit_cause file = unless_failed file None
 
--- `write_strip` of so many samples, which are so many bytes as they are stored
+-- more chunks than a page can have
+abbrev pub is_past_chunks : OpenImage → Bool
+is_past_chunks i = nat_le (2 ^ 32) (all_chunks (image_page i))
+
+-- a chunk of so many samples, which are so many bytes as they are stored
+abbrev pub chunk_cause : FileState → OpenImage → ℕ → ℕ → Option TiffError
+chunk_cause file i count stored =
+    if is_past_chunks i then Some IntSizeError
+    else if not (is_left i) || not (count == next_chunk_sample_count i) then Some (IoError InvalidData)
+    else if is_past file.kind (end_of file) || is_past file.kind stored then Some IntSizeError
+    else None
+
+-- `write_chunk`
+unfoldable pub write_chunk_cause : FileState → OpenImage → ℕ → ℕ → Option TiffError
+write_chunk_cause file i count stored = unless_failed file (chunk_cause file i count stored)
+
+-- `write_strip`: a tile is none
 unfoldable pub write_strip_cause : FileState → OpenImage → ℕ → ℕ → Option TiffError
 write_strip_cause file i count stored =
     unless_failed file
-    (if next_rows i == 0 || not (count == next_sample_count i) then Some (IoError InvalidData)
-    else if is_past file.kind (end_of file) || is_past file.kind stored then Some IntSizeError
-    else None)
+    (if is_tile i.form.chunk_type then Some (UsageError (InvalidChunkType Strip Tile)) else chunk_cause file i count stored)
 
--- `write_data` of an image, of so many samples, before its strips and its end
+-- the samples of an image
+abbrev pub image_samples : OpenImage → ℕ
+image_samples i = i.width * i.height * all_samples i
+
+-- `write_data` of an image, of so many samples, before its chunks and its end: behind chunks that were written it goes on
+-- where the samples follow each other
 unfoldable pub write_image_data_cause : FileState → OpenImage → ℕ → Option TiffError
 write_image_data_cause file i count =
     unless_failed file
-    (if nat_le (2 ^ 64) (i.width * i.height * all_samples i) then Some (IoError InvalidInput)
-    else if nat_lt count (i.width * i.height * all_samples i) then Some (IoError InvalidData)
+    (if nat_le (2 ^ 64) (image_samples i) || (is_begun i && not (is_in_order i.form)) then Some (IoError InvalidInput)
+    else if nat_lt count (image_samples i) then Some (IoError InvalidData)
+    else if is_past_chunks i then Some IntSizeError
     else None)

@@ -6,24 +6,46 @@ use Rattle.tiff_base.specs.declared.error.TiffFormatError.TheVariants.{InvalidDi
 use Rattle.tiff_base.specs.declared.error.TiffUnsupportedError.TheVariants.{UnsupportedDataType}
 use Rattle.tiff_base.specs.declared.error.UsageError.TheVariants.{WriterFailed}
 use Rattle.tiff_base.specs.declared.io.IoKind.TheVariants.{InvalidData, Device}
+use Rattle.tiff_base.specs.declared.io.SinkFault.{SinkFault}
+use Rattle.tiff_base.specs.declared.tags.FileKind.{FileKind}
 use Rattle.tiff_base.specs.declared.tags.FileKind.TheVariants.{Classic}
 use Rattle.tiff_base.specs.Number.{le}
-use Rattle.tiff_base.specs.Told.{put}
+use Rattle.tiff_base.specs.Told.{put, sink_error}
 use Rattle.tiff_encode.specs.Written.{header_bytes, rows_per_strip, resolutions_place, strip_place, directory_place, page_head, page_bytes, with_page, page_link}
 
--- the file of an encoder: its bytes, how many writes of its sink failed, whether a write of the encoder did, where the
--- last link of the chain stands, and whether a page is finished
+-- the file of an encoder: its bytes, how many writes of its sink failed, whether a write of the encoder did, the fault that
+-- the sink told then, where the last link of the chain stands, and whether a page is finished
 pub record Encoded : Type 0 where
   pub bytes : List ℕ
   pub failures : ℕ
   pub failed : Bool
+  pub fault : Option SinkFault
   pub chain : ℕ
   pub finished : Bool
 
 -- a new encoder over a sink that held these bytes
 abbrev pub IsBegun : List ℕ → ℕ → Encoded → Type 0
 IsBegun told failures e =
-    e ≡ record { bytes = told ++ header_bytes Classic; failures = failures; failed = false; chain = length told + 4; finished = false }
+    e ≡ record {
+      bytes = told ++ header_bytes Classic;
+      failures = failures;
+      failed = false;
+      fault = None;
+      chain = length told + 4;
+      finished = false;
+    }
+
+-- The sink failed while the header was written: it was left with a beginning of it, one more failure, and its fault.
+pub record HeaderFails {S : Type 0} (kind : FileKind) (told : S → List ℕ) (failures : S → ℕ) (fault : S → Option SinkFault)
+    (sink : S) (e : TiffError) : Type 0 where
+  pub last : S
+  pub count : ℕ
+  pub within : count < length (header_bytes kind)
+  pub bytes : told last ≡ told sink ++ take count (header_bytes kind)
+  pub grew : failures last ≡ failures sink + 1
+  pub cause : SinkFault
+  pub tells : fault last ≡ Some cause
+  pub answer : e ≡ sink_error cause
 
 -- why a page is refused, and what was appended before that was met
 pub record Refusal : Type 0 where
@@ -89,23 +111,33 @@ pub record IsRefused (refusal : Option Refusal) (e : TiffError) (old new : Encod
 abbrev pub IsSinkFault : TiffError → Type 0
 IsSinkFault e = (e ≡ OutOfMemory) ⊎ (e ≡ IoError Device)
 
--- The sink failed while this was appended: a beginning of it stands, and the encoder is marked.
+-- The sink failed while this was appended: a beginning of it stands, and nothing is written after it.
 pub record IsCut (appended : List ℕ) (e : TiffError) (old new : Encoded) : Type 0 where
   pub fresh : old.failed ≡ false
-  pub fault : IsSinkFault e
-  pub grew : old.failures < new.failures
+  pub fault : SinkFault
+  pub answer : e ≡ sink_error fault
   pub count : ℕ
-  pub within : count ≤ length appended
-  pub state : new ≡ record old { bytes = old.bytes ++ take count appended; failures = new.failures; failed = true }
+  pub within : count < length appended
+  pub state : new ≡ record old {
+    bytes = old.bytes ++ take count appended;
+    failures = old.failures + 1;
+    failed = true;
+    fault = Some fault;
+  }
 
 -- All was appended, and the sink failed while the chain's last link was written: it holds a beginning of the new bytes.
 pub record IsTorn (appended : List ℕ) (place : ℕ) (e : TiffError) (old new : Encoded) : Type 0 where
   pub fresh : old.failed ≡ false
-  pub fault : IsSinkFault e
-  pub grew : old.failures < new.failures
+  pub fault : SinkFault
+  pub answer : e ≡ sink_error fault
   pub count : ℕ
-  pub within : count ≤ 4
-  pub state : new ≡ record old { bytes = put (old.bytes ++ appended) old.chain (take count (le 4 place)); failures = new.failures; failed = true }
+  pub within : count < 4
+  pub state : new ≡ record old {
+    bytes = put (old.bytes ++ appended) old.chain (take count (le 4 place));
+    failures = old.failures + 1;
+    failed = true;
+    fault = Some fault;
+  }
 
 -- The encoder itself found no memory: a beginning of what it appends stands, unused.
 pub record IsWanting (appended : List ℕ) (e : TiffError) (old new : Encoded) : Type 0 where

@@ -1,13 +1,13 @@
 -- Lists of jobs: what each step of each job replies, and what stands after it (this project's).
-use Rattle.std.specs.Prelude.{◌≡◌, ℕ, ◌*◌, ◌⊎◌, ◌==◌, Bool, true, false, not, List, [], ◌∷◌, ◌++◌, length, take, drop, map, get_or, slice_get, if◌then◌else◌, Option, Some, None, Result, Ok, Err}
+use Rattle.std.specs.Prelude.{◌≡◌, ℕ, ◌<◌, ◌⊎◌, ◌==◌, ◌&&◌, Bool, true, false, not, List, [], ◌∷◌, ◌++◌, length, take, drop, map, slice_get, if◌then◌else◌, Option, Some, None, Result, Ok, Err}
 use Rattle.std.specs.FinMap.{entries}
-use Rattle.std.specs.List.{flat_map, list_all, list_any}
+use Rattle.std.specs.List.{list_any}
 use Rattle.tiff_base.specs.declared.error.TiffError.{TiffError}
 use Rattle.tiff_base.specs.declared.error.TiffError.TheVariants.{UsageError, OutOfMemory}
 use Rattle.tiff_base.specs.declared.error.UsageError.TheVariants.{ParentNotWritten}
+use Rattle.tiff_base.specs.declared.io.SinkFault.{SinkFault}
 use Rattle.tiff_base.specs.declared.tags.FileKind.{FileKind}
 use Rattle.tiff_base.specs.declared.tags.ResolutionUnit.{ResolutionUnit}
-use Rattle.tiff_base.specs.declared.tags.SampleFormat.TheVariants.{Void}
 use Rattle.tiff_base.specs.declared.tags.Tag.{Tag}
 use Rattle.tiff_base.specs.declared.tags.Tag.TheVariants as tag
 use Rattle.tiff_base.specs.Field.{Field}
@@ -33,12 +33,15 @@ use Rattle.tiff_encode.specs.declared.encoder.script.EndReply.TheVariants as las
 use Rattle.tiff_encode.specs.declared.encoder.script.JobReply.{JobReply}
 use Rattle.tiff_encode.specs.Model.{Model, In, Stands, header_model, relinked}
 use Rattle.tiff_encode.specs.Shows.{Image, Shows}
-use Rattle.tiff_encode.specs.Machine.{FileState, OpenDirectory, OpenImage, Told, Writing, begun, model_after}
-use Rattle.tiff_encode.specs.Causes.{all_samples, next_sample_count, resolution_cause, write_image_data_cause}
+use Rattle.tiff_encode.specs.Encoder.{HeaderFails}
+use Rattle.tiff_encode.specs.Deeds.{model_after}
+use Rattle.tiff_encode.specs.Machine.{FileState, OpenDirectory, OpenImage, Told, Writing, begun}
+use Rattle.tiff_encode.specs.Chunks.{image_page, is_left, next_strip_sample_count, parts_left, sample_in}
+use Rattle.tiff_encode.specs.Causes.{resolution_cause, write_strip_cause, write_image_data_cause}
 use Rattle.tiff_encode.specs.Calls as calls
 use Rattle.tiff_encode.specs.Calls.{Offsets}
-use Rattle.tiff_encode.specs.Ends.{IsTold, IsCutOff, IsTornOff, IsWanting}
-use Rattle.tiff_encode.specs.Stored.{AreStored, strip_bytes}
+use Rattle.tiff_encode.specs.Ends.{IsTold, IsCutOff, IsTornOff, IsShortOfMemory}
+use Rattle.tiff_encode.specs.Stored.{AreStored, chunk_bytes}
 use Rattle.tiff_value.specs.Packed.{IsStored}
 use Rattle.tiff_encode.specs.JobValues.{value_data, buffer_in, cut_to}
 
@@ -52,20 +55,32 @@ pub record IsDone {A : Type 0} (told : Told A) (r : Result A TiffError) (old new
   pub ended : IsTold told r new.file
   pub model : new.model ≡ model_after old.file.kind old.file.bytes old.model told.deeds
 
--- The sink failed while a link was patched: its field holds some number.
-pub record IsTorn {A : Type 0} (told : Told A) (e : TiffError) (old new : Standing) : Type 0 where
+-- The sink failed while a link was patched: its field holds some number, and all that was done before stands, the new
+-- directory with link 0 too.
+pub record IsTornAway {A : Type 0} (told : Told A) (e : TiffError) (old new : Standing) : Type 0 where
   pub torn : IsTornOff told.deeds e old.file new.file
   pub holds : ℕ
-  pub model : new.model ≡ relinked old.file.kind old.model torn.place holds
+  pub model : new.model ≡ relinked old.file.kind (model_after old.file.kind old.file.bytes old.model torn.before) torn.place holds
 
--- The call answers a fault: its cause; or the sink's, or want of memory, and what stood stands.
+-- The sink failed while the call appended: what stood stands.
+abbrev pub IsCutShort : {A : Type 0} → Told A → TiffError → Standing → Standing → Type 0
+IsCutShort told e old new = (new.model ≡ old.model) × IsCutOff told.deeds e old.file new.file
+
+-- There was no memory: what stood stands.
+abbrev pub IsWithoutMemory : {A : Type 0} → Told A → TiffError → Standing → Standing → Type 0
+IsWithoutMemory told e old new = (new.model ≡ old.model) × IsShortOfMemory told e old.file new.file
+
+-- The call answers a fault: its cause; or the sink's, or want of memory.
 abbrev pub Refuses : {A : Type 0} → Told A → TiffError → Standing → Standing → Type 0
 Refuses told e old new =
     IsDone told (Err e) old new
-    ⊎ (IsTorn told e old new
-    ⊎ ((new.model ≡ old.model) × (IsCutOff told.deeds e old.file new.file ⊎ IsWanting told.deeds e old.file new.file)))
+    ⊎ (IsTornAway told e old new ⊎ (IsCutShort told e old new ⊎ IsWithoutMemory told e old new))
 
--- No memory was found for what a call is given: it isn't called.
+-- What is open stays as it was: so it does in each call that is lent it and refused.
+abbrev pub Stays : {S : Type 0} → S → S → Type 0
+Stays s t = t ≡ s
+
+-- There was no memory, and nothing was done.
 abbrev pub IsNotCalled : TiffError → Standing → Standing → Type 0
 IsNotCalled e old new = (e ≡ OutOfMemory) × (new ≡ old)
 
@@ -75,12 +90,12 @@ IsNotCalled e old new = (e ≡ OutOfMemory) × (new ≡ old)
 abbrev pub Changes : {S : Type 0} → Writing S → S → Result StepReply TiffError → Standing → Standing → S → Type 0
 Changes call s (Ok reply.Nothing) old new t = IsDone (call old.file) (Ok t) old new
 Changes call s (Ok _) old new t = ⊥
-Changes call s (Err e) old new t = (t ≡ s) × Refuses (call old.file) e old new
+Changes call s (Err e) old new t = Stays s t × Refuses (call old.file) e old new
 
 -- a call that leaves what is open, and replies what it answers
 abbrev pub Replies : {S A : Type 0} → (A → StepReply) → Writing A → S → Result StepReply TiffError → Standing → Standing → S → Type 0
-Replies {A = A} view call s (Ok r) old new t = (t ≡ s) × ((x : A) × ((r ≡ view x) × IsDone (call old.file) (Ok x) old new))
-Replies view call s (Err e) old new t = (t ≡ s) × Refuses (call old.file) e old new
+Replies {A = A} view call s (Ok r) old new t = Stays s t × ((x : A) × ((r ≡ view x) × IsDone (call old.file) (Ok x) old new))
+Replies view call s (Err e) old new t = Stays s t × Refuses (call old.file) e old new
 
 -- fields that are given to a directory: after want of memory the first ones of them
 abbrev pub Extends : List (ℕ × Field) → OpenDirectory → Result StepReply TiffError → Standing → Standing → OpenDirectory → Type 0
@@ -99,44 +114,76 @@ DirectoryStepped old d (step.WriteEntryBuf b) r new e = Replies reply.Written (c
 DirectoryStepped old d (step.WriteEntryBytes type bytes) r new e = Replies reply.Written (calls.write_entry_bytes type bytes.items) d r old new e
 DirectoryStepped old d (step.ExtendFrom given) r new e = Extends (entries given.entries) d r old new e
 
--- `resolution` found no memory: the first ones of its three tags stand
-abbrev pub ResolvesInPart : OpenImage → List (Tag × Scalars) → ℕ → Standing → Standing → OpenImage → Type 0
-ResolvesInPart i values k old new t =
-    (resolution_cause old.file ≡ None) × ((mid : Standing)
+-- an open image, and the samples that each of its chunks was handed: no encoder keeps them
+pub record Drawn : Type 0 where
+  pub image : OpenImage
+  pub samples : List (List ℕ)
+
+-- a call that gives what is open then, of an image: its chunks and their samples stay
+abbrev pub Draws : (OpenImage → Writing OpenImage) → Drawn → Result StepReply TiffError → Standing → Standing → Drawn → Type 0
+Draws call i r old new t = (t.samples ≡ i.samples) × Changes (call i.image) i.image r old new t.image
+
+-- `resolution` was refused for memory, or by the sink, between its three tags: the first ones of them stand
+abbrev pub ResolvesInPart : OpenImage → List (Tag × Scalars) → TiffError → Standing → Standing → OpenImage → Type 0
+ResolvesInPart i values e old new t =
+    (resolution_cause old.file ≡ None) × ((k : ℕ) × ((k < length values) × ((mid : Standing)
     × (IsDone (calls.with_tags i (take k values) old.file) (Ok t) old mid
-    × Refuses (calls.with_tags t (drop k values) mid.file) OutOfMemory mid new))
+    × (IsCutShort (calls.with_tags t (drop k values) mid.file) e mid new
+    ⊎ IsWithoutMemory (calls.with_tags t (drop k values) mid.file) e mid new)))))
 
 abbrev pub Resolves : OpenImage → ResolutionUnit → ℕ × ℕ → Result StepReply TiffError → Standing → Standing → OpenImage → Type 0
-Resolves i u value (Err OutOfMemory) old new t =
-    Changes (calls.resolution i u value) i (Err OutOfMemory) old new t
-    ⊎ ((k : ℕ) × ResolvesInPart i (calls.resolution_tags u value) k old new t)
-Resolves i u value r old new t = Changes (calls.resolution i u value) i r old new t
+Resolves i u value (Ok r) old new t = Changes (calls.resolution i u value) i (Ok r) old new t
+Resolves i u value (Err e) old new t =
+    Changes (calls.resolution i u value) i (Err e) old new t ⊎ ResolvesInPart i (calls.resolution_tags u value) e old new t
 
--- a strip, however it is stored
+-- A chunk that may be written is: it is stored as some bytes that it may be stored as, or the sink fails; or there is no
+-- memory for them, and nothing is done.
+abbrev pub Stores : OpenImage → List ℕ → Result StepReply TiffError → Standing → Standing → OpenImage → Type 0
+Stores i samples (Ok reply.Nothing) old new t =
+    (stored : List ℕ) × (IsStored i.method stored (chunk_bytes i samples)
+    × IsDone (calls.write_strip i (length samples) stored old.file) (Ok t) old new)
+Stores i samples (Ok _) old new t = ⊥
+Stores i samples (Err e) old new t =
+    Stays i t × (IsNotCalled e old new
+    ⊎ ((stored : List ℕ) × (IsStored i.method stored (chunk_bytes i samples)
+    × (IsDone (calls.write_strip i (length samples) stored old.file) (Err e) old new
+    ⊎ IsCutShort (calls.write_strip i (length samples) stored old.file) e old new))))
+
+-- a strip: it is refused for a cause that no packing changes, or stored
+abbrev pub StripsBy : Option TiffError → OpenImage → List ℕ → Result StepReply TiffError → Standing → Standing → OpenImage → Type 0
+StripsBy (Some cause) i samples r old new t = (r ≡ Err cause) × (Stays i t × (new ≡ old))
+StripsBy None i samples r old new t = Stores i samples r old new t
+
 abbrev pub Strips : OpenImage → List ℕ → Result StepReply TiffError → Standing → Standing → OpenImage → Type 0
-Strips i samples r old new t =
-    (stored : List ℕ) × (IsStored i.method stored (strip_bytes i samples) × Changes (calls.write_strip i samples stored) i r old new t)
+Strips i samples r old new t = StripsBy (write_strip_cause old.file i (length samples) 0) i samples r old new t
+
+-- the samples of a strip that was written are kept in mind
+abbrev pub samples_after : Result StepReply TiffError → Drawn → List ℕ → List (List ℕ)
+samples_after (Ok r) i samples = i.samples ++ samples ∷ []
+samples_after (Err e) i samples = i.samples
 
 -- the same, where memory for the samples is found
-abbrev pub StripsIfFound : OpenImage → List ℕ → Result StepReply TiffError → Standing → Standing → OpenImage → Type 0
-StripsIfFound i samples (Ok r) old new t = Strips i samples (Ok r) old new t
-StripsIfFound i samples (Err e) old new t = ((t ≡ i) × IsNotCalled e old new) ⊎ Strips i samples (Err e) old new t
+abbrev pub StripsIfFound : Drawn → List ℕ → Result StepReply TiffError → Standing → Standing → Drawn → Type 0
+StripsIfFound i samples r old new t =
+    (t.samples ≡ samples_after r i samples)
+    × (Strips i.image samples r old new t.image
+    ⊎ ((r ≡ Err OutOfMemory) × (Stays i.image t.image × (new ≡ old))))
 
 -- a step of an image's directory
 abbrev pub Directs : OpenImage → DirectoryStep → Result StepReply TiffError → Standing → Standing → OpenImage → Type 0
 Directs i s r old new t = (d : OpenDirectory) × ((t ≡ calls.with_directory_of i d) × DirectoryStepped old i.directory s r new d)
 
 -- one step of an image
-abbrev pub ImageStepped : Standing → OpenImage → ImageStep → Result StepReply TiffError → Standing → OpenImage → Type 0
-ImageStepped old i (istep.Directory s) r new t = Directs i s r old new t
-ImageStepped old i (istep.ExtraSamples extra) r new t = Changes (calls.extra_samples i extra.items) i r old new t
-ImageStepped old i istep.NextStripSampleCount r new t = (r ≡ Ok (reply.Number (next_sample_count i))) × ((new ≡ old) × (t ≡ i))
-ImageStepped old i (istep.WriteStrip samples) r new t = StripsIfFound i (cut_to i.size samples.items) r old new t
-ImageStepped old i (istep.Resolution u value) r new t = Resolves i u (value.n, value.d) r old new t
-ImageStepped old i (istep.ResolutionUnit u) r new t = Changes (calls.resolution_unit i u) i r old new t
-ImageStepped old i (istep.XResolution value) r new t = Changes (calls.x_resolution i (value.n, value.d)) i r old new t
-ImageStepped old i (istep.YResolution value) r new t = Changes (calls.y_resolution i (value.n, value.d)) i r old new t
-ImageStepped old i (istep.RowsPerStrip rows) r new t = Changes (calls.set_rows_per_strip i rows) i r old new t
+abbrev pub ImageStepped : Standing → Drawn → ImageStep → Result StepReply TiffError → Standing → Drawn → Type 0
+ImageStepped old i (istep.Directory s) r new t = (t.samples ≡ i.samples) × Directs i.image s r old new t.image
+ImageStepped old i (istep.ExtraSamples extra) r new t = Draws (λ image. calls.extra_samples image extra.items) i r old new t
+ImageStepped old i istep.NextStripSampleCount r new t = (r ≡ Ok (reply.Number (next_strip_sample_count i.image))) × ((new ≡ old) × Stays i t)
+ImageStepped old i (istep.WriteStrip samples) r new t = StripsIfFound i (cut_to i.image.size samples.items) r old new t
+ImageStepped old i (istep.Resolution u value) r new t = (t.samples ≡ i.samples) × Resolves i.image u (value.n, value.d) r old new t.image
+ImageStepped old i (istep.ResolutionUnit u) r new t = Draws (λ image. calls.resolution_unit image u) i r old new t
+ImageStepped old i (istep.XResolution value) r new t = Draws (λ image. calls.x_resolution image (value.n, value.d)) i r old new t
+ImageStepped old i (istep.YResolution value) r new t = Draws (λ image. calls.y_resolution image (value.n, value.d)) i r old new t
+ImageStepped old i (istep.RowsPerStrip rows) r new t = Draws (λ image. calls.set_rows_per_strip image rows) i r old new t
 
 -- each step has its reply, from where the one before it left what is open
 module _ {S A : Type 0} (Stepped : Standing → S → A → Result StepReply TiffError → Standing → S → Type 0) where
@@ -166,16 +213,34 @@ abbrev pub DirectoryEnds : Standing → OpenDirectory → DirectoryEnd → Resul
 DirectoryEnds old d end.Finish r new place = FinishesWith (calls.finish d old.file) r old new place
 DirectoryEnds old d end.Discard r new place = FinishesSilently (calls.finish d old.file) r old new place
 
--- `write_data`, however its strips are stored, if it comes to them
+-- The chunks that are left are all stored, and then the image ends.
+abbrev pub EndsWhole : OpenImage → List ℕ → Result EndReply TiffError → Standing → Standing → Option Offsets → Type 0
+EndsWhole i samples r old new place =
+    (stored : List (List ℕ)) × (AreStored i (parts_left i samples) stored × ((length stored ≡ length (parts_left i samples))
+    × FinishesSilently (calls.write_image_data i samples stored old.file) r old new place))
+
+-- Some chunks are stored: the last of them is refused, or the sink fails; or there is no memory for the next one.
+abbrev pub EndsWithin : OpenImage → List ℕ → Result EndReply TiffError → Standing → Standing → Type 0
+EndsWithin i samples (Ok r) old new = ⊥
+EndsWithin i samples (Err e) old new =
+    (stored : List (List ℕ)) × (AreStored i (parts_left i samples) stored
+    × (let told = calls.write_chunks i (parts_left i samples) stored old.file in
+    (IsDone told (Err e) old new
+    ⊎ (IsCutShort told e old new ⊎ ((length stored < length (parts_left i samples)) × IsWithoutMemory told e old new)))))
+
+-- `write_data`: it is refused for its own cause, or its chunks are written
+abbrev pub WritesDataBy : Option TiffError → OpenImage → List ℕ → Result EndReply TiffError → Standing → Standing → Option Offsets → Type 0
+WritesDataBy (Some cause) i samples r old new place = (r ≡ Err cause) × ((new ≡ old) × (place ≡ None))
+WritesDataBy None i samples r old new place =
+    EndsWhole i samples r old new place ⊎ (EndsWithin i samples r old new × (place ≡ None))
+
 abbrev pub WritesData : OpenImage → List ℕ → Result EndReply TiffError → Standing → Standing → Option Offsets → Type 0
-WritesData i samples r old new place =
-    (stored : List (List ℕ)) × ((write_image_data_cause old.file i (length samples) ≡ None → AreStored i samples stored)
-    × FinishesSilently (calls.write_image_data i samples stored old.file) r old new place)
+WritesData i samples r old new place = WritesDataBy (write_image_data_cause old.file i (length samples)) i samples r old new place
 
 -- the same, where memory for the samples is found
 abbrev pub WritesDataIfFound : OpenImage → List ℕ → Result EndReply TiffError → Standing → Standing → Option Offsets → Type 0
-WritesDataIfFound i samples (Ok r) old new place = WritesData i samples (Ok r) old new place
-WritesDataIfFound i samples (Err e) old new place = (IsNotCalled e old new × (place ≡ None)) ⊎ WritesData i samples (Err e) old new place
+WritesDataIfFound i samples r old new place =
+    WritesData i samples r old new place ⊎ ((r ≡ Err OutOfMemory) × ((new ≡ old) × (place ≡ None)))
 
 abbrev pub ImageEnds : Standing → OpenImage → ImageEnd → Result EndReply TiffError → Standing → Option Offsets → Type 0
 ImageEnds old i (iend.WriteData samples) r new place = WritesDataIfFound i (cut_to i.size samples.items) r old new place
@@ -184,7 +249,7 @@ ImageEnds old i iend.Discard r new place = FinishesSilently (calls.finish_image 
 
 -- ---- jobs
 
--- an image that was finished with every strip, at a place, which shows it: no tag that a page is read by was handed to
+-- an image that was finished with every chunk, at a place, which shows it: no tag that a page is read by was handed to
 -- its directory
 pub record Finished : Type 0 where
   pub place : ℕ
@@ -197,10 +262,10 @@ pub record Run : Type 0 where
   pub offsets : List (Option Offsets)
   pub images : List Finished
 
--- a run that begins on an empty sink
-abbrev pub started : FileKind → Run
-started kind = record {
-  standing = record { file = begun kind [] 0; model = header_model kind };
+-- a run that begins on a sink that held these bytes, and of which so many writes failed
+abbrev pub started : FileKind → List ℕ → ℕ → Run
+started kind told failures = record {
+  standing = record { file = begun kind told failures; model = header_model kind };
   offsets = [];
   images = [];
 }
@@ -269,26 +334,6 @@ abbrev pub DirectoryRanBy : Run → Result (Option Offsets) TiffError → Direct
 DirectoryRanBy old (Ok parent) j r new = DirectoryRan old parent j r new
 DirectoryRanBy old (Err e) j r new = IsRefusedAtOnce e r × (new ≡ ran old old.standing r.last [])
 
--- the samples of the strips that were written
-abbrev pub written_samples : OpenImage → List ℕ
-written_samples i = flat_map (λ chunk. chunk.samples) i.chunks
-
--- the image of these samples
-abbrev pub image_of : OpenImage → List ℕ → Image
-image_of i samples = record {
-  width = i.width;
-  height = i.height;
-  interpretation = i.colour.interpretation;
-  bands = length i.colour.bits;
-  size = i.size;
-  format = get_or i.colour.formats 0 Void;
-  extra = i.extra;
-  method = i.method;
-  predictor = i.predictor;
-  rows = i.rows;
-  numbers = samples;
-}
-
 -- the tags that a page is read by
 abbrev pub page_tags : List ℕ
 page_tags = map tag_number (tag.ImageWidth ∷ tag.ImageLength ∷ tag.BitsPerSample ∷ tag.Compression
@@ -299,39 +344,47 @@ page_tags = map tag_number (tag.ImageWidth ∷ tag.ImageLength ∷ tag.BitsPerSa
 abbrev pub is_page_tag : ℕ → Bool
 is_page_tag n = list_any (λ m. m == n) page_tags
 
--- whether a step hands no such tag to its image's directory
-abbrev pub is_apart : ImageStep → Bool
-is_apart (istep.Directory (step.WriteTag t value)) = not (is_page_tag (tag_number t))
-is_apart (istep.Directory (step.WriteTagBuf t b)) = not (is_page_tag (tag_number t))
-is_apart (istep.Directory (step.ExtendFrom given)) = not (list_any (λ entry. is_page_tag entry.0) (entries given.entries))
-is_apart _ = true
+-- Whether a step handed no such tag to its image's directory: it hands none, or it was refused; of fields that a
+-- directory is extended with the first ones are in after a refusal.
+abbrev pub is_apart : ImageStep → Result StepReply TiffError → Bool
+is_apart (istep.Directory (step.ExtendFrom given)) r = not (list_any (λ entry. is_page_tag entry.0) (entries given.entries))
+is_apart (istep.Directory (step.WriteTag t value)) (Ok r) = not (is_page_tag (tag_number t))
+is_apart (istep.Directory (step.WriteTagBuf t b)) (Ok r) = not (is_page_tag (tag_number t))
+is_apart _ _ = true
 
--- all samples of an image, where each strip is written at its end: `write_data` writes those that are left
-abbrev pub ended_samples : OpenImage → ImageEnd → Option (List ℕ)
-ended_samples i (iend.WriteData samples) =
-    Some (take (i.width * i.height * all_samples i) (written_samples i ++ cut_to i.size samples.items))
-ended_samples i _ = if next_sample_count i == 0 then Some (written_samples i) else None
+abbrev pub are_apart : List ImageStep → List (Result StepReply TiffError) → Bool
+are_apart (step ∷ steps) (r ∷ rs) = is_apart step r && are_apart steps rs
+are_apart _ _ = true
 
--- the images that an end adds: one that is finished with every strip, and whose page tags are its own
-abbrev pub images_at : Option Offsets → Option (List ℕ) → OpenImage → List Finished
+-- the samples of all chunks of an image, where each chunk is written at its end: `write_data` writes those that are left
+abbrev pub ended_samples : Drawn → ImageEnd → Option (List (List ℕ))
+ended_samples i (iend.WriteData samples) = Some (i.samples ++ parts_left i.image (cut_to i.image.size samples.items))
+ended_samples i _ = if is_left i.image then None else Some i.samples
+
+-- an image of these samples
+abbrev pub image_of : OpenImage → List (List ℕ) → Image
+image_of i samples = record { page = image_page i; sample_at = sample_in (image_page i) samples }
+
+-- the images that an end adds: one that is finished with every chunk, and whose page tags are its own
+abbrev pub images_at : Option Offsets → Option (List (List ℕ)) → OpenImage → List Finished
 images_at (Some offsets) (Some samples) i = record { place = offsets.pointer; image = image_of i samples } ∷ []
 images_at _ _ i = []
 
-abbrev pub finished_images : List ImageStep → OpenImage → ImageEnd → Option Offsets → List Finished
-finished_images steps i e place = if list_all is_apart steps then images_at place (ended_samples i e) i else []
+abbrev pub job_images : List ImageStep → List (Result StepReply TiffError) → ImageEnd → Drawn → Option Offsets → List Finished
+job_images steps replies e i place = if are_apart steps replies then images_at place (ended_samples i e) i.image else []
 
 -- An image is begun; its steps are called; it ends.
 pub record ImageRuns (told : Told OpenImage) (j : ImageJob) (r : JobReply) (old new : Run) : Type 0 where
   pub first : OpenImage
   pub after_begin : Standing
   pub begins : IsDone told (Ok first) old.standing after_begin
-  pub final : OpenImage
+  pub final : Drawn
   pub after_steps : Standing
-  pub steps : AllStepped ImageStepped after_begin first j.steps.items r.steps.items after_steps final
+  pub steps : AllStepped ImageStepped after_begin (record { image = first; samples = [] }) j.steps.items r.steps.items after_steps final
   pub place : Option Offsets
   pub after_end : Standing
-  pub ends : ImageEnds after_steps final j.end r.last after_end place
-  pub state : new ≡ ran old after_end r.last (finished_images j.steps.items final j.end place)
+  pub ends : ImageEnds after_steps final.image j.end r.last after_end place
+  pub state : new ≡ ran old after_end r.last (job_images j.steps.items r.steps.items j.end final place)
 
 abbrev pub ImageRan : Run → ImageJob → JobReply → Run → Type 0
 ImageRan old j r new =
@@ -359,3 +412,30 @@ RunStands run = Stands run.standing.file.kind run.standing.file.bytes run.standi
 -- and each image that was finished with every strip is shown
 abbrev pub RunShows : Run → Type 0
 RunShows run = (f : Finished) → In f run.images → Shows run.standing.file.kind run.standing.file.bytes f.place f.image
+
+-- ---- the writer's half of what this library claims
+
+-- What stands behind a list of jobs, on a sink that held these bytes: their replies are those of a run; the sink has the
+-- bytes and the failures of the run; and where it held nothing, all that was written stands in the file, and each image
+-- that was finished with every chunk is shown, whether or not the sink failed on the way.
+pub record LeavesJobs (kind : FileKind) (jobs : List Job) (replies : List JobReply) (told : List ℕ) (failures : ℕ)
+    (bytes : List ℕ) (after : ℕ) : Type 0 where
+  pub run : Run
+  pub ran_so : Jobs (started kind told failures) jobs replies run
+  pub bytes_are : bytes ≡ run.standing.file.bytes
+  pub failures_are : after ≡ run.standing.file.failures
+  pub stands : told ≡ [] → RunStands run
+  pub shows : told ≡ [] → RunShows run
+
+-- a sink, by the bytes that it took, how many of its writes failed, and what the last one answered where it failed
+module _ {W : Type 0} (told : W → List ℕ) (failures : W → ℕ) (fault : W → Option SinkFault) where
+  -- No job was called: there was no room for the replies, and nothing was written; or the sink failed while the header was.
+  abbrev pub RefusesJobs : FileKind → W → TiffError → Type 0
+  RefusesJobs kind sink e = (e ≡ OutOfMemory) ⊎ HeaderFails kind told failures fault sink e
+
+  -- `run_jobs`: the sink that is handed over, and the replies before and after
+  abbrev pub RunsJobs : FileKind → List Job → W → List JobReply → List JobReply → Result W TiffError → Type 0
+  RunsJobs kind jobs sink earlier all (Ok last) =
+      (replies : List JobReply) × ((all ≡ earlier ++ replies)
+      × LeavesJobs kind jobs replies (told sink) (failures sink) (told last) (failures last))
+  RunsJobs kind jobs sink earlier all (Err e) = (all ≡ earlier) × RefusesJobs kind sink e

@@ -1,5 +1,5 @@
 -- What a kind of file writes of its own numbers (TIFF 6.0 section 2; BigTIFF).
-use Rattle.std.specs.Prelude.{◌≡◌, ℕ, Bool, true, false, List, Result, Ok, Err}
+use Rattle.std.specs.Prelude.{◌≡◌, ℕ, Bool, true, false, List, Result, Err}
 use Rattle.tiff_base.specs.declared.error.TiffError.{TiffError}
 use Rattle.tiff_base.specs.declared.error.TiffError.TheVariants.{IntSizeError}
 use Rattle.tiff_value.specs.Written.{Written, Writes}

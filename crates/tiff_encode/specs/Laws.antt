@@ -1,5 +1,5 @@
 -- The laws by which what stands in a file is kept, and grows, as the file is appended to and links are patched.
-use Rattle.std.specs.Prelude.{◌≡◌, ℕ, ◌+◌, ◌*◌, ◌^◌, ◌<◌, ◌≤◌, List, [], ◌∷◌, ◌++◌, length, take}
+use Rattle.std.specs.Prelude.{◌≡◌, ℕ, ◌+◌, ◌*◌, ◌^◌, ◌<◌, ◌≤◌, ◌⊎◌, List, [], ◌∷◌, ◌++◌, length, take}
 use Rattle.std.specs.FinMap.{FinMap, len, entries}
 use Rattle.std.specs.Ordering.{nat_cmp}
 use Rattle.tiff_base.specs.declared.tags.FileKind.{FileKind}
@@ -10,14 +10,19 @@ use Rattle.tiff_base.specs.Told.{put}
 use Rattle.tiff_base.specs.Number.{le}
 use Rattle.tiff_base.specs.FieldBytes.{field_len, field_place}
 use Rattle.tiff_encode.specs.Written.{place_len, count_len, header_bytes, directory_bytes, short_field, long_field, rational_field, one_to_one, rows_per_strip, resolutions_place, strip_place, directory_place, page_map, with_page}
-use Rattle.tiff_encode.specs.Model.{In, FinishedDirectory, HandedField, Region, Model, header_link, own_link, IsLink, Stands, header_model, relinked, with_directory, with_region, with_handed}
+use Rattle.tiff_encode.specs.Deeds.{Deed, Appended, Handed, Listed, Linked, after_deed, bytes_after, all_appended, standing_fields, model_after_deed, model_after}
+use Rattle.tiff_encode.specs.Model.{In, FinishedDirectory, HandedField, Region, Model, header_link, own_link, IsLink, Stands, header_model, relinked, with_directory, with_region, with_handed, Grows}
 
--- a field that fits the parts of an entry
-pub record IsWritable (kind : FileKind) (tag : ℕ) (f : Field) : Type 0 where
+-- a field that can be an entry
+pub record IsListable (kind : FileKind) (tag : ℕ) (f : Field) : Type 0 where
   pub tag_fits : tag < 2 ^ 16
   pub count : f.count < 256 ^ place_len kind
   pub whole : length f.value ≡ 8
-  pub filled : (kind ≡ Classic) → f.value ≡ take 4 f.value ++ (0 ∷ 0 ∷ 0 ∷ 0 ∷ [])
+
+-- fields that can be a directory
+pub record AreListable (kind : FileKind) (fields : FinMap nat_cmp Field) : Type 0 where
+  pub each : (e : ℕ × Field) → In e (entries fields) → IsListable kind e.0 e.1
+  pub few : len fields < 256 ^ count_len kind
 
 -- the header that was written stands
 abbrev pub HeaderStands : Type 0
@@ -50,18 +55,90 @@ GrownByPlaced = (kind : FileKind) (m : Model) (file : List ℕ) (f : Field) (r :
     → field_place kind LittleEndian f ≡ r.place → field_len f ≡ length r.bytes → place_len kind < field_len f → field_len f < 2 ^ 64
     → Stands kind file m → Stands kind file (with_handed m (record { field = f; bytes = r.bytes }))
 
-abbrev pub GrownByDirectory : Type 0
-GrownByDirectory = (kind : FileKind) (m : Model) (file : List ℕ) (fields : FinMap nat_cmp Field)
-    → ((e : ℕ × Field) → In e (entries fields) → IsWritable kind e.0 e.1) → len fields < 256 ^ count_len kind
-    → Stands kind file m → Stands kind (file ++ directory_bytes kind fields) (with_directory kind m (record { place = length file; fields = fields }))
+-- a directory is appended, and its fields stand as entries
+abbrev pub GrownByListing : Type 0
+GrownByListing = (kind : FileKind) (m : Model) (file : List ℕ) (fields : FinMap nat_cmp Field) → AreListable kind fields → Stands kind file m
+    → Stands kind (file ++ directory_bytes kind fields) (with_directory kind m (record { place = length file; fields = standing_fields kind fields }))
 
 -- the step of `finish`: the directory is appended with link 0, then its parent's link is patched
 abbrev pub Finished : Type 0
-Finished = (kind : FileKind) (m : Model) (file : List ℕ) (fields : FinMap nat_cmp Field) (parent : ℕ)
-    → ((e : ℕ × Field) → In e (entries fields) → IsWritable kind e.0 e.1) → len fields < 256 ^ count_len kind
+Finished = (kind : FileKind) (m : Model) (file : List ℕ) (fields : FinMap nat_cmp Field) (parent : ℕ) → AreListable kind fields
     → length file < 256 ^ place_len kind → IsLink kind m parent → Stands kind file m
     → Stands kind (put (file ++ directory_bytes kind fields) parent (le (place_len kind) (length file)))
-    (relinked kind (with_directory kind m (record { place = length file; fields = fields })) parent (length file))
+    (relinked kind (with_directory kind m (record { place = length file; fields = standing_fields kind fields })) parent (length file))
+
+-- ---- deeds
+
+-- bytes that are handed in for a field, which stand in its entry
+pub record InEntry (kind : FileKind) (h : HandedField) : Type 0 where
+  pub short : field_len h.field ≤ place_len kind
+  pub bytes : h.bytes ≡ take (field_len h.field) h.field.value
+
+-- or are a region, at the place that its value field holds
+pub record AtRegion (kind : FileKind) (h : HandedField) (r : Region) : Type 0 where
+  pub place : field_place kind LittleEndian h.field ≡ r.place
+  pub whole : field_len h.field ≡ length r.bytes
+  pub long : place_len kind < field_len h.field
+  pub short : field_len h.field < 2 ^ 64
+  pub bytes : h.bytes ≡ r.bytes
+
+-- a deed that can be done to a file in which a model stands
+abbrev pub DeedFits : FileKind → Model → Deed → Type 0
+DeedFits kind m (Appended more) = Unit {0}
+DeedFits kind m (Handed handed) = InEntry kind handed ⊎ ((r : Region) × (In r m.regions × AtRegion kind handed r))
+DeedFits kind m (Listed fields) = AreListable kind fields
+DeedFits kind m (Linked place target) = IsLink kind m place × (target < 256 ^ place_len kind)
+
+-- and some, in their order
+abbrev pub DeedsFit : FileKind → List ℕ → Model → List Deed → Type 0
+DeedsFit kind bytes m [] = Unit {0}
+DeedsFit kind bytes m (deed ∷ deeds) =
+    DeedFits kind m deed × DeedsFit kind (after_deed kind bytes deed) (model_after_deed kind (length bytes) m deed) deeds
+
+-- what is done to a file in which a model stands leaves one in which the model after it stands
+abbrev pub DeedsStand : Type 0
+DeedsStand = (kind : FileKind) (bytes : List ℕ) (m : Model) (deeds : List Deed) → Stands kind bytes m → DeedsFit kind bytes m deeds
+    → Stands kind (bytes_after kind bytes deeds) (model_after kind bytes m deeds)
+
+-- which has all that the model before them has
+abbrev pub DeedsGrow : Type 0
+DeedsGrow = (kind : FileKind) (bytes : List ℕ) (m : Model) (deeds : List Deed) → Grows m (model_after kind bytes m deeds)
+
+-- a beginning of what they append: what stood stands
+abbrev pub DeedsBegun : Type 0
+DeedsBegun = (kind : FileKind) (bytes : List ℕ) (m : Model) (deeds : List Deed) (count : ℕ) → Stands kind bytes m
+    → Stands kind (bytes ++ take count (all_appended kind deeds)) m
+
+-- deeds of which none is a link
+abbrev pub AreAppending : List Deed → Type 0
+AreAppending [] = Unit {0}
+AreAppending (Appended more ∷ deeds) = AreAppending deeds
+AreAppending (Handed handed ∷ deeds) = AreAppending deeds
+AreAppending (Listed fields ∷ deeds) = AreAppending deeds
+AreAppending (Linked place target ∷ deeds) = ⊥
+
+-- all but the last was done, and the last, a link, broke off: its field holds some number, and all else stands, a new
+-- directory too
+abbrev pub DeedsTorn : Type 0
+DeedsTorn = (kind : FileKind) (bytes : List ℕ) (m : Model) (before : List Deed) (place target count : ℕ) → AreAppending before
+    → Stands kind bytes m → DeedsFit kind bytes m (before ++ Linked place target ∷ [])
+    → (t : ℕ) × Stands kind (put (bytes ++ all_appended kind before) place (take count (le (place_len kind) target)))
+    (relinked kind (model_after kind bytes m before) place t)
+
+-- some deeds, and more after them
+abbrev pub DeedsJoin : Type 0
+DeedsJoin = (kind : FileKind) (bytes : List ℕ) (m : Model) (deeds more : List Deed)
+    → (bytes_after kind bytes (deeds ++ more) ≡ bytes_after kind (bytes_after kind bytes deeds) more)
+    × ((model_after kind bytes m (deeds ++ more) ≡ model_after kind (bytes_after kind bytes deeds) (model_after kind bytes m deeds) more)
+    × (DeedsFit kind bytes m deeds → DeedsFit kind (bytes_after kind bytes deeds) (model_after kind bytes m deeds) more
+    → DeedsFit kind bytes m (deeds ++ more)))
+
+-- where none is a link, what they append is appended
+abbrev pub DeedsAppend : Type 0
+DeedsAppend = (kind : FileKind) (bytes : List ℕ) (deeds : List Deed) → AreAppending deeds
+    → bytes_after kind bytes deeds ≡ bytes ++ all_appended kind deeds
+
+-- ---- two models
 
 -- two models that stand in one file agree on the header's link, and on the fields and the link of each place at which
 -- both have a finished directory

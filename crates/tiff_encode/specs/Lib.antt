@@ -5,7 +5,9 @@ pub mod Encoder
 pub mod Steps
 pub mod Shows
 pub mod Value
+pub mod Deeds
 pub mod Machine
+pub mod Chunks
 pub mod Causes
 pub mod Calls
 pub mod Ends
@@ -13,4 +15,5 @@ pub mod Stored
 pub mod JobValues
 pub mod Jobs
 pub mod RunLaws
+pub mod CallLaws
 pub mod Kind

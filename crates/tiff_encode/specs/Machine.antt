@@ -1,28 +1,29 @@
 -- Where an encoder stands: its file, an open directory, an open image; and what calls do to them (this project's).
-use Rattle.std.specs.Prelude.{ℕ, ◌+◌, Bool, false, List, [], ◌∷◌, ◌++◌, length, Option, Some, None, Result, Ok, Err}
+use Rattle.std.specs.Prelude.{ℕ, ◌+◌, Bool, List, [], ◌++◌, length, Option, Some, None, Result, Ok, Err}
 use Rattle.std.specs.FinMap.{FinMap}
 use Rattle.std.specs.Ordering.{nat_cmp}
+use Rattle.tiff_base.specs.declared.color.ChunkType.{ChunkType}
 use Rattle.tiff_base.specs.declared.error.TiffError.{TiffError}
+use Rattle.tiff_base.specs.declared.io.SinkFault.{SinkFault}
 use Rattle.tiff_base.specs.declared.tags.CompressionMethod.{CompressionMethod}
 use Rattle.tiff_base.specs.declared.tags.CompressionMethod.TheVariants as method
 use Rattle.tiff_base.specs.declared.tags.ExtraSamples.{ExtraSamples}
 use Rattle.tiff_base.specs.declared.tags.FileKind.{FileKind}
+use Rattle.tiff_base.specs.declared.tags.PlanarConfiguration.{PlanarConfiguration}
 use Rattle.tiff_base.specs.declared.tags.Predictor.{Predictor}
 use Rattle.tiff_base.specs.declared.tags.Predictor.TheVariants as predictor
 use Rattle.tiff_base.specs.Field.{Field}
-use Rattle.tiff_base.specs.Number.{le}
-use Rattle.tiff_base.specs.Told.{put}
 use Rattle.tiff_value.specs.ColorType.{ColorTypeRecord}
-use Rattle.tiff_encode.specs.Written.{place_len, header_mark, header_bytes, directory_bytes}
-use Rattle.tiff_encode.specs.Model.{HandedField, Model, with_region, with_handed, with_directory, relinked}
+use Rattle.tiff_encode.specs.Written.{header_mark, header_bytes}
+use Rattle.tiff_encode.specs.Deeds.{Deed, bytes_after}
 
--- the file of an encoder: its kind, its bytes, how many writes of its sink failed, whether a write of the encoder did,
--- where the last link of the chain stands, and what the next images are written by
+-- the file of an encoder: its kind, its bytes, how many writes of its sink failed, the fault of the one that ended all
+-- writing, where the last link of the chain stands, and what the next images are written by
 pub record FileState : Type 0 where
   pub kind : FileKind
   pub bytes : List ℕ
   pub failures : ℕ
-  pub failed : Bool
+  pub fault : Option SinkFault
   pub chain : ℕ
   pub predictor : Predictor
   pub method : CompressionMethod
@@ -34,14 +35,21 @@ pub record OpenDirectory : Type 0 where
   pub parent : Option ℕ
   pub chained : Bool
 
--- a strip that was written: its place, how many bytes stand there, and its samples as bits
+-- how an image is cut: into strips or tiles; their width and their height, which strips have but for the last of a plane;
+-- and whether a chunk has all samples of its pixels or those of one plane
+pub record Form : Type 0 where
+  pub chunk_type : ChunkType
+  pub chunk_width : ℕ
+  pub chunk_height : ℕ
+  pub planar : PlanarConfiguration
+
+-- a chunk that was written: its place, and how many bytes stand there
 pub record Chunk : Type 0 where
   pub place : ℕ
   pub stored : ℕ
-  pub samples : List ℕ
 
 -- an open image: its directory, its sides, its colour type and the bytes of a sample, its extra samples, how it is
--- packed, its rows of a strip, and the strips that were written
+-- packed, how it is cut, and the chunks that were written
 pub record OpenImage : Type 0 where
   pub directory : OpenDirectory
   pub width : ℕ
@@ -51,7 +59,7 @@ pub record OpenImage : Type 0 where
   pub extra : List ExtraSamples
   pub predictor : Predictor
   pub method : CompressionMethod
-  pub rows : ℕ
+  pub form : Form
   pub chunks : List Chunk
 
 -- a new encoder over a sink that held these bytes
@@ -60,50 +68,11 @@ begun kind told failures = record {
   kind = kind;
   bytes = told ++ header_bytes kind;
   failures = failures;
-  failed = false;
+  fault = None;
   chain = length told + length (header_mark kind);
   predictor = predictor.None;
   method = method.None;
 }
-
--- what is done to a file: bytes are appended; bytes are handed in for a field, which stand in it or were appended
--- before; a directory is appended, with link 0; the link at a place is pointed to another
-pub data Deed : Type 0 where
-  Appended : List ℕ → Deed
-  Handed : HandedField → Deed
-  Listed : FinMap nat_cmp Field → Deed
-  Linked : ℕ → ℕ → Deed
-
--- the bytes after one deed, and after some in their order
-abbrev pub after_deed : FileKind → List ℕ → Deed → List ℕ
-after_deed kind bytes (Appended more) = bytes ++ more
-after_deed kind bytes (Handed handed) = bytes
-after_deed kind bytes (Listed fields) = bytes ++ directory_bytes kind fields
-after_deed kind bytes (Linked place target) = put bytes place (le (place_len kind) target)
-
-abbrev pub bytes_after : FileKind → List ℕ → List Deed → List ℕ
-bytes_after kind bytes [] = bytes
-bytes_after kind bytes (deed ∷ deeds) = bytes_after kind (after_deed kind bytes deed) deeds
-
--- all that some deeds append
-abbrev pub appended_by : FileKind → List Deed → List ℕ
-appended_by kind [] = []
-appended_by kind (Appended more ∷ deeds) = more ++ appended_by kind deeds
-appended_by kind (Handed handed ∷ deeds) = appended_by kind deeds
-appended_by kind (Listed fields ∷ deeds) = directory_bytes kind fields ++ appended_by kind deeds
-appended_by kind (Linked place target ∷ deeds) = appended_by kind deeds
-
--- the model after one deed to a file of so many bytes, and after some
-abbrev pub model_after_deed : FileKind → ℕ → Model → Deed → Model
-model_after_deed kind n m (Appended more) = with_region m (record { place = n; bytes = more })
-model_after_deed kind n m (Handed handed) = with_handed m handed
-model_after_deed kind n m (Listed fields) = with_directory kind m (record { place = n; fields = fields })
-model_after_deed kind n m (Linked place target) = relinked kind m place target
-
-abbrev pub model_after : FileKind → List ℕ → Model → List Deed → Model
-model_after kind bytes m [] = m
-model_after kind bytes m (deed ∷ deeds) =
-    model_after kind (after_deed kind bytes deed) (model_after_deed kind (length bytes) m deed) deeds
 
 -- what a call answers, what it does to the file, and where the file stands then. A fault that is answered is neither
 -- want of memory nor the device's.

@@ -5,16 +5,16 @@ use Rattle.std.specs.Ordering.{nat_cmp}
 use Rattle.tiff_base.specs.declared.tags.FileKind.{FileKind}
 use Rattle.tiff_base.specs.declared.tags.ByteOrder.TheVariants.{LittleEndian}
 use Rattle.tiff_base.specs.Field.{Field}
+pub use Rattle.tiff_base.specs.Field.{In}
 use Rattle.tiff_base.specs.Told.{exactly_at}
 use Rattle.tiff_base.specs.Number.{number_at}
 use Rattle.tiff_base.specs.Directory.{count_width, place_width, entry_len, link, link_place, directory_at}
 use Rattle.tiff_base.specs.FieldBytes.{field_len, field_place, field_bytes}
 use Rattle.tiff_encode.specs.Written.{place_len, count_len, header_mark}
 
--- x is one of a list
-abbrev pub In : {A : Type 0} → A → List A → Type 0
-In x [] = ⊥
-In x (y ∷ ys) = (x ≡ y) ⊎ In x ys
+-- bytes at p, n of them, and bytes at q, l of them, have none in common
+abbrev pub AreApart : ℕ → ℕ → ℕ → ℕ → Type 0
+AreApart p n q l = (p + n ≤ q) ⊎ (q + l ≤ p)
 
 -- a finished directory: its place, and its field for each tag number
 pub record FinishedDirectory : Type 0 where
@@ -52,11 +52,15 @@ module _ (kind : FileKind) where
 
   -- the link field at q lies apart from the n bytes at p
   abbrev pub IsClear : ℕ → ℕ → ℕ → Type 0
-  IsClear q p n = (p + n ≤ q) ⊎ (q + place_len kind ≤ p)
+  IsClear q p n = AreApart p n q (place_len kind)
 
   -- the bytes of a directory before its link
   abbrev pub body_len : FinishedDirectory → ℕ
   body_len d = count_len kind + entry_len kind * len d.fields
+
+  -- the bytes of a directory, its link among them
+  abbrev pub whole_len : FinishedDirectory → ℕ
+  whole_len d = body_len d + place_len kind
 
   -- the link field at q lies within the file and overlaps nothing else that stands there
   pub record IsApart (file : List ℕ) (m : Model) (q : ℕ) : Type 0 where
@@ -68,8 +72,8 @@ module _ (kind : FileKind) where
     pub links : (p : ℕ) → IsLink m p → (p ≡ q) ⊎ IsClear q p (place_len kind)
 
   -- The model stands in the file: the header, with the target of its link; each finished directory, whose entries are
-  -- its fields, each once, and whose link has its target; each field that was handed in, with its bytes; each region,
-  -- within the file and apart from the others; and each link field apart from all of these.
+  -- its fields, each once, and whose link has its target; each field that was handed in, with its bytes; each region.
+  -- Directories and regions lie within the file, and no two of them overlap; no link field overlaps anything else.
   pub record Stands (file : List ℕ) (m : Model) : Type 0 where
     pub header : exactly_at file 0 header_link ≡ Ok (header_mark kind)
     pub first : number_at LittleEndian (place_width kind) file header_link ≡ Ok (m.links header_link)
@@ -80,7 +84,12 @@ module _ (kind : FileKind) where
     pub regions : (r : Region) → In r m.regions → exactly_at file r.place (length r.bytes) ≡ Ok r.bytes
     pub within : (r : Region) → In r m.regions → r.place + length r.bytes ≤ length file
     pub disjoint : (r s : Region) → In r m.regions → In s m.regions
-        → (r ≡ s) ⊎ ((r.place + length r.bytes ≤ s.place) ⊎ (s.place + length s.bytes ≤ r.place))
+        → (r ≡ s) ⊎ AreApart r.place (length r.bytes) s.place (length s.bytes)
+    pub directories_within : (d : FinishedDirectory) → In d m.directories → d.place + whole_len d ≤ length file
+    pub directories_apart : (d e : FinishedDirectory) → In d m.directories → In e m.directories
+        → (d ≡ e) ⊎ AreApart d.place (whole_len d) e.place (whole_len e)
+    pub regions_apart : (d : FinishedDirectory) (r : Region) → In d m.directories → In r m.regions
+        → AreApart d.place (whole_len d) r.place (length r.bytes)
     pub apart : (q : ℕ) → IsLink m q → IsApart file m q
 
   -- the model of a header alone, whose link is 0

@@ -6,7 +6,7 @@ use Rattle.tiff_base.specs.declared.tags.CompressionMethod.TheVariants as method
 use Rattle.tiff_base.specs.Field.{Field}
 use Rattle.tiff_encode.specs.Machine.{FileState, OpenDirectory, OpenImage, Told}
 use Rattle.tiff_encode.specs.Calls.{Offsets, finish, new_offset}
-use Rattle.tiff_encode.specs.Stored.{strip_bytes}
+use Rattle.tiff_encode.specs.Stored.{chunk_bytes}
 use Rattle.tiff_encode.specs.Jobs.{Standing, IsDone}
 use Rattle.tiff_value.specs.Packed.{IsStored}
 
@@ -19,10 +19,10 @@ IsOneStep A = (told : Told A) (r s : Result A TiffError) (old new other : Standi
 abbrev pub OneStep : Type 0
 OneStep = IsOneStep Field × (IsOneStep ℕ × (IsOneStep OpenDirectory × (IsOneStep OpenImage × IsOneStep Offsets)))
 
--- where a strip isn't packed, it is stored in one way
+-- where a chunk isn't packed, it is stored in one way
 abbrev pub OneStored : Type 0
 OneStored = (i : OpenImage) (samples stored other : List ℕ) → i.method ≡ method.None
-    → IsStored i.method stored (strip_bytes i samples) → IsStored i.method other (strip_bytes i samples) → stored ≡ other
+    → IsStored i.method stored (chunk_bytes i samples) → IsStored i.method other (chunk_bytes i samples) → stored ≡ other
 
 -- the offsets that are made of a finished directory's place and number of entries are those that its end answered
 abbrev pub OffsetsAgree : Type 0

@@ -1,20 +1,15 @@
 -- What a written file shows: an image that was handed in (this project's), by the reader's definitions.
-use Rattle.std.specs.Prelude.{◌≡◌, ℕ, ◌+◌, ◌*◌, ◌<◌, ◌≤◌, true, List, [], ◌∷◌, length, take, slice_index, Result, Ok}
+use Rattle.std.specs.Prelude.{◌≡◌, ℕ, ◌+◌, ◌*◌, ◌<◌, ◌≤◌, true, false, List, [], ◌∷◌, length, take, slice_index, Result, Ok}
 use Rattle.tiff_base.specs.declared.color.ChunkType.TheVariants.{Strip}
 use Rattle.tiff_base.specs.declared.color.ColorType.{ColorType}
 use Rattle.tiff_base.specs.declared.error.TiffError.{TiffError}
 use Rattle.tiff_base.specs.declared.tags.ByteOrder.TheVariants.{LittleEndian}
-use Rattle.tiff_base.specs.declared.tags.CompressionMethod.{CompressionMethod}
 use Rattle.tiff_base.specs.declared.tags.CompressionMethod.TheVariants as method
-use Rattle.tiff_base.specs.declared.tags.ExtraSamples.{ExtraSamples}
 use Rattle.tiff_base.specs.declared.tags.FileKind.{FileKind}
 use Rattle.tiff_base.specs.declared.tags.FileKind.TheVariants.{Classic}
-use Rattle.tiff_base.specs.declared.tags.PhotometricInterpretation.{PhotometricInterpretation}
 use Rattle.tiff_base.specs.declared.tags.PhotometricInterpretation.TheVariants as meaning
 use Rattle.tiff_base.specs.declared.tags.PlanarConfiguration.TheVariants.{Chunky}
-use Rattle.tiff_base.specs.declared.tags.Predictor.{Predictor}
 use Rattle.tiff_base.specs.declared.tags.Predictor.TheVariants as predictor
-use Rattle.tiff_base.specs.declared.tags.SampleFormat.{SampleFormat}
 use Rattle.tiff_base.specs.declared.tags.SampleFormat.TheVariants as format
 use Rattle.tiff_base.specs.Answers.{◌>>=◌}
 use Rattle.tiff_base.specs.Color.{num_samples}
@@ -26,30 +21,18 @@ use Rattle.tiff_page.specs.declared.layout.DecodingSampleType.TheVariants.{U8}
 use Rattle.tiff_page.specs.Page.{PageRecord}
 use Rattle.tiff_page.specs.Checks.{page_of}
 use Rattle.tiff_page.specs.Layout.{colour_of}
-use Rattle.tiff_page.specs.Pixels.{shown_sample}
+use Rattle.tiff_page.specs.Counts.{all_chunks}
+use Rattle.tiff_page.specs.Pixels.{is_short, shown_sample}
 use Rattle.tiff_page.specs.Image.{Decoded, image_of, is_gray_strip}
 use Rattle.tiff_encode.specs.Written.{rows_per_strip, strip_place, directory_place, page_link, with_page}
 use Rattle.tiff_encode.specs.Model.{Model, IsLink, Stands, header_model}
 use Rattle.tiff_encode.specs.Laws.{IsGrayPage, page_model}
 
--- an image that was handed in: its sides; its colour type's interpretation, samples of a pixel, bytes and format of a
--- sample; its extra samples, method, predictor and rows of a strip; and all samples of each pixel, as bits
+-- an image that was handed in: the page that it is to be, wherever its chunks stand; and the sample, as bits, that was
+-- handed in for a column, a row and a number of the pixel's samples
 pub record Image : Type 0 where
-  pub width : ℕ
-  pub height : ℕ
-  pub interpretation : PhotometricInterpretation
-  pub bands : ℕ
-  pub size : ℕ
-  pub format : SampleFormat
-  pub extra : List ExtraSamples
-  pub method : CompressionMethod
-  pub predictor : Predictor
-  pub rows : ℕ
-  pub numbers : List ℕ
-
--- all samples of a pixel
-abbrev pub all_samples : Image → ℕ
-all_samples i = i.bands + length i.extra
+  pub page : PageRecord
+  pub sample_at : ℕ → ℕ → ℕ → ℕ
 
 -- the page that the directory at a place of a little-endian file tells
 abbrev pub page_at : FileKind → List ℕ → ℕ → Limits → Result PageRecord TiffError
@@ -57,43 +40,45 @@ page_at kind file place limits = do
   directory ← directory_at kind LittleEndian file place
   page_of (look_in kind LittleEndian file limits directory.entries)
 
--- The directory at a place is a page that shows the image: without limits the page has its sides, form and colour, its
--- samples are read without a fault, and each sample that its colour shows is the one that was handed in.
+-- The directory at a place is a page that shows the image: without limits it is the image's page, but for where its
+-- chunks stand; it has a colour; none of its chunks has too few data; and each sample that its colour shows is the one
+-- that was handed in.
 pub record Shows (kind : FileKind) (file : List ℕ) (place : ℕ) (i : Image) : Type 0 where
   pub page : PageRecord
   pub is_page : page_at kind file place unlimited ≡ Ok page
-  pub width : page.width ≡ i.width
-  pub height : page.height ≡ i.height
-  pub interpretation : page.interpretation ≡ i.interpretation
-  pub format : page.format ≡ i.format
-  pub depth : page.depth ≡ 8 * i.size
-  pub samples : page.samples ≡ all_samples i
-  pub extra : page.extra ≡ i.extra
-  pub method : page.method ≡ i.method
-  pub predictor : page.predictor ≡ i.predictor
-  pub rows : page.chunk_height ≡ i.rows
+  pub is_image : page ≡ record i.page { offsets = page.offsets; byte_counts = page.byte_counts }
   pub colour : ColorType
   pub is_colour : colour_of page ≡ Ok colour
-  pub image : Decoded
-  pub is_read : image_of file LittleEndian page unlimited ≡ Ok image
-  pub shows : (x y sample : ℕ) → x < i.width → y < i.height → sample < num_samples colour
-      → shown_sample file LittleEndian page x y sample
-      ≡ slice_index i.numbers ((y * i.width + x) * all_samples i + sample)
+  pub whole : (chunk : ℕ) → chunk < all_chunks page → is_short file LittleEndian page colour chunk ≡ false
+  pub shows : (x y sample : ℕ) → x < page.width → y < page.height → sample < num_samples colour
+      → shown_sample file LittleEndian page x y sample ≡ i.sample_at x y sample
+
+-- the page of one gray strip, wherever it stands
+abbrev pub gray_page : ℕ → ℕ → PageRecord
+gray_page width height = record {
+  width = width;
+  height = height;
+  interpretation = meaning.BlackIsZero;
+  method = method.None;
+  samples = 1;
+  extra = [];
+  format = format.Uint;
+  depth = 8;
+  predictor = predictor.None;
+  planar = Chunky;
+  subsampling = (2, 2);
+  chunk_type = Strip;
+  chunk_width = width;
+  chunk_height = rows_per_strip width;
+  offsets = [];
+  byte_counts = [];
+}
 
 -- the image of one gray strip
 abbrev pub gray_image : ℕ → ℕ → List ℕ → Image
 gray_image width height samples = record {
-  width = width;
-  height = height;
-  interpretation = meaning.BlackIsZero;
-  bands = 1;
-  size = 1;
-  format = format.Uint;
-  extra = [];
-  method = method.None;
-  predictor = predictor.None;
-  rows = rows_per_strip width;
-  numbers = take (width * height) samples;
+  page = gray_page width height;
+  sample_at = λ x y sample. slice_index (take (width * height) samples) (y * width + x);
 }
 
 -- a page of one gray strip that was appended to what stands shows its image
@@ -112,24 +97,7 @@ PageLinks = (m : Model) (n link width height : ℕ) (samples : List ℕ)
 
 -- the page of one gray strip that was appended to a file of length n
 abbrev pub strip_page : ℕ → ℕ → ℕ → PageRecord
-strip_page n width height = record {
-  width = width;
-  height = height;
-  interpretation = meaning.BlackIsZero;
-  method = method.None;
-  samples = 1;
-  extra = [];
-  format = format.Uint;
-  depth = 8;
-  predictor = predictor.None;
-  planar = Chunky;
-  subsampling = (2, 2);
-  chunk_type = Strip;
-  chunk_width = width;
-  chunk_height = rows_per_strip width;
-  offsets = strip_place n ∷ [];
-  byte_counts = width * height ∷ [];
-}
+strip_page n width height = record (gray_page width height) { offsets = strip_place n ∷ []; byte_counts = width * height ∷ [] }
 
 -- Under these limits the directory at a place is this page, of one gray strip, and its image has these numbers of a byte
 -- each.

@@ -1,5 +1,5 @@
 -- The steps by which a page is written.
-use Rattle.std.specs.Prelude.{◌≡◌, ℕ, ◌+◌, ◌*◌, ◌≤◌, ◌⊎◌, Bool, true, false, not, ◌||◌, ◌==◌, List, [], ◌++◌, length, Option, Some, None, Result, MatchResult, if◌then◌else◌, nat_lt}
+use Rattle.std.specs.Prelude.{◌≡◌, ℕ, ◌+◌, ◌*◌, ◌≤◌, ◌⊎◌, Bool, true, false, not, ◌||◌, ◌==◌, List, [], ◌++◌, length, Option, Some, None, is_some, Result, MatchResult, if◌then◌else◌, nat_lt}
 use Rattle.tiff_base.specs.declared.error.TiffError.{TiffError}
 use Rattle.tiff_base.specs.declared.error.TiffError.TheVariants.{FormatError, IoError, IntSizeError}
 use Rattle.tiff_base.specs.declared.error.TiffFormatError.TheVariants.{InvalidDimensions}
@@ -12,11 +12,12 @@ use Rattle.tiff_encode.specs.Encoder.{Encoded, IsStopped, IsCut, IsTorn, IsWanti
 
 -- an encoder by its writer, the place of the chain's last link and whether a page is finished
 abbrev pub encoded : Written → ℕ → Bool → Encoded
-encoded w chain finished = record { bytes = w.bytes; failures = w.failures; failed = w.failed; chain = chain; finished = finished }
+encoded w chain finished =
+    record { bytes = w.bytes; failures = w.failures; failed = is_some w.fault; fault = w.fault; chain = chain; finished = finished }
 
 -- Until a write fails, the writer stands at the end; the last link lies within the bytes.
 pub record IsPlaced (w : Written) (chain : ℕ) : Type 0 where
-  pub at_end : w.failed ≡ false → w.at ≡ length w.bytes
+  pub at_end : is_some w.fault ≡ false → w.at ≡ length w.bytes
   pub linked : chain + 4 ≤ length w.bytes
 
 -- the encoder after bytes were appended

@@ -1,22 +1,21 @@
--- The bytes of a strip, and how they are stored (TIFF 6.0 sections 9 and 14).
-use Rattle.std.specs.Prelude.{◌≡◌, ℕ, ◌*◌, ◌^◌, List, [], ◌∷◌, length, take, drop}
+-- The bytes of a chunk, and how they are stored (TIFF 6.0 sections 9 and 14).
+use Rattle.std.specs.Prelude.{ℕ, ◌^◌, List, [], ◌∷◌}
 use Rattle.std.specs.List.{flat_map}
 use Rattle.tiff_base.specs.Number.{le}
 use Rattle.tiff_value.specs.Differences.{differences}
 use Rattle.tiff_value.specs.Packed.{IsStored}
+use Rattle.tiff_page.specs.Pixels.{stored_samples}
 use Rattle.tiff_encode.specs.Machine.{OpenImage}
-use Rattle.tiff_encode.specs.Causes.{all_samples, next_sample_count}
-use Rattle.tiff_encode.specs.Calls.{with_chunk}
+use Rattle.tiff_encode.specs.Chunks.{image_page, row_samples}
 
--- the bytes of a strip before it is packed: its samples, differenced in each row where the image is
-unfoldable pub strip_bytes : OpenImage → List ℕ → List ℕ
-strip_bytes i samples =
-    flat_map (le i.size) (differences i.predictor (256 ^ i.size) (i.width * all_samples i) (all_samples i) samples)
+-- the bytes of a chunk before it is packed: its samples, differenced in each of its rows where the image is
+unfoldable pub chunk_bytes : OpenImage → List ℕ → List ℕ
+chunk_bytes i samples =
+    let p = image_page i in
+    flat_map (le i.size) (differences i.predictor (256 ^ i.size) (row_samples p) (stored_samples p) samples)
 
--- the strips that are left of an image, from the front of these samples, each with the bytes that it is stored as
-abbrev pub AreStored : OpenImage → List ℕ → List (List ℕ) → Type 0
-AreStored i samples [] = next_sample_count i ≡ 0
-AreStored i samples (stored ∷ more) =
-    let strip = take (next_sample_count i) samples in
-    IsStored i.method stored (strip_bytes i strip)
-    × AreStored (with_chunk i 0 (length stored) strip) (drop (next_sample_count i) samples) more
+-- the first of these chunks, each with bytes that it may be stored as
+abbrev pub AreStored : OpenImage → List (List ℕ) → List (List ℕ) → Type 0
+AreStored i samples [] = Unit {0}
+AreStored i [] (stored ∷ others) = ⊥
+AreStored i (chunk ∷ more) (stored ∷ others) = IsStored i.method stored (chunk_bytes i chunk) × AreStored i more others

@@ -7,13 +7,12 @@ mod page;
 pub mod script;
 mod settings;
 
-ghost use Rattle.std.specs.Prelude.{◌≡◌, ℕ, ◌+◌, ◌*◌, ◌^◌, ◌<◌, ◌≤◌, ◌⊎◌, List, [], ◌++◌, length, IfOk, OnOk, MatchResult, false};
+ghost use Rattle.std.specs.Prelude.{◌≡◌, ℕ, ◌+◌, ◌*◌, ◌^◌, ◌<◌, ◌≤◌, ◌⊎◌, List, [], ◌++◌, length, IfOk, IsSome, OnOk, MatchResult, false};
 ghost use Rattle.tiff_base.specs.declared.tags.FileKind.TheVariants.{Classic};
 ghost use Rattle.std.specs.FinMap as map;
 ghost use Rattle.tiff_value.specs.ColorType.{is_gray};
 ghost use Rattle.tiff_encode.specs.Written.{directory_bytes, gray_fields, header_bytes, padding, page_head};
-ghost use Rattle.tiff_base.specs.Answers.{FailsFrom};
-ghost use Rattle.tiff_encode.specs.Encoder.{IsBegun, IsSinkFault, PageFails, WritesPage};
+ghost use Rattle.tiff_encode.specs.Encoder.{HeaderFails, IsBegun, PageFails, WritesPage};
 ghost use Rattle.tiff_encode.specs.Model.{Model, IsLink, Stands};
 ghost use Rattle.tiff_encode.specs.Shows.{LeavesHeader, LeavesPage};
 ghost use Rattle.tiff_encode.specs.Steps.{Appends, Finishes, Links};
@@ -61,12 +60,16 @@ impl<W: Sink + Drop> TiffEncoder<W> {
     fn begin(alloc: Global, sink: W) -> TiffResult<Self>
         ensures { MatchResult result
             (λ e. IsBegun (W.told sink) (W.failures sink) e)
-            (λ e. IsSinkFault e × FailsFrom W.failures sink) }
+            (λ e. HeaderFails Classic W.told W.failures W.fault sink e) }
     {
         let mut writer = TiffWriter::new(sink);
-        match writer.write_bytes(&HEADER) {
+        match writer.write_plain(&HEADER) {
             Ok(()) => {}
-            Err(fault) => return Err(fault),
+            Err(fault) => {
+                // What the sink was left as.
+                let _last = writer.into_inner();
+                return Err(fault);
+            }
         }
         let chain = writer.offset() - 4;
         Ok(TiffEncoder {
@@ -82,7 +85,7 @@ impl<W: Sink + Drop> TiffEncoder<W> {
     pub fn new(alloc: Global, sink: W) -> TiffResult<Self>
         ensures answer { MatchResult result
             (λ e. IsBegun (W.told sink) (W.failures sink) e)
-            (λ e. IsSinkFault e × FailsFrom W.failures sink) }
+            (λ e. HeaderFails Classic W.told W.failures W.fault sink e) }
 
         // On an empty sink the header stands.
         ensures leaves { W.told sink ≡ [] → IfOk result (λ e. LeavesHeader e.bytes e.chain) }
@@ -99,6 +102,7 @@ impl<W: Sink> TiffEncoder<W> {
     pub fn into_inner(self) -> W
         ensures bytes { W.told result ≡ self.bytes }
         ensures failures { W.failures result ≡ self.failures }
+        ensures fault { IsSome self.fault → W.fault result ≡ self.fault }
     {
         let TiffEncoder {
             alloc: _,
@@ -113,7 +117,7 @@ impl<W: Sink> TiffEncoder<W> {
     fn append(&mut self, bytes: &[u8]) -> TiffResult<()>
         ensures { Appends bytes.now self.old self.new result }
     {
-        match self.writer.write_bytes(bytes) {
+        match self.writer.write_plain(bytes) {
             Ok(()) => return Ok(()),
             Err(fault) => return Err(fault),
         }

@@ -39,12 +39,12 @@ pub trait TiffKind {
         ensures { Gives place result (if is_past kind offset then Err IntSizeError else Ok offset) };
 
     /// Writes a place. A place past its bytes: `IntSizeError`, and nothing is done; else the errors of
-    /// `TiffWriter::write_bytes`.
+    /// `TiffWriter::write_plain`.
     fn write_offset<W: Sink>(writer: &mut TiffWriter<W>, offset: u64) -> TiffResult<()>
         ensures { WritesWithin (is_past kind offset) (le (place_len kind) offset) writer.old writer.new result };
 
     /// Writes the count of a directory's entries. A count past its bytes: `IntSizeError`, and nothing is done; else the errors
-    /// of `TiffWriter::write_bytes`.
+    /// of `TiffWriter::write_plain`.
     fn write_entry_count<W: Sink>(writer: &mut TiffWriter<W>, count: usize) -> TiffResult<()>
         ensures { WritesWithin (is_past_count kind count) (le (count_len kind) count) writer.old writer.new result };
 }

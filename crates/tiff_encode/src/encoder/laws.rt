@@ -2,7 +2,8 @@
 
 ghost use Rattle.tiff_encode.specs.Shows.{PageShows, PageLinks, PageReads};
 ghost use Rattle.tiff_encode.specs.RunLaws.{OffsetsAgree, OneStep, OneStored};
-ghost use Rattle.tiff_encode.specs.Laws.{HeaderStands, KeptByAppending, KeptByPatching, KeptByTearing, GrownByRegion, GrownByInline, GrownByPlaced, GrownByDirectory, Finished, ModelsAgree, PageStands};
+ghost use Rattle.tiff_encode.specs.CallLaws.{PlacedFits, FinishFits};
+ghost use Rattle.tiff_encode.specs.Laws.{HeaderStands, KeptByAppending, KeptByPatching, KeptByTearing, GrownByRegion, GrownByInline, GrownByPlaced, GrownByListing, Finished, DeedsStand, DeedsGrow, DeedsBegun, DeedsTorn, DeedsJoin, DeedsAppend, ModelsAgree, PageStands};
 
 /// A header that was written stands.
 pub fn header_stands()
@@ -39,14 +40,54 @@ pub fn grown_by_placed()
     ensures { GrownByPlaced }
 {}
 
-/// A directory that is appended stands, with no next one.
-pub fn grown_by_directory()
-    ensures { GrownByDirectory }
+/// A directory that is appended stands, with no next one, and its fields as its entries hold them.
+pub fn grown_by_listing()
+    ensures { GrownByListing }
 {}
 
 /// A directory that is appended and linked to stands.
 pub fn finished()
     ensures { Finished }
+{}
+
+/// What is done to a file in which a model stands leaves one in which the model after it stands.
+pub fn deeds_stand()
+    ensures { DeedsStand }
+{}
+
+/// It has all that the model before has.
+pub fn deeds_grow()
+    ensures { DeedsGrow }
+{}
+
+/// Where the sink failed while a call appended, what stood stands.
+pub fn deeds_begun()
+    ensures { DeedsBegun }
+{}
+
+/// Where it failed while the last deed, a link, was written, all stands but that link.
+pub fn deeds_torn()
+    ensures { DeedsTorn }
+{}
+
+/// Deeds one after another.
+pub fn deeds_join()
+    ensures { DeedsJoin }
+{}
+
+/// Where no link is pointed, what deeds append is appended.
+pub fn deeds_append()
+    ensures { DeedsAppend }
+{}
+
+/// What hands a value in can be done to a file in which a model stands.
+pub fn placed_fits()
+    ensures { PlacedFits }
+{}
+
+/// So can what ends a directory.
+pub fn finish_fits()
+    ensures { FinishFits }
 {}
 
 /// Models that stand in one file agree on what is finished in both.

@@ -1,0 +1,159 @@
+-- What a call does can be done to a file in which a model stands.
+use Rattle.std.proofs.Common.{◌≡◌, ℕ, ◌^◌, ◌<◌, ◌≤◌, Bool, true, false, cond, List, [], ◌∷◌, ◌++◌, length, take, Option, Some, None, Result, Ok, Err, refl, sym, ◌∙◌, inl, inr, subst, arith, lit≤}
+use Rattle.std.proofs.lemmas.Bool.{ltb-true, ltb-false, leb-false}
+use Rattle.std.proofs.lemmas.List.{take_at, take-take}
+use Rattle.std.specs.Prelude.{◌&&◌, replicate}
+use Rattle.std.specs.Int.{w32, w64}
+use Rattle.tiff_base.specs.declared.error.TiffError.{TiffError}
+use Rattle.tiff_base.specs.declared.error.TiffError.TheVariants.{IntSizeError}
+use Rattle.tiff_base.specs.declared.tags.FileKind.{FileKind}
+use Rattle.tiff_base.specs.declared.tags.FileKind.TheVariants.{Classic, Big}
+use Rattle.tiff_base.specs.declared.tags.ByteOrder.TheVariants.{LittleEndian}
+use Rattle.tiff_base.specs.Field.{Field}
+use Rattle.tiff_base.specs.FieldBytes.{field_place}
+use Rattle.tiff_base.specs.Number.{number, le}
+use Rattle.tiff_value.specs.Data.{FieldData, IsWhole}
+use Rattle.tiff_encode.specs.Written.{place_len}
+use Rattle.tiff_encode.specs.Model.{Region, Model, IsLink}
+use Rattle.tiff_encode.specs.Deeds.{Deed, Appended, Handed, Listed, bytes_after, model_after}
+use Rattle.tiff_encode.specs.Laws.{AreListable, DeedsFit}
+use Rattle.tiff_encode.specs.Value.{is_long, filled}
+use Rattle.tiff_encode.specs.Machine.{FileState, OpenDirectory, Writing, gives, does, by_cause, going_on, ◌>>=◌}
+use Rattle.tiff_encode.specs.Causes.{is_past, end_of, finish_cause}
+use Rattle.tiff_encode.specs.Calls.{Offsets, links_to, chains, offsets_of, finish}
+use Rattle.tiff_encode.specs.CallLaws.{PlacedFits, FinishFits}
+use Rattle.tiff_encode.proofs.Slices.{number-le}
+use Rattle.tiff_encode.proofs.Deeds.{fits_joined}
+use Rattle.tiff_encode.proofs.Runs.{near}
+use Rattle.std.specs.FinMap.{len}
+
+-- ---- calls
+
+-- what a call does behind another
+going_on_fits : {A B : Type 0} (r : Result A TiffError) (deeds : List Deed) (next : FileState) (rest : A → Writing B)
+    (kind : FileKind) (bytes : List ℕ) (m : Model) → DeedsFit kind bytes m deeds
+    → ((x : A) → r ≡ Ok x → DeedsFit kind (bytes_after kind bytes deeds) (model_after kind bytes m deeds) (rest x next).deeds)
+    → DeedsFit kind bytes m (going_on r deeds next rest).deeds
+going_on_fits (Ok x) deeds next rest kind bytes m f g = fits_joined kind bytes m deeds (rest x next).deeds f (g x refl)
+going_on_fits (Err e) deeds next rest kind bytes m f g = f
+
+-- it fits where the first does, and what follows fits behind it
+pub followed_fits : {A B : Type 0} (call : Writing A) (rest : A → Writing B) (file : FileState) (m : Model)
+    → DeedsFit file.kind file.bytes m (call file).deeds
+    → ((x : A) → (call file).answer ≡ Ok x
+    → DeedsFit file.kind (bytes_after file.kind file.bytes (call file).deeds)
+    (model_after file.kind file.bytes m (call file).deeds) (rest x (call file).next).deeds)
+    → DeedsFit file.kind file.bytes m ((call >>= rest) file).deeds
+followed_fits call rest file m f g =
+    going_on_fits (call file).answer (call file).deeds (call file).next rest file.kind file.bytes m f g
+
+-- a call that is refused does nothing
+pub caused_fits : {A : Type 0} (cause : Option TiffError) (call : Writing A) (file : FileState) (m : Model)
+    → (cause ≡ None → DeedsFit file.kind file.bytes m (call file).deeds)
+    → DeedsFit file.kind file.bytes m (by_cause cause call file).deeds
+caused_fits None call file m f = f refl
+caused_fits (Some e) call file m f = tt
+
+-- ---- a value that is handed in
+
+-- a place that is not past the kind's
+place_fits : (kind : FileKind) (n : ℕ) → is_past kind n ≡ false → n < 2 ^ 64 → n < 256 ^ place_len kind
+place_fits Classic n h l = leb-false (2 ^ 32) n h
+place_fits Big n h l = l
+
+-- the place in an entry is the one that was written
+place_read : (kind : FileKind) (f : Field) (n : ℕ) → n < 256 ^ place_len kind
+    → field_place kind LittleEndian (record f { value = le 8 n }) ≡ n
+unfolding number
+place_read Classic f n l = number-le w32 n (inr (inl refl)) l
+place_read Big f n l = number-le w64 n (inr (inr refl)) l
+
+-- a value field is no longer than eight bytes
+place_len_8 : (kind : FileKind) → place_len kind ≤ 8
+place_len_8 Classic = lit≤ tt
+place_len_8 Big = lit≤ tt
+
+-- the field of a value, by whether it is long
+abbrev field_by : Bool → ℕ → FieldData → Field
+field_by long place value = record {
+  field_type = value.field_type;
+  count = value.count;
+  value = cond long (le 8 place) (filled value.bytes);
+}
+
+-- and what is done to hand it in
+abbrev deeds_by : Bool → ℕ → FieldData → List Deed
+deeds_by long place value =
+    let handed : Deed = Handed (record { field = field_by long place value; bytes = value.bytes }) in
+    cond long (Appended value.bytes ∷ handed ∷ []) (handed ∷ [])
+
+-- it fits
+handed_fits : (kind : FileKind) (bytes : List ℕ) (m : Model) (value : FieldData) (long : Bool) → is_long kind value ≡ long
+    → IsWhole value → length value.bytes < 2 ^ 64 → (long ≡ true → length bytes < 256 ^ place_len kind)
+    → DeedsFit kind bytes m (deeds_by long (length bytes) value)
+handed_fits kind bytes m value true t w s p =
+    let n : ℕ = length bytes in
+    let r : Region = record { place = n; bytes = value.bytes } in
+    let above = ltb-true (place_len kind) (length value.bytes) t in (
+      tt,
+      (
+        inr (
+          r,
+          (
+            inl refl,
+            record {
+              place = place_read kind (field_by true n value) n (p refl);
+              whole = sym w;
+              long = omega (arith, w, above);
+              short = omega (arith, w, s);
+              bytes = refl;
+            },
+          ),
+        ),
+        tt,
+      ),
+    )
+handed_fits kind bytes m value false t w s p =
+    let v : List ℕ = value.bytes in
+    let n : ℕ = length v in
+    let below = ltb-false (place_len kind) n t in
+    let eight = place_len_8 kind in
+    let taken : take n (filled v) ≡ v =
+    take-take n 8 (v ++ replicate 8 0) (omega (arith, below, eight)) ∙ take_at v (replicate 8 0) n refl in
+    let P : ℕ → Type 0 = λ k. v ≡ take k (filled v) in
+    (inl (record { short = omega (arith, w, below); bytes = subst P w (sym taken) }), tt)
+
+-- the tests of a field
+tests : (a b c : Bool) (e : TiffError) → cond a (Some e) (cond (b && c) (Some e) None) ≡ None → b ≡ true → c ≡ false
+tests true b c e h t = absurd cc
+tests false true true e h t = absurd cc
+tests false true false e h t = refl
+tests false false c e h t = absurd cc
+
+pub placed_fits : PlacedFits
+placed_fits file m value w h l s =
+    let long : Bool = is_long file.kind value in
+    let deeds : List Deed = deeds_by long (end_of file) value in
+    followed_fits (does deeds) (λ _. gives (field_by long (end_of file) value)) file m
+    (handed_fits file.kind file.bytes m value long refl w s
+    (λ t. place_fits file.kind (end_of file) (tests _ long _ IntSizeError h t) l))
+    (λ _ _. tt)
+
+-- ---- the end of a directory
+
+-- a directory is listed, and its parent's link is pointed to it
+listed_fits : (kind : FileKind) (bytes : List ℕ) (m : Model) (d : OpenDirectory) (parent : Option ℕ) → AreListable kind d.fields
+    → ((place : ℕ) → parent ≡ Some place → IsLink kind m place) → length bytes < 256 ^ place_len kind
+    → DeedsFit kind bytes m (Listed d.fields ∷ links_to parent (length bytes))
+listed_fits kind bytes m d None a p l = (a, tt)
+listed_fits kind bytes m d (Some place) a p l =
+    (a, ((elim (p place refl) [ inl x ↦ inl x | inr y ↦ inr (y.0, (inr y.1.0, y.1.1)) ], l), tt))
+
+pub finish_fits : FinishFits
+unfolding finish
+finish_fits file m d a p l =
+    let deeds : List Deed = Listed d.fields ∷ links_to d.parent (end_of file) in
+    let rest : Unit {0} → Writing Offsets = λ _. chains d.chained (offsets_of file.kind (end_of file) (len d.fields)) in
+    caused_fits (finish_cause file d) (does deeds >>= rest) file m
+    (λ h. followed_fits (does deeds) rest file m
+    (listed_fits file.kind file.bytes m d d.parent a p (place_fits file.kind (end_of file) (near file d h) l)) (λ _ _. tt))

@@ -1,5 +1,0 @@
-use Rattle.tiff_encode.proofs.Grown.{grown_by_directory}
-use Rattle.tiff_encode.proofs.encoder.laws.grown_by_directory.Goals as goal
-
-pub returns : goal.returns
-returns c = grown_by_directory
