@@ -10,11 +10,13 @@ use Rattle.tiff_base.specs.declared.error.TiffError.TheVariants.{IntSizeError}
 use Rattle.tiff_base.specs.declared.tags.FileKind.TheVariants.{Classic, Big}
 use Rattle.tiff_base.specs.Field.{Field}
 use Rattle.tiff_value.specs.Data.{extras, data_of}
+use Rattle.tiff_page.specs.Rect.{rect}
+use Rattle.tiff_encode.specs.Chunks.{next_strip_sample_count, next_chunk_sample_count}
 use Rattle.tiff_encode.specs.Encoder.{is_too_far}
 use Rattle.tiff_encode.specs.Written.{resolutions_place}
 use Rattle.tiff_encode.specs.Machine.{FileState, OpenDirectory}
 use Rattle.tiff_encode.specs.Calls.{opened}
-use Rattle.tiff_encode.specs.Causes.{begin_cause, end_of, extra_samples_cause, field_cause, finish_cause, is_past, is_past_count, new_image_cause, next_sample_count, offset_cause, one_resolution_cause, parent_cause, resolution_cause, resolution_unit_cause, rows_per_strip_cause, unless_failed, write_buf_cause, write_data_buf_cause, write_data_cause, write_entry_bytes_cause, write_image_data_cause, write_strip_cause, write_tag_cause}
+use Rattle.tiff_encode.specs.Causes.{begin_cause, end_of, extra_samples_cause, field_cause, finish_cause, is_past, is_past_count, new_image_cause, offset_cause, planar_cause, tiles_cause, write_chunk_cause, one_resolution_cause, parent_cause, resolution_cause, resolution_unit_cause, rows_per_strip_cause, unless_failed, write_buf_cause, write_data_buf_cause, write_data_cause, write_entry_bytes_cause, write_image_data_cause, write_strip_cause, write_tag_cause}
 use Rattle.tiff_examples.proofs.Maps.{entries_puts}
 use Rattle.tiff_examples.specs.Causes as s
 use Rattle.tiff_examples.specs.Causes.{new_file, file_with}
@@ -70,11 +72,11 @@ unfolding rows_per_strip_cause
 failed_rows = refl
 
 pub failed_strip : s.failed_strip
-unfolding write_strip_cause next_sample_count
+unfolding write_strip_cause next_chunk_sample_count rect
 failed_strip = refl
 
 pub failed_write : s.failed_write
-unfolding write_image_data_cause next_sample_count
+unfolding write_image_data_cause rect
 failed_write = refl
 
 pub failed_unit : s.failed_unit
@@ -266,52 +268,108 @@ unfolding resolution_unit_cause
 unit_far = λ bytes. refl
 
 pub count_one : s.count_one
-unfolding next_sample_count
+unfolding next_strip_sample_count next_chunk_sample_count rect
 count_one = refl
 
 pub count_none : s.count_none
-unfolding next_sample_count
+unfolding next_strip_sample_count next_chunk_sample_count rect
 count_none = refl
 
 pub count_largest : s.count_largest
-unfolding next_sample_count
+unfolding next_strip_sample_count next_chunk_sample_count rect
 count_largest = refl
 
 pub count_short : s.count_short
-unfolding next_sample_count
+unfolding next_strip_sample_count next_chunk_sample_count rect
 count_short = refl
 
 pub strips_three : s.strips_three
 strips_three = refl
 
 pub strip_two : s.strip_two
-unfolding write_strip_cause next_sample_count
+unfolding write_strip_cause next_chunk_sample_count rect
 strip_two = refl
 
 pub strip_none_left : s.strip_none_left
-unfolding write_strip_cause next_sample_count
+unfolding write_strip_cause next_chunk_sample_count rect
 strip_none_left = refl
 
 pub strip_one : s.strip_one
-unfolding write_strip_cause next_sample_count
+unfolding write_strip_cause next_chunk_sample_count rect
 strip_one = refl
 
 pub strip_far : s.strip_far
-unfolding write_strip_cause next_sample_count
+unfolding write_strip_cause next_chunk_sample_count rect
 strip_far = λ bytes h. ap (λ n. if is_too_far n || is_too_far 1 then Some IntSizeError else None) h
 
 pub strip_stored_far : s.strip_stored_far
-unfolding write_strip_cause next_sample_count
+unfolding write_strip_cause next_chunk_sample_count rect
 strip_stored_far = refl
 
 pub image_large : s.image_large
-unfolding write_image_data_cause next_sample_count
+unfolding write_image_data_cause rect
 image_large = refl
 
 pub image_few : s.image_few
-unfolding write_image_data_cause next_sample_count
+unfolding write_image_data_cause rect
 image_few = refl
 
 pub image_enough : s.image_enough
-unfolding write_image_data_cause next_sample_count
+unfolding write_image_data_cause rect
 image_enough = refl
+
+pub count_tile : s.count_tile
+unfolding next_strip_sample_count
+count_tile = refl
+
+pub count_tiled : s.count_tiled
+unfolding next_chunk_sample_count rect
+count_tiled = refl
+
+pub strip_tile : s.strip_tile
+unfolding write_strip_cause
+strip_tile = refl
+
+pub tile_whole : s.tile_whole
+unfolding write_chunk_cause next_chunk_sample_count rect
+tile_whole = refl
+
+pub rows_tile : s.rows_tile
+unfolding rows_per_strip_cause
+rows_tile = refl
+
+pub tiles_zero : s.tiles_zero
+unfolding tiles_cause
+tiles_zero = refl
+
+pub tiles_eight : s.tiles_eight
+unfolding tiles_cause
+tiles_eight = refl
+
+pub tiles_late : s.tiles_late
+unfolding tiles_cause
+tiles_late = refl
+
+pub tiles_fit : s.tiles_fit
+unfolding tiles_cause
+tiles_fit = refl
+
+pub planar_late : s.planar_late
+unfolding planar_cause
+planar_late = refl
+
+pub planar_fits : s.planar_fits
+unfolding planar_cause
+planar_fits = refl
+
+pub many_chunks : s.many_chunks
+unfolding write_chunk_cause
+many_chunks = refl
+
+pub image_tiled : s.image_tiled
+unfolding write_image_data_cause
+image_tiled = refl
+
+pub image_goes_on : s.image_goes_on
+unfolding write_image_data_cause
+image_goes_on = refl

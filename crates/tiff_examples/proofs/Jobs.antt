@@ -1,19 +1,28 @@
 -- The worked examples of Jobs compute.
-use Rattle.std.specs.Prelude.{refl}
-use Rattle.std.proofs.Common.{◌≡◌, ℕ, ◌<◌, ◌⊎◌, List, [], ◌∷◌, true, false, Some, None, Result, Ok, Err, ap, sym, ◌∙◌, subst, inl, inr, arith, lit<, lit≤}
+use Rattle.std.specs.Prelude.{refl, not, ◌≤◌, min, take, drop}
+use Rattle.std.specs.List.{list_any}
+use Rattle.std.proofs.lemmas.List.{length-take}
+use Rattle.std.proofs.Common.{◌≡◌, ℕ, ◌<◌, List, [], ◌∷◌, length, true, false, Option, Some, None, Result, Ok, Err, ap, sym, ◌∙◌, subst, inl, inr, arith, lit<, lit≤}
 use Rattle.tiff_base.specs.declared.error.TiffError.{TiffError}
 use Rattle.tiff_base.specs.declared.error.TiffError.TheVariants.{IoError, IntSizeError, UsageError, OutOfMemory}
 use Rattle.tiff_base.specs.declared.error.UsageError.TheVariants.{ParentNotWritten}
 use Rattle.tiff_base.specs.declared.io.IoKind.TheVariants.{Device}
+use Rattle.tiff_base.specs.declared.io.SinkFault.{SinkFault}
+use Rattle.tiff_base.specs.declared.io.SinkFault.TheVariants as fault
 use Rattle.tiff_base.specs.declared.tags.FileKind.TheVariants.{Classic}
 use Rattle.tiff_encode.specs.declared.encoder.settings.Compression.TheVariants.{Packbits}
 use Rattle.tiff_encode.specs.declared.encoder.script.StepReply.{StepReply}
 use Rattle.tiff_encode.specs.declared.encoder.script.StepReply.TheVariants as reply
-use Rattle.tiff_encode.specs.Machine.{OpenDirectory, Told, Appended, gives, model_after}
-use Rattle.tiff_encode.specs.Causes.{begin_cause, next_sample_count, rows_per_strip_cause}
-use Rattle.tiff_encode.specs.Calls.{Offsets, opened, image_directory, finish, with_compression, set_parent, set_rows_per_strip, extend_from}
+use Rattle.tiff_encode.specs.Deeds.{Appended, Listed, model_after}
+use Rattle.tiff_encode.specs.Machine.{FileState, OpenDirectory, Told, gives}
+use Rattle.tiff_page.specs.Rect.{rect}
+use Rattle.tiff_encode.specs.Chunks.{next_strip_sample_count, next_chunk_sample_count, parts_left, sample_in}
+use Rattle.tiff_encode.specs.JobValues.{cut_to}
+use Rattle.tiff_encode.specs.Causes.{begin_cause, new_image_cause, rows_per_strip_cause}
+use Rattle.tiff_encode.specs.Calls.{Offsets, opened, image_directory, new_image, finish, with_compression, set_parent, set_rows_per_strip, extend_from}
+use Rattle.tiff_base.specs.Told.{sink_error}
 use Rattle.tiff_encode.specs.Jobs as jobs
-use Rattle.tiff_encode.specs.Jobs.{Standing, Run, IsDone, started}
+use Rattle.tiff_encode.specs.Jobs.{Standing, Finished, IsDone}
 use Rattle.tiff_encode.proofs.Header as its_header
 use Rattle.tiff_encode.proofs.Slices.{ok_inj}
 use Rattle.tiff_examples.proofs.Maps.{entries_puts, len_puts}
@@ -23,14 +32,24 @@ use Rattle.tiff_encode.specs.declared.encoder.script.DirectoryEnd.{DirectoryEnd}
 use Rattle.tiff_encode.specs.declared.encoder.script.DirectoryEnd.TheVariants as end
 use Rattle.tiff_encode.specs.declared.encoder.script.EndReply.{EndReply}
 use Rattle.tiff_encode.specs.declared.encoder.script.EndReply.TheVariants as last
-use Rattle.tiff_encode.specs.Model.{header_model, with_region}
-use Rattle.tiff_examples.proofs.Models.{unequal, err_ok}
+use Rattle.tiff_encode.specs.Model.{header_model, relinked, with_directory, with_region}
+use Rattle.tiff_examples.proofs.Models.{unequal, err_ok, stood_of}
 use Rattle.tiff_examples.specs.Jobs as s
 use Rattle.tiff_examples.specs.Jobs.{first}
 use Rattle.tiff_examples.specs.Causes.{new_file, pixel}
 
 pub true_false : true ≡ false → ⊥
 true_false h = cc
+
+pub device_other : {f : SinkFault} → let a : SinkFault = fault.Device in a ≡ f → let b : TiffError = OutOfMemory in b ≡ sink_error f → ⊥
+device_other {f = fault.Device} h i = cc
+device_other {f = fault.OutOfMemory} h i = cc
+
+pub some_inj : {A : Type 0} {x y : A} → let a : Option A = Some x in a ≡ Some y → x ≡ y
+some_inj h = cc
+
+pub some_none : {A : Type 0} {x : A} → let a : Option A = Some x in a ≡ None → ⊥
+some_none h = cc
 
 device_memory : let a : TiffError = IoError Device in a ≡ OutOfMemory → ⊥
 device_memory h = cc
@@ -44,15 +63,15 @@ size_device h = cc
 pub ok_err : {A : Type 0} {x : A} {e : TiffError} → let a : Result A TiffError = Ok x in let b : Result A TiffError = Err e in a ≡ b → ⊥
 ok_err h = cc
 
-pub sink_size : let a : TiffError = IntSizeError in (a ≡ OutOfMemory) ⊎ (a ≡ IoError Device) → ⊥
-sink_size (inl h) = size_memory h
-sink_size (inr h) = size_device h
+pub sink_size : (f : SinkFault) → let a : TiffError = IntSizeError in a ≡ sink_error f → ⊥
+sink_size fault.Device h = size_device h
+sink_size fault.OutOfMemory h = size_memory h
 
 not_uncaused : s.ends_uncaused
 unfolding image_directory begin_cause
 not_uncaused new (inl t) = ok_err t.answer
-not_uncaused new (inr (inl c)) = sink_size c.fault
-not_uncaused new (inr (inr (inl t))) = sink_size t.fault
+not_uncaused new (inr (inl c)) = sink_size c.fault c.answer
+not_uncaused new (inr (inr (inl t))) = sink_size t.fault t.answer
 not_uncaused new (inr (inr (inr w))) = size_memory w.fault
 
 pub number_inj : {m n : ℕ} → let a : StepReply = reply.Number m in a ≡ reply.Number n → m ≡ n
@@ -71,9 +90,9 @@ lost h = record { ended = record { answer = ap (λ t. t.answer) h; state = sym (
 
 not_refused : (old new : Standing) → jobs.Refuses {A = OpenDirectory} (gives (opened None true) old.file) IntSizeError old new → ⊥
 not_refused old new (inl d) = ok_err d.ended.answer
-not_refused old new (inr (inl t)) = sink_size t.torn.fault
-not_refused old new (inr (inr (m, inl c))) = sink_size c.fault
-not_refused old new (inr (inr (m, inr w))) = size_memory w.fault
+not_refused old new (inr (inl t)) = sink_size t.torn.fault t.torn.answer
+not_refused old new (inr (inr (inl c))) = sink_size c.1.fault c.1.answer
+not_refused old new (inr (inr (inr w))) = size_memory w.1.fault
 
 not_changes : s.changes_uncaused
 not_changes new t h = not_refused first new h.1
@@ -95,7 +114,8 @@ empty_begins = record { ended = record { answer = refl; state = refl }; model = 
 empty_ends : IsDone (finish (opened (Some 4) true) (new_file Classic)) (Ok (record { pointer = 8; link = 10 })) after_begin s.after_empty
 empty_ends = record {
   ended = record { answer = ap (λ t. t.answer) empty_finish; state = refl };
-  model = sym (ap (λ t. model_after Classic (new_file Classic).bytes after_begin.model t.deeds) empty_finish);
+  model = sym (ap (λ t. model_after Classic (new_file Classic).bytes after_begin.model t.deeds) empty_finish
+      ∙ ap (λ fields. relinked Classic (with_directory Classic after_begin.model (record { place = 8; fields = fields })) 4 8) (stood_of []));
 }
 
 steps_by : (ss : List DirectoryStep) (rs : List (Result StepReply TiffError)) → ss ≡ [] → rs ≡ []
@@ -112,7 +132,7 @@ ends_by e r p q =
 
 directory_by : s.directory_job
 directory_by j r c p q e a l =
-    subst (λ x. jobs.DirectoryRanBy (started Classic) (jobs.named_parent [] x) j r (jobs.ran (started Classic) s.after_empty (Ok (last.Offsets 8 10)) [])) (sym p)
+    subst (λ x. jobs.DirectoryRanBy s.run_begun (jobs.named_parent [] x) j r (jobs.ran s.run_begun s.after_empty (Ok (last.Offsets 8 10)) [])) (sym p)
     (inr (record {
       first = opened (Some 4) true;
       after_begin = after_begin;
@@ -123,7 +143,7 @@ directory_by j r c p q e a l =
       place = Some (record { pointer = 8; link = 10 });
       after_end = s.after_empty;
       ends = ends_by j.end r.last e l;
-      state = ap (λ x. jobs.ran (started Classic) s.after_empty x []) (sym l);
+      state = ap (λ x. jobs.ran s.run_begun s.after_empty x []) (sym l);
     }))
 
 pub told : s.told
@@ -133,22 +153,45 @@ pub told_other : s.told_other
 told_other = λ t. unequal 5 6 (lit< tt) (ok_inj 5 6 t.answer)
 
 pub cut_off : s.cut_off
-cut_off = record { fresh = refl; fault = inr refl; grew = lit< tt; count = 1; within = lit≤ tt; state = refl }
+cut_off = record { fresh = refl; fault = fault.Device; answer = refl; count = 1; within = lit< tt; state = refl }
 
 pub not_cut_off : s.not_cut_off
-not_cut_off = λ e new z c. let l : 0 < new.failures = c.grew in omega arith
+not_cut_off = λ e new z c. let l : 1 ≡ new.failures = sym (ap (λ (f : FileState). f.failures) c.state) in omega arith
+
+pub swapped : s.swapped
+swapped = λ c. device_other (some_inj (ap (λ (f : FileState). f.fault) c.state)) c.answer
+
+pub cut_whole : s.cut_whole
+cut_whole = λ e told c.
+    let xs : List ℕ = 1 ∷ 2 ∷ 3 ∷ [] in
+    let l : 3 ≡ length (take c.count xs) = ap (λ (f : FileState). length (drop 8 f.bytes)) c.state in
+    let t = length-take c.count xs in
+    let w : c.count < 3 = c.within in
+    let m : min c.count 3 ≤ c.count = omega arith in
+    omega (arith, l, t, w, m)
 
 pub torn_off : s.torn_off
-torn_off = record { fresh = refl; fault = inl refl; grew = lit< tt; before = Appended (1 ∷ []) ∷ []; place = 4; target = 8; last = refl; count = 1; within = lit≤ tt; state = refl }
+torn_off = record { fresh = refl; fault = fault.OutOfMemory; answer = refl; before = Appended (1 ∷ []) ∷ []; place = 4; target = 8; last = refl; count = 1; within = lit< tt; state = refl }
+
+pub torn_directory : s.torn_directory
+torn_directory = record {
+  torn = record { fresh = refl; fault = fault.Device; answer = refl; before = Listed s.fields_5 ∷ []; place = 4; target = 8; last = refl; count = 1; within = lit< tt; state = refl };
+  holds = 8;
+  model = refl;
+}
 
 pub not_torn_off : s.not_torn_off
-not_torn_off = λ e new t. true_false t.fresh
+not_torn_off = λ e new t. some_none t.fresh
 
 pub wanting : s.wanting
-wanting = record { fresh = refl; fault = refl; count = 0; within = lit≤ tt; state = refl }
+wanting = record { fresh = refl; fault = refl; begun = tt; count = 0; within = lit≤ tt; state = refl }
 
 pub not_wanting : s.not_wanting
 not_wanting = λ w. device_memory w.fault
+
+pub wanting_caused : s.wanting_caused
+unfolding new_image new_image_cause
+wanting_caused = λ e new w. w.begun
 
 pub ends_caused : s.ends_caused
 unfolding image_directory begin_cause
@@ -205,8 +248,11 @@ extends_none = (refl, (0, (refl, refl)))
 pub extends_fault : s.extends_fault
 extends_fault = λ d h. size_memory h.0
 
+pub starts_failed : s.starts_failed
+starts_failed = refl
+
 pub counted : s.counted
-unfolding next_sample_count
+unfolding next_strip_sample_count next_chunk_sample_count rect
 counted = (refl, (refl, refl))
 
 pub counted_other : s.counted_other
@@ -214,14 +260,14 @@ counted_other = λ h. err_ok h.0
 
 pub rows_refused : s.rows_refused
 unfolding set_rows_per_strip rows_per_strip_cause
-rows_refused = (refl, inl (record { ended = record { answer = refl; state = refl }; model = refl }))
+rows_refused = (refl, (refl, inl (record { ended = record { answer = refl; state = refl }; model = refl })))
 
 pub no_steps : s.no_steps
 no_steps = (refl, refl)
 
 pub one_step : s.one_step
-unfolding next_sample_count
-one_step = (first, (pixel, ((refl, (refl, refl)), (refl, refl))))
+unfolding next_strip_sample_count next_chunk_sample_count rect
+one_step = (first, (s.drawn, ((refl, (refl, refl)), (refl, refl))))
 
 pub missing_reply : s.missing_reply
 missing_reply = λ h. h
@@ -255,7 +301,7 @@ pub parent_job : s.parent_job
 parent_job = λ j r p q l. subst (λ x. jobs.DirectoryRanBy s.later_run (jobs.named_parent s.two_offsets x) j r (jobs.ran s.later_run first (Err (UsageError ParentNotWritten)) [])) (sym p) ((q, l), ap (λ x. jobs.ran s.later_run first x []) (sym l))
 
 pub packed_job : s.packed_job
-packed_job = λ r q l. (q, (l, ap (λ x. jobs.ran (started Classic) (record first { file = with_compression Packbits first.file }) x []) (sym l)))
+packed_job = λ r q l. (q, (l, ap (λ x. jobs.ran s.run_begun (record first { file = with_compression Packbits first.file }) x []) (sym l)))
 
 pub directory_job : s.directory_job
 directory_job = directory_by
@@ -267,14 +313,17 @@ pub lost_end : s.lost_end
 lost_end = (inl (lost (finish_told (new_file Classic) (opened (Some 1000) true) 0 [] (len_puts []) (entries_puts []))), refl)
 
 pub samples_all : s.samples_all
-unfolding next_sample_count
 samples_all = refl
 
 pub samples_missing : s.samples_missing
-unfolding next_sample_count
 samples_missing = refl
 
+pub samples_given : s.samples_given
+unfolding parts_left rect
+samples_given = λ samples h. ap (λ xs. Some (parts_left pixel (cut_to 1 xs))) h
+
 pub image_seven : s.image_seven
+unfolding sample_in
 image_seven = refl
 
 pub image_format : s.image_format
@@ -287,16 +336,21 @@ pub artist_tag : s.artist_tag
 artist_tag = refl
 
 pub apart_step : s.apart_step
-apart_step = λ v. refl
+apart_step = λ v r. refl
 
 pub page_step : s.page_step
-page_step = λ v. refl
+page_step = λ v r. refl
+
+pub refused_step : s.refused_step
+refused_step = λ v e. refl
+
+pub extended_step : s.extended_step
+extended_step = λ d e h. ap (λ es. not (list_any (λ entry. jobs.is_page_tag entry.0) es)) h
 
 pub shown_images : s.shown_images
 shown_images = λ v. refl
 
 pub shown_image : s.shown_image
-unfolding next_sample_count
 shown_image = refl
 
 pub no_jobs : s.no_jobs

@@ -11,7 +11,7 @@ use Rattle.tiff_encode.specs.Encoder.{is_too_far}
 use Rattle.tiff_encode.specs.Shows.{strip_page}
 use Rattle.tiff_encode.specs.Steps.{first_cause, strip_cause}
 use Rattle.tiff_encode.proofs.Slices.{ok_inj}
-use Rattle.tiff_examples.proofs.Jobs.{true_false, size_memory, sink_size}
+use Rattle.tiff_examples.proofs.Jobs.{true_false, size_memory}
 use Rattle.tiff_examples.proofs.Models.{unequal, err_ok}
 use Rattle.tiff_examples.proofs.Models as models
 use Rattle.tiff_examples.proofs.Writes as writes
@@ -22,15 +22,15 @@ read_as xs = record { sample_type = U8; numbers = xs }
 
 not_stops : (xs : List ℕ) → s.stops_uncaused
 not_stops xs new (inl t) = true_false (sym t.failed)
-not_stops xs new (inr (inl c)) = sink_size c.fault
+not_stops xs new (inr (inl c)) = writes.no_size c.fault c.answer
 not_stops xs new (inr (inr w)) = size_memory w.fault
 
 not_finishes : s.finishes_uncaused
 not_finishes new (inl f) = true_false (sym f.0)
 not_finishes new (inr (h, inl (inl t))) = true_false (sym t.failed)
-not_finishes new (inr (h, inl (inr (inl c)))) = sink_size c.fault
+not_finishes new (inr (h, inl (inr (inl c)))) = writes.no_size c.fault c.answer
 not_finishes new (inr (h, inl (inr (inr w)))) = size_memory w.fault
-not_finishes new (inr (h, inr t)) = sink_size t.fault
+not_finishes new (inr (h, inr t)) = writes.no_size t.fault t.answer
 
 pub header_shows : s.header_shows
 unfolding directory_at

@@ -33,6 +33,8 @@ pub mod Writes
 pub mod Words
 pub mod Leaves
 pub mod Tasks
+pub mod Headline
+pub mod Tiles
 pub mod Fits
 pub mod Streams
 pub mod Walks

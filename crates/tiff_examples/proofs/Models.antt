@@ -1,25 +1,37 @@
 -- The worked examples of Models compute.
 use Rattle.std.specs.Prelude.{refl, if◌then◌else◌, ◌==◌}
-use Rattle.std.proofs.Common.{◌≡◌, ℕ, ◌+◌, ◌*◌, ◌<◌, ◌≤◌, [], ◌∷◌, Result, Ok, Err, zero, suc, ap, sym, ◌∙◌, subst, inl, inr, arith, lit<, lit≤}
-use Rattle.std.specs.Prelude.{slice_index}
+use Rattle.std.proofs.Common.{◌≡◌, ℕ, ◌+◌, ◌*◌, ◌^◌, ◌<◌, ◌≤◌, Bool, true, false, List, [], ◌∷◌, ◌++◌, None, Result, Ok, Err, zero, suc, ap, sym, ◌∙◌, subst, inl, inr, arith, lit<, lit≤}
+use Rattle.std.specs.Prelude.{map, slice_index}
+use Rattle.std.specs.FinMap.{FinMap, entries, from_entries}
+use Rattle.std.specs.List.{flat_map}
+use Rattle.std.specs.Ordering.{nat_cmp}
+use Rattle.tiff_base.specs.declared.color.ColorType.{ColorType}
 use Rattle.tiff_base.specs.declared.color.ColorType.TheVariants.{Gray}
 use Rattle.tiff_base.specs.declared.error.TiffError.{TiffError}
 use Rattle.tiff_base.specs.declared.tags.FileKind.TheVariants.{Classic}
 use Rattle.tiff_base.specs.declared.tags.ByteOrder.TheVariants.{LittleEndian}
 use Rattle.tiff_base.specs.Color.{num_samples}
-use Rattle.tiff_base.specs.Number.{number}
-use Rattle.tiff_base.specs.Directory.{link_place}
+use Rattle.tiff_base.specs.Field.{Field, DirectoryRecord}
+use Rattle.tiff_base.specs.Number.{number, le}
+use Rattle.tiff_base.specs.Directory.{link_place, link, directory_at, entries_from, entry_of, last_of_each}
+use Rattle.tiff_base.specs.Tags.{type_of}
 use Rattle.tiff_ifd.specs.Limits.{unlimited}
 use Rattle.tiff_page.specs.Layout.{colour_of}
-use Rattle.tiff_page.specs.Pixels.{shown_sample}
-use Rattle.tiff_encode.specs.Written.{header_bytes, long_field}
-use Rattle.tiff_encode.specs.Model.{header_model}
-use Rattle.tiff_encode.specs.Laws.{IsGrayPage}
-use Rattle.tiff_encode.specs.Shows.{Image, Shows, ShowsOnePage, page_at, gray_image, strip_page, all_samples}
+use Rattle.tiff_page.specs.Counts.{all_chunks}
+use Rattle.tiff_page.specs.Page.{PageRecord}
+use Rattle.tiff_page.specs.Pixels.{is_short, shown_sample}
+use Rattle.tiff_encode.specs.Written.{header_bytes, entry_bytes, directory_bytes, long_field, one_to_one}
+use Rattle.tiff_encode.specs.Model.{In, FinishedDirectory, Model, own_link, whole_len, Stands, header_model, relinked, with_directory}
+use Rattle.tiff_encode.specs.Deeds.{Handed, Listed, standing_fields, model_after}
+use Rattle.tiff_encode.specs.Laws.{IsListable, AreListable, DeedFits, IsGrayPage}
+use Rattle.tiff_encode.specs.Shows.{Image, Shows, ShowsOnePage, page_at, gray_image, strip_page}
 use Rattle.tiff_encode.proofs.Header as its_header
 use Rattle.tiff_encode.proofs.Shows as its_shows
 use Rattle.tiff_encode.proofs.Slices.{ok_inj}
-use Rattle.tiff_examples.proofs.Maps.{len_puts}
+use Rattle.tiff_encode.proofs.Standing.{standing_entry, entries_standing}
+use Rattle.tiff_encode.proofs.Deeds.{deeds_stand}
+use Rattle.tiff_examples.proofs.Maps.{puts, entries_puts, len_puts}
+use Rattle.tiff_examples.specs.Calls.{header}
 use Rattle.tiff_examples.proofs.Written.{gray_written}
 use Rattle.tiff_examples.specs.Models as s
 use Rattle.tiff_examples.specs.Files.{gray_file}
@@ -43,6 +55,84 @@ not_link (inr d) = absurd d.1.0
 not_clear_by : s.not_clear
 not_clear_by (inl l) = let a : 9 ≤ 4 = l in omega arith
 not_clear_by (inr l) = let a : 8 ≤ 7 = l in omega arith
+
+whole_8 : s.whole_18
+whole_8 = ap (λ n. 2 + 12 * n + 4) (len_puts ((256, long_field 5) ∷ []))
+
+not_next : s.overlapping
+not_next (inl l) = let a : 9 ≤ 8 = l in omega arith
+not_next (inr l) = let a : 9 ≤ 7 = l in omega arith
+
+not_over : s.overlaid
+not_over file t =
+    elim (t.regions_apart s.directory_8 (record { place = 9; bytes = 7 ∷ [] }) (inl refl) (inl refl)) as (λ _. ⊥) [
+      | inl l ↦ (let a : 8 + whole_len Classic s.directory_8 ≤ 9 = l in omega (arith, whole_8))
+      | inr l ↦ (let a : 10 ≤ 8 = l in omega arith)
+    ]
+
+-- the fields of a map that is made of a list, as they stand
+pub stood_of : (es : List (ℕ × Field))
+    → standing_fields Classic (from_entries es) ≡ from_entries (map (standing_entry Classic) (puts es))
+stood_of es = ap (λ given. from_entries (map (standing_entry Classic) given)) (entries_puts es)
+
+-- the fields that were made by hand: listed, they are these bytes, and stand
+wide_entries : entries s.wide_fields ≡ (256, s.wide_field) ∷ []
+wide_entries = entries_puts ((256, s.wide_field) ∷ [])
+
+listed : s.wide_listed
+unfolding directory_bytes
+listed = λ i. header ++ (le 2 (len_puts ((256, s.wide_field) ∷ []) i) ++ (flat_map (entry_bytes Classic) (wide_entries i) ++ le 4 0))
+
+wide_one : (e : ℕ × Field) → In e ((256, s.wide_field) ∷ []) → IsListable Classic e.0 e.1
+wide_one e (inl p) =
+    let P : ℕ × Field → Type 0 = λ x. IsListable Classic x.0 x.1 in
+    subst P (sym p) (record { tag_fits = lit< tt; count = lit< tt; whole = refl })
+wide_one e (inr z) = absurd z
+
+wide_listable : AreListable Classic s.wide_fields
+wide_listable =
+    let P : List (ℕ × Field) → Type 0 = λ es. (e : ℕ × Field) → In e es → IsListable Classic e.0 e.1 in
+    record {
+      each = subst P (sym wide_entries) wide_one;
+      few = subst (λ n. n < 256 ^ 2) (sym (len_puts ((256, s.wide_field) ∷ []))) (lit< tt);
+    }
+
+stands : s.wide_stands
+stands =
+    let m : Model = model_after Classic header (header_model Classic) (Listed s.wide_fields ∷ []) in
+    subst (λ file. Stands Classic file m) listed
+    (deeds_stand Classic header (header_model Classic) (Listed s.wide_fields ∷ []) (its_header.header_stands Classic) (wide_listable, tt))
+
+-- what a model says of the directory at 8
+abbrev wide_by : FinMap nat_cmp Field → DirectoryRecord
+wide_by fields = record { entries = fields; next = None }
+
+-- the link of a directory that was added is 0
+either : (b : Bool) (n : ℕ) → (if b then n else n) ≡ n
+either true n = refl
+either false n = refl
+
+its_directory : (fields : FinMap nat_cmp Field)
+    → Stands Classic s.wide_file (with_directory Classic (header_model Classic) (record { place = 8; fields = fields }))
+    → directory_at Classic LittleEndian s.wide_file 8 ≡ Ok (wide_by fields)
+its_directory fields t =
+    let d : FinishedDirectory = record { place = 8; fields = fields } in
+    t.directories d (inl refl)
+    ∙ ap (λ n. let r : Result DirectoryRecord TiffError = Ok (record { entries = fields; next = link n }) in r) (either (own_link Classic d == own_link Classic d) 0)
+
+-- the fifth byte of the first field's value field
+abbrev fifth : List (ℕ × Field) → ℕ
+fifth [] = 0
+fifth (e ∷ es) = slice_index e.1.value 4
+
+not_given : standing_fields Classic s.wide_fields ≡ s.wide_fields → ⊥
+not_given e = unequal 0 5 (lit< tt)
+    (sym (ap fifth (entries_standing Classic s.wide_fields ∙ ap (map (standing_entry Classic)) wide_entries))
+    ∙ ap (λ m. fifth (entries m)) e ∙ ap fifth wide_entries)
+
+too_early : DeedFits Classic (header_model Classic) (Handed s.handed_one) → ⊥
+too_early (inl x) = let l : 8 ≤ 4 = x.short in omega arith
+too_early (inr y) = absurd y.1.0
 
 -- the page of one pixel 7 fits behind a header
 pub fits : IsGrayPage 8 1 1 (7 ∷ [])
@@ -77,11 +167,35 @@ colour_is : (i : Image) (t : Shows Classic gray_file 25 i) → Gray 8 ≡ t.colo
 unfolding colour_of
 colour_is i t = ok_inj (Gray 8) t.colour (ap colour_of (page_is i t) ∙ t.is_colour)
 
-sample_is : (i : Image) (t : Shows Classic gray_file 25 i) → 0 < i.width → 0 < i.height
-    → shown_sample gray_file LittleEndian (strip_page 8 1 1) 0 0 0 ≡ slice_index i.numbers ((0 * i.width + 0) * all_samples i + 0)
-sample_is i t w h =
+sample_is : (i : Image) (t : Shows Classic gray_file 25 i) → shown_sample gray_file LittleEndian (strip_page 8 1 1) 0 0 0 ≡ i.sample_at 0 0 0
+sample_is i t =
     ap (λ p. shown_sample gray_file LittleEndian p 0 0 0) (page_is i t)
-    ∙ t.shows 0 0 0 w h (subst (λ c. 0 < num_samples c) (colour_is i t) (lit< tt))
+    ∙ t.shows 0 0 0 (subst (λ p. 0 < p.width) (page_is i t) (lit< tt)) (subst (λ p. 0 < p.height) (page_is i t) (lit< tt))
+    (subst (λ c. 0 < num_samples c) (colour_is i t) (lit< tt))
+
+-- it shows each image of that page whose first sample is 7
+pub shows_seven : (i : Image) → strip_page 8 1 1 ≡ record i.page { offsets = 24 ∷ []; byte_counts = 1 ∷ [] } → i.sample_at 0 0 0 ≡ 7
+    → Shows Classic gray_file 25 i
+unfolding colour_of
+shows_seven i p q =
+    let t = shown in
+    let P : PageRecord → Type 0 = λ page. (k : ℕ) → k < all_chunks page → is_short gray_file LittleEndian page t.colour k ≡ false in
+    record {
+      page = strip_page 8 1 1;
+      is_page = its_page;
+      is_image = p;
+      colour = t.colour;
+      is_colour = ap colour_of (page_is (gray_image 1 1 (7 ∷ [])) t) ∙ t.is_colour;
+      whole = subst P (sym (page_is (gray_image 1 1 (7 ∷ [])) t)) t.whole;
+      shows = λ x y sample a b c.
+          let first : 0 ≡ x = omega arith in
+          let row : 0 ≡ y = omega arith in
+          let d : sample < 1 = subst (λ (k : ColorType). sample < num_samples k) (sym (colour_is (gray_image 1 1 (7 ∷ [])) t)) c in
+          let one : 0 ≡ sample = omega arith in
+          let Q : ℕ → ℕ → ℕ → Type 0 = λ x y sample. shown_sample gray_file LittleEndian (strip_page 8 1 1) x y sample ≡ i.sample_at x y sample in
+          subst (λ x. Q x y sample) first (subst (λ y. Q 0 y sample) row (subst (λ n. Q 0 0 n) one
+          (sample_is (gray_image 1 1 (7 ∷ [])) t ∙ sym q)));
+    }
 
 pub is_in : s.is_in
 is_in = inr (inl refl)
@@ -126,6 +240,18 @@ before = inl (lit≤ tt)
 pub not_clear : s.not_clear
 not_clear = not_clear_by
 
+pub next_to : s.next_to
+next_to = inl (lit≤ tt)
+
+pub overlapping : s.overlapping
+overlapping = not_next
+
+pub whole_18 : s.whole_18
+whole_18 = whole_8
+
+pub overlaid : s.overlaid
+overlaid = not_over
+
 pub apart : s.apart
 apart = (its_header.header_stands Classic).apart 4 (inl refl)
 
@@ -154,10 +280,10 @@ pub gray_shows : s.gray_shows
 gray_shows = shown
 
 pub other_sample : s.other_sample
-other_sample = λ t. unequal 7 8 (lit< tt) (sym (sample_is (gray_image 1 1 (7 ∷ [])) shown (lit< tt) (lit< tt)) ∙ sample_is (gray_image 1 1 (8 ∷ [])) t (lit< tt) (lit< tt))
+other_sample = λ t. unequal 7 8 (lit< tt) (sym (sample_is (gray_image 1 1 (7 ∷ [])) shown) ∙ sample_is (gray_image 1 1 (8 ∷ [])) t)
 
 pub other_width : s.other_width
-other_width = λ t. unequal 1 2 (lit< tt) (ap (λ p. p.width) (page_is (gray_image 2 1 (7 ∷ 7 ∷ [])) t) ∙ t.width)
+other_width = λ t. unequal 1 2 (lit< tt) (ap (λ p. p.width) (page_is (gray_image 2 1 (7 ∷ 7 ∷ [])) t) ∙ ap (λ (p : PageRecord). p.width) t.is_image)
 
 pub begun_classic : s.begun_classic
 begun_classic = refl
@@ -193,7 +319,73 @@ pub model_regions : s.model_regions
 model_regions = refl
 
 pub model_finished : s.model_finished
-model_finished = refl
+model_finished =
+    ap (λ fields. relinked Classic (with_directory Classic (header_model Classic) (record { place = 8; fields = fields })) 4 8)
+    (stood_of ((256, long_field 5) ∷ []))
+
+pub wide_cut : s.wide_cut
+wide_cut = refl
+
+pub wide_whole : s.wide_whole
+wide_whole = refl
+
+pub wide_listed : s.wide_listed
+wide_listed = listed
+
+pub wide_read : s.wide_read
+unfolding directory_at number entries_from entry_of type_of last_of_each
+wide_read = refl
+
+pub wide_stands : s.wide_stands
+wide_stands = stands
+
+pub wide_as_given : s.wide_as_given
+wide_as_given = λ t. not_given (ap (λ d. d.entries) (ok_inj (wide_by (standing_fields Classic s.wide_fields)) (wide_by s.wide_fields)
+    (sym (its_directory (standing_fields Classic s.wide_fields) stands) ∙ its_directory s.wide_fields t)))
+
+pub fits_inline : s.fits_inline
+fits_inline = inl (record { short = lit≤ tt; bytes = refl })
+
+pub fits_other : s.fits_other
+fits_other (inl x) = unequal 2 3 (lit< tt) (sym (ap (λ bytes. slice_index bytes 0) x.bytes))
+fits_other (inr y) = absurd y.1.0
+
+pub fits_appended : s.fits_appended
+unfolding number
+fits_appended = (
+  tt,
+  (
+    inr (
+      record { place = 8; bytes = one_to_one },
+      (
+        inl refl,
+        record {
+          place = refl;
+          whole = refl;
+          long = lit< tt;
+          short = lit< tt;
+          bytes = refl;
+        },
+      ),
+    ),
+    tt,
+  ),
+)
+
+pub fits_early : s.fits_early
+fits_early = λ f. too_early f.0
+
+pub fits_listed : s.fits_listed
+fits_listed = (wide_listable, ((inl refl, lit< tt), tt))
+
+pub fits_no_link : s.fits_no_link
+fits_no_link = λ f. not_link f.0
+
+pub appending : s.appending
+appending = tt
+
+pub not_appending : s.not_appending
+not_appending = λ a. a
 
 pub joined : s.joined
 joined = refl

@@ -3,7 +3,7 @@ use Rattle.std.specs.Prelude.{refl, Bool, true, false}
 use Rattle.std.proofs.Common.{arith, subst, sym}
 use Rattle.tiff_base.specs.Runs.{runs_after}
 use Rattle.tiff_value.specs.ColorTypes.{colour_type, inner_type}
-use Rattle.tiff_value.specs.Differences.{differences, horizontal_row}
+use Rattle.tiff_value.specs.Differences.{differences}
 use Rattle.tiff_examples.specs.Samples as s
 
 abbrev IsTrue : Bool → Type 0
@@ -59,39 +59,39 @@ unfolding inner_type
 size_rgba32_float = refl
 
 pub two_pixels : s.two_pixels
-unfolding horizontal_row differences inner_type
+unfolding differences inner_type
 two_pixels = refl
 
 pub extra_number : s.extra_number
-unfolding horizontal_row differences inner_type
+unfolding differences inner_type
 extra_number = refl
 
 pub wide_numbers : s.wide_numbers
-unfolding horizontal_row differences inner_type
+unfolding differences inner_type
 wide_numbers = refl
 
 pub signed_numbers : s.signed_numbers
-unfolding horizontal_row differences inner_type
+unfolding differences inner_type
 signed_numbers = refl
 
 pub no_pixel : s.no_pixel
-unfolding horizontal_row differences inner_type
+unfolding differences inner_type
 no_pixel = refl
 
 pub short_row : s.short_row
-unfolding horizontal_row differences inner_type
+unfolding differences inner_type
 short_row = refl
 
 pub one_pixel : s.one_pixel
-unfolding horizontal_row differences inner_type
+unfolding differences inner_type
 one_pixel = refl
 
 pub floating_row : s.floating_row
-unfolding horizontal_row differences inner_type
+unfolding differences inner_type
 floating_row = refl
 
 pub floating_no_pixel : s.floating_no_pixel
-unfolding horizontal_row differences inner_type
+unfolding differences inner_type
 floating_no_pixel = refl
 
 pub two_rows : s.two_rows

@@ -1,9 +1,14 @@
 -- The worked examples of Spelled hold.
-use Rattle.std.specs.Prelude.{ℕ, List, [], ◌∷◌, refl}
-use Rattle.std.proofs.Common.{ap, arith, inl, inr, length}
-use Rattle.tiff_base.specs.declared.error.TiffError.TheVariants.{IntSizeError}
+use Rattle.std.specs.Prelude.{◌≡◌, ℕ, List, [], ◌∷◌, Option, Some, None, refl}
+use Rattle.std.proofs.Common.{ap, arith, inl, inr, length, lit≤}
+use Rattle.tiff_base.specs.declared.error.TiffError.{TiffError}
+use Rattle.tiff_base.specs.declared.error.TiffError.TheVariants.{FormatError, OutOfMemory, UsageError}
+use Rattle.tiff_base.specs.declared.error.TiffFormatError.TheVariants.{InvalidTag}
+use Rattle.tiff_base.specs.declared.error.UsageError.TheVariants.{WriterFailed}
+use Rattle.tiff_base.specs.declared.io.SinkFault.{SinkFault}
+use Rattle.tiff_base.specs.declared.io.SinkFault.TheVariants as fault
+use Rattle.tiff_base.specs.Runs.{runs_after}
 use Rattle.tiff_value.specs.Data.{data_of, text_data}
-use Rattle.tiff_value.specs.Written.{IsSinkFault}
 use Rattle.tiff_value.specs.Differences.{differences}
 use Rattle.tiff_page.specs.Layout.{row_bits}
 use Rattle.tiff_page.specs.Rect.{rect}
@@ -40,13 +45,38 @@ unfolding text_data
 value_writes_not h = h
 
 pub wanting : s.wanting
-wanting = record { fault = refl; same = refl }
+wanting = record { fresh = refl; answer = refl; same = refl }
 
 pub refused : s.refused
-refused = record { fault = refl; same = refl }
+refused = record { fresh = refl; answer = refl; same = refl }
 
 pub not_refused : s.not_refused
-not_refused h = let e = h.fault in cc
+not_refused h = let e = h.answer in cc
+
+pub value_stopped : s.value_stopped
+unfolding data_of text_data
+value_stopped = (inl (record { answer = refl; failed = refl; same = refl }), inl (record { answer = refl; failed = refl; same = refl }))
+
+something : let o : Option SinkFault = Some fault.Device in o ≡ None → ⊥
+something h = cc
+
+memory_failed : let e : TiffError = OutOfMemory in e ≡ UsageError WriterFailed → ⊥
+memory_failed h = cc
+
+tag_failed : let e : TiffError = FormatError InvalidTag in e ≡ UsageError WriterFailed → ⊥
+tag_failed h = cc
+
+pub value_not_wanting : s.value_not_wanting
+unfolding data_of
+value_not_wanting (inl t) = memory_failed t.answer
+value_not_wanting (inr (inl w)) = something w.fresh
+value_not_wanting (inr (inr c)) = something c.fresh
+
+pub value_not_refused : s.value_not_refused
+unfolding text_data
+value_not_refused (inl t) = tag_failed t.answer
+value_not_refused (inr (inl w)) = something w.fresh
+value_not_refused (inr (inr r)) = something r.fresh
 
 pub buffer_of_short : s.buffer_of_short
 unfolding data_of
@@ -56,16 +86,12 @@ pub buffer_refused : s.buffer_refused
 unfolding text_data
 buffer_refused = refl
 
-no_sink_fault : IsSinkFault IntSizeError → ⊥
-no_sink_fault (inl e) = cc
-no_sink_fault (inr e) = cc
-
 pub place_past : s.place_past
 place_past = (refl, refl)
 
 pub place_not_past : s.place_not_past
-place_not_past (inl h) = let e = h.fault in cc
-place_not_past (inr h) = no_sink_fault h.fault
+place_not_past (inl h) = let e = h.answer in cc
+place_not_past (inr h) = omega (arith, h.within)
 
 pub plain_takes_none : s.plain_takes_none
 plain_takes_none = refl
@@ -74,7 +100,20 @@ pub packing_takes : s.packing_takes
 packing_takes = refl
 
 pub stores_none : s.stores_none
-stores_none = record { fresh = refl; storable = refl; stored = []; stands = refl; count = refl; state = refl }
+stores_none = (record { fresh = refl; storable = refl; stored = []; stands = refl; state = refl }, refl)
+
+pub stores_miscounted : s.stores_miscounted
+stores_miscounted h = omega (arith, h.1)
+
+pub packs_one : s.packs_one
+unfolding runs_after
+packs_one = record {
+  fresh = refl;
+  storable = refl;
+  stored = 0 ∷ 9 ∷ [];
+  stands = record { stands = refl; bound = lit≤ tt; headers = refl; literals = refl };
+  state = refl;
+}
 
 pub packs_none : s.packs_none
 packs_none = inr (inl (record { fresh = refl; fault = refl; same = refl }))

@@ -1,13 +1,19 @@
 -- The worked examples of Writes hold.
 use Rattle.std.specs.Prelude.{refl}
-use Rattle.std.proofs.Common.{◌≡◌, ◌<◌, ◌≤◌, ◌^◌, [], ◌∷◌, true, Option, Some, None, ap, sym, subst, inl, inr, arith, lit<, lit≤}
-use Rattle.tiff_base.specs.declared.error.TiffError.TheVariants.{FormatError, IntSizeError}
+use Rattle.std.proofs.Common.{ℕ, ◌≡◌, ◌<◌, ◌≤◌, ◌^◌, [], ◌∷◌, ◌++◌, length, length-append, take, true, Option, Some, None, ap, sym, subst, inl, inr, arith, lit<, lit≤}
+use Rattle.std.proofs.lemmas.List.{length-take-le}
+use Rattle.tiff_base.specs.declared.error.TiffError.{TiffError}
+use Rattle.tiff_base.specs.declared.error.TiffError.TheVariants.{FormatError, IntSizeError, IoError, OutOfMemory}
 use Rattle.tiff_base.specs.declared.error.TiffFormatError.TheVariants.{InvalidDimensions}
+use Rattle.tiff_base.specs.declared.io.IoKind.TheVariants.{Device}
+use Rattle.tiff_base.specs.declared.io.SinkFault.{SinkFault}
+use Rattle.tiff_base.specs.declared.io.SinkFault.TheVariants as fault
 use Rattle.tiff_base.specs.declared.tags.FileKind.TheVariants.{Classic}
+use Rattle.tiff_base.specs.Told.{sink_error}
 use Rattle.tiff_ifd.specs.Limits.{unlimited}
 use Rattle.tiff_encode.specs.Written.{header_bytes}
 use Rattle.tiff_encode.specs.Model.{header_model}
-use Rattle.tiff_encode.specs.Encoder.{page_refusal}
+use Rattle.tiff_encode.specs.Encoder.{Encoded, page_refusal}
 use Rattle.tiff_encode.specs.Shows.{ReadsAs, LeavesPage, strip_page}
 use Rattle.tiff_encode.proofs.Header as its_header
 use Rattle.tiff_encode.proofs.Shows as its_shows
@@ -16,7 +22,7 @@ use Rattle.tiff_examples.proofs.Written.{gray_written, none_refused}
 use Rattle.tiff_examples.proofs.Jobs.{true_false, size_memory}
 use Rattle.tiff_examples.proofs.Models.{fits, octets}
 use Rattle.tiff_examples.proofs.Models as models
-use Rattle.tiff_examples.specs.Written.{fresh}
+use Rattle.tiff_examples.specs.Written.{at_end, fresh}
 use Rattle.tiff_examples.specs.Calls.{header}
 use Rattle.tiff_examples.specs.Writes as s
 
@@ -65,17 +71,56 @@ is_refused = record { fresh = refl; reason = record { fault = IntSizeError; appe
 pub is_not_refused : s.is_not_refused
 is_not_refused = λ new r. none_some r.cause
 
+pub no_size : (f : SinkFault) → let e : TiffError = IntSizeError in e ≡ sink_error f → ⊥
+no_size fault.Device h = cc
+no_size fault.OutOfMemory h = cc
+
+-- of what is answered and what is told the one is the other
+memory_device : (f : SinkFault) → let e : TiffError = OutOfMemory in e ≡ sink_error f → (let o : Option SinkFault = Some fault.Device in o ≡ Some f) → ⊥
+memory_device fault.Device a t = cc
+memory_device fault.OutOfMemory a t = cc
+
+device_memory : (f : SinkFault) → let e : TiffError = IoError Device in e ≡ sink_error f → (let o : Option SinkFault = Some fault.OutOfMemory in o ≡ Some f) → ⊥
+device_memory fault.Device a t = cc
+device_memory fault.OutOfMemory a t = cc
+
 pub cut : s.cut
-cut = record { fresh = refl; fault = inr refl; grew = lit< tt; count = 1; within = lit≤ tt; state = refl }
+cut = record { fresh = refl; fault = fault.Device; answer = refl; count = 1; within = lit< tt; state = refl }
 
 pub not_cut : s.not_cut
-not_cut = λ e new z c. let l : 0 < new.failures = c.grew in omega arith
+not_cut = λ e new z c. omega (arith, z, ap (λ (m : Encoded). m.failures) c.state)
+
+pub cut_swapped : s.cut_swapped
+cut_swapped = λ c. memory_device c.fault c.answer (ap (λ (m : Encoded). m.fault) c.state)
+
+pub cut_whole : s.cut_whole
+cut_whole = λ c.
+    let l : 9 ≡ length (header ++ take c.count (1 ∷ [])) = ap (λ (m : Encoded). length m.bytes) c.state in
+    omega (arith, l, c.within, length-append header (take c.count (1 ∷ [])), length-take-le {A = ℕ} c.count (1 ∷ []) (omega (arith, c.within)))
 
 pub torn : s.torn
-torn = record { fresh = refl; fault = inl refl; grew = lit< tt; count = 1; within = lit≤ tt; state = refl }
+torn = record { fresh = refl; fault = fault.OutOfMemory; answer = refl; count = 1; within = lit< tt; state = refl }
 
 pub not_torn : s.not_torn
-not_torn = λ e new z c. let l : 0 < new.failures = c.grew in omega arith
+not_torn = λ e new z c. omega (arith, z, ap (λ (m : Encoded). m.failures) c.state)
+
+pub torn_swapped : s.torn_swapped
+torn_swapped = λ c. device_memory c.fault c.answer (ap (λ (m : Encoded). m.fault) c.state)
+
+pub header_cut : s.header_cut
+header_cut = record {
+  last = record at_end { bytes = 1 ∷ 2 ∷ 0x49 ∷ []; fault = Some fault.Device; failures = 1 };
+  count = 1;
+  within = lit< tt;
+  bytes = refl;
+  grew = refl;
+  cause = fault.Device;
+  tells = refl;
+  answer = refl;
+}
+
+pub header_not_cut : s.header_not_cut
+header_not_cut = λ h. no_size h.cause h.answer
 
 pub wanting : s.wanting
 wanting = record { fresh = refl; fault = refl; count = 2; within = lit≤ tt; state = refl }
@@ -96,11 +141,11 @@ not_placed = λ p. let l : 8 ≤ 2 = p.linked in omega arith
 pub grown_one : s.grown_one
 grown_one = refl
 
-pub writable : s.writable
-writable = record { tag_fits = lit< tt; count = lit< tt; whole = refl; filled = λ h. refl }
+pub listable : s.listable
+listable = record { tag_fits = lit< tt; count = lit< tt; whole = refl }
 
-pub not_writable : s.not_writable
-not_writable = λ w. not_below w.tag_fits
+pub not_listable : s.not_listable
+not_listable = λ w. not_below w.tag_fits
 
 pub gray_fits : s.gray_fits
 gray_fits = fits

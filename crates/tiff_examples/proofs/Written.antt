@@ -23,7 +23,7 @@ use Rattle.tiff_examples.specs.Written as s
 abbrev pub bytes_by : FileKind → ℕ → List (ℕ × Field) → List ℕ
 bytes_by kind count fields = le (count_len kind) count ++ (flat_map (entry_bytes kind) fields ++ le (place_len kind) 0)
 
-directory_by : (kind : FileKind) (fields : List (ℕ × Field))
+pub directory_by : (kind : FileKind) (fields : List (ℕ × Field))
     → directory_bytes kind (from_entries {R = nat_cmp} fields) ≡ bytes_by kind (length (puts fields)) (puts fields)
 unfolding directory_bytes
 directory_by kind fields = λ i. bytes_by kind (len_puts fields i) (entries_puts fields i)

@@ -1,11 +1,13 @@
 -- Worked refusals of the writer.
 use Rattle.std.specs.Prelude.{◌≡◌, ℕ, true, false, List, [], ◌∷◌, length, Some, None, Result, Ok, Err}
 use Rattle.std.specs.FinMap.{len, entries}
+use Rattle.tiff_base.specs.declared.color.ChunkType.TheVariants.{Strip, Tile}
 use Rattle.tiff_base.specs.declared.error.TiffError.{TiffError}
 use Rattle.tiff_base.specs.declared.error.TiffError.TheVariants.{FormatError, IoError, IntSizeError, UsageError}
 use Rattle.tiff_base.specs.declared.error.TiffFormatError.TheVariants.{InvalidDimensions, InvalidTag}
-use Rattle.tiff_base.specs.declared.error.UsageError.TheVariants.{PredictorIncompatible, PredictorUnavailable, ZeroIfdPointer, ReconfiguredAfterImageWrite, ByteOrderMismatch, MismatchedEntryLength, ParentNotWritten, WriterFailed}
+use Rattle.tiff_base.specs.declared.error.UsageError.TheVariants.{PredictorIncompatible, PredictorUnavailable, ZeroIfdPointer, ReconfiguredAfterImageWrite, ByteOrderMismatch, MismatchedEntryLength, InvalidChunkType, ParentNotWritten, WriterFailed}
 use Rattle.tiff_base.specs.declared.io.IoKind.TheVariants.{InvalidData, InvalidInput}
+use Rattle.tiff_base.specs.declared.io.SinkFault.TheVariants.{Device}
 use Rattle.tiff_base.specs.declared.tags.ByteOrder.{ByteOrder}
 use Rattle.tiff_base.specs.declared.tags.ByteOrder.TheVariants.{LittleEndian, BigEndian}
 use Rattle.tiff_base.specs.declared.tags.ExtraSamples.{ExtraSamples}
@@ -13,6 +15,7 @@ use Rattle.tiff_base.specs.declared.tags.ExtraSamples.TheVariants.{Unspecified}
 use Rattle.tiff_base.specs.declared.tags.FileKind.{FileKind}
 use Rattle.tiff_base.specs.declared.tags.FileKind.TheVariants.{Classic, Big}
 use Rattle.tiff_base.specs.declared.tags.PhotometricInterpretation.TheVariants.{BlackIsZero, RGB}
+use Rattle.tiff_base.specs.declared.tags.PlanarConfiguration.TheVariants.{Chunky, Planar}
 use Rattle.tiff_base.specs.declared.tags.Predictor.TheVariants as predictor
 use Rattle.tiff_base.specs.declared.tags.SampleFormat.TheVariants.{Uint, IEEEFP}
 use Rattle.tiff_base.specs.declared.tags.«Type».TheVariants.{BYTE, SHORT}
@@ -21,7 +24,9 @@ use Rattle.tiff_value.specs.ColorType.{ColorTypeRecord}
 use Rattle.tiff_value.specs.Buffer.{BufferRecord}
 use Rattle.tiff_value.specs.Data.{FieldData, u16s, data_of}
 use Rattle.tiff_encode.specs.Machine.{FileState, OpenDirectory, OpenImage, begun}
-use Rattle.tiff_encode.specs.Calls.{opened, image_in, with_chunk}
+use Rattle.tiff_page.specs.Counts.{all_chunks}
+use Rattle.tiff_encode.specs.Chunks.{image_page, next_strip_sample_count, next_chunk_sample_count}
+use Rattle.tiff_encode.specs.Calls.{opened, image_in, with_chunk, strips_of, tiles_of}
 use Rattle.tiff_encode.specs.Causes as causes
 
 -- a file of a header alone, one whose sink failed, and one of these bytes
@@ -29,7 +34,7 @@ abbrev pub new_file : FileKind → FileState
 new_file kind = begun kind [] 0
 
 abbrev pub failed_file : FileState
-failed_file = record (new_file Classic) { failed = true; failures = 1 }
+failed_file = record (new_file Classic) { fault = Some Device; failures = 1 }
 
 abbrev pub file_with : FileKind → List ℕ → FileState
 file_with kind bytes = record (new_file kind) { bytes = bytes }
@@ -60,16 +65,22 @@ long_list = record { field_type = BYTE; count = 4294967296; bytes = [] }
 abbrev pub large_field : Field
 large_field = record { field_type = BYTE; count = 4294967296; value = [] }
 
--- images of one pixel: with no strip yet, and with its strip
+-- images of one pixel: with no chunk yet, and with its strip
 abbrev pub pixel : OpenImage
 pixel = image_in (new_file Classic) (opened (Some 4) true) gray 1 1 1
 
 abbrev pub written_pixel : OpenImage
-written_pixel = with_chunk pixel 24 1 (7 ∷ [])
+written_pixel = with_chunk pixel 24 1
 
 -- an image of the largest sides, in one strip
 abbrev pub largest : ColorTypeRecord → OpenImage
-largest colour = record (image_in (new_file Classic) (opened (Some 4) true) colour 1 4294967295 4294967295) { rows = 4294967295 }
+largest colour = record (image_in (new_file Classic) (opened (Some 4) true) colour 1 4294967295 4294967295) {
+  form = strips_of 4294967295 4294967295 Chunky;
+}
+
+-- the pixel's image in tiles
+abbrev pub tiled : OpenImage
+tiled = record pixel { form = tiles_of 16 16 Chunky }
 
 -- after a failed write each call that writes is refused for it, whatever else there is
 abbrev pub failed_begin : Type 0
@@ -286,20 +297,27 @@ unit_far = (bytes : List ℕ) → causes.resolution_unit_cause (file_with Classi
 
 -- samples of the next strip: one; none behind the last; and the largest number that is answered
 abbrev pub count_one : Type 0
-count_one = causes.next_sample_count pixel ≡ 1
+count_one = next_strip_sample_count pixel ≡ 1
 
 abbrev pub count_none : Type 0
-count_none = causes.next_sample_count written_pixel ≡ 0
+count_none = next_strip_sample_count written_pixel ≡ 0
 
 abbrev pub count_largest : Type 0
-count_largest = causes.next_sample_count (largest rgb) ≡ 18446744073709551615
+count_largest = next_strip_sample_count (largest rgb) ≡ 18446744073709551615
 
 -- three rows in strips of two: the last strip is shorter
 abbrev pub count_short : Type 0
-count_short = causes.next_sample_count (record written_pixel { width = 5; height = 3; rows = 2 }) ≡ 5
+count_short = next_strip_sample_count (record written_pixel { width = 5; height = 3; form = strips_of 5 2 Chunky }) ≡ 5
+
+-- a tile is no strip
+abbrev pub count_tile : Type 0
+count_tile = next_strip_sample_count tiled ≡ 0
+
+abbrev pub count_tiled : Type 0
+count_tiled = next_chunk_sample_count tiled ≡ 256
 
 abbrev pub strips_three : Type 0
-strips_three = causes.chunk_count (record pixel { height = 5; rows = 2 }) ≡ 3
+strips_three = all_chunks (image_page (record pixel { height = 5; form = strips_of 1 2 Chunky })) ≡ 3
 
 -- a strip of two samples in place of one; an empty one behind the last; one past four bytes
 abbrev pub strip_two : Type 0
@@ -317,6 +335,40 @@ strip_far = (bytes : List ℕ) → length bytes ≡ 4294967296 → causes.write_
 abbrev pub strip_stored_far : Type 0
 strip_stored_far = causes.write_strip_cause (new_file Classic) pixel 1 4294967296 ≡ Some IntSizeError
 
+-- tiles: no strips of them, and no rows of a strip
+abbrev pub strip_tile : Type 0
+strip_tile = causes.write_strip_cause (new_file Classic) tiled 256 256 ≡ Some (UsageError (InvalidChunkType Strip Tile))
+
+abbrev pub tile_whole : Type 0
+tile_whole = causes.write_chunk_cause (new_file Classic) tiled 256 256 ≡ None
+
+abbrev pub rows_tile : Type 0
+rows_tile = causes.rows_per_strip_cause (new_file Classic) tiled 2 ≡ Some (IoError InvalidInput)
+
+-- their sides are multiples of 16; they are set, as planes are, before a chunk is written, which is told first
+abbrev pub tiles_zero : Type 0
+tiles_zero = causes.tiles_cause (new_file Classic) pixel 0 16 ≡ Some (IoError InvalidInput)
+
+abbrev pub tiles_eight : Type 0
+tiles_eight = causes.tiles_cause (new_file Classic) pixel 16 8 ≡ Some (IoError InvalidInput)
+
+abbrev pub tiles_late : Type 0
+tiles_late = causes.tiles_cause (new_file Classic) written_pixel 0 0 ≡ Some (UsageError ReconfiguredAfterImageWrite)
+
+abbrev pub tiles_fit : Type 0
+tiles_fit = causes.tiles_cause (new_file Classic) pixel 32 16 ≡ None
+
+abbrev pub planar_late : Type 0
+planar_late = causes.planar_cause (new_file Classic) written_pixel ≡ Some (UsageError ReconfiguredAfterImageWrite)
+
+abbrev pub planar_fits : Type 0
+planar_fits = causes.planar_cause (new_file Classic) pixel ≡ None
+
+-- more than 2^32 - 1 chunks, told before the number of samples: of 2 planes in strips of a row
+abbrev pub many_chunks : Type 0
+many_chunks = causes.write_chunk_cause (new_file Big)
+    (record (largest gray) { extra = Unspecified ∷ []; form = strips_of 4294967295 1 Planar }) 0 0 ≡ Some IntSizeError
+
 -- an image whose samples no list can hold, told before too few; too few
 abbrev pub image_large : Type 0
 image_large = causes.write_image_data_cause (new_file Classic) (largest rgb) 0 ≡ Some (IoError InvalidInput)
@@ -326,3 +378,10 @@ image_few = causes.write_image_data_cause (new_file Classic) (largest gray) 0 �
 
 abbrev pub image_enough : Type 0
 image_enough = causes.write_image_data_cause (new_file Classic) pixel 2 ≡ None
+
+-- behind a tile no image goes on; behind a strip it does
+abbrev pub image_tiled : Type 0
+image_tiled = causes.write_image_data_cause (new_file Classic) (with_chunk tiled 24 256) 1 ≡ Some (IoError InvalidInput)
+
+abbrev pub image_goes_on : Type 0
+image_goes_on = causes.write_image_data_cause (new_file Classic) written_pixel 1 ≡ None

@@ -8,6 +8,7 @@ use Rattle.tiff_base.specs.declared.tags.CompressionMethod.TheVariants as method
 use Rattle.tiff_base.specs.declared.tags.ExtraSamples.TheVariants.{Unspecified, AssociatedAlpha}
 use Rattle.tiff_base.specs.declared.tags.FileKind.TheVariants.{Classic, Big}
 use Rattle.tiff_base.specs.declared.tags.PhotometricInterpretation.TheVariants.{BlackIsZero, YCbCr}
+use Rattle.tiff_base.specs.declared.tags.PlanarConfiguration.TheVariants.{Chunky}
 use Rattle.tiff_base.specs.declared.tags.Predictor.TheVariants as predictor
 use Rattle.tiff_base.specs.declared.tags.ResolutionUnit.TheVariants as unit
 use Rattle.tiff_base.specs.declared.tags.SampleFormat.TheVariants.{Uint}
@@ -19,8 +20,9 @@ use Rattle.tiff_encode.specs.declared.encoder.settings.Compression.TheVariants.{
 use Rattle.tiff_encode.specs.Written.{short_field, long_field, rational_field, one_to_one, header_bytes}
 use Rattle.tiff_encode.specs.Machine.{FileState, OpenImage}
 use Rattle.tiff_encode.specs.Calls as calls
-use Rattle.tiff_encode.specs.Calls.{Offsets, opened, image_in, with_chunk}
-use Rattle.tiff_encode.specs.Stored.{strip_bytes, AreStored}
+use Rattle.tiff_encode.specs.Chunks.{parts_left}
+use Rattle.tiff_encode.specs.Calls.{Offsets, opened, image_in, with_chunk, strips_of}
+use Rattle.tiff_encode.specs.Stored.{chunk_bytes, AreStored}
 use Rattle.tiff_examples.specs.Files.{gray_file}
 use Rattle.tiff_examples.specs.Causes.{new_file, failed_file, file_with, gray, rgb, pixel, written_pixel}
 use Rattle.tiff_examples.specs.Calls.{IsSeen, header, with_fields}
@@ -56,10 +58,10 @@ no_side = calls.new_image gray 1 0 5 (new_file Classic) ≡ record { answer = Er
 
 -- the rows of a strip: of 300 bytes a row; packed
 abbrev pub rows_300 : Type 0
-rows_300 = (image_in (new_file Classic) (opened None true) rgb 1 100 100).rows ≡ 3334
+rows_300 = (image_in (new_file Classic) (opened None true) rgb 1 100 100).form ≡ strips_of 100 3334 Chunky
 
 abbrev pub rows_packed : Type 0
-rows_packed = (image_in (record (new_file Classic) { method = method.PackBits }) (opened None true) rgb 1 100 100).rows ≡ 1
+rows_packed = (image_in (record (new_file Classic) { method = method.PackBits }) (opened None true) rgb 1 100 100).form ≡ strips_of 100 1 Chunky
 
 -- the tags that a new image writes, in this order; YCbCr names its subsampling
 abbrev pub tags_gray : Type 0
@@ -103,7 +105,7 @@ extra_late = IsSeen (calls.extra_samples written_pixel [] (new_file Classic)) (E
 -- rows of a strip, by hand
 abbrev pub rows_set : Type 0
 rows_set = IsSeen (calls.set_rows_per_strip pixel 2 (new_file Classic))
-    (Ok (record pixel { directory = with_fields (opened (Some 4) true) ((278, long_field 2) ∷ []); rows = 2 })) header
+    (Ok (record pixel { directory = with_fields (opened (Some 4) true) ((278, long_field 2) ∷ []); form = strips_of 1 2 Chunky })) header
 
 abbrev pub rows_none : Type 0
 rows_none = IsSeen (calls.set_rows_per_strip pixel 0 (new_file Classic)) (Err (IoError InvalidInput)) header
@@ -147,45 +149,56 @@ unit_stopped = IsSeen (calls.resolution_unit pixel unit.Inch failed_file) (Err (
 
 -- ---- strips
 
--- a strip: its bytes, its place and its samples
+-- a strip: its bytes and its place
 abbrev pub strip_written : Type 0
-strip_written = IsSeen (calls.write_strip pixel (7 ∷ []) (7 ∷ []) (file_with Classic (header ++ resolutions))) (Ok written_pixel) (header ++ resolutions ++ (7 ∷ []))
+strip_written = IsSeen (calls.write_strip pixel 1 (7 ∷ []) (file_with Classic (header ++ resolutions))) (Ok written_pixel) (header ++ resolutions ++ (7 ∷ []))
 
 -- an empty one behind the last leaves all as it was
 abbrev pub strip_behind : Type 0
-strip_behind = calls.write_strip written_pixel [] [] (new_file Classic) ≡ record { answer = Err (IoError InvalidData); deeds = []; next = new_file Classic }
+strip_behind = calls.write_strip written_pixel 0 [] (new_file Classic) ≡ record { answer = Err (IoError InvalidData); deeds = []; next = new_file Classic }
 
 -- two pixels of RGB with an extra sample, differenced
 abbrev pub two_pixels : OpenImage
-two_pixels = record pixel { width = 2; colour = rgb; extra = Unspecified ∷ []; predictor = predictor.Horizontal }
+two_pixels = record pixel { width = 2; colour = rgb; extra = Unspecified ∷ []; predictor = predictor.Horizontal; form = strips_of 2 1 Chunky }
 
 abbrev pub differenced : Type 0
-differenced = strip_bytes two_pixels (1 ∷ 2 ∷ 3 ∷ 9 ∷ 2 ∷ 4 ∷ 6 ∷ 9 ∷ []) ≡ (1 ∷ 2 ∷ 3 ∷ 9 ∷ 1 ∷ 2 ∷ 3 ∷ 0 ∷ [])
+differenced = chunk_bytes two_pixels (1 ∷ 2 ∷ 3 ∷ 9 ∷ 2 ∷ 4 ∷ 6 ∷ 9 ∷ []) ≡ (1 ∷ 2 ∷ 3 ∷ 9 ∷ 1 ∷ 2 ∷ 3 ∷ 0 ∷ [])
 
 -- two rows of two numbers of two bytes: each row begins anew
 abbrev pub two_rows : Type 0
-two_rows = strip_bytes (record pixel { width = 2; size = 2; predictor = predictor.Horizontal }) (258 ∷ 257 ∷ 5 ∷ 6 ∷ [])
+two_rows = chunk_bytes (record pixel { width = 2; size = 2; predictor = predictor.Horizontal; form = strips_of 2 2 Chunky }) (258 ∷ 257 ∷ 5 ∷ 6 ∷ [])
     ≡ (2 ∷ 1 ∷ 0xff ∷ 0xff ∷ 5 ∷ 0 ∷ 1 ∷ 0 ∷ [])
 
 abbrev pub not_differenced : Type 0
-not_differenced = strip_bytes (record pixel { size = 4 }) (258 ∷ []) ≡ (2 ∷ 1 ∷ 0 ∷ 0 ∷ [])
+not_differenced = chunk_bytes (record pixel { size = 4 }) (258 ∷ []) ≡ (2 ∷ 1 ∷ 0 ∷ 0 ∷ [])
 
 -- two strips, of two rows and of one, which stand as they are
 abbrev pub two_strips : OpenImage
-two_strips = record pixel { height = 3; rows = 2 }
-
-abbrev pub strips_stored : Type 0
-strips_stored = AreStored two_strips (1 ∷ 2 ∷ 3 ∷ []) ((1 ∷ 2 ∷ []) ∷ (3 ∷ []) ∷ [])
-
--- one strip alone is too few
-abbrev pub one_stored : Type 0
-one_stored = AreStored two_strips (1 ∷ 2 ∷ 3 ∷ []) ((1 ∷ 2 ∷ []) ∷ []) → ⊥
+two_strips = record pixel { height = 3; form = strips_of 1 2 Chunky }
 
 -- they are taken from the front of the samples
+abbrev pub strips_parted : Type 0
+strips_parted = parts_left two_strips (1 ∷ 2 ∷ 3 ∷ 4 ∷ []) ≡ (1 ∷ 2 ∷ []) ∷ (3 ∷ []) ∷ []
+
+-- behind the first one the second is taken from the front
+abbrev pub strips_after : Type 0
+strips_after = parts_left (with_chunk two_strips 8 2) (1 ∷ 2 ∷ 3 ∷ []) ≡ (1 ∷ []) ∷ []
+
+abbrev pub strips_stored : Type 0
+strips_stored = AreStored two_strips ((1 ∷ 2 ∷ []) ∷ (3 ∷ []) ∷ []) ((1 ∷ 2 ∷ []) ∷ (3 ∷ []) ∷ [])
+
+-- the first strip alone, before the other is
+abbrev pub one_stored : Type 0
+one_stored = AreStored two_strips ((1 ∷ 2 ∷ []) ∷ (3 ∷ []) ∷ []) ((1 ∷ 2 ∷ []) ∷ [])
+
+-- no bytes are stored for a strip that isn't there
+abbrev pub none_stored : Type 0
+none_stored = AreStored pixel ((7 ∷ []) ∷ []) ((7 ∷ []) ∷ [] ∷ []) → ⊥
+
 abbrev pub strips_taken : Type 0
 strips_taken =
-    IsSeen (calls.write_strips two_strips (1 ∷ 2 ∷ 3 ∷ 4 ∷ []) ((1 ∷ 2 ∷ []) ∷ (3 ∷ []) ∷ []) (new_file Classic))
-    (Ok (with_chunk (with_chunk two_strips 8 2 (1 ∷ 2 ∷ [])) 10 1 (3 ∷ []))) (header ++ (1 ∷ 2 ∷ 3 ∷ []))
+    IsSeen (calls.write_chunks two_strips ((1 ∷ 2 ∷ []) ∷ (3 ∷ []) ∷ []) ((1 ∷ 2 ∷ []) ∷ (3 ∷ []) ∷ []) (new_file Classic))
+    (Ok (with_chunk (with_chunk two_strips 8 2) 10 1)) (header ++ (1 ∷ 2 ∷ 3 ∷ []))
 
 -- ---- whole images
 

@@ -10,7 +10,7 @@ use Rattle.tiff_base.specs.Told.{put}
 use Rattle.tiff_ifd.specs.Limits.{unlimited}
 use Rattle.tiff_encode.specs.Written.{long_field}
 use Rattle.tiff_encode.specs.Model.{header_model}
-use Rattle.tiff_encode.specs.Laws.{IsWritable, IsGrayPage}
+use Rattle.tiff_encode.specs.Laws.{IsListable, IsGrayPage}
 use Rattle.tiff_encode.specs.Encoder.{Encoded, stand_in}
 use Rattle.tiff_encode.specs.Shows.{ReadsAs, LeavesPage, ShowsOnePage, strip_page}
 use Rattle.tiff_encode.specs.Steps.{IsPlaced, Stops, Appends, Links, Finishes, first_cause, strip_cause}
@@ -46,7 +46,7 @@ leaves_unlinked = LeavesPage (header_model Classic) header 4 1 1 (7 ∷ []) (hea
 
 -- a value field of fewer than eight bytes; a page past 4 bytes
 abbrev pub short_value : Type 0
-short_value = IsWritable Classic 256 (record (long_field 5) { value = 5 ∷ 0 ∷ 0 ∷ 0 ∷ [] }) → ⊥
+short_value = IsListable Classic 256 (record (long_field 5) { value = 5 ∷ 0 ∷ 0 ∷ 0 ∷ [] }) → ⊥
 
 abbrev pub gray_far : Type 0
 gray_far = IsGrayPage 4294967296 1 1 (7 ∷ []) → ⊥

@@ -1,14 +1,19 @@
 -- Worked models of what was written, and what calls do to them.
-use Rattle.std.specs.Prelude.{◌≡◌, ℕ, List, [], ◌∷◌, take, Some, None, Ok, Err}
+use Rattle.std.specs.Prelude.{◌≡◌, ℕ, List, [], ◌∷◌, ◌++◌, take, Some, None, Ok, Err}
 use Rattle.std.specs.FinMap.{FinMap, from_entries}
 use Rattle.std.specs.Ordering.{nat_cmp}
 use Rattle.tiff_base.specs.declared.error.TiffError.TheVariants.{IntSizeError}
 use Rattle.tiff_base.specs.declared.tags.FileKind.TheVariants.{Classic, Big}
+use Rattle.tiff_base.specs.declared.tags.ByteOrder.TheVariants.{LittleEndian}
+use Rattle.tiff_base.specs.declared.tags.«Type».TheVariants.{SHORT}
 use Rattle.tiff_base.specs.Field.{Field}
-use Rattle.tiff_encode.specs.Written.{long_field}
-use Rattle.tiff_encode.specs.Model.{In, FinishedDirectory, Region, Model, IsLink, IsClear, IsApart, own_link, Stands, header_model, relinked, with_directory, with_region, with_handed, Grows}
+use Rattle.tiff_base.specs.Directory.{directory_at}
+use Rattle.tiff_encode.specs.Written.{short_field, long_field, rational_field, one_to_one}
+use Rattle.tiff_encode.specs.Laws.{DeedFits, DeedsFit, AreAppending}
+use Rattle.tiff_encode.specs.Model.{AreApart, In, FinishedDirectory, HandedField, Region, Model, IsLink, IsClear, IsApart, own_link, whole_len, Stands, header_model, relinked, with_directory, with_region, with_handed, Grows}
 use Rattle.tiff_encode.specs.Shows.{Shows, ShowsOnePage, gray_image}
-use Rattle.tiff_encode.specs.Machine.{Appended, Handed, Listed, Linked, begun, after_deed, bytes_after, appended_by, model_after, answers, gives, does, by_cause, ◌>>=◌}
+use Rattle.tiff_encode.specs.Deeds.{Appended, Handed, Listed, Linked, after_deed, bytes_after, all_appended, standing_field, model_after}
+use Rattle.tiff_encode.specs.Machine.{begun, answers, gives, does, by_cause, ◌>>=◌}
 use Rattle.tiff_examples.specs.Files.{gray_file}
 use Rattle.tiff_examples.specs.Causes.{new_file, file_with}
 use Rattle.tiff_examples.specs.Calls.{header}
@@ -69,6 +74,20 @@ before = IsClear Classic 4 0 4
 
 abbrev pub not_clear : Type 0
 not_clear = IsClear Classic 4 7 2 → ⊥
+
+-- bytes next to each other, and some that overlap
+abbrev pub next_to : Type 0
+next_to = AreApart 4 4 8 1
+
+abbrev pub overlapping : Type 0
+overlapping = AreApart 7 2 8 1 → ⊥
+
+-- a directory of one entry, with its link; no region stands over it
+abbrev pub whole_18 : Type 0
+whole_18 = whole_len Classic directory_8 ≡ 18
+
+abbrev pub overlaid : Type 0
+overlaid = (file : List ℕ) → Stands Classic file (with_region first_model (record { place = 9; bytes = 7 ∷ [] })) → ⊥
 
 -- it lies in 8 bytes, and not in 7
 abbrev pub apart : Type 0
@@ -146,10 +165,10 @@ abbrev pub deeds_none : Type 0
 deeds_none = bytes_after Classic six [] ≡ six
 
 abbrev pub appended_both : Type 0
-appended_both = appended_by Classic (Appended (1 ∷ []) ∷ Linked 4 8 ∷ Appended (2 ∷ 3 ∷ []) ∷ []) ≡ (1 ∷ 2 ∷ 3 ∷ [])
+appended_both = all_appended Classic (Appended (1 ∷ []) ∷ Linked 4 8 ∷ Appended (2 ∷ 3 ∷ []) ∷ []) ≡ (1 ∷ 2 ∷ 3 ∷ [])
 
 abbrev pub appended_none : Type 0
-appended_none = appended_by Classic (Handed (record { field = long_field 5; bytes = 5 ∷ [] }) ∷ []) ≡ []
+appended_none = all_appended Classic (Handed (record { field = long_field 5; bytes = 5 ∷ [] }) ∷ []) ≡ []
 
 -- the model after them: each region stands where it was appended
 abbrev pub model_regions : Type 0
@@ -161,6 +180,73 @@ abbrev pub model_finished : Type 0
 model_finished =
     model_after Classic header (header_model Classic) (Listed fields_5 ∷ Linked 4 8 ∷ [])
     ≡ relinked Classic first_model 4 8
+
+-- ---- fields as they stand
+
+-- a field with a value field of eight bytes, made by hand: in a classic file four of them stand, and are read
+abbrev pub wide_field : Field
+wide_field = record { field_type = SHORT; count = 1; value = 1 ∷ 0 ∷ 0 ∷ 0 ∷ 5 ∷ 0 ∷ 0 ∷ 0 ∷ [] }
+
+abbrev pub wide_fields : FinMap nat_cmp Field
+wide_fields = from_entries ((256, wide_field) ∷ [])
+
+abbrev pub wide_file : List ℕ
+wide_file =
+    header
+    ++ (0x01 ∷ 0x00 ∷ [])
+    ++ (0x00 ∷ 0x01 ∷ 0x03 ∷ 0x00 ∷ 0x01 ∷ 0x00 ∷ 0x00 ∷ 0x00 ∷ 0x01 ∷ 0x00 ∷ 0x00 ∷ 0x00 ∷ [])
+    ++ (0x00 ∷ 0x00 ∷ 0x00 ∷ 0x00 ∷ [])
+
+abbrev pub wide_cut : Type 0
+wide_cut = standing_field Classic wide_field ≡ short_field 1
+
+abbrev pub wide_whole : Type 0
+wide_whole = standing_field Big wide_field ≡ wide_field
+
+abbrev pub wide_listed : Type 0
+wide_listed = bytes_after Classic header (Listed wide_fields ∷ []) ≡ wide_file
+
+abbrev pub wide_read : Type 0
+wide_read = directory_at Classic LittleEndian wide_file 8 ≡ Ok (record { entries = from_entries ((256, short_field 1) ∷ []); next = None })
+
+abbrev pub wide_stands : Type 0
+wide_stands = Stands Classic wide_file (model_after Classic header (header_model Classic) (Listed wide_fields ∷ []))
+
+abbrev pub wide_as_given : Type 0
+wide_as_given = Stands Classic wide_file (with_directory Classic (header_model Classic) (record { place = 8; fields = wide_fields })) → ⊥
+
+-- ---- deeds that fit
+
+-- the bytes of a field in its entry, and not others
+abbrev pub fits_inline : Type 0
+fits_inline = DeedFits Classic (header_model Classic) (Handed (record { field = short_field 2; bytes = 2 ∷ 0 ∷ [] }))
+
+abbrev pub fits_other : Type 0
+fits_other = DeedFits Classic (header_model Classic) (Handed (record { field = short_field 2; bytes = 3 ∷ 0 ∷ [] })) → ⊥
+
+-- those that were appended, and not before they were
+abbrev pub handed_one : HandedField
+handed_one = record { field = rational_field 8; bytes = one_to_one }
+
+abbrev pub fits_appended : Type 0
+fits_appended = DeedsFit Classic header (header_model Classic) (Appended one_to_one ∷ Handed handed_one ∷ [])
+
+abbrev pub fits_early : Type 0
+fits_early = DeedsFit Classic header (header_model Classic) (Handed handed_one ∷ Appended one_to_one ∷ []) → ⊥
+
+-- a directory, to which the header links; no other place is a link
+abbrev pub fits_listed : Type 0
+fits_listed = DeedsFit Classic header (header_model Classic) (Listed wide_fields ∷ Linked 4 8 ∷ [])
+
+abbrev pub fits_no_link : Type 0
+fits_no_link = DeedFits Classic (header_model Classic) (Linked 5 8) → ⊥
+
+-- deeds that append, and one that does not
+abbrev pub appending : Type 0
+appending = AreAppending (Appended six ∷ Handed handed_one ∷ Listed fields_5 ∷ [])
+
+abbrev pub not_appending : Type 0
+not_appending = AreAppending (Appended six ∷ Linked 4 8 ∷ []) → ⊥
 
 -- calls one after another: what they do is joined, and a fault ends them
 abbrev pub joined : Type 0

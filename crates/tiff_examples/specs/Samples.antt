@@ -9,8 +9,9 @@ use Rattle.tiff_base.specs.declared.tags.PhotometricInterpretation.TheVariants.{
 use Rattle.tiff_base.specs.declared.tags.Predictor.TheVariants as predictor
 use Rattle.tiff_base.specs.declared.tags.SampleFormat.TheVariants.{Uint, Int, IEEEFP}
 use Rattle.tiff_value.specs.declared.encoder.colortype.ColorTypeName.TheVariants as n
-use Rattle.tiff_value.specs.ColorTypes.{colour_type, inner_size}
-use Rattle.tiff_value.specs.Differences.{differences, horizontal_row, restored}
+use Rattle.tiff_value.specs.ColorTypes.{colour_type, inner_size, inner_type}
+use Rattle.tiff_value.specs.Differences.{differences, restored}
+use Rattle.tiff_value.specs.Predicted.{row_of_type}
 use Rattle.tiff_value.specs.Packed.{headers_after, literals_after, is_sparing, packed_bound, IsPacked, IsStored, store_fault}
 
 -- what colour types say of their samples
@@ -75,45 +76,45 @@ size_rgba32_float =
 -- a row of two pixels of three numbers
 abbrev pub two_pixels : Type 0
 two_pixels =
-    horizontal_row n.RGB8 3 (10 ∷ 20 ∷ 30 ∷ 0 ∷ 0 ∷ 0 ∷ []) ≡ Ok (10 ∷ 20 ∷ 30 ∷ 246 ∷ 236 ∷ 226 ∷ [])
+    row_of_type (inner_type n.RGB8) 3 (10 ∷ 20 ∷ 30 ∷ 0 ∷ 0 ∷ 0 ∷ []) ≡ Ok (10 ∷ 20 ∷ 30 ∷ 246 ∷ 236 ∷ 226 ∷ [])
 
 -- extra samples count in a pixel
 abbrev pub extra_number : Type 0
 extra_number =
-    horizontal_row n.RGB8 4 (1 ∷ 2 ∷ 3 ∷ 9 ∷ 2 ∷ 4 ∷ 6 ∷ 9 ∷ []) ≡ Ok (1 ∷ 2 ∷ 3 ∷ 9 ∷ 1 ∷ 2 ∷ 3 ∷ 0 ∷ [])
+    row_of_type (inner_type n.RGB8) 4 (1 ∷ 2 ∷ 3 ∷ 9 ∷ 2 ∷ 4 ∷ 6 ∷ 9 ∷ []) ≡ Ok (1 ∷ 2 ∷ 3 ∷ 9 ∷ 1 ∷ 2 ∷ 3 ∷ 0 ∷ [])
 
 -- numbers of two bytes
 abbrev pub wide_numbers : Type 0
 wide_numbers =
-    horizontal_row n.Gray16 1 (1 ∷ 0 ∷ []) ≡ Ok (1 ∷ 65535 ∷ [])
+    row_of_type (inner_type n.Gray16) 1 (1 ∷ 0 ∷ []) ≡ Ok (1 ∷ 65535 ∷ [])
 
 -- signed numbers, by their bits: 1, -1
 abbrev pub signed_numbers : Type 0
 signed_numbers =
-    horizontal_row n.GrayI8 1 (1 ∷ 255 ∷ []) ≡ Ok (1 ∷ 254 ∷ [])
+    row_of_type (inner_type n.GrayI8) 1 (1 ∷ 255 ∷ []) ≡ Ok (1 ∷ 254 ∷ [])
 
 -- a pixel without numbers, and a row shorter than a pixel
 abbrev pub no_pixel : Type 0
 no_pixel =
-    horizontal_row n.Gray8 0 (1 ∷ 2 ∷ []) ≡ Ok []
+    row_of_type (inner_type n.Gray8) 0 (1 ∷ 2 ∷ []) ≡ Ok []
 
 abbrev pub short_row : Type 0
 short_row =
-    horizontal_row n.RGB8 3 (1 ∷ 2 ∷ []) ≡ Ok []
+    row_of_type (inner_type n.RGB8) 3 (1 ∷ 2 ∷ []) ≡ Ok []
 
 -- a row of one pixel
 abbrev pub one_pixel : Type 0
 one_pixel =
-    horizontal_row n.RGB8 3 (1 ∷ 2 ∷ 3 ∷ []) ≡ Ok (1 ∷ 2 ∷ 3 ∷ [])
+    row_of_type (inner_type n.RGB8) 3 (1 ∷ 2 ∷ 3 ∷ []) ≡ Ok (1 ∷ 2 ∷ 3 ∷ [])
 
 -- floating numbers have no differences, whatever the row
 abbrev pub floating_row : Type 0
 floating_row =
-    horizontal_row n.Gray32Float 1 (1 ∷ 2 ∷ []) ≡ Err (UsageError PredictorIncompatible)
+    row_of_type (inner_type n.Gray32Float) 1 (1 ∷ 2 ∷ []) ≡ Err (UsageError PredictorIncompatible)
 
 abbrev pub floating_no_pixel : Type 0
 floating_no_pixel =
-    horizontal_row n.Gray64Float 0 [] ≡ Err (UsageError PredictorIncompatible)
+    row_of_type (inner_type n.Gray64Float) 0 [] ≡ Err (UsageError PredictorIncompatible)
 
 -- two rows of two numbers: each row begins anew
 abbrev pub two_rows : Type 0

@@ -1,17 +1,19 @@
 -- Worked values that are written, bytes that are stored, rows as differences; and where chunks stand in an image.
-use Rattle.std.specs.Prelude.{◌≡◌, ℕ, ◌^◌, ◌-◌, [], ◌∷◌, true, false, Ok, Err}
+use Rattle.std.specs.Prelude.{◌≡◌, ℕ, ◌^◌, ◌-◌, [], ◌∷◌, Some, None, true, false, Ok, Err}
 use Rattle.tiff_base.specs.declared.color.ColorType.TheVariants.{Multiband}
 use Rattle.tiff_base.specs.declared.error.TiffError.TheVariants.{FormatError, IntSizeError, IoError, OutOfMemory, UsageError}
 use Rattle.tiff_base.specs.declared.error.TiffFormatError.TheVariants.{InvalidTag}
 use Rattle.tiff_base.specs.declared.error.UsageError.TheVariants.{PredictorIncompatible}
+use Rattle.tiff_base.specs.declared.error.UsageError.TheVariants as usage
 use Rattle.tiff_base.specs.declared.io.IoKind.TheVariants.{WriteZero}
+use Rattle.tiff_base.specs.declared.io.SinkFault.TheVariants as fault
 use Rattle.tiff_base.specs.declared.tags.ByteOrder.TheVariants.{LittleEndian}
 use Rattle.tiff_base.specs.declared.tags.CompressionMethod.TheVariants as method
 use Rattle.tiff_base.specs.declared.tags.«Type».TheVariants as t
 use Rattle.tiff_value.specs.Buffer.{buffer_given}
 use Rattle.tiff_value.specs.Data.{u8s, u16s, data_of, text_data}
 use Rattle.tiff_value.specs.Predicted.{row_of_type, AppendsRow}
-use Rattle.tiff_value.specs.Stored.{takes_memory, StoreWants, Stores}
+use Rattle.tiff_value.specs.Stored.{takes_memory, StoreWants, Stores, StoresBytes}
 use Rattle.tiff_value.specs.Values.{values_in, IsValue, byte_count, IsWanting, IsRefused, WritesValue}
 use Rattle.tiff_value.specs.Written.{Written}
 use Rattle.tiff_page.specs.Layout.{LayoutRecord}
@@ -22,7 +24,11 @@ use Rattle.tiff_examples.specs.Lists.{Never}
 
 -- a writer that stands behind the first of three bytes
 abbrev pub three : Written
-three = record { bytes = 1 ∷ 2 ∷ 3 ∷ []; at = 1; failed = false; failures = 0; last = 0 }
+three = record { bytes = 1 ∷ 2 ∷ 3 ∷ []; at = 1; fault = None; failures = 0; last = 0; method = method.None }
+
+-- the same after a fault of its sink's device
+abbrev pub broken : Written
+broken = record three { fault = Some fault.Device; failures = 1 }
 
 -- ---- values
 
@@ -60,6 +66,18 @@ wanting = IsWanting OutOfMemory three three
 abbrev pub refused : Type 0
 refused = IsRefused (FormatError InvalidTag) (FormatError InvalidTag) three three
 
+-- after a failed write a value is neither refused nor wanting: that write is told first
+abbrev pub value_stopped : Type 0
+value_stopped =
+    WritesValue {A = ℕ} (Ok (data_of (u8s (9 ∷ [])))) broken broken (Err (UsageError usage.WriterFailed))
+    × WritesValue {A = ℕ} (text_data (0xe9 ∷ [])) broken broken (Err (UsageError usage.WriterFailed))
+
+abbrev pub value_not_wanting : Type 0
+value_not_wanting = Never (WritesValue {A = ℕ} (Ok (data_of (u8s (9 ∷ [])))) broken broken (Err OutOfMemory))
+
+abbrev pub value_not_refused : Type 0
+value_not_refused = Never (WritesValue {A = ℕ} (text_data (0xe9 ∷ [])) broken broken (Err (FormatError InvalidTag)))
+
 abbrev pub not_refused : Type 0
 not_refused = Never (IsRefused (FormatError InvalidTag) OutOfMemory three three)
 
@@ -87,6 +105,14 @@ packing_takes = takes_memory method.PackBits ≡ true
 -- no bytes are stored as they are, and can't be packed
 abbrev pub stores_none : Type 0
 stores_none = Stores method.None [] three three (Ok 0)
+
+-- another length is answered
+abbrev pub stores_miscounted : Type 0
+stores_miscounted = Never (Stores method.None [] three three (Ok 1))
+
+-- a byte that is packed is told as two
+abbrev pub packs_one : Type 0
+packs_one = StoresBytes {A = ℕ} method.PackBits (9 ∷ []) three (record three { bytes = 1 ∷ 0 ∷ 9 ∷ []; at = 3; last = 2 }) (Ok 0)
 
 abbrev pub packs_none : Type 0
 packs_none = Stores method.PackBits [] three three (Err (IoError WriteZero))

@@ -1,9 +1,10 @@
 -- Worked image jobs, and their parts.
-use Rattle.std.specs.Prelude.{◌≡◌, ℕ, true, [], ◌∷◌, ◌++◌, Option, Some, None, Ok, Err}
+use Rattle.std.specs.Prelude.{◌≡◌, ℕ, true, List, [], ◌∷◌, ◌++◌, Option, Some, None, Ok, Err}
 use Rattle.std.specs.Global.{Vec}
 use Rattle.tiff_base.specs.declared.error.TiffError.TheVariants.{FormatError, IoError, IntSizeError, OutOfMemory}
 use Rattle.tiff_base.specs.declared.error.TiffFormatError.TheVariants.{InvalidDimensions}
-use Rattle.tiff_base.specs.declared.io.IoKind.TheVariants.{InvalidData}
+use Rattle.tiff_base.specs.declared.io.IoKind.TheVariants.{InvalidData, Device}
+use Rattle.tiff_base.specs.declared.io.SinkFault.TheVariants as fault
 use Rattle.tiff_base.specs.declared.tags.FileKind.TheVariants.{Classic}
 use Rattle.tiff_base.specs.declared.tags.ResolutionUnit.TheVariants as unit
 use Rattle.tiff_value.specs.declared.encoder.colortype.ColorTypeName.TheVariants as name
@@ -16,15 +17,16 @@ use Rattle.tiff_encode.specs.declared.encoder.script.EndReply.TheVariants as las
 use Rattle.tiff_encode.specs.declared.encoder.script.JobReply.{JobReply}
 use Rattle.tiff_encode.specs.Written.{short_field, rational_field}
 use Rattle.tiff_encode.specs.Model.{header_model}
-use Rattle.tiff_encode.specs.Machine.{OpenImage, Told, Appended, Handed, model_after}
+use Rattle.tiff_encode.specs.Deeds.{Appended, Handed, model_after}
+use Rattle.tiff_encode.specs.Machine.{OpenImage, Told}
 use Rattle.tiff_encode.specs.Calls as calls
 use Rattle.tiff_encode.specs.Calls.{Offsets, opened}
 use Rattle.tiff_encode.specs.Jobs as jobs
-use Rattle.tiff_encode.specs.Jobs.{Standing, Run, started}
+use Rattle.tiff_encode.specs.Jobs.{Standing, Drawn, Run, Finished}
 use Rattle.tiff_examples.specs.Causes.{new_file, file_with, gray, pixel}
 use Rattle.tiff_examples.specs.Calls.{header, with_fields}
-use Rattle.tiff_examples.specs.Images.{new_pixel, pixel_in_file, resolutions}
-use Rattle.tiff_examples.specs.Jobs.{first}
+use Rattle.tiff_examples.specs.Images.{new_pixel, pixel_in_file, resolutions, two_strips}
+use Rattle.tiff_examples.specs.Jobs.{first, run_begun, drawn}
 
 -- ---- strips and resolutions
 
@@ -52,18 +54,34 @@ after_strip = record {
 abbrev pub strip_stood : Type 0
 strip_stood = jobs.Strips new_pixel (7 ∷ []) (Ok reply.Nothing) after_begin after_strip pixel_in_file
 
-abbrev pub strip_found : Type 0
-strip_found = jobs.StripsIfFound new_pixel (7 ∷ []) (Ok reply.Nothing) after_begin after_strip pixel_in_file
+-- with the samples of its chunks
+abbrev pub drawn_new : Drawn
+drawn_new = record { image = new_pixel; samples = [] }
 
--- no memory for its sample; the wrong number of samples; and what it may not answer
+abbrev pub drawn_strip : Drawn
+drawn_strip = record { image = pixel_in_file; samples = (7 ∷ []) ∷ [] }
+
+abbrev pub strip_found : Type 0
+strip_found = jobs.StripsIfFound drawn_new (7 ∷ []) (Ok reply.Nothing) after_begin after_strip drawn_strip
+
+-- no memory for its sample, or for its bytes, which leaves the file as it was; the wrong number of samples; and what it may not answer
 abbrev pub strip_unfound : Type 0
-strip_unfound = jobs.StripsIfFound pixel (7 ∷ []) (Err OutOfMemory) first first pixel
+strip_unfound = jobs.StripsIfFound drawn (7 ∷ []) (Err OutOfMemory) first first drawn
+
+abbrev pub strip_unpacked : Type 0
+strip_unpacked = jobs.Strips new_pixel (7 ∷ []) (Err OutOfMemory) after_begin after_begin new_pixel
+
+abbrev pub strip_half : Type 0
+strip_half = jobs.Strips new_pixel (7 ∷ []) (Err OutOfMemory) after_begin after_strip new_pixel → ⊥
 
 abbrev pub strip_few : Type 0
-strip_few = jobs.StripsIfFound pixel [] (Err (IoError InvalidData)) first first pixel
+strip_few = jobs.Strips pixel [] (Err (IoError InvalidData)) first first pixel
+
+abbrev pub strip_few_wanting : Type 0
+strip_few_wanting = (new : Standing) (t : OpenImage) → jobs.Strips pixel [] (Err OutOfMemory) first new t → ⊥
 
 abbrev pub strip_number : Type 0
-strip_number = (new : Standing) (t : OpenImage) → jobs.StripsIfFound pixel (7 ∷ []) (Ok (reply.Number 1)) first new t → ⊥
+strip_number = (new : Standing) (t : OpenImage) → jobs.Strips pixel (7 ∷ []) (Ok (reply.Number 1)) first new t → ⊥
 
 abbrev pub strip_other : Type 0
 strip_other = jobs.Strips new_pixel (8 ∷ []) (Ok reply.Nothing) after_begin after_strip pixel_in_file → ⊥
@@ -90,9 +108,15 @@ resolved_pixel = record pixel { directory = with_fields (opened (Some 4) true) (
 abbrev pub resolved : Type 0
 resolved = jobs.Resolves pixel unit.Inch (300, 1) (Ok reply.Nothing) first after_resolution resolved_pixel
 
--- memory was wanting behind the unit, or before it
+-- memory was wanting behind the unit; or the sink failed there, which leaves the unit too
 abbrev pub resolved_part : Type 0
-resolved_part = jobs.ResolvesInPart pixel (calls.resolution_tags unit.Inch (300, 1)) 1 first after_unit unit_pixel
+resolved_part = jobs.ResolvesInPart pixel (calls.resolution_tags unit.Inch (300, 1)) OutOfMemory first after_unit unit_pixel
+
+abbrev pub after_unit_failed : Standing
+after_unit_failed = record after_unit { file = record (new_file Classic) { bytes = header ++ (44 ∷ []); failures = 1; fault = Some fault.Device } }
+
+abbrev pub resolved_failed : Type 0
+resolved_failed = jobs.Resolves pixel unit.Inch (300, 1) (Err (IoError Device)) first after_unit_failed unit_pixel
 
 abbrev pub resolved_wanting : Type 0
 resolved_wanting = jobs.Resolves pixel unit.Inch (300, 1) (Err OutOfMemory) first after_unit unit_pixel
@@ -102,12 +126,23 @@ resolved_uncaused = (new : Standing) (t : OpenImage) → jobs.Resolves pixel uni
 
 -- ---- ends
 
--- too few samples: nothing is written, and there is no place
+-- too few samples: nothing is written, and there is no place; want of memory is no answer then
 abbrev pub data_few : Type 0
 data_few = jobs.WritesDataIfFound pixel [] (Err (IoError InvalidData)) first first None
 
+abbrev pub data_few_wanting : Type 0
+data_few_wanting = (new : Standing) (place : Option Offsets) → jobs.WritesData pixel [] (Err OutOfMemory) first new place → ⊥
+
 abbrev pub data_unfound : Type 0
 data_unfound = jobs.WritesDataIfFound pixel (7 ∷ []) (Err OutOfMemory) first first None
+
+-- no strip is written that isn't there, and so no refusal of one is told
+abbrev pub data_no_strip : Type 0
+data_no_strip = (new : Standing) (place : Option Offsets) → jobs.WritesData new_pixel (7 ∷ 8 ∷ []) (Err (IoError InvalidData)) after_begin new place → ⊥
+
+-- of two strips the first is written, and there is no memory for the other
+abbrev pub data_begun : Type 0
+data_begun = jobs.WritesData two_strips (1 ∷ 2 ∷ 3 ∷ []) (Err OutOfMemory) first (record first { file = file_with Classic (header ++ (1 ∷ 2 ∷ [])) }) None
 
 -- the strip that is left of two samples, and the directory behind it
 abbrev pub ended : Told Offsets
@@ -143,39 +178,42 @@ image_ended = jobs.ImageEnds after_strip pixel_in_file iend.Finish (Ok last.Noth
 -- an image's end answers no offsets
 abbrev pub data_offsets : Type 0
 data_offsets = (new : Standing) (place : Option Offsets)
-    → jobs.WritesDataIfFound new_pixel (7 ∷ []) (Ok (last.Offsets 25 195)) after_begin new place → ⊥
+    → jobs.WritesData new_pixel (7 ∷ []) (Ok (last.Offsets 25 195)) after_begin new place → ⊥
 
 -- ---- whole jobs
 
 -- sides of 0: the image isn't begun
 abbrev pub no_side_job : Type 0
 no_side_job = (j : ImageJob) (r : JobReply) → j.width ≡ 0 → j.height ≡ 5 → r.steps.items ≡ [] → r.last ≡ Err (FormatError (InvalidDimensions 0 5))
-    → jobs.JobRan (started Classic) (job.Image j) r (jobs.ran (started Classic) first (Err (FormatError (InvalidDimensions 0 5))) [])
+    → jobs.JobRan run_begun (job.Image j) r (jobs.ran run_begun first (Err (FormatError (InvalidDimensions 0 5))) [])
 
 abbrev pub not_begun : Type 0
 not_begun = (r : JobReply) (new : Run) → r.last ≡ Ok last.Nothing
-    → jobs.IsNotBegun (calls.new_image gray 1 0 5 (new_file Classic)) (started Classic) r new → ⊥
+    → jobs.IsNotBegun (calls.new_image gray 1 0 5 (new_file Classic)) run_begun r new → ⊥
 
 -- one gray pixel: a strip, and the end
 abbrev pub page_run : Run
-page_run = jobs.ran (started Classic) after_end (Ok last.Nothing) (record { place = 25; image = jobs.image_of pixel_in_file (7 ∷ []) } ∷ [])
+page_run = jobs.ran run_begun after_end (Ok last.Nothing) (record { place = 25; image = jobs.image_of pixel_in_file ((7 ∷ []) ∷ []) } ∷ [])
 
 abbrev pub strip_job : Type 0
 strip_job = (j : ImageJob) (r : JobReply) (samples : Vec ℕ) → j.colour ≡ name.Gray8 → j.width ≡ 1 → j.height ≡ 1
     → j.steps.items ≡ istep.WriteStrip samples ∷ [] → samples.items ≡ 7 ∷ [] → j.end ≡ iend.Finish
     → r.steps.items ≡ Ok reply.Nothing ∷ [] → r.last ≡ Ok last.Nothing
-    → jobs.JobRan (started Classic) (job.Image j) r page_run
+    → jobs.JobRan run_begun (job.Image j) r page_run
 
 -- the image of the run is shown
 abbrev pub page_shown : Type 0
 page_shown = jobs.RunShows page_run
 
 -- the same of two samples, by the end alone
+abbrev pub data_images : List Finished
+data_images = record { place = 25; image = jobs.image_of new_pixel ((7 ∷ []) ∷ []) } ∷ []
+
 abbrev pub data_run : Run
-data_run = jobs.ran (started Classic) after_data (Ok last.Nothing) (record { place = 25; image = jobs.image_of new_pixel (7 ∷ []) } ∷ [])
+data_run = jobs.ran run_begun after_data (Ok last.Nothing) data_images
 
 abbrev pub data_job : Type 0
 data_job = (j : ImageJob) (r : JobReply) (samples : Vec ℕ) → j.colour ≡ name.Gray8 → j.width ≡ 1 → j.height ≡ 1
     → j.steps.items ≡ [] → samples.items ≡ 7 ∷ 8 ∷ [] → j.end ≡ iend.WriteData samples
     → r.steps.items ≡ [] → r.last ≡ Ok last.Nothing
-    → jobs.JobRan (started Classic) (job.Image j) r data_run
+    → jobs.JobRan run_begun (job.Image j) r data_run

@@ -1,17 +1,22 @@
 -- Worked words: what a call may answer, what a source is left as, and what a writer does.
-use Rattle.std.specs.Prelude.{◌≡◌, ℕ, [], ◌∷◌, Some, None, true, false, Ok, Err}
+use Rattle.std.specs.Prelude.{◌≡◌, ℕ, List, [], ◌∷◌, Some, None, true, false, Ok, Err}
+use Rattle.std.specs.FinMap.{empty, insert}
 use Rattle.tiff_base.specs.declared.error.TiffError.TheVariants.{IoError, UsageError, LimitsExceeded, IntSizeError, OutOfMemory}
 use Rattle.tiff_base.specs.declared.error.UsageError.TheVariants.{WriterFailed}
 use Rattle.tiff_base.specs.declared.io.IoKind.TheVariants.{UnexpectedEof, Device}
+use Rattle.tiff_base.specs.declared.io.SinkFault.TheVariants as fault
 use Rattle.tiff_base.specs.declared.tags.CompressionMethod.TheVariants as method
 use Rattle.tiff_base.specs.declared.tags.PhotometricInterpretation.TheVariants as meaning
 use Rattle.tiff_base.specs.declared.tags.ResolutionUnit.TheVariants as unit
 use Rattle.tiff_base.specs.declared.tags.SampleFormat.TheVariants as format
 use Rattle.tiff_base.specs.declared.tags.Tag.TheVariants as tag
 use Rattle.tiff_base.specs.Answers.{Answers, AnswersExactly, AnswersHere, Gives, IsKept, FailsFrom}
+use Rattle.tiff_base.specs.declared.tags.«Type».TheVariants.{SHORT}
+use Rattle.tiff_base.specs.Field.{Field, In, IsEntry, AreEntries}
+use Rattle.tiff_base.specs.Told.{sink_error}
 use Rattle.tiff_base.specs.Tags.{named_tag, named_method, named_format, unit_of}
-use Rattle.tiff_value.specs.ColorType.{ColorTypeRecord, is_gray}
-use Rattle.tiff_value.specs.Written.{Written, moved, written, IsSinkFault, Fails, IsStopped, IsCut, WritesRaw, Writes}
+use Rattle.tiff_value.specs.ColorType.{ColorTypeRecord, IsColorType, is_gray}
+use Rattle.tiff_value.specs.Written.{Written, new_writer, moved, written, Fails, IsStopped, IsCut, WritesRaw, Writes}
 
 abbrev pub Never : Type 0 → Type 0
 Never A = A → ⊥
@@ -75,16 +80,59 @@ not_kept = Never (IsKept bytes_of failures_of (7, 1) (8, 1)) × Never (IsKept by
 
 -- a source that came to fail, and one that can't
 abbrev pub fails_from : Type 0
-fails_from = FailsFrom failures_of (7, 1)
+fails_from = FailsFrom bytes_of failures_of (7, 1)
 
 abbrev pub never_fails : Type 0
-never_fails = Never (FailsFrom (λ (s : ℕ × ℕ). 3) (7, 1))
+never_fails = Never (FailsFrom bytes_of (λ (s : ℕ × ℕ). 3) (7, 1))
+
+-- one whose failures rise with its bytes alone: a state of other bytes is none that it came to
+abbrev pub fails_elsewhere : Type 0
+fails_elsewhere = Never (FailsFrom bytes_of bytes_of (7, 1))
+
+-- ---- what a sink and a directory in memory have
+
+-- the errors of a sink's faults
+abbrev pub sink_errors : Type 0
+sink_errors = (sink_error fault.Device ≡ IoError Device) × (sink_error fault.OutOfMemory ≡ OutOfMemory)
+
+-- a field of so many shorts, with this value field
+abbrev pub shorts : ℕ → List ℕ → Field
+shorts count value = record { field_type = SHORT; count = count; value = value }
+
+abbrev pub ones : List ℕ
+ones = 1 ∷ 1 ∷ 1 ∷ 1 ∷ 1 ∷ 1 ∷ 1 ∷ 1 ∷ []
+
+-- the last tag number, with the largest count
+abbrev pub entry_fits : Type 0
+entry_fits = IsEntry (65535, shorts 18446744073709551615 ones)
+
+-- a tag number past it, a count past it, seven bytes, and a number that is no byte
+abbrev pub entry_not : Type 0
+entry_not =
+    Never (IsEntry (65536, shorts 1 ones)) × Never (IsEntry (258, shorts 18446744073709551616 ones))
+    × Never (IsEntry (258, shorts 1 (1 ∷ 1 ∷ 1 ∷ 1 ∷ 1 ∷ 1 ∷ 1 ∷ []))) × Never (IsEntry (258, shorts 1 (256 ∷ ones)))
+
+-- a list has what stands in it alone
+abbrev pub one_in : Type 0
+one_in = In {A = ℕ} 2 (1 ∷ 2 ∷ []) × Never (In {A = ℕ} 3 (1 ∷ 2 ∷ [])) × Never (In {A = ℕ} 1 [])
+
+-- a directory of one entry that can't be, and one of none
+abbrev pub entries_fit : Type 0
+entries_fit = AreEntries empty × Never (AreEntries (insert empty 65536 (shorts 1 ones)))
 
 -- ---- what a writer does
 
 -- a writer of three bytes that stands at the second
 abbrev pub three : Written
-three = record { bytes = 1 ∷ 2 ∷ 3 ∷ []; at = 1; failed = false; failures = 0; last = 0 }
+three = record { bytes = 1 ∷ 2 ∷ 3 ∷ []; at = 1; fault = None; failures = 0; last = 0; method = method.None }
+
+-- the same after a fault of its sink's device
+abbrev pub broken : Written
+broken = record three { fault = Some fault.Device; failures = 1 }
+
+-- a new writer stands at the end, whatever failed before it
+abbrev pub three_new : Type 0
+three_new = new_writer (1 ∷ 2 ∷ 3 ∷ []) 2 ≡ record three { at = 3; failures = 2 }
 
 abbrev pub nine_moved : Type 0
 nine_moved = moved three (9 ∷ []) ≡ record three { bytes = 1 ∷ 9 ∷ 3 ∷ []; at = 2 }
@@ -96,33 +144,39 @@ nines_written = written three (9 ∷ 9 ∷ 9 ∷ []) ≡ record three { bytes = 
 abbrev pub none_moved : Type 0
 none_moved = moved three [] ≡ three
 
--- a fault of a sink is want of memory or of the device
-abbrev pub IntSink : Type 0
-IntSink = IsSinkFault IntSizeError
-
-abbrev pub sink_faults : Type 0
-sink_faults = IsSinkFault OutOfMemory × IsSinkFault (IoError Device) × Never IntSink
-
--- a failed write, counted and not
+-- a failed write, counted once; not counted; answered as the other fault
 abbrev pub write_fails : Type 0
-write_fails = Fails (IoError Device) three (record three { failed = true; failures = 1 })
+write_fails = Fails (IoError Device) three broken
 
 abbrev pub write_fails_not : Type 0
-write_fails_not = Never (Fails (IoError Device) three (record three { failed = true }))
+write_fails_not = Never (Fails (IoError Device) three (record broken { failures = 0 }))
+
+abbrev pub fault_swapped : Type 0
+fault_swapped = Never (Fails OutOfMemory three broken)
 
 -- after a failed write nothing is done; before one it isn't stopped
 abbrev pub stopped : Type 0
-stopped = IsStopped (UsageError WriterFailed) (record three { failed = true }) (record three { failed = true })
+stopped = IsStopped (UsageError WriterFailed) broken broken
 
 abbrev pub not_stopped : Type 0
 not_stopped = Never (IsStopped (UsageError WriterFailed) three three)
 
 -- one of two bytes went out as the sink failed; none did, yet the place moved on
 abbrev pub cut : Type 0
-cut = IsCut (8 ∷ 9 ∷ []) OutOfMemory three (record three { bytes = 1 ∷ 8 ∷ 3 ∷ []; at = 2; failed = true; failures = 1 })
+cut = IsCut (8 ∷ 9 ∷ []) (IoError Device) three (record broken { bytes = 1 ∷ 8 ∷ 3 ∷ []; at = 2 })
 
 abbrev pub not_cut : Type 0
-not_cut = Never (IsCut [] OutOfMemory three (record three { at = 2; failed = true; failures = 1 }))
+not_cut = Never (IsCut [] (IoError Device) three (record broken { at = 2 }))
+
+-- the other fault is answered; all bytes went out; two calls of the sink failed
+abbrev pub cut_swapped : Type 0
+cut_swapped = Never (IsCut (8 ∷ 9 ∷ []) OutOfMemory three (record broken { bytes = 1 ∷ 8 ∷ 3 ∷ []; at = 2 }))
+
+abbrev pub cut_whole : Type 0
+cut_whole = Never (IsCut (8 ∷ []) (IoError Device) three (record broken { bytes = 1 ∷ 8 ∷ 3 ∷ []; at = 2 }))
+
+abbrev pub cut_twice : Type 0
+cut_twice = Never (IsCut (8 ∷ 9 ∷ []) (IoError Device) three (record broken { bytes = 1 ∷ 8 ∷ 3 ∷ []; at = 2; failures = 2 }))
 
 -- bytes that are written, their count kept or not
 abbrev pub writes : Type 0
@@ -132,7 +186,7 @@ writes =
 
 -- none after a failed write
 abbrev pub writes_not : Type 0
-writes_not = Never (Writes {A = ℕ} [] (record three { failed = true }) (record three { failed = true }) (Ok 0))
+writes_not = Never (Writes {A = ℕ} [] broken broken (Ok 0))
 
 -- ---- names and colour types
 
@@ -169,3 +223,25 @@ gray_two =
     (is_gray (record gray_type { bits = 8 ∷ 8 ∷ [] }) ≡ false)
     × (is_gray (record gray_type { formats = format.Uint ∷ format.Uint ∷ [] }) ≡ false)
     × (is_gray (record gray_type { bits = [] }) ≡ false)
+
+-- bytes of one sample or of two; a byte and a short one after the other; more formats than bits; no sample; two formats
+abbrev pub gray_type_is : Type 0
+gray_type_is = IsColorType 1 gray_type
+
+abbrev pub two_grays : Type 0
+two_grays = IsColorType 1 (record gray_type { bits = 8 ∷ 8 ∷ []; formats = format.Uint ∷ format.Uint ∷ [] })
+
+abbrev pub uneven_bits : Type 0
+uneven_bits = Never (IsColorType 1 (record gray_type { bits = 8 ∷ 16 ∷ []; formats = format.Uint ∷ format.Uint ∷ [] }))
+
+abbrev pub narrow_bits : Type 0
+narrow_bits = Never (IsColorType 2 gray_type)
+
+abbrev pub more_formats : Type 0
+more_formats = Never (IsColorType 1 (record gray_type { formats = format.Uint ∷ format.Uint ∷ [] }))
+
+abbrev pub no_samples : Type 0
+no_samples = Never (IsColorType 1 (record gray_type { bits = []; formats = [] }))
+
+abbrev pub two_formats : Type 0
+two_formats = Never (IsColorType 1 (record gray_type { bits = 8 ∷ 8 ∷ []; formats = format.Uint ∷ format.Int ∷ [] }))

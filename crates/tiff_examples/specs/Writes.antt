@@ -1,16 +1,18 @@
 -- Worked writes of a page: what each may leave.
-use Rattle.std.specs.Prelude.{◌≡◌, true, false, [], ◌∷◌, ◌++◌, None}
+use Rattle.std.specs.Prelude.{◌≡◌, true, false, [], ◌∷◌, ◌++◌, Some, None}
 use Rattle.tiff_base.specs.declared.error.TiffError.{TiffError}
 use Rattle.tiff_base.specs.declared.error.TiffError.TheVariants.{FormatError, IoError, IntSizeError, UsageError, OutOfMemory}
 use Rattle.tiff_base.specs.declared.error.TiffFormatError.TheVariants.{InvalidDimensions}
 use Rattle.tiff_base.specs.declared.error.UsageError.TheVariants.{WriterFailed}
 use Rattle.tiff_base.specs.declared.io.IoKind.TheVariants.{Device}
+use Rattle.tiff_base.specs.declared.io.SinkFault.TheVariants as fault
 use Rattle.tiff_base.specs.declared.tags.FileKind.TheVariants.{Classic}
+use Rattle.tiff_value.specs.Written.{Written}
 use Rattle.tiff_ifd.specs.Limits.{unlimited}
 use Rattle.tiff_encode.specs.Written.{long_field}
 use Rattle.tiff_encode.specs.Model.{header_model}
-use Rattle.tiff_encode.specs.Laws.{IsWritable, IsGrayPage}
-use Rattle.tiff_encode.specs.Encoder.{Encoded, IsBegun, refused, is_too_far, appended_by, WritesPage, IsStopped, IsRefused, IsCut, IsTorn, IsWanting, PageFails}
+use Rattle.tiff_encode.specs.Laws.{IsListable, IsGrayPage}
+use Rattle.tiff_encode.specs.Encoder.{Encoded, IsBegun, refused, is_too_far, appended_by, WritesPage, HeaderFails, IsStopped, IsRefused, IsCut, IsTorn, IsWanting, PageFails}
 use Rattle.tiff_encode.specs.Steps.{IsPlaced, grown}
 use Rattle.tiff_encode.specs.Shows.{ReadsAs, LeavesHeader, LeavesPage, strip_page}
 use Rattle.tiff_examples.specs.Files.{gray_file}
@@ -63,18 +65,50 @@ abbrev pub is_not_refused : Type 0
 is_not_refused = (new : Encoded) → IsRefused None IntSizeError fresh new → ⊥
 
 -- one byte of two went out
-abbrev pub cut : Type 0
-cut = IsCut (1 ∷ 2 ∷ []) (IoError Device) fresh (record fresh { bytes = header ++ (1 ∷ []); failures = 1; failed = true })
+abbrev pub cut_file : Encoded
+cut_file = record fresh { bytes = header ++ (1 ∷ []); failures = 1; failed = true; fault = Some fault.Device }
 
+abbrev pub cut : Type 0
+cut = IsCut (1 ∷ 2 ∷ []) (IoError Device) fresh cut_file
+
+-- no write of the sink failed
 abbrev pub not_cut : Type 0
 not_cut = (e : TiffError) (new : Encoded) → new.failures ≡ 0 → IsCut (1 ∷ 2 ∷ []) e fresh new → ⊥
 
+-- the other fault is answered; all went out
+abbrev pub cut_swapped : Type 0
+cut_swapped = IsCut (1 ∷ 2 ∷ []) OutOfMemory fresh cut_file → ⊥
+
+abbrev pub cut_whole : Type 0
+cut_whole = IsCut (1 ∷ []) (IoError Device) fresh cut_file → ⊥
+
 -- all, and one byte of the link
+abbrev pub torn_file : Encoded
+torn_file = record fresh {
+  bytes = 0x49 ∷ 0x49 ∷ 0x2a ∷ 0 ∷ 2 ∷ 0 ∷ 0 ∷ 0 ∷ 7 ∷ [];
+  failures = 1;
+  failed = true;
+  fault = Some fault.OutOfMemory;
+}
+
 abbrev pub torn : Type 0
-torn = IsTorn (7 ∷ []) 258 OutOfMemory fresh (record fresh { bytes = 0x49 ∷ 0x49 ∷ 0x2a ∷ 0 ∷ 2 ∷ 0 ∷ 0 ∷ 0 ∷ 7 ∷ []; failures = 1; failed = true })
+torn = IsTorn (7 ∷ []) 258 OutOfMemory fresh torn_file
 
 abbrev pub not_torn : Type 0
 not_torn = (e : TiffError) (new : Encoded) → new.failures ≡ 0 → IsTorn (7 ∷ []) 258 e fresh new → ⊥
+
+abbrev pub torn_swapped : Type 0
+torn_swapped = IsTorn (7 ∷ []) 258 (IoError Device) fresh torn_file → ⊥
+
+-- a sink of two bytes took one byte of the header; no sink answers a number that is too large
+abbrev pub HeaderIsCut : TiffError → Type 0
+HeaderIsCut = HeaderFails Classic (λ (w : Written). w.bytes) (λ w. w.failures) (λ w. w.fault) at_end
+
+abbrev pub header_cut : Type 0
+header_cut = HeaderIsCut (IoError Device)
+
+abbrev pub header_not_cut : Type 0
+header_not_cut = HeaderIsCut IntSizeError → ⊥
 
 -- no memory: the encoder is as it was, but for what it appended
 abbrev pub wanting : Type 0
@@ -98,11 +132,11 @@ abbrev pub grown_one : Type 0
 grown_one = grown fresh (7 ∷ []) ≡ begun (header ++ (7 ∷ []))
 
 -- a field that an entry has room for, and one whose tag number is too large
-abbrev pub writable : Type 0
-writable = IsWritable Classic 256 (long_field 5)
+abbrev pub listable : Type 0
+listable = IsListable Classic 256 (long_field 5)
 
-abbrev pub not_writable : Type 0
-not_writable = IsWritable Classic 65536 (long_field 5) → ⊥
+abbrev pub not_listable : Type 0
+not_listable = IsListable Classic 65536 (long_field 5) → ⊥
 
 -- a page that is one strip, and one of which samples are missing
 abbrev pub gray_fits : Type 0

@@ -4,6 +4,7 @@ use Rattle.std.specs.FinMap.{from_entries}
 use Rattle.tiff_base.specs.declared.error.TiffError.TheVariants.{FormatError, IoError, IntSizeError}
 use Rattle.tiff_base.specs.declared.error.TiffFormatError.TheVariants.{InvalidDimensions}
 use Rattle.tiff_base.specs.declared.io.IoKind.TheVariants.{InvalidData}
+use Rattle.tiff_base.specs.declared.tags.CompressionMethod.TheVariants as method
 use Rattle.tiff_base.specs.declared.tags.FileKind.TheVariants.{Classic, Big}
 use Rattle.tiff_base.specs.declared.tags.PhotometricInterpretation.TheVariants.{BlackIsZero, WhiteIsZero}
 use Rattle.tiff_base.specs.declared.tags.SampleFormat.TheVariants.{Uint, Int}
@@ -106,10 +107,10 @@ second_begins =
 
 -- an encoder that has these bytes and no page yet, and one that has a page
 abbrev pub begun : List ℕ → Encoded
-begun bytes = record { bytes = bytes; failures = 0; failed = false; chain = 4; finished = false }
+begun bytes = record { bytes = bytes; failures = 0; failed = false; fault = None; chain = 4; finished = false }
 
 abbrev pub full : Encoded
-full = record { bytes = gray_file; failures = 0; failed = false; chain = 195; finished = true }
+full = record { bytes = gray_file; failures = 0; failed = false; fault = None; chain = 195; finished = true }
 
 abbrev pub fresh : Encoded
 fresh = begun (header_bytes Classic)
@@ -187,7 +188,7 @@ white_8 = is_gray (record { interpretation = WhiteIsZero; bits = 8 ∷ []; forma
 
 -- a writer at the end of two bytes
 abbrev pub at_end : Written
-at_end = record { bytes = 1 ∷ 2 ∷ []; at = 2; failed = false; failures = 0; last = 0 }
+at_end = record { bytes = 1 ∷ 2 ∷ []; at = 2; fault = None; failures = 0; last = 0; method = method.None }
 
 -- a byte that is appended, and told as the last write
 abbrev pub appended : Type 0

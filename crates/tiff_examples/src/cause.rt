@@ -24,5 +24,10 @@ pub fn images()
 
 /// Strips, and the samples of an image.
 pub fn strips()
-    ensures { s.count_one × s.count_none × s.count_largest × s.count_short × s.strips_three × s.strip_two × s.strip_none_left × s.strip_one × s.strip_far × s.strip_stored_far × s.image_large × s.image_few × s.image_enough }
+    ensures { s.count_one × s.count_none × s.count_largest × s.count_short × s.count_tile × s.count_tiled × s.strips_three × s.strip_two × s.strip_none_left × s.strip_one × s.strip_far × s.strip_stored_far × s.image_large × s.image_few × s.image_enough × s.image_goes_on }
+{}
+
+/// Tiles and planes.
+pub fn tiles()
+    ensures { s.strip_tile × s.tile_whole × s.rows_tile × s.tiles_zero × s.tiles_eight × s.tiles_late × s.tiles_fit × s.planar_late × s.planar_fits × s.many_chunks × s.image_tiled }
 {}

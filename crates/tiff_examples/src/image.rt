@@ -14,7 +14,7 @@ pub fn settings()
 
 /// Strips.
 pub fn strips()
-    ensures { s.strip_written × s.strip_behind × s.differenced × s.two_rows × s.not_differenced × s.strips_stored × s.one_stored × s.strips_taken }
+    ensures { s.strip_written × s.strip_behind × s.differenced × s.two_rows × s.not_differenced × s.strips_parted × s.strips_after × s.strips_stored × s.one_stored × s.none_stored × s.strips_taken }
 {}
 
 /// Images that are finished.

@@ -33,6 +33,8 @@ pub mod spell;
 pub mod steps;
 pub mod stream;
 pub mod task;
+pub mod three;
+pub mod tile;
 pub mod told;
 pub mod undo;
 pub mod value;

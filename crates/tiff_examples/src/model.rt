@@ -4,12 +4,17 @@ ghost use Rattle.tiff_examples.specs.Models as s;
 
 /// Models, and the files in which they stand.
 pub fn models()
-    ensures { s.is_in × s.is_not_in × s.header_stands × s.cut_header × s.other_target × s.past_end × s.own_22 × s.link_22 × s.link_4 × s.no_link × s.link_8_big × s.clear × s.before × s.not_clear × s.apart × s.not_apart × s.relinked_4 × s.kept_22 × s.new_link × s.grows × s.grows_handed × s.shrinks }
+    ensures { s.is_in × s.is_not_in × s.header_stands × s.cut_header × s.other_target × s.past_end × s.own_22 × s.link_22 × s.link_4 × s.no_link × s.link_8_big × s.clear × s.before × s.not_clear × s.next_to × s.overlapping × s.whole_18 × s.overlaid × s.apart × s.not_apart × s.relinked_4 × s.kept_22 × s.new_link × s.grows × s.grows_handed × s.shrinks }
 {}
 
 /// What is shown.
 pub fn shown()
     ensures { s.gray_shows × s.other_sample × s.other_width }
+{}
+
+/// Fields as they stand, and deeds that fit.
+pub fn standing()
+    ensures { s.wide_cut × s.wide_whole × s.wide_listed × s.wide_read × s.wide_stands × s.wide_as_given × s.fits_inline × s.fits_other × s.fits_appended × s.fits_early × s.fits_listed × s.fits_no_link × s.appending × s.not_appending }
 {}
 
 /// What is done to a file.

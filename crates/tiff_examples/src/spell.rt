@@ -4,12 +4,13 @@ ghost use Rattle.tiff_examples.specs.Spelled as s;
 
 /// Values, and numbers of a kind of file.
 pub fn values()
-    ensures { s.value_given × s.is_value × s.is_not_value × s.value_refused × s.bytes_three × s.bytes_most × s.value_writes × s.value_writes_not × s.wanting × s.refused × s.not_refused × s.buffer_of_short × s.buffer_refused × s.place_past × s.place_not_past }
+    ensures { s.value_given × s.is_value × s.is_not_value × s.value_refused × s.bytes_three × s.bytes_most × s.value_writes × s.value_writes_not × s.wanting × s.refused ×
+        s.value_stopped × s.value_not_wanting × s.value_not_refused × s.not_refused × s.buffer_of_short × s.buffer_refused × s.place_past × s.place_not_past }
 {}
 
 /// Bytes that are stored by a method.
 pub fn stores()
-    ensures { s.plain_takes_none × s.packing_takes × s.stores_none × s.packs_none × s.plain_wants_none }
+    ensures { s.plain_takes_none × s.packing_takes × s.stores_none × s.stores_miscounted × s.packs_one × s.packs_none × s.plain_wants_none }
 {}
 
 /// Rows of samples as differences.

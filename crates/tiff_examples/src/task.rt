@@ -4,12 +4,12 @@ ghost use Rattle.tiff_examples.specs.Tasks as s;
 
 /// Strips and resolutions of jobs.
 pub fn strips()
-    ensures { s.uncalled × s.uncalled_fault × s.strip_stood × s.strip_found × s.strip_unfound × s.strip_few × s.strip_number × s.strip_other × s.resolved × s.resolved_part × s.resolved_wanting × s.resolved_uncaused }
+    ensures { s.uncalled × s.uncalled_fault × s.strip_stood × s.strip_found × s.strip_unfound × s.strip_unpacked × s.strip_half × s.strip_few × s.strip_few_wanting × s.strip_number × s.strip_other × s.resolved × s.resolved_part × s.resolved_failed × s.resolved_wanting × s.resolved_uncaused }
 {}
 
 /// Ends of an image.
 pub fn ends()
-    ensures { s.data_few × s.data_unfound × s.data_done × s.data_found × s.image_ended × s.data_offsets }
+    ensures { s.data_few × s.data_few_wanting × s.data_unfound × s.data_no_strip × s.data_begun × s.data_done × s.data_found × s.image_ended × s.data_offsets }
 {}
 
 /// Whole image jobs.

@@ -9,10 +9,11 @@ pub fn pages()
 
 /// Writes that fail.
 pub fn faults()
-    ensures { s.cut × s.not_cut × s.torn × s.not_torn × s.wanting × s.not_wanting × s.fails }
+    ensures { s.cut × s.not_cut × s.cut_swapped × s.cut_whole × s.torn × s.not_torn × s.torn_swapped × s.header_cut ×
+        s.header_not_cut × s.wanting × s.not_wanting × s.fails }
 {}
 
 /// What stands.
 pub fn facts()
-    ensures { s.placed × s.not_placed × s.grown_one × s.writable × s.not_writable × s.gray_fits × s.gray_few × s.leaves_header × s.leaves_no_header × s.leaves_page × s.reads }
+    ensures { s.placed × s.not_placed × s.grown_one × s.listable × s.not_listable × s.gray_fits × s.gray_few × s.leaves_header × s.leaves_no_header × s.leaves_page × s.reads }
 {}

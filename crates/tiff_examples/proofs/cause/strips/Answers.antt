@@ -8,6 +8,8 @@ returns c = (
   p.count_none,
   p.count_largest,
   p.count_short,
+  p.count_tile,
+  p.count_tiled,
   p.strips_three,
   p.strip_two,
   p.strip_none_left,
@@ -17,4 +19,5 @@ returns c = (
   p.image_large,
   p.image_few,
   p.image_enough,
+  p.image_goes_on,
 )

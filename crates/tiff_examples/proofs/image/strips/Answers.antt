@@ -9,7 +9,10 @@ returns c = (
   p.differenced,
   p.two_rows,
   p.not_differenced,
+  p.strips_parted,
+  p.strips_after,
   p.strips_stored,
   p.one_stored,
+  p.none_stored,
   p.strips_taken,
 )

@@ -9,6 +9,7 @@ returns c = (
   p.shorts_given,
   p.buffer_given,
   p.starts,
+  p.starts_failed,
   p.starts_empty,
   p.data_stepped,
   p.data_other,

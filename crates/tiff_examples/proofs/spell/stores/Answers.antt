@@ -7,6 +7,8 @@ returns c = (
   p.plain_takes_none,
   p.packing_takes,
   p.stores_none,
+  p.stores_miscounted,
+  p.packs_one,
   p.packs_none,
   p.plain_wants_none,
 )

@@ -5,7 +5,10 @@ use Rattle.tiff_examples.proofs.task.ends.Goals as goal
 pub returns : goal.returns
 returns c = (
   p.data_few,
+  p.data_few_wanting,
   p.data_unfound,
+  p.data_no_strip,
+  p.data_begun,
   p.data_done,
   p.data_found,
   p.image_ended,

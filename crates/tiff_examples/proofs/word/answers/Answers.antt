@@ -18,4 +18,5 @@ returns c = (
   p.not_kept,
   p.fails_from,
   p.never_fails,
+  p.fails_elsewhere,
 )

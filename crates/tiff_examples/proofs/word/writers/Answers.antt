@@ -4,16 +4,20 @@ use Rattle.tiff_examples.proofs.word.writers.Goals as goal
 
 pub returns : goal.returns
 returns c = (
+  p.three_new,
   p.nine_moved,
   p.nines_written,
   p.none_moved,
-  p.sink_faults,
   p.write_fails,
   p.write_fails_not,
+  p.fault_swapped,
   p.stopped,
   p.not_stopped,
   p.cut,
   p.not_cut,
+  p.cut_swapped,
+  p.cut_whole,
+  p.cut_twice,
   p.writes,
   p.writes_not,
 )

@@ -6,8 +6,13 @@ pub returns : goal.returns
 returns c = (
   p.cut,
   p.not_cut,
+  p.cut_swapped,
+  p.cut_whole,
   p.torn,
   p.not_torn,
+  p.torn_swapped,
+  p.header_cut,
+  p.header_not_cut,
   p.wanting,
   p.not_wanting,
   p.fails,

@@ -1,0 +1,591 @@
+-- The worked examples of Headline hold.
+use Rattle.std.specs.Prelude.{refl, take}
+use Rattle.std.specs.Ordering.{nat_cmp}
+use Rattle.std.proofs.lemmas.List.{length-take}
+use Rattle.std.proofs.Common.{◌≡◌, ℕ, ◌<◌, ◌^◌, true, false, List, [], ◌∷◌, ◌++◌, length, Option, Some, None, Result, Ok, Err, ap, sym, ◌∙◌, subst, inl, inr, arith, lit<, lit≤}
+use Rattle.std.specs.Global.{Vec}
+use Rattle.std.specs.FinMap.{from_entries}
+use Rattle.tiff_base.specs.declared.color.ColorType.TheVariants.{Gray}
+use Rattle.tiff_base.specs.declared.error.TiffError.{TiffError}
+use Rattle.tiff_base.specs.declared.error.TiffError.TheVariants.{IoError, OutOfMemory}
+use Rattle.tiff_base.specs.declared.io.IoKind.TheVariants.{Device}
+use Rattle.tiff_base.specs.declared.io.SinkFault.TheVariants as fault
+use Rattle.tiff_base.specs.declared.tags.FileKind.TheVariants.{Classic}
+use Rattle.tiff_base.specs.declared.tags.ByteOrder.TheVariants.{LittleEndian}
+use Rattle.tiff_base.specs.declared.tags.Predictor.TheVariants as predictor
+use Rattle.tiff_base.specs.Directory.{directory_at}
+use Rattle.tiff_base.specs.Field.{Field}
+use Rattle.tiff_base.specs.Number.{number, le}
+use Rattle.tiff_base.specs.Told as bytes
+use Rattle.tiff_value.specs.Data.{data_of}
+use Rattle.tiff_ifd.specs.FieldValue.{field_value}
+use Rattle.tiff_ifd.specs.Limits.{unlimited}
+use Rattle.tiff_ifd.specs.Look.{looked, look_in}
+use Rattle.tiff_page.specs.Checks.{page_of}
+use Rattle.tiff_page.specs.Layout.{colour_of, row_bits}
+use Rattle.tiff_page.specs.Pixels.{is_short, shown_sample}
+use Rattle.tiff_page.specs.Rect.{rect}
+use Rattle.tiff_encode.specs.declared.encoder.script.DirectoryJob.{DirectoryJob}
+use Rattle.tiff_encode.specs.declared.encoder.script.DirectoryEnd.{DirectoryEnd}
+use Rattle.tiff_encode.specs.declared.encoder.script.DirectoryEnd.TheVariants as end
+use Rattle.tiff_encode.specs.declared.encoder.script.DirectoryStep.{DirectoryStep}
+use Rattle.tiff_encode.specs.declared.encoder.script.ImageEnd.{ImageEnd}
+use Rattle.tiff_encode.specs.declared.encoder.script.ImageEnd.TheVariants as iend
+use Rattle.tiff_encode.specs.declared.encoder.script.ImageJob.{ImageJob}
+use Rattle.tiff_encode.specs.declared.encoder.script.Job.{Job}
+use Rattle.tiff_value.specs.declared.encoder.colortype.ColorTypeName.TheVariants as name
+use Rattle.tiff_value.specs.ColorTypes.{colour_type, inner_size}
+use Rattle.tiff_value.specs.Differences.{differences}
+use Rattle.tiff_encode.specs.Stored.{AreStored, chunk_bytes}
+use Rattle.tiff_encode.specs.JobValues.{cut_to}
+use Rattle.tiff_encode.specs.declared.encoder.script.Job.TheVariants as job
+use Rattle.tiff_encode.specs.declared.encoder.script.StepReply.{StepReply}
+use Rattle.tiff_encode.specs.declared.encoder.script.EndReply.{EndReply}
+use Rattle.tiff_encode.specs.declared.encoder.script.EndReply.TheVariants as last
+use Rattle.tiff_encode.specs.declared.encoder.script.JobReply.{JobReply}
+use Rattle.tiff_encode.specs.Written.{directory_bytes, header_bytes, one_to_one, page_map, rows_per_strip}
+use Rattle.tiff_encode.specs.Model.{In, Model, Stands, header_model}
+use Rattle.tiff_encode.specs.Laws.{AreListable, DeedsFit, IsListable, handed_long, handed_short, page_model}
+use Rattle.tiff_encode.specs.Deeds.{Deed, Appended, Handed, Listed, Linked, bytes_after, model_after}
+use Rattle.tiff_encode.specs.Shows.{Image, Shows, page_at, strip_page}
+use Rattle.tiff_encode.specs.Machine.{FileState, OpenDirectory}
+use Rattle.tiff_encode.specs.Chunks.{next_chunk_sample_count, parts_left, sample_in}
+use Rattle.tiff_encode.specs.Causes.{begin_cause, new_image_cause, write_chunk_cause, write_image_data_cause, write_tag_cause}
+use Rattle.tiff_encode.specs.Calls.{Offsets, extra_directory, finish, finish_image, first_tags, image_directory, last_tags, new_image, opened, write_chunk, write_entry, write_image_data, write_tag}
+use Rattle.tiff_encode.specs.Encoder.{HeaderFails}
+use Rattle.tiff_encode.specs.Jobs as jobs
+use Rattle.tiff_encode.specs.Jobs.{Standing, Drawn, Run, Finished, IsDone, LeavesJobs}
+use Rattle.tiff_encode.proofs.Deeds.{deeds_stand}
+use Rattle.tiff_encode.proofs.Fields.{fields_tell, page_told, values_read}
+use Rattle.tiff_encode.proofs.Header.{header_stands}
+use Rattle.tiff_encode.proofs.Kept.{kept_by_appending}
+use Rattle.tiff_encode.proofs.Pages.{page_stands}
+use Rattle.tiff_encode.proofs.Slices.{ok_bind, ok_inj}
+use Rattle.tiff_encode.proofs.Runs.{one_step}
+use Rattle.tiff_examples.specs.Calls.{header, with_fields}
+use Rattle.tiff_examples.specs.Causes.{new_file, gray}
+use Rattle.tiff_examples.specs.Files.{gray_file}
+use Rattle.tiff_examples.specs.Headline as s
+use Rattle.tiff_examples.specs.Headline.{three_file}
+use Rattle.tiff_examples.specs.Images.{all_fields, new_pixel, resolutions}
+use Rattle.tiff_examples.specs.Jobs.{first, run_begun}
+use Rattle.tiff_examples.specs.Tasks as tasks
+use Rattle.tiff_examples.proofs.Calls.{finish_told, finish_told_by}
+use Rattle.tiff_examples.proofs.Jobs.{device_other, ok_err, size_memory, sink_size, some_inj}
+use Rattle.tiff_examples.proofs.Maps.{puts, entries_puts, len_puts}
+use Rattle.tiff_examples.proofs.Models.{fits, unequal}
+use Rattle.tiff_examples.proofs.Tasks.{begins_by, data_is_done, data_ran}
+use Rattle.tiff_examples.proofs.Written.{directory_by, gray_written}
+
+-- ---- what the image does
+
+-- what it does behind its resolutions, and the file then
+abbrev image_deeds : List Deed
+image_deeds = Appended (7 ∷ []) ∷ Handed (handed_short 8) ∷ Handed (handed_short 1) ∷ Handed (handed_long 24) ∷ Handed (handed_long 1)
+    ∷ Listed (from_entries all_fields) ∷ Linked 4 25 ∷ []
+
+abbrev image_file : FileState
+image_file = record (new_file Classic) { bytes = gray_file; chain = 195 }
+
+abbrev behind_strip : FileState
+behind_strip = record (new_file Classic) { bytes = header ++ (resolutions ++ (7 ∷ [])) }
+
+finishes : finish (with_fields (opened (Some 4) true) all_fields) behind_strip
+    ≡ finish_told_by behind_strip (with_fields (opened (Some 4) true) all_fields) 14 (puts all_fields)
+finishes = finish_told behind_strip (with_fields (opened (Some 4) true) all_fields) 14 (puts all_fields) (len_puts all_fields) (entries_puts all_fields)
+
+deeds_are : tasks.wrote.deeds ≡ image_deeds
+unfolding write_image_data write_image_data_cause finish_image write_chunk write_chunk_cause next_chunk_sample_count parts_left rect last_tags write_tag write_entry write_tag_cause data_of
+deeds_are = ap (λ t. Appended (7 ∷ []) ∷ Handed (handed_short 8) ∷ Handed (handed_short 1) ∷ Handed (handed_long 24) ∷ Handed (handed_long 1) ∷ t.deeds) finishes
+
+next_is : tasks.wrote.next ≡ image_file
+unfolding write_image_data write_image_data_cause finish_image write_chunk write_chunk_cause next_chunk_sample_count parts_left rect last_tags write_tag write_entry write_tag_cause data_of
+next_is = ap (λ t. t.next) finishes
+
+-- where the run stands then
+abbrev image_model : Model
+image_model = model_after Classic (header ++ resolutions) tasks.after_begin.model image_deeds
+
+abbrev after_image : Standing
+after_image = record { file = image_file; model = image_model }
+
+same_end : tasks.after_data ≡ after_image
+same_end = λ i. record { file = next_is i; model = model_after Classic (header ++ resolutions) tasks.after_begin.model (deeds_are i) }
+
+-- ---- what the directory does
+
+abbrev padded : FileState
+padded = record image_file { bytes = gray_file ++ (0 ∷ []) }
+
+abbrev after_pad : Standing
+after_pad = record { file = padded; model = model_after Classic gray_file image_model (Appended (0 ∷ []) ∷ []) }
+
+abbrev no_fields : OpenDirectory
+no_fields = opened None false
+
+pad_begins : IsDone (extra_directory image_file) (Ok no_fields) after_image after_pad
+unfolding extra_directory begin_cause
+pad_begins = record { ended = record { answer = refl; state = refl }; model = refl }
+
+abbrev three_end : FileState
+three_end = record image_file { bytes = three_file }
+
+abbrev after_three : Standing
+after_three = record { file = three_end; model = model_after Classic padded.bytes after_pad.model (Listed no_fields.fields ∷ []) }
+
+abbrev place_200 : Offsets
+place_200 = record { pointer = 200; link = 202 }
+
+ends_so : finish no_fields padded ≡ finish_told_by padded no_fields 0 []
+ends_so = finish_told padded no_fields 0 [] (len_puts []) (entries_puts [])
+
+three_ends : IsDone (finish no_fields padded) (Ok place_200) after_pad after_three
+three_ends = record {
+  ended = record { answer = ap (λ t. t.answer) ends_so; state = sym (ap (λ t. t.next) ends_so) };
+  model = ap (λ t. model_after Classic padded.bytes after_pad.model t.deeds) (sym ends_so);
+}
+
+-- ---- the jobs
+
+abbrev run_set : Run
+run_set = jobs.ran run_begun first (Ok last.Nothing) []
+
+abbrev run_image : Run
+run_image = jobs.ran run_set after_image (Ok last.Nothing) tasks.data_images
+
+abbrev run_three : Run
+run_three = jobs.ran run_image after_three (Ok (last.Offsets 200 202)) []
+
+steps_by : (ss : List DirectoryStep) (rs : List (Result StepReply TiffError)) → ss ≡ [] → rs ≡ []
+    → jobs.AllStepped jobs.DirectoryStepped after_pad no_fields ss rs after_pad no_fields
+steps_by ss rs p q =
+    let P : List DirectoryStep → List (Result StepReply TiffError) → Type 0 = λ x y. jobs.AllStepped jobs.DirectoryStepped after_pad no_fields x y after_pad no_fields in
+    subst (λ x. P x rs) (sym p) (subst (λ y. P [] y) (sym q) (refl, refl))
+
+ends_by : (e : DirectoryEnd) (r : Result EndReply TiffError) → e ≡ end.Finish → r ≡ Ok (last.Offsets 200 202)
+    → jobs.DirectoryEnds after_pad no_fields e r after_three (Some place_200)
+ends_by e r p q =
+    let P : DirectoryEnd → Result EndReply TiffError → Type 0 = λ x y. jobs.DirectoryEnds after_pad no_fields x y after_three (Some place_200) in
+    subst (λ x. P x r) (sym p) (subst (λ y. P end.Finish y) (sym q) (three_ends, refl))
+
+directory_ran : (j : DirectoryJob) (r : JobReply) → j.chained ≡ false → j.parent ≡ None → j.steps.items ≡ [] → j.end ≡ end.Finish
+    → r.steps.items ≡ [] → r.last ≡ Ok (last.Offsets 200 202) → jobs.JobRan run_image (job.Directory j) r run_three
+directory_ran j r c p q e a l =
+    subst (λ x. jobs.DirectoryRanBy run_image (jobs.named_parent run_image.offsets x) j r run_three) (sym p)
+    (inr (record {
+      first = no_fields;
+      after_begin = after_pad;
+      begins = subst (λ x. IsDone (jobs.open_directory x image_file) (Ok no_fields) after_image after_pad) (sym c) pad_begins;
+      final = no_fields;
+      after_steps = after_pad;
+      steps = steps_by j.steps.items r.steps.items q a;
+      place = Some place_200;
+      after_end = after_three;
+      ends = ends_by j.end r.last e l;
+      state = ap (λ x. jobs.ran run_image after_three x []) (sym l);
+    }))
+
+three_ran : (js : List Job) (rs : List JobReply) → s.AreThree js → s.AreReplies rs 200 202 → jobs.Jobs run_begun js rs run_three
+three_ran js rs a b =
+    let j = a.image in
+    let set : jobs.JobRan run_begun (job.Predictor predictor.None) b.first run_set = (b.first_steps, (b.first_last, ap (λ x. jobs.ran run_begun first x []) (sym b.first_last))) in
+    let image = subst (λ x. jobs.ImageRan run_set j b.second (jobs.ran run_set x (Ok last.Nothing) tasks.data_images)) same_end
+    (data_ran run_set j b.second a.samples a.colour a.width a.height a.steps a.given a.ending b.second_steps b.second_last) in
+    let rest = directory_ran a.directory b.third a.chained a.parent a.no_steps a.finish b.third_steps b.third_last in
+    subst (λ x. jobs.Jobs run_begun x rs run_three) (sym a.are)
+    (subst (λ y. jobs.Jobs run_begun (job.Predictor predictor.None ∷ job.Image j ∷ job.Directory a.directory ∷ []) y run_three) (sym b.are)
+    (run_set, (set, (run_image, (image, (run_three, (rest, refl)))))))
+
+-- ---- what stands
+
+-- fields that can be a directory, one by one
+abbrev EachListable : List (ℕ × Field) → Type 0
+EachListable [] = Unit {0}
+EachListable (e ∷ es) = IsListable Classic e.0 e.1 × EachListable es
+
+each_of : (es : List (ℕ × Field)) → EachListable es → (e : ℕ × Field) → In e es → IsListable Classic e.0 e.1
+each_of [] t e h = absurd h
+each_of (x ∷ es) t e (inl p) =
+    let P : ℕ × Field → Type 0 = λ y. IsListable Classic y.0 y.1 in
+    subst P (sym p) t.0
+each_of (x ∷ es) t e (inr h) = each_of es t.1 e h
+
+listable : (es : List (ℕ × Field)) → EachListable (puts es) → length (puts es) < 256 ^ 2 → AreListable Classic (from_entries es)
+listable es t l =
+    let P : List (ℕ × Field) → Type 0 = λ xs. (e : ℕ × Field) → In e xs → IsListable Classic e.0 e.1 in
+    record {
+      each = subst P (sym (entries_puts es)) (each_of (puts es) t);
+      few = subst (λ n. n < 256 ^ 2) (sym (len_puts es)) l;
+    }
+
+-- the image's, and none
+all_listable : AreListable Classic (from_entries {R = nat_cmp} all_fields)
+all_listable =
+    let e256 : EachListable (puts all_fields) = (
+      record { tag_fits = lit< tt; count = lit< tt; whole = refl },
+      (
+        record { tag_fits = lit< tt; count = lit< tt; whole = refl },
+        (
+          record { tag_fits = lit< tt; count = lit< tt; whole = refl },
+          (
+            record { tag_fits = lit< tt; count = lit< tt; whole = refl },
+            (
+              record { tag_fits = lit< tt; count = lit< tt; whole = refl },
+              (
+                record { tag_fits = lit< tt; count = lit< tt; whole = refl },
+                (
+                  record { tag_fits = lit< tt; count = lit< tt; whole = refl },
+                  (
+                    record { tag_fits = lit< tt; count = lit< tt; whole = refl },
+                    (
+                      record { tag_fits = lit< tt; count = lit< tt; whole = refl },
+                      (
+                        record { tag_fits = lit< tt; count = lit< tt; whole = refl },
+                        (
+                          record { tag_fits = lit< tt; count = lit< tt; whole = refl },
+                          (
+                            record { tag_fits = lit< tt; count = lit< tt; whole = refl },
+                            (
+                              record { tag_fits = lit< tt; count = lit< tt; whole = refl },
+                              (record { tag_fits = lit< tt; count = lit< tt; whole = refl }, tt),
+                            ),
+                          ),
+                        ),
+                      ),
+                    ),
+                  ),
+                ),
+              ),
+            ),
+          ),
+        ),
+      ),
+    ) in listable all_fields e256 (lit< tt)
+
+none_listable : AreListable Classic no_fields.fields
+none_listable = listable [] tt (lit< tt)
+
+-- behind the resolutions
+begun_fits : DeedsFit Classic header (header_model Classic) (new_image gray 1 1 1 (new_file Classic)).deeds
+unfolding new_image new_image_cause image_directory begin_cause first_tags write_tag write_entry write_tag_cause data_of number
+begun_fits = (
+  tt,
+  (
+    inl (record { short = lit≤ tt; bytes = refl }),
+    (
+      inl (record { short = lit≤ tt; bytes = refl }),
+      (
+        inl (record { short = lit≤ tt; bytes = refl }),
+        (
+          inl (record { short = lit≤ tt; bytes = refl }),
+          (
+            inl (record { short = lit≤ tt; bytes = refl }),
+            (
+              inl (record { short = lit≤ tt; bytes = refl }),
+              (
+                inl (record { short = lit≤ tt; bytes = refl }),
+                (
+                  tt,
+                  (
+                    inr (record { place = 8; bytes = one_to_one }, (inl refl, record { place = refl; whole = refl; long = lit< tt; short = lit< tt; bytes = refl })),
+                    (
+                      tt,
+                      (
+                        inr (record { place = 16; bytes = one_to_one }, (inl refl, record { place = refl; whole = refl; long = lit< tt; short = lit< tt; bytes = refl })),
+                        (
+                          inl (record { short = lit≤ tt; bytes = refl }),
+                          tt,
+                        ),
+                      ),
+                    ),
+                  ),
+                ),
+              ),
+            ),
+          ),
+        ),
+      ),
+    ),
+  ),
+)
+
+begun_stands : Stands Classic (header ++ resolutions) tasks.after_begin.model
+unfolding new_image new_image_cause image_directory begin_cause first_tags write_tag write_entry write_tag_cause data_of
+begun_stands = deeds_stand Classic header (header_model Classic) (new_image gray 1 1 1 (new_file Classic)).deeds (header_stands Classic) begun_fits
+
+-- behind the image
+image_fits : DeedsFit Classic (header ++ resolutions) tasks.after_begin.model image_deeds
+image_fits = (
+  tt,
+  (
+    inl (record { short = lit≤ tt; bytes = refl }),
+    (
+      inl (record { short = lit≤ tt; bytes = refl }),
+      (
+        inl (record { short = lit≤ tt; bytes = refl }),
+        (
+          inl (record { short = lit≤ tt; bytes = refl }),
+          (all_listable, ((inl refl, lit< tt), tt)),
+        ),
+      ),
+    ),
+  ),
+)
+
+image_bytes : bytes_after Classic (header ++ resolutions) image_deeds ≡ gray_file
+image_bytes = ap (λ d. bytes.put ((header ++ resolutions) ++ (7 ∷ []) ++ d) 4 (le 4 25)) (directory_by Classic all_fields)
+
+image_stands : Stands Classic gray_file image_model
+image_stands =
+    subst (λ file. Stands Classic file image_model) image_bytes
+    (deeds_stand Classic (header ++ resolutions) tasks.after_begin.model image_deeds begun_stands image_fits)
+
+-- behind the directory
+pad_stands : Stands Classic padded.bytes after_pad.model
+pad_stands = deeds_stand Classic gray_file image_model (Appended (0 ∷ []) ∷ []) image_stands (tt, tt)
+
+three_bytes : padded.bytes ++ directory_bytes Classic no_fields.fields ≡ three_file
+three_bytes = ap (λ d. padded.bytes ++ d) (directory_by Classic [])
+
+three_stands : jobs.RunStands run_three
+three_stands =
+    subst (λ file. Stands Classic file after_three.model) three_bytes
+    (deeds_stand Classic padded.bytes after_pad.model (Listed no_fields.fields ∷ []) pad_stands (none_listable, tt))
+
+-- ---- what is shown
+
+-- the page at 25
+abbrev page_stood : Model
+page_stood = page_model (header_model Classic) 8 4 1 1 (7 ∷ [])
+
+stood : Stands Classic three_file page_stood
+stood =
+    kept_by_appending Classic page_stood gray_file ((0 ∷ []) ++ (0 ∷ 0 ∷ []) ++ (0 ∷ 0 ∷ 0 ∷ 0 ∷ []))
+    (subst (λ file. Stands Classic file page_stood) gray_written
+    (page_stands (header_model Classic) (header_bytes Classic) 4 1 1 (7 ∷ []) (inl refl) fits (header_stands Classic)))
+
+directory_is : (next : Option ℕ) × (directory_at Classic LittleEndian three_file 25 ≡ Ok (record { entries = page_map 8 1 1; next = next }))
+unfolding page_model
+directory_is = (_, stood.directories (record { place = 25; fields = page_map 8 1 1 }) (inl refl))
+
+page_is : page_at Classic three_file 25 unlimited ≡ Ok (strip_page 8 1 1)
+unfolding look_in
+page_is =
+    ok_bind (directory_at Classic LittleEndian three_file 25)
+    (λ d. page_of (looked (field_value Classic LittleEndian three_file unlimited) d.entries))
+    (record { entries = page_map 8 1 1; next = directory_is.0 }) (strip_page 8 1 1) directory_is.1
+    (page_told (looked (field_value Classic LittleEndian three_file unlimited) (page_map 8 1 1)) 1 1 (rows_per_strip 1) 24 1
+    (fields_tell (field_value Classic LittleEndian three_file unlimited) 8 1 1 (values_read three_file unlimited) (lit< tt) (lit< tt) (lit< tt) (lit< tt) (lit< tt))
+    (lit< tt) (lit< tt) (lit≤ tt))
+
+-- its image
+abbrev seven : Image
+seven = jobs.image_of new_pixel ((7 ∷ []) ∷ [])
+
+is_seven : shown_sample three_file LittleEndian (strip_page 8 1 1) 0 0 0 ≡ seven.sample_at 0 0 0
+unfolding shown_sample sample_in number rect
+is_seven = refl
+
+is_whole : is_short three_file LittleEndian (strip_page 8 1 1) (Gray 8) 0 ≡ false
+unfolding rect row_bits
+is_whole = refl
+
+one_pixel : Shows Classic three_file 25 seven
+unfolding colour_of
+one_pixel = record {
+  page = strip_page 8 1 1;
+  is_page = page_is;
+  is_image = refl;
+  colour = Gray 8;
+  is_colour = refl;
+  whole = λ chunk l.
+      let one : 0 ≡ chunk = omega arith in
+      subst (λ k. is_short three_file LittleEndian (strip_page 8 1 1) (Gray 8) k ≡ false) one is_whole;
+  shows = λ x y sample a b c.
+      let column : 0 ≡ x = omega arith in
+      let row : 0 ≡ y = omega arith in
+      let d : sample < 1 = c in
+      let one : 0 ≡ sample = omega arith in
+      let Q : ℕ → ℕ → ℕ → Type 0 = λ x y sample. shown_sample three_file LittleEndian (strip_page 8 1 1) x y sample ≡ seven.sample_at x y sample in
+      subst (λ x. Q x y sample) column (subst (λ y. Q 0 y sample) row (subst (λ n. Q 0 0 n) one is_seven));
+}
+
+three_shown : jobs.RunShows run_three
+three_shown f (inl e) = subst (λ (x : Finished). Shows Classic three_file x.place x.image) (sym e) one_pixel
+three_shown f (inr z) = absurd z
+
+pub three_jobs : s.three_jobs
+three_jobs = λ js rs a b. record {
+  run = run_three;
+  ran_so = three_ran js rs a b;
+  bytes_are = refl;
+  failures_are = refl;
+  stands = λ h. three_stands;
+  shows = λ h. three_shown;
+}
+
+-- ---- no other reply
+
+-- the run behind each job is the one above, as far as the next asks for it
+set_only : (r : JobReply) (new : Run) → r.last ≡ Ok last.Nothing → jobs.JobRan run_begun (job.Predictor predictor.None) r new → new ≡ run_set
+set_only r new l h = h.1.1 ∙ ap (λ x. jobs.ran run_begun first x []) l
+
+refused_ok : {A : Type 0} {x : A} {e : TiffError} (r : Result A TiffError) → r ≡ Ok x → r ≡ Err e → ⊥
+refused_ok r p q = ok_err (sym p ∙ q)
+
+-- no step is called
+none_called : {S A : Type 0} (Stepped : Standing → S → A → Result StepReply TiffError → Standing → S → Type 0)
+    (old : Standing) (s : S) (steps : List A) (rs : List (Result StepReply TiffError)) (new : Standing) (t : S)
+    → steps ≡ [] → rs ≡ [] → jobs.AllStepped Stepped old s steps rs new t → (new ≡ old) × (t ≡ s)
+none_called Stepped old s steps rs new t p q h =
+    subst (λ y. jobs.AllStepped Stepped old s [] y new t) q (subst (λ x. jobs.AllStepped Stepped old s x rs new t) p h)
+
+-- one sample is stored in one way
+one_way : (stored : List (List ℕ)) → AreStored new_pixel ((7 ∷ []) ∷ []) stored → length stored ≡ 1 → stored ≡ (7 ∷ []) ∷ []
+unfolding chunk_bytes differences
+one_way [] a l = absurd (unequal 0 1 (lit< tt) l)
+one_way (s ∷ []) a l = ap (λ x. x ∷ []) a.0
+one_way (s ∷ t ∷ u) a l = absurd a.1
+
+silent_only : (offsets : Offsets) (stored : List (List ℕ)) (new : Standing) → stored ≡ (7 ∷ []) ∷ []
+    → IsDone (write_image_data new_pixel (7 ∷ 8 ∷ []) stored tasks.after_begin.file) (Ok offsets) tasks.after_begin new → new ≡ after_image
+silent_only offsets stored new p d =
+    let e : IsDone tasks.wrote (Ok offsets) tasks.after_begin new =
+    subst (λ x. IsDone (write_image_data new_pixel (7 ∷ 8 ∷ []) x tasks.after_begin.file) (Ok offsets) tasks.after_begin new) p d in
+    (one_step.1.1.1.1 tasks.wrote (Ok offsets) (Ok tasks.page_place) tasks.after_begin new tasks.after_data e data_is_done).1 ∙ same_end
+
+whole_only : (new : Standing) (place : Option Offsets) → jobs.WritesDataIfFound new_pixel (7 ∷ 8 ∷ []) (Ok last.Nothing) tasks.after_begin new place → new ≡ after_image
+unfolding write_image_data_cause parts_left rect
+whole_only new place (inl (inl h)) = silent_only h.1.1.1.0 h.0 new (one_way h.0 h.1.0 h.1.1.0) h.1.1.1.1.0
+whole_only new place (inl (inr h)) = absurd h.0
+whole_only new place (inr h) = absurd (ok_err h.0)
+
+data_only : (e : ImageEnd) (r : Result EndReply TiffError) (samples : Vec ℕ) (new : Standing) (place : Option Offsets) → samples.items ≡ 7 ∷ 8 ∷ []
+    → e ≡ iend.WriteData samples → r ≡ Ok last.Nothing → jobs.ImageEnds tasks.after_begin new_pixel e r new place → new ≡ after_image
+data_only e r samples new place u p q h =
+    let one = subst (λ x. jobs.ImageEnds tasks.after_begin new_pixel x r new place) p h in
+    let two = subst (λ y. jobs.WritesDataIfFound new_pixel (cut_to 1 samples.items) y tasks.after_begin new place) q one in
+    whole_only new place (subst (λ xs. jobs.WritesDataIfFound new_pixel (cut_to 1 xs) (Ok last.Nothing) tasks.after_begin new place) u two)
+
+image_runs : (j : ImageJob) (r : JobReply) (samples : Vec ℕ) (new : Run) → j.colour ≡ name.Gray8 → j.width ≡ 1 → j.height ≡ 1
+    → j.steps.items ≡ [] → samples.items ≡ 7 ∷ 8 ∷ [] → j.end ≡ iend.WriteData samples → r.steps.items ≡ [] → r.last ≡ Ok last.Nothing
+    → jobs.ImageRuns (new_image (colour_type j.colour) (inner_size j.colour) j.width j.height first.file) j r run_set new
+    → new.standing ≡ after_image
+image_runs j r samples new c w h p u e q l t =
+    let told = new_image (colour_type j.colour) (inner_size j.colour) j.width j.height first.file in
+    let b = one_step.1.1.1.0 told (Ok t.first) (Ok new_pixel) first t.after_begin tasks.after_begin t.begins (begins_by j.colour j.width j.height c w h) in
+    let begun : Drawn = record { image = t.first; samples = [] } in
+    let i : t.first ≡ new_pixel = ok_inj t.first new_pixel b.0 in
+    let n = none_called jobs.ImageStepped t.after_begin begun j.steps.items r.steps.items t.after_steps t.final p q t.steps in
+    let f : t.final.image ≡ new_pixel = ap (λ (x : Drawn). x.image) n.1 ∙ i in
+    let m : t.after_steps ≡ tasks.after_begin = n.0 ∙ b.1 in
+    let ends = subst (λ x. jobs.ImageEnds x new_pixel j.end r.last t.after_end t.place) m
+    (subst (λ x. jobs.ImageEnds t.after_steps x j.end r.last t.after_end t.place) f t.ends) in
+    ap (λ (x : Run). x.standing) t.state ∙ data_only j.end r.last samples t.after_end t.place u e l ends
+
+image_only : (j : ImageJob) (r : JobReply) (samples : Vec ℕ) (new : Run) → j.colour ≡ name.Gray8 → j.width ≡ 1 → j.height ≡ 1
+    → j.steps.items ≡ [] → samples.items ≡ 7 ∷ 8 ∷ [] → j.end ≡ iend.WriteData samples → r.steps.items ≡ [] → r.last ≡ Ok last.Nothing
+    → jobs.ImageRan run_set j r new → new.standing ≡ after_image
+image_only j r samples new c w h p u e q l (inl n) = absurd (refused_ok r.last l n.1.1.0.1)
+image_only j r samples new c w h p u e q l (inr t) = image_runs j r samples new c w h p u e q l t
+
+-- the last answers 202
+other_link : let a : Offsets = place_200 in a ≡ record { pointer = 200; link = 206 } → ⊥
+other_link e = unequal 202 206 (lit< tt) (ap (λ (o : Offsets). o.link) e)
+
+directory_other : (e : DirectoryEnd) (r : Result EndReply TiffError) (new : Standing) (place : Option Offsets) → e ≡ end.Finish
+    → r ≡ Ok (last.Offsets 200 206) → jobs.DirectoryEnds after_pad no_fields e r new place → ⊥
+directory_other e r new place p q h =
+    let one = subst (λ x. jobs.DirectoryEnds after_pad no_fields x r new place) p h in
+    let two = subst (λ y. jobs.FinishesWith (finish no_fields padded) y after_pad new place) q one in
+    let other : Offsets = record { pointer = 200; link = 206 } in
+    other_link (ok_inj place_200 other (sym three_ends.ended.answer ∙ two.0.ended.answer))
+
+directory_runs : (j : DirectoryJob) (r : JobReply) (old new : Run) → old.standing ≡ after_image → j.chained ≡ false → j.steps.items ≡ []
+    → j.end ≡ end.Finish → r.steps.items ≡ [] → r.last ≡ Ok (last.Offsets 200 206)
+    → jobs.DirectoryRuns (jobs.open_directory j.chained old.standing.file) None j r old new → ⊥
+directory_runs j r old new o c q e a l t =
+    let one = subst (λ x. IsDone (jobs.open_directory j.chained x.file) (Ok t.first) x t.after_begin) o t.begins in
+    let two = subst (λ x. IsDone (jobs.open_directory x image_file) (Ok t.first) after_image t.after_begin) c one in
+    let b = one_step.1.1.0 (extra_directory image_file) (Ok t.first) (Ok no_fields) after_image t.after_begin after_pad two pad_begins in
+    let i : t.first ≡ no_fields = ok_inj t.first no_fields b.0 in
+    let n = none_called jobs.DirectoryStepped t.after_begin t.first j.steps.items r.steps.items t.after_steps t.final q a t.steps in
+    let ends = subst (λ x. jobs.DirectoryEnds x no_fields j.end r.last t.after_end t.place) (n.0 ∙ b.1)
+    (subst (λ x. jobs.DirectoryEnds t.after_steps x j.end r.last t.after_end t.place) (n.1 ∙ i) t.ends) in
+    directory_other j.end r.last t.after_end t.place e l ends
+
+not_ran : (j : DirectoryJob) (r : JobReply) (old new : Run) → old.standing ≡ after_image → j.chained ≡ false → j.steps.items ≡ []
+    → j.end ≡ end.Finish → r.steps.items ≡ [] → r.last ≡ Ok (last.Offsets 200 206) → jobs.DirectoryRan old None j r new → ⊥
+not_ran j r old new o c q e a l (inl n) = refused_ok r.last l n.1.1.0.1
+not_ran j r old new o c q e a l (inr t) = directory_runs j r old new o c q e a l t
+
+wrong : s.three_wrong
+wrong js rs a b bytes after h =
+    let j = a.image in
+    let d = a.directory in
+    let all : List Job = job.Predictor predictor.None ∷ job.Image j ∷ job.Directory d ∷ [] in
+    let given = subst (λ x. jobs.Jobs run_begun x rs h.run) a.are h.ran_so in
+    let ran = subst (λ y. jobs.Jobs run_begun all y h.run) b.are given in
+    let set : ran.0 ≡ run_set = set_only b.first ran.0 b.first_last ran.1.0 in
+    let rest = ran.1.1 in
+    let image = subst (λ x. jobs.ImageRan x j b.second rest.0) set rest.1.0 in
+    let stands = image_only j b.second a.samples rest.0 a.colour a.width a.height a.steps a.given a.ending b.second_steps b.second_last image in
+    let end = rest.1.1 in
+    let last = subst (λ x. jobs.DirectoryRanBy rest.0 (jobs.named_parent rest.0.offsets x) d b.third end.0) a.parent end.1.0 in
+    not_ran d b.third rest.0 end.0 stands a.chained a.no_steps a.finish b.third_steps b.third_last last
+
+pub three_wrong : s.three_wrong
+three_wrong = wrong
+
+-- ---- jobs that are not called
+
+cut : HeaderFails Classic s.told s.failures s.last_fault s.fresh (IoError Device)
+cut = record {
+  last = s.cut_sink;
+  count = 3;
+  within = lit< tt;
+  bytes = refl;
+  grew = refl;
+  cause = fault.Device;
+  tells = refl;
+  answer = refl;
+}
+
+swapped : s.header_swapped
+swapped r e = device_other (some_inj (sym (ap s.last_fault e) ∙ r.tells)) r.answer
+
+whole_header : s.header_whole
+whole_header e r p =
+    let l : length header ≡ length (take r.count header) = ap length (sym p ∙ r.bytes) in
+    let t = length-take r.count header in
+    let w : r.count < 8 = r.within in
+    omega (arith, l, t, w)
+
+no_other : s.other_cause
+no_other (inl h) = size_memory h
+no_other (inr h) = sink_size h.cause h.answer
+
+pub no_room : s.no_room
+no_room = inl refl
+
+pub no_room_run : s.no_room_run
+no_room_run = λ js earlier. (refl, inl refl)
+
+pub header_cut : s.header_cut
+unfolding cut
+header_cut = (cut, refl)
+
+pub header_cut_run : s.header_cut_run
+header_cut_run = λ js. (refl, inr cut)
+
+pub header_swapped : s.header_swapped
+header_swapped = swapped
+
+pub header_whole : s.header_whole
+header_whole = whole_header
+
+pub other_cause : s.other_cause
+other_cause = no_other
+
+pub replied : s.replied
+replied = λ js e r h. unequal 0 1 (lit< tt) (sym (ap (λ (xs : List JobReply). length xs) h.0))
