@@ -6,7 +6,7 @@ use Rattle.tiff_base.specs.declared.error.UsageError.TheVariants.{WriterFailed}
 use Rattle.tiff_base.specs.declared.tags.«Type».{«Type»}
 use Rattle.tiff_value.specs.Data.{FieldData}
 use Rattle.tiff_value.specs.Written.{Written, Writes}
-use Rattle.tiff_value.specs.Values.{values_in, WritesValue}
+use Rattle.tiff_value.specs.Values.{values_in, IsWritable, WritesValue}
 
 -- what is not there is nothing
 pub nothing : {A : Type 0} (o : Option A) → is_some o ≡ false → o ≡ None
@@ -29,13 +29,13 @@ pub value_stopped : (A : Type 0) (given : Result FieldData TiffError) (w : Writt
 value_stopped A (Ok d) w h = inl (record { answer = refl; failed = h; same = refl })
 value_stopped A (Err e) w h = inl (record { answer = refl; failed = h; same = refl })
 
--- there was no memory
-pub value_wanting : (A : Type 0) (given : Result FieldData TiffError) (w : Written) → is_some w.fault ≡ false → WritesValue {A = A} given w w (Err OutOfMemory)
-value_wanting A (Ok d) w h = inr (inl (record { fresh = nothing w.fault h; answer = refl; same = refl }))
-value_wanting A (Err e) w h = inr (inl (record { fresh = nothing w.fault h; answer = refl; same = refl }))
+-- there was no memory for a value that can be written
+pub value_wanting : (A : Type 0) (given : Result FieldData TiffError) (w : Written) → is_some w.fault ≡ false → IsWritable given → WritesValue {A = A} given w w (Err OutOfMemory)
+value_wanting A (Ok d) w h can = inr (inl (record { fresh = nothing w.fault h; answer = refl; same = refl }))
+value_wanting A (Err e) w h can = absurd can
 
 -- a field can't be given the value
 pub value_refused : (A : Type 0) (given : Result FieldData TiffError) (e : TiffError) (w : Written) → is_some w.fault ≡ false → given ≡ Err e → WritesValue {A = A} given w w (Err e)
 value_refused A given e w h is =
     subst (λ (g : Result FieldData TiffError). WritesValue {A = A} g w w (Err e)) (sym is)
-    (inr (inr (record { fresh = nothing w.fault h; answer = refl; same = refl })))
+    (inr (record { fresh = nothing w.fault h; answer = refl; same = refl }))

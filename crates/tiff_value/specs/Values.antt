@@ -17,11 +17,16 @@ abbrev pub IsValue : «Type» → ℕ → Result FieldData TiffError → Type 0
 IsValue type count (Ok d) = (d.field_type ≡ type) × (d.count ≡ count) × IsWhole d
 IsValue type count (Err e) = e ≡ FormatError InvalidTag
 
+-- a field can be given the value
+abbrev pub IsWritable : Result FieldData TiffError → Type 0
+IsWritable (Ok d) = Unit {0}
+IsWritable (Err e) = ⊥
+
 -- how many bytes so many values of a type have, as far as a number of 64 bits goes
 abbrev pub byte_count : ℕ → «Type» → ℕ
 byte_count count type = min (count * type_size type) (2 ^ 64 - 1)
 
--- There was no memory for the bytes: nothing is done.
+-- There was no memory for the bytes of a value that a field can be given: nothing is done.
 pub record IsWanting (e : TiffError) (old new : Written) : Type 0 where
   pub fresh : old.fault ≡ None
   pub answer : e ≡ OutOfMemory
@@ -41,4 +46,4 @@ module _ {A : Type 0} where
       MatchResult r
       (λ _. (old.fault ≡ None) × (new ≡ written old d.bytes))
       (λ e. IsStopped e old new ⊎ (IsWanting e old new ⊎ IsCut d.bytes e old new))
-  WritesValue (Err given) old new r = MatchResult r (λ _. ⊥) (λ e. IsStopped e old new ⊎ (IsWanting e old new ⊎ IsRefused given e old new))
+  WritesValue (Err given) old new r = MatchResult r (λ _. ⊥) (λ e. IsStopped e old new ⊎ IsRefused given e old new)

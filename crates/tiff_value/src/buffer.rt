@@ -1,8 +1,9 @@
 //! Values as bytes.
 
 ghost use Rattle.std.specs.Prelude.{◌≡◌};
-ghost use Rattle.tiff_base.specs.Answers.{AnswersHere};
+ghost use Rattle.tiff_base.specs.Answers.{AnswersBut};
 ghost use Rattle.tiff_value.specs.Buffer.{buffer_count, buffer_given, empty_buffer, ordered};
+ghost use Rattle.tiff_value.specs.Values.{IsWritable};
 
 use crate::encoder::tiff_value::TiffValue;
 use std::alloc::Global;
@@ -43,7 +44,7 @@ impl ValueBuffer {
 
     /// The values that are written, in the machine's order. Errors are those of `data`.
     pub fn from_value<V: TiffValue>(alloc: Global, value: &V) -> TiffResult<Self>
-        ensures { AnswersHere (λ b. b) result (buffer_given (V.field_data value.now)) }
+        ensures { AnswersBut (IsWritable (V.field_data value.now)) ⊥ (λ b. b) result (buffer_given (V.field_data value.now)) }
     {
         let bytes = value.data(alloc)?;
         Ok(ValueBuffer {

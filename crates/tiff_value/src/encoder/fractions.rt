@@ -27,6 +27,10 @@ impl TiffValue for Rational {
         1
     }
 
+    fn check(&self) -> TiffResult<()> {
+        Ok(())
+    }
+
     #[tactic(auto, unfolding(crate::specs::Data::data_of))]
     fn data(&self, alloc: Global) -> TiffResult<Vec<u8>> {
         let mut out = Vec::with_capacity(alloc, 8)?;
@@ -69,6 +73,10 @@ impl TiffValue for SRational {
 
     fn count(&self) -> usize {
         1
+    }
+
+    fn check(&self) -> TiffResult<()> {
+        Ok(())
     }
 
     #[tactic(auto, unfolding(crate::specs::Data::data_of))]

@@ -29,6 +29,10 @@ impl TiffValue for CompressionMethod {
         1
     }
 
+    fn check(&self) -> TiffResult<()> {
+        Ok(())
+    }
+
     #[tactic(auto, unfolding(crate::specs::Data::data_of))]
     fn data(&self, alloc: Global) -> TiffResult<Vec<u8>> {
         Ok(Vec::from_slice(alloc, &self.to_u16().to_le_bytes())?)
@@ -67,6 +71,10 @@ impl TiffValue for PhotometricInterpretation {
 
     fn count(&self) -> usize {
         1
+    }
+
+    fn check(&self) -> TiffResult<()> {
+        Ok(())
     }
 
     #[tactic(auto, unfolding(crate::specs::Data::data_of))]
@@ -109,6 +117,10 @@ impl TiffValue for PlanarConfiguration {
         1
     }
 
+    fn check(&self) -> TiffResult<()> {
+        Ok(())
+    }
+
     #[tactic(auto, unfolding(crate::specs::Data::data_of))]
     fn data(&self, alloc: Global) -> TiffResult<Vec<u8>> {
         Ok(Vec::from_slice(alloc, &self.to_u16().to_le_bytes())?)
@@ -147,6 +159,10 @@ impl TiffValue for Predictor {
 
     fn count(&self) -> usize {
         1
+    }
+
+    fn check(&self) -> TiffResult<()> {
+        Ok(())
     }
 
     #[tactic(auto, unfolding(crate::specs::Data::data_of))]
@@ -189,6 +205,10 @@ impl TiffValue for ResolutionUnit {
         1
     }
 
+    fn check(&self) -> TiffResult<()> {
+        Ok(())
+    }
+
     #[tactic(auto, unfolding(crate::specs::Data::data_of))]
     fn data(&self, alloc: Global) -> TiffResult<Vec<u8>> {
         Ok(Vec::from_slice(alloc, &self.to_u16().to_le_bytes())?)
@@ -229,6 +249,10 @@ impl TiffValue for SampleFormat {
         1
     }
 
+    fn check(&self) -> TiffResult<()> {
+        Ok(())
+    }
+
     #[tactic(auto, unfolding(crate::specs::Data::data_of))]
     fn data(&self, alloc: Global) -> TiffResult<Vec<u8>> {
         Ok(Vec::from_slice(alloc, &self.to_u16().to_le_bytes())?)
@@ -267,6 +291,10 @@ impl TiffValue for ExtraSamples {
 
     fn count(&self) -> usize {
         1
+    }
+
+    fn check(&self) -> TiffResult<()> {
+        Ok(())
     }
 
     #[tactic(auto, unfolding(crate::specs::Data::data_of))]

@@ -27,6 +27,10 @@ impl TiffValue for u8 {
         1
     }
 
+    fn check(&self) -> TiffResult<()> {
+        Ok(())
+    }
+
     #[tactic(auto, unfolding(crate::specs::Data::data_of))]
     fn data(&self, alloc: Global) -> TiffResult<Vec<u8>> {
         Ok(Vec::from_slice(alloc, &self.to_le_bytes())?)
@@ -73,6 +77,10 @@ impl TiffValue for i8 {
         1
     }
 
+    fn check(&self) -> TiffResult<()> {
+        Ok(())
+    }
+
     #[tactic(auto, unfolding(crate::specs::Data::data_of))]
     fn data(&self, alloc: Global) -> TiffResult<Vec<u8>> {
         Ok(Vec::from_slice(alloc, &self.to_le_bytes())?)
@@ -111,6 +119,10 @@ impl TiffValue for u16 {
 
     fn count(&self) -> usize {
         1
+    }
+
+    fn check(&self) -> TiffResult<()> {
+        Ok(())
     }
 
     #[tactic(auto, unfolding(crate::specs::Data::data_of))]
@@ -153,6 +165,10 @@ impl TiffValue for i16 {
         1
     }
 
+    fn check(&self) -> TiffResult<()> {
+        Ok(())
+    }
+
     #[tactic(auto, unfolding(crate::specs::Data::data_of))]
     fn data(&self, alloc: Global) -> TiffResult<Vec<u8>> {
         Ok(Vec::from_slice(alloc, &self.to_le_bytes())?)
@@ -191,6 +207,10 @@ impl TiffValue for u32 {
 
     fn count(&self) -> usize {
         1
+    }
+
+    fn check(&self) -> TiffResult<()> {
+        Ok(())
     }
 
     #[tactic(auto, unfolding(crate::specs::Data::data_of))]
@@ -233,6 +253,10 @@ impl TiffValue for i32 {
         1
     }
 
+    fn check(&self) -> TiffResult<()> {
+        Ok(())
+    }
+
     #[tactic(auto, unfolding(crate::specs::Data::data_of))]
     fn data(&self, alloc: Global) -> TiffResult<Vec<u8>> {
         Ok(Vec::from_slice(alloc, &self.to_le_bytes())?)
@@ -271,6 +295,10 @@ impl TiffValue for u64 {
 
     fn count(&self) -> usize {
         1
+    }
+
+    fn check(&self) -> TiffResult<()> {
+        Ok(())
     }
 
     #[tactic(auto, unfolding(crate::specs::Data::data_of))]
@@ -313,6 +341,10 @@ impl TiffValue for i64 {
         1
     }
 
+    fn check(&self) -> TiffResult<()> {
+        Ok(())
+    }
+
     #[tactic(auto, unfolding(crate::specs::Data::data_of))]
     fn data(&self, alloc: Global) -> TiffResult<Vec<u8>> {
         Ok(Vec::from_slice(alloc, &self.to_le_bytes())?)
@@ -351,6 +383,10 @@ impl TiffValue for Bits32 {
 
     fn count(&self) -> usize {
         1
+    }
+
+    fn check(&self) -> TiffResult<()> {
+        Ok(())
     }
 
     #[tactic(auto, unfolding(crate::specs::Data::data_of))]
@@ -393,6 +429,10 @@ impl TiffValue for Bits64 {
         1
     }
 
+    fn check(&self) -> TiffResult<()> {
+        Ok(())
+    }
+
     #[tactic(auto, unfolding(crate::specs::Data::data_of))]
     fn data(&self, alloc: Global) -> TiffResult<Vec<u8>> {
         Ok(Vec::from_slice(alloc, &self.0.to_le_bytes())?)
@@ -433,6 +473,10 @@ impl TiffValue for Ifd {
         1
     }
 
+    fn check(&self) -> TiffResult<()> {
+        Ok(())
+    }
+
     #[tactic(auto, unfolding(crate::specs::Data::data_of))]
     fn data(&self, alloc: Global) -> TiffResult<Vec<u8>> {
         Ok(Vec::from_slice(alloc, &self.0.to_le_bytes())?)
@@ -471,6 +515,10 @@ impl TiffValue for Ifd8 {
 
     fn count(&self) -> usize {
         1
+    }
+
+    fn check(&self) -> TiffResult<()> {
+        Ok(())
     }
 
     #[tactic(auto, unfolding(crate::specs::Data::data_of))]

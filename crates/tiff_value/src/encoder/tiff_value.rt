@@ -1,11 +1,11 @@
 //! The values that are written.
 
-ghost use Rattle.std.specs.Prelude.{◌≡◌, ◌+◌, ◌++◌, length, MatchResult};
+ghost use Rattle.std.specs.Prelude.{◌≡◌, ◌+◌, ◌++◌, length, Err, MatchResult};
 ghost use Rattle.std.specs.List.{flat_map, list_all};
-ghost use Rattle.tiff_base.specs.Answers.{AnswersHere};
+ghost use Rattle.tiff_base.specs.Answers.{AnswersBut};
 ghost use Rattle.tiff_base.specs.Types.{type_size};
 ghost use Rattle.tiff_value.specs.Data.{is_letter};
-ghost use Rattle.tiff_value.specs.Values.{byte_count, values_in, WritesValue};
+ghost use Rattle.tiff_value.specs.Values.{byte_count, values_in, IsWritable, WritesValue};
 
 use crate::encoder::writer::TiffWriter;
 use std::alloc::Global;
@@ -52,9 +52,15 @@ pub trait TiffValue {
         self.count().saturating_mul(usize::from(Self::byte_len()))
     }
 
-    /// Its bytes, the least of each number first. A text that can't be written: `FormatError(InvalidTag)`.
+    /// Whether a field can be given it (this project's); it takes no memory. A text that can't be written:
+    /// `FormatError(InvalidTag)`.
+    fn check(&self) -> TiffResult<()>
+        ensures { MatchResult result (λ _. IsWritable (field_data self.now)) (λ e. field_data self.now ≡ Err e) };
+
+    /// Its bytes, the least of each number first. A text that can't be written: `FormatError(InvalidTag)`. Its other error
+    /// is `OutOfMemory`, only of a value that can be written.
     fn data(&self, alloc: Global) -> TiffResult<Vec<u8>>
-        ensures { AnswersHere (λ v. values_in value_type (value_count self.now) v.items) result (field_data self.now) };
+        ensures { AnswersBut (IsWritable (field_data self.now)) ⊥ (λ v. values_in value_type (value_count self.now) v.items) result (field_data self.now) };
 
     /// Writes its bytes at the writer's place, as they are. After an earlier fault: `UsageError(WriterFailed)`. Further
     /// errors are those of `data` and of `write_plain`.
@@ -125,6 +131,10 @@ impl<T: TiffValue> TiffValue for &T {
         (**self).count()
     }
 
+    fn check(&self) -> TiffResult<()> {
+        (**self).check()
+    }
+
     fn data(&self, alloc: Global) -> TiffResult<Vec<u8>> {
         (**self).data(alloc)
     }
@@ -155,6 +165,10 @@ impl<'a, T: TiffScalar> TiffValue for Slice<'a, T> {
 
     fn count(&self) -> usize {
         self.0.len()
+    }
+
+    fn check(&self) -> TiffResult<()> {
+        Ok(())
     }
 
     fn data(&self, alloc: Global) -> TiffResult<Vec<u8>> {
@@ -191,6 +205,15 @@ impl<'a> TiffValue for Text<'a> {
 
     fn count(&self) -> usize {
         self.0.len() + 1
+    }
+
+    #[tactic(auto, unfolding(crate::specs::Data::text_data))]
+    fn check(&self) -> TiffResult<()> {
+        if is_text(self.0.as_bytes()) {
+            Ok(())
+        } else {
+            Err(TiffError::FormatError(TiffFormatError::InvalidTag))
+        }
     }
 
     #[tactic(auto, unfolding(crate::specs::Data::text_data))]
