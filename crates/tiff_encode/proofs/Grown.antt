@@ -385,7 +385,7 @@ module _ (kind : FileKind) (m : Model) (file : List ℕ) (fields : FinMap nat_cm
   ]
 
   -- so the directory stands
-  directory_stands : Stands kind grown_file (with_directory kind m fresh)
+  pub directory_stands : Stands kind grown_file (with_directory kind m fresh)
   directory_stands =
       let g = kept_by_appending kind m file (directory_bytes kind fields) h in
       let links : ℕ → ℕ = λ p. cond (eqb p own) 0 (m.links p) in
@@ -425,17 +425,6 @@ module _ (kind : FileKind) (m : Model) (file : List ℕ) (fields : FinMap nat_cm
           ]
         ];
       }
-
--- a directory that is appended and linked to stands, where its fields stand in entries as they are
-pub finished_filled : (kind : FileKind) (m : Model) (file : List ℕ) (fields : FinMap nat_cmp Field) (parent : ℕ)
-    → AllWritable kind (entries fields) → len fields < 256 ^ count_len kind
-    → length file < 256 ^ place_len kind → IsLink kind m parent → Stands kind file m
-    → Stands kind (put (file ++ directory_bytes kind fields) parent (le (place_len kind) (length file)))
-    (relinked kind (with_directory kind m (record { place = length file; fields = fields })) parent (length file))
-finished_filled kind m file fields parent w b l i h =
-    let d : FinishedDirectory = record { place = length file; fields = fields } in
-    kept_by_patching kind (with_directory kind m d) (file ++ directory_bytes kind fields) parent (length file)
-    (elim i [ inl x ↦ inl x | inr y ↦ inr (y.0, (inr y.1.0, y.1.1)) ]) l (directory_stands kind m file fields w b h)
 
 -- a directory that is appended stands, with no next one
 pub grown_by_listing : GrownByListing

@@ -1,6 +1,7 @@
 pub mod Slices
 pub mod Kept
 pub mod Header
+pub mod Headers
 pub mod Entries
 pub mod Standing
 pub mod Grown

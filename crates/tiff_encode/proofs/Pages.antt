@@ -1,5 +1,5 @@
 -- The page of one gray strip stands in a file to which it was appended.
-use Rattle.std.proofs.Common.{◌≡◌, ℕ, ◌+◌, ◌*◌, ◌/◌, ◌%◌, ◌^◌, ◌<◌, List, [], ◌∷◌, ◌++◌, length, take, refl, ap, sym, ◌∙◌, inl, inr, subst, arith, lit<, lit≤, append_assoc, length-append}
+use Rattle.std.proofs.Common.{◌≡◌, ℕ, ◌+◌, ◌*◌, ◌/◌, ◌%◌, ◌^◌, ◌<◌, ◌≤◌, List, [], ◌∷◌, ◌++◌, length, take, refl, ap, sym, ◌∙◌, inl, inr, subst, arith, lit<, lit≤, append_assoc, length-append}
 use Rattle.std.proofs.lemmas.List.{length-take-le}
 use Rattle.std.proofs.Math.Nat.{mul-le-mul_right, div-le_self}
 use Rattle.std.specs.Int.{w32}
@@ -14,13 +14,13 @@ use Rattle.tiff_base.specs.Field.{Field}
 use Rattle.tiff_base.specs.FieldBytes.{field_place}
 use Rattle.tiff_base.specs.Told.{put}
 use Rattle.tiff_base.specs.Number.{number, le}
-use Rattle.tiff_encode.specs.Written.{place_len, count_len, directory_bytes, padding, rows_per_strip, short_field, long_field, rational_field, one_to_one, gray_fields, resolutions_place, strip_place, directory_place, page_head, page_map, page_bytes, with_page}
-use Rattle.tiff_encode.specs.Model.{In, Model, IsLink, Stands, relinked, with_directory, with_region, with_handed}
-use Rattle.tiff_encode.specs.Laws.{handed_short, handed_long, handed_resolution, gray_handed, page_model, PageStands}
+use Rattle.tiff_encode.specs.Written.{count_len, directory_bytes, padding, rows_per_strip, short_field, long_field, rational_field, one_to_one, gray_fields, resolutions_place, strip_place, directory_place, page_head, page_map, page_bytes, with_page}
+use Rattle.tiff_encode.specs.Model.{In, Model, IsLink, Stands, with_directory, with_region, with_handed}
+use Rattle.tiff_encode.specs.Laws.{handed_short, handed_long, handed_resolution, gray_handed, IsGrayPage, unlinked_page_model, page_model, torn_page_model, PageStands}
 use Rattle.tiff_encode.proofs.Slices.{length-le, number-le}
-use Rattle.tiff_encode.proofs.Kept.{kept_by_appending}
+use Rattle.tiff_encode.proofs.Kept.{kept_by_appending, kept_by_patching, kept_by_tearing}
 use Rattle.tiff_encode.proofs.Entries.{IsWritable, AllWritable, entries_of}
-use Rattle.tiff_encode.proofs.Grown.{grown_by_region, grown_by_inline, grown_by_placed, finished_filled}
+use Rattle.tiff_encode.proofs.Grown.{grown_by_region, grown_by_inline, grown_by_placed, directory_stands}
 
 -- ---- fields of one number
 
@@ -152,16 +152,13 @@ region_at m file more p e h =
     let P : ℕ → Type 0 = λ x. Stands Classic (file ++ more) (with_region m (record { place = x; bytes = more })) in
     subst P e (grown_by_region Classic m file more h)
 
--- a directory that is appended at a place of that name, and linked to
-finished_at : (m : Model) (file : List ℕ) (fields : FinMap nat_cmp Field) (link p : ℕ) → length file ≡ p
-    → AllWritable Classic (entries fields)
-    → len fields < 256 ^ count_len Classic → p < 256 ^ place_len Classic → IsLink Classic m link → Stands Classic file m
-    → Stands Classic (put (file ++ directory_bytes Classic fields) link (le 4 p))
-    (relinked Classic (with_directory Classic m (record { place = p; fields = fields })) link p)
-finished_at m file fields link p e w b l i h =
-    let P : ℕ → Type 0 = λ x. Stands Classic (put (file ++ directory_bytes Classic fields) link (le 4 x))
-    (relinked Classic (with_directory Classic m (record { place = x; fields = fields })) link x) in
-    subst P e (finished_filled Classic m file fields link w b (omega (arith, e, l)) i h)
+-- a directory that is appended at a place of that name
+listed_at : (m : Model) (file : List ℕ) (fields : FinMap nat_cmp Field) (p : ℕ) → length file ≡ p
+    → AllWritable Classic (entries fields) → len fields < 256 ^ count_len Classic → Stands Classic file m
+    → Stands Classic (file ++ directory_bytes Classic fields) (with_directory Classic m (record { place = p; fields = fields }))
+listed_at m file fields p e w b h =
+    let P : ℕ → Type 0 = λ x. Stands Classic (file ++ directory_bytes Classic fields) (with_directory Classic m (record { place = x; fields = fields })) in
+    subst P e (directory_stands Classic m file fields w b h)
 
 -- what is appended piece by piece is appended as a whole
 regroup : (file a b c d e : List ℕ) → ((((file ++ a) ++ b) ++ c) ++ d) ++ e ≡ file ++ ((a ++ (b ++ c)) ++ (d ++ e))
@@ -225,10 +222,13 @@ rows_fit width = omega (arith, div-le_self 1000000 width)
 pub side_fits : (width height n : ℕ) → 0 < width → width * height < n → height < n
 side_fits width height n p h = omega (arith, mul-le-mul_right height p)
 
--- the page of one gray strip, appended and linked to, stands
-pub page_stands : PageStands
-unfolding page_model with_page page_bytes page_head regions_of_page
-page_stands m file link width height samples l p h =
+-- the page of one gray strip, appended, stands
+unlinked_stands : (m : Model) (file : List ℕ) (width height : ℕ) (samples : List ℕ)
+    → IsGrayPage (length file) width height samples → Stands Classic file m
+    → Stands Classic (file ++ page_bytes (length file) width height samples)
+    (unlinked_page_model m (length file) width height samples)
+unfolding page_bytes page_head regions_of_page
+unlinked_stands m file width height samples p h =
     let n : ℕ = length file in
     let size : ℕ = width * height in
     let strip : List ℕ = take size samples in
@@ -264,6 +264,31 @@ page_stands m file link width height samples l p h =
     let stood : Stands Classic full m12 =
     handed_stand m3 full width height (resolutions_place n) (strip_place n) (inr (inr (inl refl))) (inr (inl refl))
     (omega (arith, fits)) (regions_stand m file strip h) in
-    let whole = finished_at m12 full fields link dp place writable few fits l stood in
-    let Q : List ℕ → Type 0 = λ x. Stands Classic (put x link (le 4 dp)) (page_model m n link width height samples) in
+    let whole = listed_at m12 full fields dp place writable few stood in
+    let Q : List ℕ → Type 0 = λ x. Stands Classic x (unlinked_page_model m n width height samples) in
     subst Q (regroup file P O O strip (directory_bytes Classic fields)) whole
+
+-- links stay links
+still_link : (m : Model) (n link width height : ℕ) (samples : List ℕ) → IsLink Classic m link
+    → IsLink Classic (unlinked_page_model m n width height samples) link
+still_link m n link width height samples i = elim i [ inl x ↦ inl x | inr y ↦ inr (y.0, (inr y.1.0, y.1.1)) ]
+
+-- the page, appended and linked to, stands
+pub page_stands : PageStands
+unfolding page_model with_page
+page_stands m file link width height samples l p h =
+    let n : ℕ = length file in
+    kept_by_patching Classic (unlinked_page_model m n width height samples) (file ++ page_bytes n width height samples) link
+    (directory_place n width height) (still_link m n link width height samples l) p.place_fits
+    (unlinked_stands m file width height samples p h)
+
+-- where the link to it broke off, all stands but that link
+pub torn_page_stands : (m : Model) (file : List ℕ) (link width height : ℕ) (samples over : List ℕ)
+    → IsLink Classic m link → IsGrayPage (length file) width height samples → length over ≤ 4 → Stands Classic file m
+    → (holds : ℕ) × Stands Classic (put (file ++ page_bytes (length file) width height samples) link over)
+    (torn_page_model m file link width height samples holds)
+unfolding torn_page_model
+torn_page_stands m file link width height samples over l p short h =
+    let n : ℕ = length file in
+    kept_by_tearing Classic (unlinked_page_model m n width height samples) (file ++ page_bytes n width height samples) link over
+    (still_link m n link width height samples l) short (unlinked_stands m file width height samples p h)

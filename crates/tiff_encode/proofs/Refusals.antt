@@ -5,7 +5,8 @@ use Rattle.tiff_base.specs.declared.error.TiffError.TheVariants.{FormatError, Io
 use Rattle.tiff_base.specs.declared.error.TiffFormatError.TheVariants.{InvalidDimensions}
 use Rattle.tiff_base.specs.declared.io.IoKind.TheVariants.{InvalidData}
 use Rattle.tiff_encode.specs.Written.{rows_per_strip, resolutions_place, strip_place, directory_place, page_head}
-use Rattle.tiff_encode.specs.Encoder.{Encoded, Refusal, refused, stand_in, is_too_far, page_refusal, appended_by}
+use Rattle.tiff_encode.specs.Machine.{FileState}
+use Rattle.tiff_encode.specs.Encoder.{Refusal, refused, stand_in, is_too_far, page_refusal, appended_by}
 use Rattle.tiff_encode.specs.Steps.{first_cause, strip_cause}
 
 -- three tests in a row, each with a fault
@@ -40,7 +41,7 @@ begins false false true t f g h i xs ys zs = ([], sym (append-nil xs))
 begins false false false true f g h i xs ys zs = (ys, refl)
 begins false false false false f g h i xs ys zs = (ys ++ zs, refl)
 
-module _ (old : Encoded) (gray : Bool) (width height : ℕ) (samples : List ℕ) where
+module _ (old : FileState) (gray : Bool) (width height : ℕ) (samples : List ℕ) where
   -- how far a page comes that the first cause doesn't refuse
   abbrev after_first : Option Refusal
   after_first =
@@ -55,21 +56,21 @@ module _ (old : Encoded) (gray : Bool) (width height : ℕ) (samples : List ℕ)
       if is_too_far (directory_place n width height) then refused IntSizeError (page_head n ++ take (width * height) samples) else None
 
   abbrev FirstPassed : Type 0
-  FirstPassed = first_cause (length old.bytes) old.finished gray width height ≡ None
+  FirstPassed = first_cause (length old.bytes) gray width height ≡ None
 
   abbrev StripPassed : Type 0
   StripPassed = strip_cause (strip_place (length old.bytes)) width height (length samples) ≡ None
 
-  pub refused_first : (e : TiffError) → first_cause (length old.bytes) old.finished gray width height ≡ Some e → page_refusal old gray width height samples ≡ refused e []
+  pub refused_first : (e : TiffError) → first_cause (length old.bytes) gray width height ≡ Some e → page_refusal old gray width height samples ≡ refused e []
   unfolding first_cause page_refusal
   refused_first e k =
-      refused_there (width == 0 || height == 0) (is_too_far (resolutions_place (length old.bytes) + 8)) (old.finished || not gray)
+      refused_there (width == 0 || height == 0) (is_too_far (resolutions_place (length old.bytes) + 8)) (not gray)
       (FormatError (InvalidDimensions width height)) IntSizeError stand_in e [] after_first k
 
   pub passed_first : FirstPassed → page_refusal old gray width height samples ≡ after_first
   unfolding first_cause page_refusal
   passed_first k =
-      refused_later (width == 0 || height == 0) (is_too_far (resolutions_place (length old.bytes) + 8)) (old.finished || not gray)
+      refused_later (width == 0 || height == 0) (is_too_far (resolutions_place (length old.bytes) + 8)) (not gray)
       (FormatError (InvalidDimensions width height)) IntSizeError stand_in [] after_first k
 
   pub refused_strip : (e : TiffError) → FirstPassed → strip_cause (strip_place (length old.bytes)) width height (length samples) ≡ Some e → page_refusal old gray width height samples ≡ refused e (page_head (length old.bytes))

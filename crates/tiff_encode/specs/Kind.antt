@@ -1,10 +1,19 @@
 -- What a kind of file writes of its own numbers (TIFF 6.0 section 2; BigTIFF).
-use Rattle.std.specs.Prelude.{◌≡◌, ℕ, Bool, true, false, List, Result, Err}
+use Rattle.std.specs.Prelude.{◌≡◌, ℕ, ◌⊎◌, Bool, true, false, List, None, Result, Err, MatchResult}
 use Rattle.tiff_base.specs.declared.error.TiffError.{TiffError}
 use Rattle.tiff_base.specs.declared.error.TiffError.TheVariants.{IntSizeError}
-use Rattle.tiff_value.specs.Written.{Written, Writes}
+use Rattle.tiff_base.specs.declared.tags.FileKind.{FileKind}
+use Rattle.tiff_value.specs.Written.{Written, Writes, moved, IsStopped, IsCut}
+use Rattle.tiff_encode.specs.Written.{place_len, header_bytes}
 
 -- a number goes out in these bytes, or where it is past them it is refused and nothing is done
 abbrev pub WritesWithin : {A : Type 0} → Bool → List ℕ → Written → Written → Result A TiffError → Type 0
 WritesWithin true bytes old new result = (result ≡ Err IntSizeError) × (new ≡ old)
 WritesWithin false bytes old new result = Writes bytes old new result
+
+-- a header goes out, whose link is 0 and is the last write
+abbrev pub WritesHeader : {A : Type 0} → FileKind → Written → Written → Result A TiffError → Type 0
+WritesHeader kind old new result =
+    MatchResult result
+    (λ _. (old.fault ≡ None) × (new ≡ record (moved old (header_bytes kind)) { last = place_len kind }))
+    (λ e. IsStopped e old new ⊎ IsCut (header_bytes kind) e old new)

@@ -165,17 +165,26 @@ gray_handed width height resolutions strip =
     handed_long width ∷ handed_long height ∷ handed_short 8 ∷ handed_short 1 ∷ handed_long strip ∷ handed_long (rows_per_strip width)
     ∷ handed_long (width * height) ∷ handed_resolution resolutions ∷ handed_resolution (resolutions + 8) ∷ []
 
--- the model after the page was appended to a file of length n, at whose end the link at a place points to it
-unfoldable pub page_model : Model → ℕ → ℕ → ℕ → ℕ → List ℕ → Model
-page_model m n link width height samples =
-    relinked Classic (with_directory Classic (record m {
+-- the model after the page was appended to a file of length n, before a link points to it
+abbrev pub unlinked_page_model : Model → ℕ → ℕ → ℕ → List ℕ → Model
+unlinked_page_model m n width height samples =
+    with_directory Classic (record m {
       handed = gray_handed width height (resolutions_place n) (strip_place n) ++ m.handed;
       regions = record { place = strip_place n; bytes = take (width * height) samples }
           ∷ record { place = resolutions_place n + 8; bytes = one_to_one }
           ∷ record { place = resolutions_place n; bytes = one_to_one }
           ∷ m.regions;
-    }) (record { place = directory_place n width height; fields = page_map n width height }))
-    link (directory_place n width height)
+    }) (record { place = directory_place n width height; fields = page_map n width height })
+
+-- the same, where the link at a place points to it
+unfoldable pub page_model : Model → ℕ → ℕ → ℕ → ℕ → List ℕ → Model
+page_model m n link width height samples =
+    relinked Classic (unlinked_page_model m n width height samples) link (directory_place n width height)
+
+-- the model after the page was appended to a file, and the write of the link at a place broke off, which holds some number
+unfoldable pub torn_page_model : Model → List ℕ → ℕ → ℕ → ℕ → List ℕ → ℕ → Model
+torn_page_model m file link width height samples holds =
+    relinked Classic (unlinked_page_model m (length file) width height samples) link holds
 
 -- sides and samples of a page of one strip that fits a classic file of length n
 pub record IsGrayPage (n width height : ℕ) (samples : List ℕ) : Type 0 where

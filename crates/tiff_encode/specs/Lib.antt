@@ -3,6 +3,7 @@ pub mod Model
 pub mod Laws
 pub mod Encoder
 pub mod Steps
+pub mod GraySteps
 pub mod Shows
 pub mod Value
 pub mod Deeds

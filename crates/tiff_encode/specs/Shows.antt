@@ -120,9 +120,9 @@ PageReads = (m : Model) (file : List ℕ) (link width height : ℕ) (samples : L
 -- ---- what the writer's calls leave
 
 -- A header that was written on an empty sink: it stands, and the chain's last link is its own.
-pub record LeavesHeader (bytes : List ℕ) (chain : ℕ) : Type 0 where
-  pub stands : Stands Classic bytes (header_model Classic)
-  pub link : IsLink Classic (header_model Classic) chain
+pub record LeavesHeader (kind : FileKind) (bytes : List ℕ) (chain : ℕ) : Type 0 where
+  pub stands : Stands kind bytes (header_model kind)
+  pub link : IsLink kind (header_model kind) chain
 
 -- A page that was appended to a file in which a model stands: all that stood stands, and the page's fields and strip; the
 -- page shows the samples handed in; and a next page can be linked.

@@ -10,7 +10,7 @@ ghost use Rattle.tiff_base.specs.declared.error.TiffError.TheVariants.{IntSizeEr
 ghost use Rattle.tiff_encode.specs.Calls.{new_offset};
 ghost use Rattle.tiff_encode.specs.Causes.{is_past, is_past_count};
 ghost use Rattle.tiff_encode.specs.Written.{count_len, place_len};
-ghost use Rattle.tiff_encode.specs.Kind.{WritesWithin};
+ghost use Rattle.tiff_encode.specs.Kind.{WritesHeader, WritesWithin};
 
 use crate::encoder::page::narrow;
 use std::marker::{Model, PhantomData};
@@ -18,7 +18,7 @@ use tiff_base::directory::Directory;
 use tiff_base::error::{TiffError, TiffResult, UsageError};
 use tiff_base::io::Sink;
 use tiff_base::tags::{FileKind, IfdPointer};
-use tiff_value::encoder::writer::TiffWriter;
+use tiff_value::encoder::writer::{TiffWriter, write_bigtiff_header, write_tiff_header};
 
 /// A kind of file, by the numbers of its places.
 pub trait TiffKind {
@@ -47,6 +47,10 @@ pub trait TiffKind {
     /// of `TiffWriter::write_plain`.
     fn write_entry_count<W: Sink>(writer: &mut TiffWriter<W>, count: usize) -> TiffResult<()>
         ensures { WritesWithin (is_past_count kind count) (le (count_len kind) count) writer.old writer.new result };
+
+    /// Writes a header that links to no directory yet. Errors are those of `TiffWriter::write_plain`.
+    fn write_header<W: Sink>(writer: &mut TiffWriter<W>) -> TiffResult<()>
+        ensures { WritesHeader kind writer.old writer.new result };
 }
 
 /// TIFF 6.0: places of 4 bytes.
@@ -82,6 +86,17 @@ impl TiffKind for TiffKindStandard {
         }
         writer.write_u16(count as u16)
     }
+
+    fn write_header<W: Sink>(writer: &mut TiffWriter<W>) -> TiffResult<()> {
+        match write_tiff_header(writer) {
+            Ok(()) => {}
+            Err(fault) => return Err(fault),
+        }
+        match writer.write_u32(0) {
+            Ok(()) => return Ok(()),
+            Err(fault) => return Err(fault),
+        }
+    }
 }
 
 /// BigTIFF: places of 8 bytes.
@@ -110,6 +125,17 @@ impl TiffKind for TiffKindBig {
 
     fn write_entry_count<W: Sink>(writer: &mut TiffWriter<W>, count: usize) -> TiffResult<()> {
         writer.write_u64(count as u64)
+    }
+
+    fn write_header<W: Sink>(writer: &mut TiffWriter<W>) -> TiffResult<()> {
+        match write_bigtiff_header(writer) {
+            Ok(()) => {}
+            Err(fault) => return Err(fault),
+        }
+        match writer.write_u64(0) {
+            Ok(()) => return Ok(()),
+            Err(fault) => return Err(fault),
+        }
     }
 }
 

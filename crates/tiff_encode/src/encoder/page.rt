@@ -34,19 +34,12 @@ pub fn narrow(n: u64) -> TiffResult<u32>
 }
 
 /// Where the resolutions of a page stand that is written at a place. Sides of 0: `FormatError(InvalidDimensions)`;
-/// past 4 bytes: `IntSizeError`; a further page, or a colour other than gray of 8 bits:
-/// `UnsupportedError(UnsupportedDataType)`.
+/// past 4 bytes: `IntSizeError`; a colour other than gray of 8 bits: `UnsupportedError(UnsupportedDataType)`.
 #[tactic(auto, unfolding(crate::specs::Steps::first_cause), using(crate::proofs::Places::resolutions_of))]
-pub fn place_resolutions(
-    place: u64,
-    finished: bool,
-    gray: bool,
-    width: u32,
-    height: u32,
-) -> TiffResult<u32>
+pub fn place_resolutions(place: u64, gray: bool, width: u32, height: u32) -> TiffResult<u32>
     ensures { MatchResult result
-        (λ p. (p ≡ resolutions_place place) × (p + 8 < 2 ^ 32) × (0 < width) × (first_cause place finished gray width height ≡ None))
-        (λ e. first_cause place finished gray width height ≡ Some e) }
+        (λ p. (p ≡ resolutions_place place) × (p + 8 < 2 ^ 32) × (0 < width) × (first_cause place gray width height ≡ None))
+        (λ e. first_cause place gray width height ≡ Some e) }
 {
     if width == 0 || height == 0 {
         return Err(TiffError::FormatError(TiffFormatError::InvalidDimensions(width, height)));
@@ -55,7 +48,7 @@ pub fn place_resolutions(
     if place > limit || place + (4 - place % 4) % 4 + 8 > limit {
         return Err(TiffError::IntSizeError);
     }
-    if finished || !gray {
+    if !gray {
         return Err(TiffError::UnsupportedError(TiffUnsupportedError::UnsupportedDataType));
     }
     Ok((place + (4 - place % 4) % 4) as u32)
