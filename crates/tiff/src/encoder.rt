@@ -1,7 +1,7 @@
 //! Files are written.
 
 pub use tiff_encode::encoder::{
-    DirectoryOffset, TiffEncoder, TiffKind, TiffKindBig, TiffKindStandard, laws,
+    DirectoryEncoder, DirectoryOffset, TiffEncoder, TiffKind, TiffKindBig, TiffKindStandard, laws,
 };
 pub use tiff_value::encoder::tiff_value::{
     Ifd, Ifd8, Rational, SRational, Slice, Text, TiffScalar, TiffValue,

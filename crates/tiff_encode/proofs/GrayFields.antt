@@ -26,11 +26,6 @@ pub entries_gray : (width height resolutions strip : ℕ) → entries (from_entr
 unfolding gray_fields
 entries_gray width height resolutions strip = entries_puts (gray_fields width height resolutions strip)
 
-pub len_gray : (width height resolutions strip : ℕ) → len (from_entries {R = nat_cmp} (gray_fields width height resolutions strip)) ≡ 14
-unfolding gray_fields
-len_gray width height resolutions strip =
-    len-entries (from_entries {R = nat_cmp} (gray_fields width height resolutions strip)) ∙ ap length (entries_gray width height resolutions strip)
-
 pub length_gray : (width height resolutions strip : ℕ) → length (directory_bytes Classic (from_entries (gray_fields width height resolutions strip))) ≡ 174
 unfolding gray_fields directory_bytes
 length_gray width height resolutions strip =

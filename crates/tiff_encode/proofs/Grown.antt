@@ -11,11 +11,11 @@ use Rattle.tiff_base.specs.declared.tags.FileKind.TheVariants.{Classic, Big}
 use Rattle.tiff_base.specs.declared.tags.ByteOrder.TheVariants.{LittleEndian}
 use Rattle.tiff_base.specs.Field.{Field}
 use Rattle.tiff_base.specs.FieldBytes.{field_len, field_place, field_bytes}
-use Rattle.tiff_base.specs.Told.{exactly_at, put}
+use Rattle.tiff_base.specs.Told.{exactly_at}
 use Rattle.tiff_base.specs.Number.{number_at, le}
 use Rattle.tiff_base.specs.Directory.{count_width, place_width, entry_len, entries_from, last_of_each, link, first_entry, directory_at}
 use Rattle.tiff_encode.specs.Written.{place_len, count_len, entry_bytes, directory_bytes}
-use Rattle.tiff_encode.specs.Model.{AreApart, In, FinishedDirectory, HandedField, Region, Model, header_link, own_link, IsLink, IsClear, body_len, whole_len, IsApart, Stands, relinked, with_directory, with_handed}
+use Rattle.tiff_encode.specs.Model.{AreApart, In, FinishedDirectory, HandedField, Region, Model, header_link, own_link, IsLink, IsClear, body_len, whole_len, IsApart, Stands, with_directory, with_handed}
 use Rattle.tiff_encode.specs.Laws.{GrownByRegion, GrownByInline, GrownByPlaced, GrownByListing, Finished}
 use Rattle.tiff_encode.specs.Deeds.{standing_fields}
 use Rattle.tiff_encode.proofs.Slices.{is_exact, exact_end, length-le, number_mid, is_place_width, is_count_width}

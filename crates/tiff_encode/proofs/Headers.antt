@@ -1,13 +1,13 @@
 -- A header is written in two pieces.
-use Rattle.std.proofs.Common.{◌≡◌, ℕ, ◌+◌, ◌<◌, ◌≤◌, ◌⊎◌, List, [], ◌++◌, length, take, drop, Some, None, IsSome, leb, refl, ap, sym, subst, ◌∙◌, arith, append-nil, append_assoc, length-append, inl, inr}
+use Rattle.std.proofs.Common.{◌≡◌, ℕ, ◌+◌, ◌<◌, ◌≤◌, ◌⊎◌, List, [], ◌++◌, length, take, drop, Some, None, IsSome, leb, ap, sym, subst, ◌∙◌, arith, append-nil, append_assoc, length-append, inl, inr}
 use Rattle.std.proofs.lemmas.Bool.{false≢true, leb-true, leb-false, cases_Bool}
-use Rattle.std.proofs.lemmas.List.{take_all, drop_all, length-take-le, take-append-le}
-use Rattle.std.proofs.lemmas.List.Edits.{paste_all, paste-paste}
-use Rattle.std.proofs.Math.Seq.{paste, take-append-add}
+use Rattle.std.proofs.lemmas.List.{take_all, drop_all, take-append-le}
+use Rattle.std.proofs.Math.Seq.{take-append-add}
 use Rattle.tiff_base.specs.declared.error.TiffError.{TiffError}
 use Rattle.tiff_base.specs.declared.tags.FileKind.{FileKind}
 use Rattle.tiff_base.specs.Number.{le}
 use Rattle.tiff_base.specs.Told.{put}
+use Rattle.tiff_value.proofs.Put.{put-put}
 use Rattle.tiff_value.specs.Written.{Written, moved, written, IsStopped, IsCut}
 use Rattle.tiff_encode.specs.Written.{place_len, header_mark, header_bytes}
 use Rattle.tiff_encode.proofs.Slices.{length-le}
@@ -19,15 +19,6 @@ put_end file xs at h =
     let d : drop (at + length xs) file ≡ [] = drop_all _ file (omega (arith, h)) in
     ap (λ p. p ++ (xs ++ drop (at + length xs) file)) t ∙ ap (λ q. file ++ (xs ++ q)) d ∙ ap (λ q. file ++ q) (append-nil xs)
 
--- a second piece right behind the first
-put_within : (file : List ℕ) (at : ℕ) (xs ys : List ℕ) → at ≤ length file → put (put file at xs) (at + length xs) ys ≡ put file at (xs ++ ys)
-put_within file at xs ys h =
-    ap (λ d. put d (at + length xs) ys) (sym (paste_all file at xs (length xs) refl))
-    ∙ sym (paste_all _ (at + length xs) ys (length ys) refl)
-    ∙ paste-paste file at xs ys (length xs) (length ys) refl refl h
-    ∙ ap (λ n. paste file at (xs ++ ys) n) (sym (length-append xs ys))
-    ∙ paste_all file at (xs ++ ys) (length (xs ++ ys)) refl
-
 put_behind : (file : List ℕ) (at : ℕ) (xs ys : List ℕ) → length file < at → put (put file at xs) (at + length xs) ys ≡ put file at (xs ++ ys)
 put_behind file at xs ys h =
     ap (λ d. put d (at + length xs) ys) (put_end file xs at (omega (arith, h)))
@@ -35,9 +26,10 @@ put_behind file at xs ys h =
     ∙ append_assoc file xs ys
     ∙ sym (put_end file (xs ++ ys) at (omega (arith, h)))
 
-put-put : (file : List ℕ) (at : ℕ) (xs ys : List ℕ) → put (put file at xs) (at + length xs) ys ≡ put file at (xs ++ ys)
-put-put file at xs ys = elim (cases_Bool (leb at (length file))) [
-  | inl t ↦ put_within file at xs ys (leb-true _ _ t)
+-- a second piece right behind the first, wherever that is
+put_on : (file : List ℕ) (at : ℕ) (xs ys : List ℕ) → put (put file at xs) (at + length xs) ys ≡ put file at (xs ++ ys)
+put_on file at xs ys = elim (cases_Bool (leb at (length file))) [
+  | inl t ↦ put-put file at xs ys (leb-true _ _ t)
   | inr f ↦ put_behind file at xs ys (leb-false _ _ f)
 ]
 
@@ -49,7 +41,7 @@ header_written kind old mid new s t =
     let zeros : List ℕ = le (place_len kind) 0 in
     let at : old.at + length mark + length zeros ≡ old.at + length (mark ++ zeros) = omega (arith, length-append mark zeros) in
     let l : length zeros ≡ place_len kind = length-le 0 (place_len kind) 0 in
-    t ∙ ap (λ m. written m zeros) s ∙ λ i. record old { bytes = put-put old.bytes old.at mark zeros i; at = at i; last = l i }
+    t ∙ ap (λ m. written m zeros) s ∙ λ i. record old { bytes = put_on old.bytes old.at mark zeros i; at = at i; last = l i }
 
 -- its first piece did not
 pub mark_fails : (kind : FileKind) (old new : Written) (e : TiffError) → IsStopped e old new ⊎ IsCut (header_mark kind) e old new
@@ -80,7 +72,7 @@ link_fails kind old mid new e fresh s f = elim f [
   | inr c ↦ (
       let mark : List ℕ = header_mark kind in
       let zeros : List ℕ = le (place_len kind) 0 in
-      let bytes = put-put old.bytes old.at mark (take c.count zeros) ∙ ap (λ l. put old.bytes old.at l) (sym (take-append-add mark zeros c.count)) in
+      let bytes = put_on old.bytes old.at mark (take c.count zeros) ∙ ap (λ l. put old.bytes old.at l) (sym (take-append-add mark zeros c.count)) in
       let at : old.at + length mark + c.count ≡ old.at + (length mark + c.count) = omega arith in
       inr (record {
         fresh = fresh;

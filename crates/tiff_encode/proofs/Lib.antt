@@ -8,7 +8,11 @@ pub mod Grown
 pub mod Deeds
 pub mod Agree
 pub mod Runs
+pub mod Listing
 pub mod CallFits
+pub mod Calling
+pub mod Leaving
+pub mod Guarding
 pub mod Pages
 pub mod Fields
 pub mod Shows
@@ -18,3 +22,4 @@ pub mod GrayFields
 pub mod Places
 pub mod Page
 pub mod Leaves
+pub mod Ending

@@ -1,14 +1,13 @@
 -- What writing a header and a page of one gray strip does to an encoder's file.
-use Rattle.std.specs.Prelude.{◌≡◌, ℕ, ◌+◌, ◌*◌, ◌^◌, ◌<◌, ◌≤◌, ◌⊎◌, Bool, true, false, not, ◌||◌, ◌==◌, List, [], ◌++◌, length, take, Option, Some, None, IsSome, if◌then◌else◌, nat_lt, nat_le}
+use Rattle.std.specs.Prelude.{◌≡◌, ℕ, ◌+◌, ◌*◌, ◌^◌, ◌<◌, ◌≤◌, ◌⊎◌, Bool, not, ◌||◌, ◌==◌, List, [], ◌++◌, length, take, Option, Some, None, IsSome, if◌then◌else◌, nat_lt, nat_le}
 use Rattle.tiff_base.specs.declared.error.TiffError.{TiffError}
 use Rattle.tiff_base.specs.declared.error.TiffError.TheVariants.{FormatError, UnsupportedError, IoError, IntSizeError, UsageError, OutOfMemory}
 use Rattle.tiff_base.specs.declared.error.TiffFormatError.TheVariants.{InvalidDimensions}
 use Rattle.tiff_base.specs.declared.error.TiffUnsupportedError.TheVariants.{UnsupportedDataType}
 use Rattle.tiff_base.specs.declared.error.UsageError.TheVariants.{WriterFailed}
-use Rattle.tiff_base.specs.declared.io.IoKind.TheVariants.{InvalidData, Device}
+use Rattle.tiff_base.specs.declared.io.IoKind.TheVariants.{InvalidData}
 use Rattle.tiff_base.specs.declared.io.SinkFault.{SinkFault}
 use Rattle.tiff_base.specs.declared.tags.FileKind.{FileKind}
-use Rattle.tiff_base.specs.declared.tags.FileKind.TheVariants.{Classic}
 use Rattle.tiff_base.specs.Number.{le}
 use Rattle.tiff_base.specs.Told.{put, sink_error}
 use Rattle.tiff_encode.specs.Machine.{FileState}

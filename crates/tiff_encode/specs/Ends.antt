@@ -63,9 +63,23 @@ pub record IsShortOfMemory {A : Type 0} (told : Told A) (e : TiffError) (old new
   pub within : count ≤ length (all_appended old.kind told.deeds)
   pub state : new ≡ record old { bytes = old.bytes ++ take count (all_appended old.kind told.deeds) }
 
+-- Why a call answers a fault: as it is told; or the sink failed; or there was no memory.
+abbrev pub Fails : {A : Type 0} → Told A → TiffError → FileState → FileState → Type 0
+Fails told e old new =
+    IsTold told (Err e) new
+    ⊎ (IsCutOff told.deeds e old new ⊎ (IsTornOff told.deeds e old new ⊎ IsShortOfMemory told e old new))
+
 -- A call's result, seen by view, and the file before and after it.
 abbrev pub Ends : {X Y : Type 0} → (X → Y) → Told Y → Result X TiffError → FileState → FileState → Type 0
 Ends view told (Ok x) old new = IsTold told (Ok (view x)) new
-Ends view told (Err e) old new =
-    IsTold told (Err e) new
-    ⊎ (IsCutOff told.deeds e old new ⊎ (IsTornOff told.deeds e old new ⊎ IsShortOfMemory told e old new))
+Ends view told (Err e) old new = Fails told e old new
+
+-- The same where it is a fault.
+abbrev pub EndsRefused : {X Y : Type 0} → Told Y → Result X TiffError → FileState → FileState → Type 0
+EndsRefused told (Ok x) old new = Unit {0}
+EndsRefused told (Err e) old new = Fails told e old new
+
+-- The same where the answer is not told on.
+abbrev pub EndsSilently : {X Y : Type 0} → Told Y → Result X TiffError → FileState → FileState → Type 0
+EndsSilently {Y = Y} told (Ok x) old new = (y : Y) × IsTold told (Ok y) new
+EndsSilently told (Err e) old new = Fails told e old new

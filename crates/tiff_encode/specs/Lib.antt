@@ -12,9 +12,13 @@ pub mod Chunks
 pub mod Causes
 pub mod Calls
 pub mod Ends
+pub mod Placing
+pub mod Leaves
 pub mod Stored
 pub mod JobValues
 pub mod Jobs
 pub mod RunLaws
 pub mod CallLaws
 pub mod Kind
+pub mod Lending
+pub mod Extending

@@ -1,14 +1,20 @@
 //! Files are written.
 
 mod directory;
+mod directory_encoder;
+mod ends;
 mod gray;
 mod kind;
 pub mod laws;
+mod limits;
+mod listing;
+mod open;
 mod page;
 pub mod script;
 mod settings;
+mod values;
 
-ghost use Rattle.std.specs.Prelude.{◌≡◌, ℕ, ◌+◌, ◌^◌, ◌<◌, ◌≤◌, [], length, IfOk, IsSome, MatchResult, Some, false};
+ghost use Rattle.std.specs.Prelude.{◌≡◌, ℕ, ◌+◌, ◌<◌, ◌≤◌, [], length, IfOk, IsSome, MatchResult, false};
 ghost use Rattle.tiff_base.specs.declared.tags.FileKind.TheVariants.{Big, Classic};
 ghost use Rattle.tiff_encode.specs.Written.{padding, place_len};
 ghost use Rattle.tiff_encode.specs.Causes.{is_past};
@@ -17,6 +23,7 @@ ghost use Rattle.tiff_encode.specs.Machine.{begun};
 ghost use Rattle.tiff_encode.specs.Shows.{LeavesHeader};
 ghost use Rattle.tiff_encode.specs.Steps.{Appends, Links};
 
+pub use self::directory_encoder::DirectoryEncoder;
 pub use self::kind::{DirectoryOffset, TiffKind, TiffKindBig, TiffKindStandard};
 pub use self::settings::Compression;
 use std::alloc::Global;

@@ -1,15 +1,16 @@
-//! The directory of a page, and directories as bytes.
+//! The directory of a gray page.
 
-ghost use Rattle.std.specs.Prelude.{◌≡◌, ℕ, ◌+◌, ◌*◌, ◌^◌, ◌<◌, ◌++◌, IfOk, OnOk};
+ghost use Rattle.std.specs.Prelude.{◌≡◌, ℕ, ◌+◌, ◌*◌, ◌^◌, ◌<◌, IfOk};
 ghost use Rattle.std.specs.FinMap as map;
 ghost use Rattle.tiff_base.specs.declared.tags.FileKind.TheVariants.{Classic};
-ghost use Rattle.tiff_encode.specs.Written.{directory_bytes, entry_bytes, gray_fields, long_field, rational_field, rows_per_strip, short_field};
+ghost use Rattle.tiff_encode.specs.Written.{directory_bytes, gray_fields, long_field, rational_field, rows_per_strip, short_field};
 
+use crate::encoder::listing::list_directory;
 use std::alloc::{AllocError, Global};
 use tiff_base::directory::{Directory, Entry};
 use tiff_base::tags::{
-    CompressionMethod, PhotometricInterpretation, Predictor, ResolutionUnit, SampleFormat, Tag,
-    Type,
+    CompressionMethod, FileKind, PhotometricInterpretation, Predictor, ResolutionUnit,
+    SampleFormat, Tag, Type,
 };
 
 /// The bytes that a strip has room for, but for its last row.
@@ -91,34 +92,7 @@ pub fn gray_directory(
     Ok(fields)
 }
 
-// Adds the bytes of an entry.
-fn push_entry(out: &mut Vec<u8>, tag: u16, entry: &Entry) -> Result<(), AllocError>
-    ensures { OnOk result (out.new.items ≡ out.old.items ++ entry_bytes Classic (tag, entry.now)) }
-{
-    out.extend_from_slice(&tag.to_le_bytes())?;
-    out.extend_from_slice(&entry.field_type().to_u16().to_le_bytes())?;
-    out.extend_from_slice(&entry.count().to_le_bytes()[..4])?;
-    out.extend_from_slice(&entry.value()[..4])?;
-    Ok(())
-}
-
-/// The bytes of a directory whose link is 0, in a classic file.
-#[tactic(auto, unfolding(crate::specs::Written::directory_bytes))]
-pub fn encode_directory(alloc: Global, directory: &Directory) -> Result<Vec<u8>, AllocError>
-    requires { map.len directory.now.entries < 2 ^ 16 }
-    ensures { IfOk result (λ v. v.items ≡ directory_bytes Classic directory.now.entries) }
-{
-    let mut out = Vec::new(alloc);
-    out.extend_from_slice(&(directory.len() as u16).to_le_bytes())?;
-    for (tag, entry) in directory.iter() {
-        push_entry(&mut out, tag, entry)?;
-    }
-    out.extend_from_slice(&0u32.to_le_bytes())?;
-    Ok(out)
-}
-
 /// The bytes of the directory of a gray page of 8 bits in one strip.
-#[tactic(auto, using(crate::proofs::GrayFields::len_gray))]
 pub fn encode_gray(
     alloc: Global,
     width: u32,
@@ -132,5 +106,5 @@ pub fn encode_gray(
     ensures { IfOk result (λ v. v.items ≡ directory_bytes Classic (map.from_entries (gray_fields width height resolutions strip))) }
 {
     let directory = gray_directory(alloc, width, height, resolutions, strip)?;
-    encode_directory(alloc, &directory)
+    list_directory(alloc, FileKind::Classic, &directory)
 }

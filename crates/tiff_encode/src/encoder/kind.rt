@@ -1,6 +1,6 @@
 //! The two kinds of file that are written, and where a directory of one stands.
 
-ghost use Rattle.std.specs.Prelude.{◌≡◌, ℕ, ◌^◌, if◌then◌else◌, nat_le, None, Some, Ok, Err};
+ghost use Rattle.std.specs.Prelude.{◌≡◌, false, ℕ, ◌^◌, if◌then◌else◌, nat_le, None, Some, Ok, Err};
 ghost use Rattle.std.specs.FinMap as map;
 ghost use Rattle.tiff_base.specs.Answers.{Gives};
 ghost use Rattle.tiff_base.specs.Directory.{link_place};
@@ -38,6 +38,11 @@ pub trait TiffKind {
     fn convert_offset(offset: u64) -> TiffResult<Self::OffsetType>
         ensures { Gives place result (if is_past kind offset then Err IntSizeError else Ok offset) };
 
+    /// A place that this kind has (this project's).
+    fn offset_at(offset: u64) -> Self::OffsetType
+        requires { is_past kind offset ≡ false }
+        ensures { place result ≡ offset };
+
     /// Writes a place. A place past its bytes: `IntSizeError`, and nothing is done; else the errors of
     /// `TiffWriter::write_plain`.
     fn write_offset<W: Sink>(writer: &mut TiffWriter<W>, offset: u64) -> TiffResult<()>
@@ -54,6 +59,7 @@ pub trait TiffKind {
 }
 
 /// TIFF 6.0: places of 4 bytes.
+#[derive(Clone, Copy, Debug, PartialEq, Eq, Hash)]
 pub struct TiffKindStandard;
 
 impl TiffKind for TiffKindStandard {
@@ -71,6 +77,10 @@ impl TiffKind for TiffKindStandard {
 
     fn convert_offset(offset: u64) -> TiffResult<u32> {
         narrow(offset)
+    }
+
+    fn offset_at(offset: u64) -> u32 {
+        offset as u32
     }
 
     fn write_offset<W: Sink>(writer: &mut TiffWriter<W>, offset: u64) -> TiffResult<()> {
@@ -100,6 +110,7 @@ impl TiffKind for TiffKindStandard {
 }
 
 /// BigTIFF: places of 8 bytes.
+#[derive(Clone, Copy, Debug, PartialEq, Eq, Hash)]
 pub struct TiffKindBig;
 
 impl TiffKind for TiffKindBig {
@@ -117,6 +128,10 @@ impl TiffKind for TiffKindBig {
 
     fn convert_offset(offset: u64) -> TiffResult<u64> {
         Ok(offset)
+    }
+
+    fn offset_at(offset: u64) -> u64 {
+        offset
     }
 
     fn write_offset<W: Sink>(writer: &mut TiffWriter<W>, offset: u64) -> TiffResult<()> {
@@ -140,9 +155,8 @@ impl TiffKind for TiffKindBig {
 }
 
 /// Where a directory that is finished stands, and its link.
-#[derive(Drop)]
+#[derive(Clone, Copy, Debug, PartialEq, Eq, Hash)]
 pub struct DirectoryOffset<K: TiffKind> {
-    pub offset: K::OffsetType,
     pub pointer: IfdPointer,
     link: u64,
     kind: PhantomData<K>,
@@ -150,14 +164,18 @@ pub struct DirectoryOffset<K: TiffKind> {
 
 impl<K: TiffKind> Model for DirectoryOffset<K> {
     ghost use Rattle.std.specs.Prelude.{◌≡◌};
+    ghost use Rattle.std.specs.Prelude.{false};
     ghost use Rattle.tiff_encode.specs.Calls.{Offsets};
+    ghost use Rattle.tiff_encode.specs.Causes.{is_past};
 
     ghost Value = { Offsets };
 
     ghost view = { λ d. record { pointer = d.pointer.0; link = d.link } };
 
-    // The place as the kind has it is that of the pointer.
-    ghost invariant = { λ d. K.place d.offset ≡ d.pointer.0 };
+    // The kind has such places.
+    ghost invariant = { λ d. is_past K.kind d.pointer.0 ≡ false };
+
+    ghost inverse = { λ o. record { pointer = record { 0 = o.pointer }; link = o.link; kind = record {} } };
 }
 
 // The place of the link of a directory of so many entries that stands at a place, if it is below 2^64.
@@ -173,24 +191,45 @@ fn link_of(kind: FileKind, place: u64, count: usize) -> Option<u64>
 }
 
 impl<K: TiffKind> DirectoryOffset<K> {
+    // A directory's place, and that of its link.
+    pub(crate) fn at(place: u64, link: u64) -> Self
+        requires { is_past K.kind place ≡ false }
+        ensures { result ≡ record { pointer = place; link = link } }
+    {
+        DirectoryOffset {
+            pointer: IfdPointer(place),
+            link,
+            kind: PhantomData,
+        }
+    }
+
+    /// The directory's place as the kind has it: in place of the Rust crate's field.
+    pub fn offset(&self) -> K::OffsetType
+        ensures { K.place result ≡ self.now.pointer }
+    {
+        K::offset_at(self.pointer.0)
+    }
+
+    // The place of its link.
+    pub(crate) fn link(&self) -> u64
+        ensures { result ≡ self.now.link }
+    {
+        self.link
+    }
+
     /// Where a directory stands that was finished at a place with the entries of `directory`. The first cause that holds: a place past
     /// the kind's bytes: `IntSizeError`; the place 0, or a link at 2^64 or behind: `UsageError(ZeroIfdPointer)`.
     #[tactic(auto, unfolding(crate::specs::Calls::new_offset, crate::specs::Causes::offset_cause))]
     pub fn new(pointer: IfdPointer, directory: &Directory) -> TiffResult<Self>
         ensures { Gives (λ o. o) result (new_offset K.kind pointer.0 (map.len directory.now.entries)) }
     {
-        let offset = K::convert_offset(pointer.0)?;
+        K::convert_offset(pointer.0)?;
         let Some(link) = link_of(K::file_kind(), pointer.0, directory.len()) else {
             return Err(UsageError::ZeroIfdPointer.into());
         };
         if pointer.0 == 0 {
             return Err(UsageError::ZeroIfdPointer.into());
         }
-        Ok(DirectoryOffset {
-            offset,
-            pointer,
-            link,
-            kind: PhantomData,
-        })
+        Ok(DirectoryOffset::at(pointer.0, link))
     }
 }

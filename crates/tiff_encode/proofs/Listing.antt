@@ -1,0 +1,33 @@
+-- The parts of a directory, cut to the widths of a kind.
+use Rattle.std.proofs.Common.{◌≡◌, ℕ, zero, suc, ◌≤◌, List, [], ◌∷◌, ◌++◌, length, take, drop, refl, ap, sym, arith}
+use Rattle.std.proofs.lemmas.List.{take-replicate}
+use Rattle.std.specs.Prelude.{replicate}
+use Rattle.tiff_base.specs.declared.tags.FileKind.{FileKind}
+use Rattle.tiff_base.specs.declared.tags.FileKind.TheVariants.{Classic, Big}
+use Rattle.tiff_base.specs.Number.{le}
+use Rattle.tiff_encode.specs.Written.{place_len, count_len}
+use Rattle.tiff_encode.specs.Value.{filled}
+
+pub le_place : (kind : FileKind) (n : ℕ) → take (place_len kind) (le 8 n) ≡ le (place_len kind) n
+le_place Classic n = refl
+le_place Big n = refl
+
+pub le_count : (kind : FileKind) (n : ℕ) → take (count_len kind) (le 8 n) ≡ le (count_len kind) n
+le_count Classic n = refl
+le_count Big n = refl
+
+pub le_zero : (kind : FileKind) → take (place_len kind) (le 8 0) ≡ le (place_len kind) 0
+le_zero kind = le_place kind 0
+
+-- ---- value fields
+
+-- bytes that are filled up by zeros, cut to n
+filled_by : (n m : ℕ) (xs : List ℕ) → length xs ≤ n → n ≤ m
+    → xs ++ drop (length xs) (replicate n 0) ≡ take n (xs ++ replicate m 0)
+filled_by n m [] l h = sym (take-replicate n m 0 h)
+filled_by (suc n) m (x ∷ xs) l h = ap (λ ys. x ∷ ys) (filled_by n m xs (omega (arith, l)) (omega (arith, h)))
+filled_by zero m (x ∷ xs) l h = absurd (omega (arith, l))
+
+-- a value field of 8 zeros, with bytes over its first
+pub filled_whole : (xs : List ℕ) → length xs ≤ 8 → xs ++ drop (length xs) (replicate 8 0) ≡ filled xs
+filled_whole xs l = filled_by 8 8 xs l (omega arith)

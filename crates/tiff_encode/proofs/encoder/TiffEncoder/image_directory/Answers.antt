@@ -1,0 +1,27 @@
+use Rattle.std.proofs.Common.{Err, Some, None, true, false, ap, refl}
+use Rattle.tiff_encode.proofs.Leaving.{begin_leaves}
+use Rattle.tiff_encode.proofs.Guarding.{begun_told, begun_fails, begun_left}
+use Rattle.tiff_encode.proofs.encoder.TiffEncoder.image_directory.Goals as goal
+
+pub returns-in-Ok : goal.returns-in-Ok
+returns-in-Ok g c =
+    let begun =
+    begun_told c.args.self.now c.pad.new.self c.empty-directory.result.entries c.self.inside.chain c.in-Ok.ensures
+    (ap (λ d. d.entries) c.empty-directory.ensures) (ap (λ e. e.chain) c.self.view_is) in (
+      (refl, (λ w. refl), tt),
+      record {
+        rests = tt;
+        same_reference = refl;
+        begun = begun;
+        leaves = λ m s. begun_left c.args.self.now c.pad.new.self
+            (record { fields = c.empty-directory.result.entries; parent = Some c.self.inside.chain; chained = true }) m begun s;
+      },
+    )
+
+pub returns-in-Err : goal.returns-in-Err
+returns-in-Err g c =
+    let old = c.args.self.now in
+    let fails = begun_fails c.in-Err.fault c.args.self.now c.pad.new.self c.in-Err.ensures in (
+      (refl, (λ w. tt), (fails, λ m s. begin_leaves (λ d. d) (Err c.in-Err.fault) old c.pad.new.self m s fails)),
+      record { rests = tt; same_reference = tt; begun = tt; leaves = λ m s. tt },
+    )

@@ -1,0 +1,34 @@
+-- What a call leaves in a file in which a model stood (this project's).
+use Rattle.std.specs.Prelude.{ℕ, ◌^◌, ◌<◌, ◌⊎◌, length, Result, Ok, Err}
+use Rattle.tiff_base.specs.declared.error.TiffError.{TiffError}
+use Rattle.tiff_value.specs.Data.{FieldData, IsWhole}
+use Rattle.tiff_encode.specs.Model.{Model, Stands, relinked}
+use Rattle.tiff_encode.specs.Deeds.{model_after}
+use Rattle.tiff_encode.specs.Machine.{FileState, Told}
+use Rattle.tiff_encode.specs.Ends.{IsTornOff}
+
+-- Where a link broke off: all that was done before it stands, and its field holds some number.
+pub record LeavesTorn {A : Type 0} (told : Told A) (e : TiffError) (old new : FileState) (m : Model) : Type 0 where
+  pub torn : IsTornOff told.deeds e old new
+  pub holds : ℕ
+  pub stands : Stands old.kind new.bytes (relinked old.kind (model_after old.kind old.bytes m torn.before) torn.place holds)
+
+-- A call that appends: all that it did stands; where it failed, what stood stands.
+abbrev pub Leaves : {X Y : Type 0} → Told Y → Result X TiffError → FileState → FileState → Model → Type 0
+Leaves told (Ok x) old new m = Stands old.kind new.bytes (model_after old.kind old.bytes m told.deeds)
+Leaves told (Err e) old new m = Stands old.kind new.bytes m
+
+-- A call that may patch a link last.
+-- the same where it is a fault
+abbrev pub LeavesRefused : {X : Type 0} → Result X TiffError → FileState → FileState → Type 0
+LeavesRefused (Ok x) old new = Unit {0}
+LeavesRefused (Err e) old new = (m : Model) → Stands old.kind old.bytes m → Stands old.kind new.bytes m
+
+abbrev pub LeavesLinked : {X Y : Type 0} → Told Y → Result X TiffError → FileState → FileState → Model → Type 0
+LeavesLinked told (Ok x) old new m = Stands old.kind new.bytes (model_after old.kind old.bytes m told.deeds)
+LeavesLinked told (Err e) old new m = Stands old.kind new.bytes m ⊎ LeavesTorn told e old new m
+
+-- A value that can be handed in: its bytes are as many as its count says, and fewer than 2^64.
+abbrev pub IsGiven : Result FieldData TiffError → Type 0
+IsGiven (Ok d) = IsWhole d × (length d.bytes < 2 ^ 64)
+IsGiven (Err e) = Unit {0}

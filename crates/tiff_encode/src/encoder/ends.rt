@@ -1,0 +1,108 @@
+//! The ends of directories.
+
+ghost use Rattle.std.specs.Prelude.{◌≡◌, ℕ, ◌+◌, ◌^◌, ◌<◌, ◌≤◌, length, IfOk, MatchResult, if◌then◌else◌, None, Some, false};
+ghost use Rattle.std.specs.FinMap as map;
+ghost use Rattle.tiff_base.specs.Directory.{link_place};
+ghost use Rattle.tiff_encode.specs.Calls as calls;
+ghost use Rattle.tiff_encode.specs.Causes.{end_of, finish_cause, is_past};
+ghost use Rattle.tiff_encode.specs.Ends.{Ends};
+ghost use Rattle.tiff_encode.specs.Placing.{Lists, LinksFrom};
+ghost use Rattle.tiff_encode.specs.Written.{place_len};
+
+use crate::encoder::TiffEncoder;
+use crate::encoder::kind::{DirectoryOffset, TiffKind};
+use crate::encoder::limits::place_bytes;
+use crate::encoder::listing::{check_end, list_directory};
+use crate::encoder::open::Fields;
+use tiff_base::error::{TiffError, TiffResult};
+use tiff_base::io::Sink;
+
+impl<W: Sink, K: TiffKind> TiffEncoder<W, K> {
+    // A directory is appended, with link 0; where its own link stands is answered.
+    fn append_listed(&mut self, fields: &Fields) -> TiffResult<u64>
+        requires { self.old.fault ≡ None }
+        ensures listed { Lists fields.now self.old self.new result }
+        ensures last { IfOk result (λ link. link + place_len K.kind ≤ end_of self.new) }
+    {
+        fields.directory.entries_fit();
+        let kind = K::file_kind();
+        let Ok(bytes) = list_directory(self.alloc, kind, &fields.directory) else {
+            return Err(TiffError::OutOfMemory);
+        };
+        match self.append(&bytes) {
+            Ok(()) => return Ok(self.writer.offset() - place_bytes(kind)),
+            Err(fault) => return Err(fault),
+        }
+    }
+
+    // The parent's link, where there is one, is pointed to a directory.
+    fn link_from(&mut self, parent: Option<u64>, directory: u64) -> TiffResult<()>
+        requires fresh { self.old.fault ≡ None }
+        requires within { (place : ℕ) → parent ≡ Some place → place + place_len K.kind ≤ length self.old.bytes }
+        requires near { is_past K.kind directory ≡ false }
+        ensures { LinksFrom parent directory self.old self.new result }
+    {
+        let Some(place) = parent else {
+            return Ok(());
+        };
+        match self.link(place, directory) {
+            Ok(()) => return Ok(()),
+            Err(fault) => return Err(fault),
+        }
+    }
+
+    // The file is of the encoder's kind.
+    fn is_of_kind(&self)
+        ensures { self.now.kind ≡ K.kind }
+    {
+        let _chain = &self.chain;
+    }
+
+    // Where a directory can end, at the file's end; else the cause.
+    fn end_place(&self, fields: &Fields) -> TiffResult<u64>
+        ensures { MatchResult result
+            (λ end. (self.now.fault ≡ None) × (end ≡ end_of self.now) × (finish_cause self.now fields.now ≡ None))
+            (λ e. finish_cause self.now fields.now ≡ Some e) }
+    {
+        self.is_of_kind();
+        let end = match self.end() {
+            Ok(end) => end,
+            Err(fault) => return Err(fault),
+        };
+        match check_end(K::file_kind(), end, fields) {
+            Ok(()) => return Ok(end),
+            Err(fault) => return Err(fault),
+        }
+    }
+
+    // The chain goes on with a directory that is chained.
+    fn chain_with(&mut self, chained: bool, link: u64)
+        requires { link + place_len K.kind ≤ length self.old.bytes }
+        ensures { self.new ≡ (if chained then record self.old { chain = link } else self.old) }
+    {
+        if chained {
+            self.chain = link;
+        }
+    }
+
+    // `finish_with_offsets`
+    pub(crate) fn finish_directory(&mut self, fields: &Fields) -> TiffResult<DirectoryOffset<K>>
+        ensures { Ends (λ d. d) (calls.finish fields.now self.old) result self.old self.new }
+    {
+        self.is_of_kind();
+        let end = match self.end_place(fields) {
+            Ok(end) => end,
+            Err(fault) => return Err(fault),
+        };
+        let link = match self.append_listed(fields) {
+            Ok(link) => link,
+            Err(fault) => return Err(fault),
+        };
+        match self.link_from(fields.parent, end) {
+            Ok(()) => {}
+            Err(fault) => return Err(fault),
+        }
+        self.chain_with(fields.chained, link);
+        Ok(DirectoryOffset::at(end, link))
+    }
+}

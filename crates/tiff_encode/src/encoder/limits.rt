@@ -1,0 +1,55 @@
+//! What a kind of file can hold.
+
+ghost use Rattle.std.specs.Prelude.{◌≡◌, ℕ, ◌++◌, ◌≤◌, length, replicate, take};
+ghost use Rattle.tiff_encode.specs.Causes.{is_past, is_past_count};
+ghost use Rattle.tiff_encode.specs.Placing.{field_test, Checks};
+ghost use Rattle.tiff_encode.specs.Value.{filled};
+ghost use Rattle.tiff_encode.specs.Written.{place_len};
+
+use tiff_base::error::{TiffError, TiffResult};
+use tiff_base::tags::FileKind;
+
+/// How many bytes a place has, and a value field.
+pub fn place_bytes(kind: FileKind) -> u64
+    ensures { result ≡ place_len kind }
+{
+    match kind {
+        FileKind::Classic => 4,
+        FileKind::Big => 8,
+    }
+}
+
+/// Whether a number is past the places, the counts and the lengths of a kind.
+pub fn is_past_place(kind: FileKind, n: u64) -> bool
+    ensures { result ≡ is_past kind n }
+{
+    match kind {
+        FileKind::Classic => n > u64::from(u32::MAX),
+        FileKind::Big => false,
+    }
+}
+
+/// Whether so many values, which are so many bytes, can be a field at the end of a file of this length: else `IntSizeError`.
+#[tactic(auto, unfolding(crate::specs::Placing::field_test))]
+pub fn check_field(kind: FileKind, end: u64, count: u64, len: usize) -> TiffResult<()>
+    ensures { Checks (field_test kind end count len) result }
+{
+    if is_past_place(kind, count) {
+        return Err(TiffError::IntSizeError);
+    }
+    if len as u64 > place_bytes(kind) && is_past_place(kind, end) {
+        return Err(TiffError::IntSizeError);
+    }
+    Ok(())
+}
+
+/// The bytes of a value field that holds these.
+#[tactic(auto, using(crate::proofs::Listing::filled_whole))]
+pub fn fill(bytes: &[u8]) -> [u8; 8]
+    requires { length bytes.now ≤ 8 }
+    ensures { result ≡ filled bytes.now }
+{
+    let mut wide = [0u8; 8];
+    wide[..bytes.len()].copy_from_slice(bytes);
+    wide
+}

@@ -1,0 +1,100 @@
+//! Directories as bytes.
+
+ghost use Rattle.std.specs.Prelude.{◌≡◌, ◌++◌, IfOk, OnOk};
+ghost use Rattle.std.specs.FinMap as map;
+ghost use Rattle.std.specs.List.{list_any};
+ghost use Rattle.tiff_base.specs.Number.{le};
+ghost use Rattle.tiff_encode.specs.Causes.{is_past, is_past_count};
+ghost use Rattle.tiff_encode.specs.Placing.{end_test, Checks};
+ghost use Rattle.tiff_encode.specs.Written.{count_len, directory_bytes, entry_bytes, place_len};
+
+use crate::encoder::limits::{is_past_place, place_bytes};
+use crate::encoder::open::Fields;
+use std::alloc::{AllocError, Global};
+use tiff_base::directory::{Directory, Entry};
+use tiff_base::error::{TiffError, TiffResult, UsageError};
+use tiff_base::tags::FileKind;
+
+// How many bytes the count of a directory's entries has.
+fn count_bytes(kind: FileKind) -> usize
+    ensures { result ≡ count_len kind }
+{
+    match kind {
+        FileKind::Classic => 2,
+        FileKind::Big => 8,
+    }
+}
+
+// Adds the bytes of an entry.
+#[tactic(auto, using(crate::proofs::Listing::le_place))]
+fn push_entry(out: &mut Vec<u8>, kind: FileKind, tag: u16, entry: &Entry) -> Result<(), AllocError>
+    ensures { OnOk result (out.new.items ≡ out.old.items ++ entry_bytes kind (tag, entry.now)) }
+{
+    let width = place_bytes(kind) as usize;
+    out.extend_from_slice(&tag.to_le_bytes())?;
+    out.extend_from_slice(&entry.field_type().to_u16().to_le_bytes())?;
+    out.extend_from_slice(&entry.count().to_le_bytes()[..width])?;
+    out.extend_from_slice(&entry.value()[..width])?;
+    Ok(())
+}
+
+/// The bytes of a directory whose link is 0, in a file of a kind: count, entries in ascending tag number, link.
+#[tactic(auto, unfolding(crate::specs::Written::directory_bytes), using(crate::proofs::Listing::le_count, crate::proofs::Listing::le_zero))]
+pub fn list_directory(
+    alloc: Global,
+    kind: FileKind,
+    directory: &Directory,
+) -> Result<Vec<u8>, AllocError>
+    ensures { IfOk result (λ v. v.items ≡ directory_bytes kind directory.now.entries) }
+{
+    let mut out = Vec::new(alloc);
+    let count = directory.len() as u64;
+    out.extend_from_slice(&count.to_le_bytes()[..count_bytes(kind)])?;
+    for (tag, entry) in directory.iter() {
+        push_entry(&mut out, kind, tag, entry)?;
+    }
+    out.extend_from_slice(&0u64.to_le_bytes()[..place_bytes(kind) as usize])?;
+    Ok(out)
+}
+
+// Whether a field has more values than a file of a kind can count.
+fn has_far_count(kind: FileKind, directory: &Directory) -> bool
+    ensures { result ≡ list_any (λ entry. is_past kind entry.1.count) (map.entries directory.now.entries) }
+{
+    for (_, entry) in directory.iter() {
+        if is_past_place(kind, entry.count()) {
+            return true;
+        }
+    }
+    false
+}
+
+// Whether there are more entries than a directory of a kind can count.
+fn is_past_entries(kind: FileKind, count: usize) -> bool
+    ensures { result ≡ is_past_count kind count }
+{
+    match kind {
+        FileKind::Classic => count > usize::from(u16::MAX),
+        FileKind::Big => false,
+    }
+}
+
+/// Whether a directory can end here. The first cause that holds: more entries or values than the kind can count, or a
+/// place past its bytes: `IntSizeError`; a parent's link that isn't within the file: `UsageError(ParentNotWritten)`.
+#[tactic(auto, unfolding(crate::specs::Placing::end_test))]
+pub fn check_end(kind: FileKind, end: u64, fields: &Fields) -> TiffResult<()>
+    ensures { Checks (end_test kind end fields.now) result }
+{
+    if is_past_entries(kind, fields.directory.len()) || has_far_count(kind, &fields.directory) {
+        return Err(TiffError::IntSizeError);
+    }
+    if is_past_place(kind, end) {
+        return Err(TiffError::IntSizeError);
+    }
+    match fields.parent {
+        Some(parent) if end.saturating_sub(parent) < place_bytes(kind) => {
+            Err(TiffError::UsageError(UsageError::ParentNotWritten))
+        }
+        _ => Ok(()),
+    }
+}

@@ -1,0 +1,79 @@
+//! What a directory has that is open.
+
+ghost use Rattle.std.specs.Prelude.{◌≡◌, ◌^◌, ◌<◌, MatchResult, Some};
+ghost use Rattle.std.specs.FinMap as map;
+ghost use Rattle.tiff_base.specs.declared.error.TiffError.TheVariants.{OutOfMemory};
+ghost use Rattle.tiff_base.specs.Field.{AreEntries};
+ghost use Rattle.tiff_encode.specs.Calls.{with_field};
+ghost use Rattle.tiff_encode.specs.Extending.{Extends};
+
+use std::marker::Model;
+use tiff_base::directory::{Directory, Entry};
+use tiff_base::error::{TiffError, TiffResult};
+use tiff_base::tags::Tag;
+
+/// A directory that is open: its fields, where the link stands that is to point to it, and whether its own link becomes
+/// the chain's last.
+#[derive(Drop)]
+pub struct Fields {
+    pub(crate) directory: Directory,
+    pub(crate) parent: Option<u64>,
+    pub(crate) chained: bool,
+}
+
+impl Model for Fields {
+    ghost use Rattle.tiff_encode.specs.Machine.{OpenDirectory};
+    ghost use Rattle.std.specs.Coded.{codes};
+    ghost use Rattle.std.specs.FinMap as map;
+
+    ghost Value = { OpenDirectory };
+
+    ghost coded = { Prim.hlevel (codes, map.code) };
+
+    ghost view = { λ d. record { fields = d.directory.entries; parent = d.parent; chained = d.chained } };
+}
+
+impl Fields {
+    /// Sets the field of a tag, in place of one that it had.
+    pub(crate) fn set(&mut self, tag: Tag, entry: Entry) -> TiffResult<()>
+        ensures { MatchResult result
+            (λ _. self.new ≡ with_field self.old tag entry)
+            (λ e. (e ≡ OutOfMemory) × (self.new ≡ self.old)) }
+    {
+        match self.directory.insert(tag.to_u16(), entry) {
+            Ok(()) => return Ok(()),
+            Err(_) => return Err(TiffError::OutOfMemory),
+        }
+    }
+
+    /// Sets each field of a directory in turn, in place of one that it had for its tag. Its only error is `OutOfMemory`, and
+    /// then those that came before are set.
+    pub(crate) fn extend_from(&mut self, directory: &Directory) -> TiffResult<()>
+        ensures { Extends (map.entries directory.now.entries) self.old self.new result }
+    {
+        for (tag, entry) in directory.iter() {
+            let copy = Entry::new_u64(entry.field_type(), entry.count(), entry.value());
+            match self.directory.insert(tag, copy) {
+                Ok(()) => {}
+                Err(_) => return Err(TiffError::OutOfMemory),
+            }
+        }
+        Ok(())
+    }
+
+    /// Sets where the link stands that is to point to it.
+    pub(crate) fn set_parent(&mut self, link: u64)
+        ensures { self.new ≡ record self.old { parent = Some link } }
+    {
+        self.parent = Some(link);
+    }
+
+    /// Its fields are entries that a directory can have, and fewer than 2^64.
+    pub(crate) fn fits(&self)
+        ensures entries { AreEntries self.now.fields }
+        ensures few { map.len self.now.fields < 2 ^ 64 }
+    {
+        self.directory.entries_fit();
+        let _count = self.directory.len();
+    }
+}

@@ -1,0 +1,191 @@
+//! Values are handed in: for a field, or alone.
+
+ghost use Rattle.std.specs.Prelude.{◌≡◌, ℕ, ◌^◌, ◌<◌, length, IsSome, OnOk, MatchResult, None};
+ghost use Rattle.tiff_encode.specs.Calls as calls;
+ghost use Rattle.tiff_encode.specs.Causes.{end_of, field_cause, order_cause};
+ghost use Rattle.tiff_encode.specs.Ends.{Ends};
+ghost use Rattle.tiff_encode.specs.Machine.{by_cause};
+ghost use Rattle.tiff_encode.specs.Placing.{Checks, Places};
+ghost use Rattle.tiff_encode.specs.Value.{data_in};
+
+use crate::encoder::TiffEncoder;
+use crate::encoder::kind::TiffKind;
+use crate::encoder::limits::{check_field, fill, place_bytes};
+use tiff_base::directory::Entry;
+use tiff_base::error::{TiffError, TiffResult, UsageError};
+use tiff_base::io::Sink;
+use tiff_base::tags::{ByteOrder, FileKind, Type};
+use tiff_value::buffer::ValueBuffer;
+use tiff_value::encoder::tiff_value::TiffValue;
+
+// Bytes that are handed in have to be little-endian: else `UsageError(ByteOrderMismatch)`.
+fn check_order(order: ByteOrder) -> TiffResult<()>
+    ensures { Checks (order_cause order None) result }
+{
+    match order {
+        ByteOrder::LittleEndian => Ok(()),
+        ByteOrder::BigEndian => Err(TiffError::UsageError(UsageError::ByteOrderMismatch)),
+    }
+}
+
+impl<W: Sink, K: TiffKind> TiffEncoder<W, K> {
+    // The file's end, where the next bytes are appended. After a fault of the sink: `UsageError(WriterFailed)`.
+    pub(crate) fn end(&self) -> TiffResult<u64>
+        ensures { MatchResult result
+            (λ end. (self.now.fault ≡ None) × (end ≡ end_of self.now))
+            (λ e. IsSome self.now.fault × (e ≡ TiffError.UsageError UsageError.WriterFailed)) }
+    {
+        if self.writer.has_failed() {
+            return Err(TiffError::UsageError(UsageError::WriterFailed));
+        }
+        Ok(self.writer.offset())
+    }
+
+    // The kind of the file.
+    fn file_kind(&self) -> FileKind
+        ensures { result ≡ self.now.kind }
+    {
+        let _chain = &self.chain;
+        K::file_kind()
+    }
+
+    // A value is handed in for a field: its bytes are appended, where they don't fit into the entry.
+    fn place(&mut self, field_type: Type, count: u64, bytes: &[u8]) -> TiffResult<Entry>
+        requires { self.old.fault ≡ None }
+        ensures { Places (record { field_type = field_type; count = count; bytes = bytes.now }) self.old self.new result }
+    {
+        if bytes.len() as u64 <= place_bytes(self.file_kind()) {
+            return Ok(Entry::new_u64(field_type, count, fill(bytes)));
+        }
+        let place = self.writer.offset();
+        match self.append(bytes) {
+            Ok(()) => return Ok(Entry::new_u64(field_type, count, place.to_le_bytes())),
+            Err(fault) => return Err(fault),
+        }
+    }
+
+    // `write_entry`
+    pub(crate) fn place_value<T: TiffValue>(&mut self, value: &T) -> TiffResult<Entry>
+        ensures { Ends (λ e. e) (calls.write_entry (T.field_data value.now) self.old) result self.old self.new }
+    {
+        let end = match self.end() {
+            Ok(end) => end,
+            Err(fault) => return Err(fault),
+        };
+        match value.check() {
+            Ok(()) => {}
+            Err(fault) => return Err(fault),
+        }
+        let count = value.count() as u64;
+        match check_field(self.file_kind(), end, count, value.bytes()) {
+            Ok(()) => {}
+            Err(fault) => return Err(fault),
+        }
+        let data = match value.data(self.alloc) {
+            Ok(data) => data,
+            Err(fault) => return Err(fault),
+        };
+        match self.place(T::field_type(), count, &data) {
+            Ok(entry) => return Ok(entry),
+            Err(fault) => return Err(fault),
+        }
+    }
+
+    // Bytes are handed in for a field, as values of a type; a ragged end is left out.
+    fn place_data(&mut self, end: u64, field_type: Type, bytes: &[u8]) -> TiffResult<Entry>
+        requires fresh { self.old.fault ≡ None }
+        requires at_end { end ≡ end_of self.old }
+        ensures { Ends (λ e. e) (by_cause (field_cause self.old (data_in field_type bytes.now)) (calls.placed (data_in field_type bytes.now)) self.old) result self.old self.new }
+    {
+        let size = usize::from(field_type.byte_len());
+        let count = bytes.len() / size;
+        let whole = &bytes[..count * size];
+        match check_field(self.file_kind(), end, count as u64, whole.len()) {
+            Ok(()) => {}
+            Err(fault) => return Err(fault),
+        }
+        match self.place(field_type, count as u64, whole) {
+            Ok(entry) => return Ok(entry),
+            Err(fault) => return Err(fault),
+        }
+    }
+
+    // `write_entry_buf`
+    pub(crate) fn place_buffer(&mut self, buffer: &ValueBuffer) -> TiffResult<Entry>
+        ensures { Ends (λ e. e) (calls.write_entry_buf buffer.now self.old) result self.old self.new }
+    {
+        let end = match self.end() {
+            Ok(end) => end,
+            Err(fault) => return Err(fault),
+        };
+        match check_order(buffer.byte_order()) {
+            Ok(()) => {}
+            Err(fault) => return Err(fault),
+        }
+        match self.place_data(end, buffer.data_type(), buffer.as_bytes()) {
+            Ok(entry) => return Ok(entry),
+            Err(fault) => return Err(fault),
+        }
+    }
+
+    // `write_entry_bytes`
+    pub(crate) fn place_bytes(&mut self, field_type: Type, bytes: &[u8]) -> TiffResult<Entry>
+        ensures { Ends (λ e. e) (calls.write_entry_bytes field_type bytes.now self.old) result self.old self.new }
+    {
+        let end = match self.end() {
+            Ok(end) => end,
+            Err(fault) => return Err(fault),
+        };
+        let found = bytes.len();
+        if found % usize::from(field_type.byte_len()) != 0 {
+            return Err(TiffError::UsageError(UsageError::MismatchedEntryLength {
+                ty: field_type,
+                found,
+            }));
+        }
+        match self.place_data(end, field_type, bytes) {
+            Ok(entry) => return Ok(entry),
+            Err(fault) => return Err(fault),
+        }
+    }
+
+    // `write_data` of a directory
+    pub(crate) fn append_value<T: TiffValue>(&mut self, value: &T) -> TiffResult<u64>
+        ensures { Ends (λ n. n) (calls.write_data (T.field_data value.now) self.old) result self.old self.new }
+    {
+        let end = match self.end() {
+            Ok(end) => end,
+            Err(fault) => return Err(fault),
+        };
+        match value.check() {
+            Ok(()) => {}
+            Err(fault) => return Err(fault),
+        }
+        let data = match value.data(self.alloc) {
+            Ok(data) => data,
+            Err(fault) => return Err(fault),
+        };
+        match self.append(&data) {
+            Ok(()) => return Ok(end),
+            Err(fault) => return Err(fault),
+        }
+    }
+
+    // `write_data_buf`
+    pub(crate) fn append_buffer(&mut self, buffer: &ValueBuffer) -> TiffResult<u64>
+        ensures { Ends (λ n. n) (calls.write_data_buf buffer.now self.old) result self.old self.new }
+    {
+        let end = match self.end() {
+            Ok(end) => end,
+            Err(fault) => return Err(fault),
+        };
+        match check_order(buffer.byte_order()) {
+            Ok(()) => {}
+            Err(fault) => return Err(fault),
+        }
+        match self.append(buffer.as_bytes()) {
+            Ok(()) => return Ok(end),
+            Err(fault) => return Err(fault),
+        }
+    }
+}
