@@ -7,6 +7,7 @@ use Rattle.std.specs.List.{list_any}
 use Rattle.std.specs.Ordering.{nat_cmp}
 use Rattle.tiff_base.specs.declared.error.TiffError.{TiffError}
 use Rattle.tiff_base.specs.declared.error.TiffError.TheVariants.{IntSizeError}
+use Rattle.tiff_base.specs.declared.tags.FileKind.{FileKind}
 use Rattle.tiff_base.specs.declared.tags.FileKind.TheVariants.{Classic, Big}
 use Rattle.tiff_base.specs.Field.{Field}
 use Rattle.tiff_value.specs.Data.{extras, data_of}
@@ -17,6 +18,7 @@ use Rattle.tiff_encode.specs.Written.{resolutions_place}
 use Rattle.tiff_encode.specs.Machine.{FileState, OpenDirectory}
 use Rattle.tiff_encode.specs.Calls.{opened}
 use Rattle.tiff_encode.specs.Causes.{begin_cause, end_of, extra_samples_cause, field_cause, finish_cause, is_past, is_past_count, new_image_cause, offset_cause, planar_cause, tiles_cause, write_chunk_cause, one_resolution_cause, parent_cause, resolution_cause, resolution_unit_cause, rows_per_strip_cause, unless_failed, write_buf_cause, write_data_buf_cause, write_data_cause, write_entry_bytes_cause, write_image_data_cause, write_strip_cause, write_tag_cause}
+use Rattle.tiff_encode.specs.Placing.{field_test, end_test, parent_test}
 use Rattle.tiff_examples.proofs.Maps.{entries_puts}
 use Rattle.tiff_examples.specs.Causes as s
 use Rattle.tiff_examples.specs.Causes.{new_file, file_with}
@@ -34,6 +36,36 @@ finish_by : (file : FileState) (d : OpenDirectory) (count : ℕ) (fields : List 
     → finish_cause file d ≡ finish_cause_by file d count fields
 unfolding finish_cause
 finish_by file d count fields p q = λ i. finish_cause_by file d (p i) (q i)
+
+-- the same by the file's length
+abbrev end_test_by : FileKind → ℕ → OpenDirectory → ℕ → List (ℕ × Field) → Option TiffError
+end_test_by kind end d count fields =
+    if is_past_count kind count || (list_any (λ entry. is_past kind entry.1.count) fields || is_past kind end)
+    then Some IntSizeError
+    else parent_test kind end d.parent
+
+end_by : (kind : FileKind) (end : ℕ) (d : OpenDirectory) (count : ℕ) (fields : List (ℕ × Field)) → len d.fields ≡ count → entries d.fields ≡ fields
+    → end_test kind end d ≡ end_test_by kind end d count fields
+unfolding end_test
+end_by kind end d count fields p q = λ i. end_test_by kind end d (p i) (q i)
+
+pub test_far : s.test_far
+unfolding field_test
+test_far = refl
+
+pub test_inline : s.test_inline
+unfolding field_test
+test_inline = refl
+
+pub test_far_big : s.test_far_big
+unfolding field_test
+test_far_big = refl
+
+pub test_parent : s.test_parent
+test_parent = end_by Classic 8 (opened (Some 5) false) 0 [] (len-empty nat_cmp Field) (entries_puts [])
+
+pub test_end_far : s.test_end_far
+test_end_far = end_by Classic 4294967296 (opened (Some 4294967293) false) 0 [] (len-empty nat_cmp Field) (entries_puts [])
 
 pub failed_begin : s.failed_begin
 unfolding begin_cause

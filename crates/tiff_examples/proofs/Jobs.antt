@@ -1,11 +1,12 @@
 -- The worked examples of Jobs compute.
-use Rattle.std.specs.Prelude.{refl, not, ◌≤◌, min, take, drop}
+use Rattle.std.specs.Prelude.{refl, zero, suc, not, ◌≤◌, min, take, drop}
+use Rattle.std.specs.FinMap.{entries}
 use Rattle.std.specs.List.{list_any}
 use Rattle.std.proofs.lemmas.List.{length-take}
 use Rattle.std.proofs.Common.{◌≡◌, ℕ, ◌<◌, List, [], ◌∷◌, length, true, false, Option, Some, None, Result, Ok, Err, ap, sym, ◌∙◌, subst, inl, inr, arith, lit<, lit≤}
 use Rattle.tiff_base.specs.declared.error.TiffError.{TiffError}
 use Rattle.tiff_base.specs.declared.error.TiffError.TheVariants.{IoError, IntSizeError, UsageError, OutOfMemory}
-use Rattle.tiff_base.specs.declared.error.UsageError.TheVariants.{ParentNotWritten}
+use Rattle.tiff_base.specs.declared.error.UsageError.TheVariants.{ParentNotWritten, WriterFailed}
 use Rattle.tiff_base.specs.declared.io.IoKind.TheVariants.{Device}
 use Rattle.tiff_base.specs.declared.io.SinkFault.{SinkFault}
 use Rattle.tiff_base.specs.declared.io.SinkFault.TheVariants as fault
@@ -13,6 +14,8 @@ use Rattle.tiff_base.specs.declared.tags.FileKind.TheVariants.{Classic}
 use Rattle.tiff_encode.specs.declared.encoder.settings.Compression.TheVariants.{Packbits}
 use Rattle.tiff_encode.specs.declared.encoder.script.StepReply.{StepReply}
 use Rattle.tiff_encode.specs.declared.encoder.script.StepReply.TheVariants as reply
+use Rattle.tiff_base.specs.Field.{Field}
+use Rattle.tiff_encode.specs.Written.{long_field}
 use Rattle.tiff_encode.specs.Deeds.{Appended, Listed, model_after}
 use Rattle.tiff_encode.specs.Machine.{FileState, OpenDirectory, Told, gives}
 use Rattle.tiff_page.specs.Rect.{rect}
@@ -145,6 +148,58 @@ directory_by j r c p q e a l =
       ends = ends_by j.end r.last e l;
       state = ap (λ x. jobs.ran s.run_begun s.after_empty x []) (sym l);
     }))
+
+cause_other : let a : Result ℕ TiffError = Err IntSizeError in a ≡ Err (UsageError WriterFailed) → ⊥
+cause_other h = cc
+
+sink_failed : (f : SinkFault) → let a : TiffError = UsageError WriterFailed in a ≡ sink_error f → ⊥
+sink_failed fault.Device h = cc
+sink_failed fault.OutOfMemory h = cc
+
+failed_memory : let a : TiffError = UsageError WriterFailed in a ≡ OutOfMemory → ⊥
+failed_memory h = cc
+
+other_refused : s.refused_other
+other_refused new (inl t) = cause_other t.answer
+other_refused new (inr (inl c)) = sink_failed c.fault c.answer
+other_refused new (inr (inr (inl t))) = sink_failed t.fault t.answer
+other_refused new (inr (inr (inr w))) = failed_memory w.fault
+
+-- the tag of a list's first field
+abbrev first_tag : List (ℕ × Field) → ℕ
+first_tag [] = 0
+first_tag (e ∷ es) = e.0
+
+-- the first of two fields that were taken over up to one is none, or the first given
+two_given : List (ℕ × Field)
+two_given = (256, long_field 6) ∷ (257, long_field 7) ∷ []
+
+first_taken : (count : ℕ) → first_tag (entries (extend_from (opened None false) (take count two_given)).fields) ≡ 257 → ⊥
+unfolding extend_from two_given
+first_taken zero h = unequal 0 257 (lit< tt) (sym (ap first_tag (entries_puts [])) ∙ h)
+first_taken (suc zero) h = unequal 256 257 (lit< tt) (sym (ap first_tag (entries_puts ((256, long_field 6) ∷ []))) ∙ h)
+first_taken (suc (suc zero)) h = unequal 256 257 (lit< tt) (sym (ap first_tag (entries_puts ((257, long_field 7) ∷ (256, long_field 6) ∷ []))) ∙ h)
+first_taken (suc (suc (suc n))) h = unequal 256 257 (lit< tt) (sym (ap first_tag (entries_puts ((257, long_field 7) ∷ (256, long_field 6) ∷ []))) ∙ h)
+
+pub silent_done : s.silent_done
+silent_done = (tt, record { answer = refl; state = refl })
+
+pub silent_short : s.silent_short
+silent_short = λ t. unequal 10 11 (lit< tt) (ap (λ (f : FileState). length f.bytes) t.1.state)
+
+pub refused_caused : s.refused_caused
+refused_caused = inl (record { answer = refl; state = refl })
+
+pub refused_other : s.refused_other
+refused_other = other_refused
+
+pub taken_over : s.taken_over
+unfolding extend_from
+taken_over = λ new h. ap (λ d. entries d.fields) h ∙ entries_puts ((256, long_field 6) ∷ (256, long_field 5) ∷ [])
+
+pub taken_later : s.taken_later
+unfolding two_given
+taken_later = λ new h e. first_taken h.1.0 (sym (ap (λ d. first_tag (entries d.fields)) h.1.1) ∙ ap first_tag e)
 
 pub told : s.told
 told = record { answer = refl; state = refl }

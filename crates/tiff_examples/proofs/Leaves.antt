@@ -1,12 +1,12 @@
 -- The worked examples of Leaves hold.
 use Rattle.std.specs.Prelude.{refl}
-use Rattle.std.proofs.Common.{ℕ, ◌<◌, ◌≤◌, List, [], ◌∷◌, ap, sym, ◌∙◌, inl, inr, arith, lit<}
+use Rattle.std.proofs.Common.{◌≡◌, ℕ, ◌<◌, ◌≤◌, List, [], ◌∷◌, ◌++◌, subst, ap, sym, ◌∙◌, inl, inr, arith, lit<}
 use Rattle.std.specs.Prelude.{length, get_or}
 use Rattle.tiff_base.specs.Number.{number}
 use Rattle.tiff_base.specs.Directory.{directory_at}
 use Rattle.tiff_page.specs.declared.layout.DecodingSampleType.TheVariants.{U8}
 use Rattle.tiff_page.specs.Image.{Decoded, is_gray_strip}
-use Rattle.tiff_encode.specs.Laws.{page_model}
+use Rattle.tiff_encode.specs.Laws.{page_model, torn_page_model}
 use Rattle.tiff_encode.specs.Encoder.{is_too_far}
 use Rattle.tiff_encode.specs.Shows.{strip_page}
 use Rattle.tiff_encode.specs.Steps.{first_cause, strip_cause}
@@ -15,6 +15,13 @@ use Rattle.tiff_examples.proofs.Jobs.{true_false, size_memory}
 use Rattle.tiff_examples.proofs.Models.{unequal, err_ok}
 use Rattle.tiff_examples.proofs.Models as models
 use Rattle.tiff_examples.proofs.Writes as writes
+use Rattle.tiff_base.specs.declared.io.SinkFault.TheVariants as fault
+use Rattle.tiff_base.specs.declared.tags.FileKind.TheVariants.{Classic}
+use Rattle.tiff_encode.specs.Model.{Model, Stands, header_model, relinked}
+use Rattle.tiff_encode.specs.Deeds.{Deed, Appended, Linked, model_after}
+use Rattle.tiff_encode.proofs.Header as its_header
+use Rattle.tiff_encode.proofs.Deeds.{deeds_stand}
+use Rattle.tiff_examples.specs.Calls.{header}
 use Rattle.tiff_examples.specs.Leaves as s
 
 read_as : List ℕ → Decoded
@@ -62,6 +69,53 @@ gray_far = λ f. let l : 4294967313 < 4294967296 = f.place_fits in omega arith
 pub gray_high : s.gray_high
 gray_high = λ samples f. let l : 1000001 ≤ 1000000 = f.one_strip in omega arith
 
+-- what went before the torn link is the byte
+before_is : (before : List Deed) (place target : ℕ) → let deeds : List Deed = s.torn_deeds in deeds ≡ before ++ Linked place target ∷ [] → before ≡ Appended (1 ∷ []) ∷ []
+before_is [] place target h = absurd cc
+before_is (d ∷ []) place target h = cc
+before_is (d ∷ e ∷ []) place target h = absurd cc
+before_is (d ∷ e ∷ f ∷ fs) place target h = absurd cc
+
+torn_stands : s.left_torn
+torn_stands = record {
+  torn = record { fresh = refl; fault = fault.Device; answer = refl; before = Appended (1 ∷ []) ∷ []; place = 4; target = 65544; last = refl; count = 2; within = lit< tt; state = refl };
+  holds = 8;
+  stands = deeds_stand Classic header (header_model Classic) (Appended (1 ∷ []) ∷ Linked 4 8 ∷ []) (its_header.header_stands Classic) (tt, ((inl refl, lit< tt), tt));
+}
+
+not_broken : s.left_broken
+unfolding number
+not_broken (inl t) = unequal 0 8 (lit< tt) (sym (ok_inj 8 0 t.first))
+not_broken (inr t) =
+    let m : List Deed → Model = λ before. relinked Classic (model_after Classic header (header_model Classic) before) t.torn.place t.holds in
+    let stands : Stands Classic (s.torn_file 2).bytes (m (Appended (1 ∷ []) ∷ [])) = subst (λ before. Stands Classic (s.torn_file 2).bytes (m before)) (before_is t.torn.before t.torn.place t.torn.target t.torn.last) t.stands in
+    unequal 1 2 (lit< tt) (sym (ap (λ xs. get_or xs 0 0) (ok_inj (2 ∷ []) (1 ∷ []) (stands.regions (record { place = 8; bytes = 1 ∷ [] }) (inl refl)))))
+
+pub left_region : s.left_region
+left_region = deeds_stand Classic header (header_model Classic) (Appended (7 ∷ []) ∷ []) (its_header.header_stands Classic) (tt, tt)
+
+pub left_other : s.left_other
+left_other = λ t. unequal 7 8 (lit< tt) (sym (ap (λ xs. get_or xs 0 0) (ok_inj (8 ∷ []) (7 ∷ []) (t.regions (record { place = 8; bytes = 7 ∷ [] }) (inl refl)))))
+
+pub left_changed : s.left_changed
+unfolding number
+left_changed = λ t. unequal 0 9 (lit< tt) (sym (ok_inj 9 0 t.first))
+
+pub left_torn : s.left_torn
+left_torn = torn_stands
+
+pub left_linked : s.left_linked
+left_linked = inr torn_stands
+
+pub left_broken : s.left_broken
+left_broken = not_broken
+
+pub given_two : s.given_two
+given_two = (refl, lit< tt)
+
+pub given_few : s.given_few
+given_few = λ g. unequal 2 4 (lit< tt) g.0
+
 pub link_past : s.link_past
 link_past = λ p. let l : 9 ≤ 8 = p.linked in omega arith
 
@@ -70,6 +124,18 @@ appends_one = (refl, refl)
 
 pub appends_none : s.appends_none
 appends_none = λ h. unequal 8 9 (lit< tt) (ap (λ e. length e.bytes) h.1)
+
+pub builds_one : s.builds_one
+builds_one = (refl, refl)
+
+pub builds_none : s.builds_none
+builds_none = λ h. unequal 8 9 (lit< tt) (ap (λ e. length e.bytes) h.1)
+
+pub header_goes : s.header_goes
+header_goes = (refl, refl)
+
+pub header_counted : s.header_counted
+header_counted = λ h. unequal 4 8 (lit< tt) (sym (ap (λ w. w.last) h.1))
 
 pub stops_failed : s.stops_failed
 stops_failed = inl (record { fault = refl; failed = refl; same = refl })
@@ -81,7 +147,7 @@ pub links_25 : s.links_25
 links_25 = (refl, refl)
 
 pub links_stay : s.links_stay
-links_stay = λ h. unequal 4 195 (lit< tt) (ap (λ e. e.chain) h.1)
+links_stay = λ h. unequal 0 25 (lit< tt) (ap (λ e. get_or e.bytes 4 0) h.1)
 
 pub finishes_8 : s.finishes_8
 finishes_8 = (refl, refl)
@@ -91,6 +157,14 @@ finishes_far = λ bytes h. inl (ap is_too_far h, refl, refl)
 
 pub finishes_uncaused : s.finishes_uncaused
 finishes_uncaused = not_finishes
+
+pub torn_link : s.torn_link
+unfolding torn_page_model
+torn_link = refl
+
+pub torn_listed : s.torn_listed
+unfolding torn_page_model
+torn_listed = refl
 
 pub first_sides : s.first_sides
 unfolding first_cause
@@ -103,10 +177,6 @@ first_far = refl
 pub first_near : s.first_near
 unfolding first_cause
 first_near = refl
-
-pub first_second : s.first_second
-unfolding first_cause
-first_second = refl
 
 pub first_colour : s.first_colour
 unfolding first_cause

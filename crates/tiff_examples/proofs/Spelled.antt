@@ -30,6 +30,10 @@ pub value_refused : s.value_refused
 unfolding text_data
 value_refused = refl
 
+pub value_writable : s.value_writable
+unfolding text_data
+value_writable = (tt, λ h. h)
+
 pub bytes_three : s.bytes_three
 bytes_three = refl
 
@@ -75,8 +79,15 @@ value_not_wanting (inr (inr c)) = something c.fresh
 pub value_not_refused : s.value_not_refused
 unfolding text_data
 value_not_refused (inl t) = tag_failed t.answer
-value_not_refused (inr (inl w)) = something w.fresh
-value_not_refused (inr (inr r)) = something r.fresh
+value_not_refused (inr r) = something r.fresh
+
+not_a_tag : let e : TiffError = OutOfMemory in e ≡ FormatError InvalidTag → ⊥
+not_a_tag h = cc
+
+pub text_not_wanting : s.text_not_wanting
+unfolding text_data
+text_not_wanting (inl t) = memory_failed t.answer
+text_not_wanting (inr r) = not_a_tag r.answer
 
 pub buffer_of_short : s.buffer_of_short
 unfolding data_of

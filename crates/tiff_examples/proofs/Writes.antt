@@ -13,7 +13,8 @@ use Rattle.tiff_base.specs.Told.{sink_error}
 use Rattle.tiff_ifd.specs.Limits.{unlimited}
 use Rattle.tiff_encode.specs.Written.{header_bytes}
 use Rattle.tiff_encode.specs.Model.{header_model}
-use Rattle.tiff_encode.specs.Encoder.{Encoded, page_refusal}
+use Rattle.tiff_encode.specs.Machine.{FileState}
+use Rattle.tiff_encode.specs.Encoder.{page_refusal}
 use Rattle.tiff_encode.specs.Shows.{ReadsAs, LeavesPage, strip_page}
 use Rattle.tiff_encode.proofs.Header as its_header
 use Rattle.tiff_encode.proofs.Shows as its_shows
@@ -39,7 +40,7 @@ pub begins_behind : s.begins_behind
 begins_behind = refl
 
 pub begins_failed : s.begins_failed
-begins_failed = λ h. true_false (ap (λ e. e.failed) h)
+begins_failed = λ h. none_some (sym (ap (λ e. e.fault) h))
 
 pub too_far : s.too_far
 too_far = refl
@@ -54,10 +55,10 @@ pub appended_refused : s.appended_refused
 appended_refused = refl
 
 pub writes : s.writes
-writes = record { fresh = refl; uncaused = none_refused; state = ap (λ b. record fresh { bytes = b; chain = 195; finished = true }) (sym gray_written) }
+writes = record { fresh = refl; uncaused = none_refused; state = ap (λ b. record fresh { bytes = b; chain = 195 }) (sym gray_written) }
 
 pub writes_failed : s.writes_failed
-writes_failed = λ new w. true_false w.fresh
+writes_failed = λ new w. none_some (sym w.fresh)
 
 pub stopped : s.stopped
 stopped = record { fault = refl; failed = refl; same = refl }
@@ -88,24 +89,24 @@ pub cut : s.cut
 cut = record { fresh = refl; fault = fault.Device; answer = refl; count = 1; within = lit< tt; state = refl }
 
 pub not_cut : s.not_cut
-not_cut = λ e new z c. omega (arith, z, ap (λ (m : Encoded). m.failures) c.state)
+not_cut = λ e new z c. omega (arith, z, ap (λ (m : FileState). m.failures) c.state)
 
 pub cut_swapped : s.cut_swapped
-cut_swapped = λ c. memory_device c.fault c.answer (ap (λ (m : Encoded). m.fault) c.state)
+cut_swapped = λ c. memory_device c.fault c.answer (ap (λ (m : FileState). m.fault) c.state)
 
 pub cut_whole : s.cut_whole
 cut_whole = λ c.
-    let l : 9 ≡ length (header ++ take c.count (1 ∷ [])) = ap (λ (m : Encoded). length m.bytes) c.state in
+    let l : 9 ≡ length (header ++ take c.count (1 ∷ [])) = ap (λ (m : FileState). length m.bytes) c.state in
     omega (arith, l, c.within, length-append header (take c.count (1 ∷ [])), length-take-le {A = ℕ} c.count (1 ∷ []) (omega (arith, c.within)))
 
 pub torn : s.torn
 torn = record { fresh = refl; fault = fault.OutOfMemory; answer = refl; count = 1; within = lit< tt; state = refl }
 
 pub not_torn : s.not_torn
-not_torn = λ e new z c. omega (arith, z, ap (λ (m : Encoded). m.failures) c.state)
+not_torn = λ e new z c. omega (arith, z, ap (λ (m : FileState). m.failures) c.state)
 
 pub torn_swapped : s.torn_swapped
-torn_swapped = λ c. device_memory c.fault c.answer (ap (λ (m : Encoded). m.fault) c.state)
+torn_swapped = λ c. device_memory c.fault c.answer (ap (λ (m : FileState). m.fault) c.state)
 
 pub header_cut : s.header_cut
 header_cut = record {

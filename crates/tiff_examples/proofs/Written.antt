@@ -44,11 +44,11 @@ page_by file link =
     (directory_by Classic (gray_fields 1 1 (resolutions_place (length file)) (strip_place (length file))))
 
 -- why a page is refused, by the length of the file
-abbrev refusal_at : ℕ → Bool → Bool → ℕ → ℕ → List ℕ → ℕ → Option Refusal
-refusal_at n finished gray width height samples count =
+abbrev refusal_at : ℕ → Bool → ℕ → ℕ → List ℕ → ℕ → Option Refusal
+refusal_at n gray width height samples count =
     if width == 0 || height == 0 then refused (FormatError (InvalidDimensions width height)) []
     else if is_too_far (resolutions_place n + 8) then refused IntSizeError []
-    else if finished || not gray then refused stand_in []
+    else if not gray then refused stand_in []
     else if nat_lt count (width * height) then refused (IoError InvalidData) (page_head n)
     else if nat_lt (rows_per_strip width) height then refused stand_in (page_head n)
     else if is_too_far (strip_place n) || is_too_far (width * height) then refused IntSizeError (page_head n)
@@ -136,7 +136,7 @@ no_height = refl
 
 pub far_resolution : s.far_resolution
 unfolding page_refusal
-far_resolution = λ bytes h. ap (λ n. refusal_at n false false 1 1 [] 0) h
+far_resolution = λ bytes h. ap (λ n. refusal_at n false 1 1 [] 0) h
 
 pub second_page : s.second_page
 unfolding page_refusal
@@ -152,19 +152,19 @@ too_few = refl
 
 pub two_strips : s.two_strips
 unfolding page_refusal
-two_strips = λ samples h. ap (refusal_at 8 false true 1 1000001 samples) h
+two_strips = λ samples h. ap (refusal_at 8 true 1 1000001 samples) h
 
 pub far_strip : s.far_strip
 unfolding page_refusal
-far_strip = λ bytes h. ap (λ n. refusal_at n false true 1 1 (7 ∷ []) 1) h
+far_strip = λ bytes h. ap (λ n. refusal_at n true 1 1 (7 ∷ []) 1) h
 
 pub far_directory : s.far_directory
 unfolding page_refusal
-far_directory = λ bytes h. ap (λ n. refusal_at n false true 2 2 (1 ∷ 2 ∷ 3 ∷ 4 ∷ 5 ∷ []) 5) h
+far_directory = λ bytes h. ap (λ n. refusal_at n true 2 2 (1 ∷ 2 ∷ 3 ∷ 4 ∷ 5 ∷ []) 5) h
 
 pub last_directory : s.last_directory
 unfolding page_refusal
-last_directory = λ bytes h. ap (λ n. refusal_at n false true 1 3 (1 ∷ 2 ∷ 3 ∷ []) 3) h
+last_directory = λ bytes h. ap (λ n. refusal_at n true 1 3 (1 ∷ 2 ∷ 3 ∷ []) 3) h
 
 pub gray_8 : s.gray_8
 gray_8 = refl

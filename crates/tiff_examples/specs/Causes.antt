@@ -28,6 +28,7 @@ use Rattle.tiff_page.specs.Counts.{all_chunks}
 use Rattle.tiff_encode.specs.Chunks.{image_page, next_strip_sample_count, next_chunk_sample_count}
 use Rattle.tiff_encode.specs.Calls.{opened, image_in, with_chunk, strips_of, tiles_of}
 use Rattle.tiff_encode.specs.Causes as causes
+use Rattle.tiff_encode.specs.Placing.{field_test, end_test}
 
 -- a file of a header alone, one whose sink failed, and one of these bytes
 abbrev pub new_file : FileKind → FileState
@@ -151,6 +152,16 @@ tag_last = (bytes : List ℕ) → length bytes ≡ 4294967295
 abbrev pub tag_inline : Type 0
 tag_inline = (bytes : List ℕ) → causes.write_tag_cause (file_with Classic bytes) (Ok (data_of (u16s (1 ∷ 2 ∷ [])))) ≡ None
 
+-- the same by their lengths: five bytes need a place, four don't, and in BigTIFF each place is near
+abbrev pub test_far : Type 0
+test_far = field_test Classic 4294967296 5 5 ≡ Some IntSizeError
+
+abbrev pub test_inline : Type 0
+test_inline = field_test Classic 4294967296 4 4 ≡ None
+
+abbrev pub test_far_big : Type 0
+test_far_big = field_test Big 4294967296 9 9 ≡ None
+
 -- big-endian bytes, told before their place; little-endian ones
 abbrev pub buf_order : Type 0
 buf_order = (bytes : List ℕ) → causes.write_buf_cause (file_with Classic bytes) (buffer BigEndian (1 ∷ 2 ∷ 3 ∷ 4 ∷ 5 ∷ 6 ∷ [])) ≡ Some (UsageError ByteOrderMismatch)
@@ -197,6 +208,13 @@ parent_past = causes.finish_cause (new_file Classic) (opened (Some 5) false) ≡
 
 abbrev pub parent_past_big : Type 0
 parent_past_big = causes.finish_cause (new_file Big) (opened (Some 9) false) ≡ Some (UsageError ParentNotWritten)
+
+-- the same by the file's length; a directory past four bytes is told before its parent
+abbrev pub test_parent : Type 0
+test_parent = end_test Classic 8 (opened (Some 5) false) ≡ Some (UsageError ParentNotWritten)
+
+abbrev pub test_end_far : Type 0
+test_end_far = end_test Classic 4294967296 (opened (Some 4294967293) false) ≡ Some IntSizeError
 
 -- no link is patched
 abbrev pub no_parent : Type 0

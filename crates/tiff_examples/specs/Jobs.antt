@@ -31,10 +31,11 @@ use Rattle.tiff_base.specs.Told.{put}
 use Rattle.tiff_encode.specs.Written.{long_field, directory_bytes}
 use Rattle.tiff_encode.specs.Model.{FinishedDirectory, header_model, relinked, with_directory, with_region}
 use Rattle.tiff_encode.specs.Deeds.{Deed, Appended, Listed, Linked, standing_fields}
-use Rattle.tiff_encode.specs.Machine.{FileState, OpenDirectory, gives, does}
+use Rattle.tiff_encode.specs.Machine.{FileState, OpenDirectory, answers, gives, does}
 use Rattle.tiff_encode.specs.Calls as calls
 use Rattle.tiff_encode.specs.Calls.{Offsets, opened}
-use Rattle.tiff_encode.specs.Ends.{IsTold, IsCutOff, IsTornOff, IsShortOfMemory, Ends}
+use Rattle.tiff_encode.specs.Ends.{IsTold, IsCutOff, IsTornOff, IsShortOfMemory, Ends, EndsSilently, EndsRefused}
+use Rattle.tiff_encode.specs.Extending.{Extends}
 use Rattle.tiff_value.specs.Data.{u16s, data_of}
 use Rattle.tiff_encode.specs.JobValues.{value_data, buffer_in, cut_to}
 use Rattle.tiff_encode.specs.Jobs as jobs
@@ -120,6 +121,35 @@ ends_done = Ends (λ d. d) (calls.image_directory (new_file Classic)) (Ok (opene
 
 abbrev pub ends_uncaused : Type 0
 ends_uncaused = (new : FileState) → Ends (λ d. d) (calls.image_directory (new_file Classic)) (Err IntSizeError) (new_file Classic) new → ⊥
+
+-- a call of which the answer is not told on: its three bytes stand, and not two of them
+abbrev pub silent_done : Type 0
+silent_done = EndsSilently {X = ℕ} (does three (new_file Classic)) (Ok 9) (new_file Classic) (file_with Classic (header ++ (1 ∷ 2 ∷ 3 ∷ [])))
+
+abbrev pub silent_short : Type 0
+silent_short = EndsSilently {X = ℕ} (does three (new_file Classic)) (Ok 9) (new_file Classic) (file_with Classic (header ++ (1 ∷ 2 ∷ []))) → ⊥
+
+-- a call that is refused tells its cause, and no other fault
+abbrev pub refused_caused : Type 0
+refused_caused = EndsRefused {X = ℕ} (answers {A = ℕ} (Err IntSizeError) (new_file Classic)) (Err IntSizeError) (new_file Classic) (new_file Classic)
+
+abbrev pub refused_other : Type 0
+refused_other = (new : FileState)
+    → EndsRefused {X = ℕ} (answers {A = ℕ} (Err IntSizeError) (new_file Classic)) (Err (UsageError WriterFailed)) (new_file Classic) new → ⊥
+
+-- ---- fields that are taken over
+
+-- a given field stands in place of the directory's own for its tag
+abbrev pub taken_over : Type 0
+taken_over = (new : OpenDirectory)
+    → Extends {A = ℕ} ((256, long_field 6) ∷ []) (with_fields (opened None false) ((256, long_field 5) ∷ [])) new (Ok 0)
+    → entries new.fields ≡ (256, long_field 6) ∷ []
+
+-- where memory was wanting, no field stands without those before it
+abbrev pub taken_later : Type 0
+taken_later = (new : OpenDirectory)
+    → Extends {A = ℕ} ((256, long_field 6) ∷ (257, long_field 7) ∷ []) (opened None false) new (Err OutOfMemory)
+    → entries new.fields ≡ (257, long_field 7) ∷ [] → ⊥
 
 -- ---- values of jobs
 

@@ -14,7 +14,7 @@ use Rattle.tiff_value.specs.Buffer.{buffer_given}
 use Rattle.tiff_value.specs.Data.{u8s, u16s, data_of, text_data}
 use Rattle.tiff_value.specs.Predicted.{row_of_type, AppendsRow}
 use Rattle.tiff_value.specs.Stored.{takes_memory, StoreWants, Stores, StoresBytes}
-use Rattle.tiff_value.specs.Values.{values_in, IsValue, byte_count, IsWanting, IsRefused, WritesValue}
+use Rattle.tiff_value.specs.Values.{values_in, IsValue, IsWritable, byte_count, IsWanting, IsRefused, WritesValue}
 use Rattle.tiff_value.specs.Written.{Written}
 use Rattle.tiff_page.specs.Layout.{LayoutRecord}
 use Rattle.tiff_laws.specs.Whole.{chunks_used, chunk_row, at_chunk, at_image, chunk_bytes}
@@ -46,6 +46,10 @@ is_not_value = Never (IsValue t.SHORT 2 (Ok (data_of (u16s (5 ∷ [])))))
 abbrev pub value_refused : Type 0
 value_refused = IsValue t.ASCII 2 (text_data (0xe9 ∷ []))
 
+-- such a text can't be written, where numbers can
+abbrev pub value_writable : Type 0
+value_writable = IsWritable (Ok (data_of (u16s (5 ∷ [])))) × Never (IsWritable (text_data (0xe9 ∷ [])))
+
 abbrev pub bytes_three : Type 0
 bytes_three = byte_count 3 t.SHORT ≡ 6
 
@@ -65,6 +69,10 @@ wanting = IsWanting OutOfMemory three three
 
 abbrev pub refused : Type 0
 refused = IsRefused (FormatError InvalidTag) (FormatError InvalidTag) three three
+
+-- no memory is wanted for a text that is refused
+abbrev pub text_not_wanting : Type 0
+text_not_wanting = Never (WritesValue {A = ℕ} (text_data (0xe9 ∷ [])) three three (Err OutOfMemory))
 
 -- after a failed write a value is neither refused nor wanting: that write is told first
 abbrev pub value_stopped : Type 0

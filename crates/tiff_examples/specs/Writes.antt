@@ -12,7 +12,9 @@ use Rattle.tiff_ifd.specs.Limits.{unlimited}
 use Rattle.tiff_encode.specs.Written.{long_field}
 use Rattle.tiff_encode.specs.Model.{header_model}
 use Rattle.tiff_encode.specs.Laws.{IsListable, IsGrayPage}
-use Rattle.tiff_encode.specs.Encoder.{Encoded, IsBegun, refused, is_too_far, appended_by, WritesPage, HeaderFails, IsStopped, IsRefused, IsCut, IsTorn, IsWanting, PageFails}
+use Rattle.tiff_encode.specs.Machine.{FileState}
+use Rattle.tiff_encode.specs.Machine as machine
+use Rattle.tiff_encode.specs.Encoder.{refused, is_too_far, appended_by, WritesPage, HeaderFails, IsStopped, IsRefused, IsCut, IsTorn, IsWanting, PageFails}
 use Rattle.tiff_encode.specs.Steps.{IsPlaced, grown}
 use Rattle.tiff_encode.specs.Shows.{ReadsAs, LeavesHeader, LeavesPage, strip_page}
 use Rattle.tiff_examples.specs.Files.{gray_file}
@@ -21,13 +23,17 @@ use Rattle.tiff_examples.specs.Calls.{header}
 
 -- a new encoder, on an empty sink and on one of two bytes
 abbrev pub begins : Type 0
-begins = IsBegun [] 0 fresh
+begins = fresh ≡ machine.begun Classic [] 0
 
 abbrev pub begins_behind : Type 0
-begins_behind = IsBegun (1 ∷ 2 ∷ []) 3 (record fresh { bytes = 1 ∷ 2 ∷ header; failures = 3; chain = 6 })
+begins_behind = record fresh { bytes = 1 ∷ 2 ∷ header; failures = 3; chain = 6 } ≡ machine.begun Classic (1 ∷ 2 ∷ []) 3
+
+-- an encoder of which a write failed
+abbrev pub failed : FileState
+failed = record fresh { fault = Some fault.Device }
 
 abbrev pub begins_failed : Type 0
-begins_failed = IsBegun [] 0 (record fresh { failed = true }) → ⊥
+begins_failed = failed ≡ machine.begun Classic [] 0 → ⊥
 
 -- four bytes hold 4294967295
 abbrev pub too_far : Type 0
@@ -48,32 +54,32 @@ abbrev pub writes : Type 0
 writes = WritesPage true 1 1 (7 ∷ []) fresh full
 
 abbrev pub writes_failed : Type 0
-writes_failed = (new : Encoded) → WritesPage true 1 1 (7 ∷ []) (record fresh { failed = true }) new → ⊥
+writes_failed = (new : FileState) → WritesPage true 1 1 (7 ∷ []) failed new → ⊥
 
 -- after a failed write nothing is done
 abbrev pub stopped : Type 0
-stopped = IsStopped (UsageError WriterFailed) (record fresh { failed = true }) (record fresh { failed = true })
+stopped = IsStopped (UsageError WriterFailed) failed failed
 
 abbrev pub not_stopped : Type 0
-not_stopped = (new : Encoded) → IsStopped (UsageError WriterFailed) fresh new → ⊥
+not_stopped = (new : FileState) → IsStopped (UsageError WriterFailed) fresh new → ⊥
 
 -- a refusal, with what stands before it
 abbrev pub is_refused : Type 0
 is_refused = IsRefused (refused IntSizeError (1 ∷ [])) IntSizeError fresh (begun (header ++ (1 ∷ [])))
 
 abbrev pub is_not_refused : Type 0
-is_not_refused = (new : Encoded) → IsRefused None IntSizeError fresh new → ⊥
+is_not_refused = (new : FileState) → IsRefused None IntSizeError fresh new → ⊥
 
 -- one byte of two went out
-abbrev pub cut_file : Encoded
-cut_file = record fresh { bytes = header ++ (1 ∷ []); failures = 1; failed = true; fault = Some fault.Device }
+abbrev pub cut_file : FileState
+cut_file = record fresh { bytes = header ++ (1 ∷ []); failures = 1; fault = Some fault.Device }
 
 abbrev pub cut : Type 0
 cut = IsCut (1 ∷ 2 ∷ []) (IoError Device) fresh cut_file
 
 -- no write of the sink failed
 abbrev pub not_cut : Type 0
-not_cut = (e : TiffError) (new : Encoded) → new.failures ≡ 0 → IsCut (1 ∷ 2 ∷ []) e fresh new → ⊥
+not_cut = (e : TiffError) (new : FileState) → new.failures ≡ 0 → IsCut (1 ∷ 2 ∷ []) e fresh new → ⊥
 
 -- the other fault is answered; all went out
 abbrev pub cut_swapped : Type 0
@@ -83,22 +89,21 @@ abbrev pub cut_whole : Type 0
 cut_whole = IsCut (1 ∷ []) (IoError Device) fresh cut_file → ⊥
 
 -- all, and one byte of the link
-abbrev pub torn_file : Encoded
+abbrev pub torn_file : FileState
 torn_file = record fresh {
   bytes = 0x49 ∷ 0x49 ∷ 0x2a ∷ 0 ∷ 2 ∷ 0 ∷ 0 ∷ 0 ∷ 7 ∷ [];
   failures = 1;
-  failed = true;
   fault = Some fault.OutOfMemory;
 }
 
 abbrev pub torn : Type 0
-torn = IsTorn (7 ∷ []) 258 OutOfMemory fresh torn_file
+torn = IsTorn (7 ∷ []) 4 258 OutOfMemory fresh torn_file
 
 abbrev pub not_torn : Type 0
-not_torn = (e : TiffError) (new : Encoded) → new.failures ≡ 0 → IsTorn (7 ∷ []) 258 e fresh new → ⊥
+not_torn = (e : TiffError) (new : FileState) → new.failures ≡ 0 → IsTorn (7 ∷ []) 4 258 e fresh new → ⊥
 
 abbrev pub torn_swapped : Type 0
-torn_swapped = IsTorn (7 ∷ []) 258 (IoError Device) fresh torn_file → ⊥
+torn_swapped = IsTorn (7 ∷ []) 4 258 (IoError Device) fresh torn_file → ⊥
 
 -- a sink of two bytes took one byte of the header; no sink answers a number that is too large
 abbrev pub HeaderIsCut : TiffError → Type 0
@@ -115,7 +120,7 @@ abbrev pub wanting : Type 0
 wanting = IsWanting (1 ∷ 2 ∷ []) OutOfMemory fresh (begun (header ++ (1 ∷ 2 ∷ [])))
 
 abbrev pub not_wanting : Type 0
-not_wanting = (new : Encoded) → IsWanting (1 ∷ 2 ∷ []) IntSizeError fresh new → ⊥
+not_wanting = (new : FileState) → IsWanting (1 ∷ 2 ∷ []) IntSizeError fresh new → ⊥
 
 -- a page with no width fails for that
 abbrev pub fails : Type 0
@@ -123,10 +128,10 @@ fails = PageFails true 0 5 [] (FormatError (InvalidDimensions 0 5)) fresh fresh
 
 -- a writer's encoder stands at the end, behind its last link
 abbrev pub placed : Type 0
-placed = IsPlaced (record at_end { bytes = header; at = 8 }) 4
+placed = IsPlaced Classic (record at_end { bytes = header; at = 8 }) 4
 
 abbrev pub not_placed : Type 0
-not_placed = IsPlaced at_end 4 → ⊥
+not_placed = IsPlaced Classic at_end 4 → ⊥
 
 abbrev pub grown_one : Type 0
 grown_one = grown fresh (7 ∷ []) ≡ begun (header ++ (7 ∷ []))
@@ -147,10 +152,10 @@ gray_few = IsGrayPage 8 2 1 (7 ∷ []) → ⊥
 
 -- what a header and a page leave
 abbrev pub leaves_header : Type 0
-leaves_header = LeavesHeader header 4
+leaves_header = LeavesHeader Classic header 4
 
 abbrev pub leaves_no_header : Type 0
-leaves_no_header = LeavesHeader header 5 → ⊥
+leaves_no_header = LeavesHeader Classic header 5 → ⊥
 
 abbrev pub leaves_page : Type 0
 leaves_page = LeavesPage (header_model Classic) header 4 1 1 (7 ∷ []) gray_file 195

@@ -7,11 +7,13 @@ use Rattle.tiff_base.specs.declared.io.IoKind.TheVariants.{InvalidData}
 use Rattle.tiff_base.specs.declared.tags.CompressionMethod.TheVariants as method
 use Rattle.tiff_base.specs.declared.tags.FileKind.TheVariants.{Classic, Big}
 use Rattle.tiff_base.specs.declared.tags.PhotometricInterpretation.TheVariants.{BlackIsZero, WhiteIsZero}
+use Rattle.tiff_base.specs.declared.tags.Predictor.TheVariants as predictor
 use Rattle.tiff_base.specs.declared.tags.SampleFormat.TheVariants.{Uint, Int}
 use Rattle.tiff_value.specs.ColorType.{is_gray}
 use Rattle.tiff_value.specs.Written.{Written, moved, written}
 use Rattle.tiff_encode.specs.Written.{header_bytes, entry_bytes, directory_bytes, padding, rows_per_strip, short_field, long_field, resolutions_place, strip_place, directory_place, page_head, page_link, with_page}
-use Rattle.tiff_encode.specs.Encoder.{Encoded, page_refusal, refused, stand_in}
+use Rattle.tiff_encode.specs.Machine.{FileState}
+use Rattle.tiff_encode.specs.Encoder.{page_refusal, refused, stand_in}
 use Rattle.tiff_examples.specs.Files.{gray_file}
 
 -- headers that link to no directory yet
@@ -106,13 +108,21 @@ second_begins =
     ∷ 0x00 ∷ 0x00 ∷ 0x07 ∷ 0x0e ∷ 0x00 ∷ [])
 
 -- an encoder that has these bytes and no page yet, and one that has a page
-abbrev pub begun : List ℕ → Encoded
-begun bytes = record { bytes = bytes; failures = 0; failed = false; fault = None; chain = 4; finished = false }
+abbrev pub begun : List ℕ → FileState
+begun bytes = record {
+  kind = Classic;
+  bytes = bytes;
+  failures = 0;
+  fault = None;
+  chain = 4;
+  predictor = predictor.None;
+  method = method.None;
+}
 
-abbrev pub full : Encoded
-full = record { bytes = gray_file; failures = 0; failed = false; fault = None; chain = 195; finished = true }
+abbrev pub full : FileState
+full = record (begun gray_file) { chain = 195 }
 
-abbrev pub fresh : Encoded
+abbrev pub fresh : FileState
 fresh = begun (header_bytes Classic)
 
 -- a page of one pixel is written, and of more samples the first is
@@ -134,10 +144,11 @@ abbrev pub far_resolution : Type 0
 far_resolution =
     (bytes : List ℕ) → length bytes ≡ 4294967288 → page_refusal (begun bytes) false 1 1 [] ≡ refused IntSizeError []
 
--- a second page, and a page that isn't gray, are the stand-in, before too few samples are told
+-- a second page is written
 abbrev pub second_page : Type 0
-second_page = page_refusal full true 1 1 [] ≡ refused stand_in []
+second_page = page_refusal full true 1 1 (0x07 ∷ []) ≡ None
 
+-- a page that isn't gray is the stand-in, before too few samples are told
 abbrev pub not_gray : Type 0
 not_gray = page_refusal fresh false 1 1 [] ≡ refused stand_in []
 

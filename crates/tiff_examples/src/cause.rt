@@ -9,12 +9,12 @@ pub fn failed()
 
 /// Values that are written into fields.
 pub fn fields()
-    ensures { s.begins × s.tag_text × s.tag_count × s.tag_count_big × s.tag_count_last × s.tag_far × s.tag_last × s.tag_inline × s.buf_order × s.buf_far × s.buf_little × s.bytes_ragged × s.bytes_whole × s.bytes_far × s.data_text × s.data_long × s.data_order × s.data_little }
+    ensures { s.begins × s.tag_text × s.tag_count × s.tag_count_big × s.tag_count_last × s.tag_far × s.tag_last × s.tag_inline × s.buf_order × s.buf_far × s.buf_little × s.bytes_ragged × s.bytes_whole × s.bytes_far × s.data_text × s.data_long × s.data_order × s.data_little × s.test_far × s.test_inline × s.test_far_big }
 {}
 
 /// Ends of directories.
 pub fn ends()
-    ensures { s.parent_last × s.parent_past × s.parent_past_big × s.no_parent × s.many_entries × s.many_entries_big × s.large_count × s.far_directory × s.zero_pointer × s.far_pointer × s.far_pointer_big × s.far_link × s.last_link }
+    ensures { s.parent_last × s.parent_past × s.parent_past_big × s.no_parent × s.many_entries × s.many_entries_big × s.large_count × s.far_directory × s.zero_pointer × s.far_pointer × s.far_pointer_big × s.far_link × s.last_link × s.test_parent × s.test_end_far }
 {}
 
 /// New images and their settings.

@@ -4,7 +4,7 @@ ghost use Rattle.tiff_examples.specs.Jobs as s;
 
 /// How calls end.
 pub fn ends()
-    ensures { s.told × s.told_other × s.cut_off × s.not_cut_off × s.swapped × s.cut_whole × s.torn_off × s.torn_directory × s.not_torn_off × s.wanting × s.not_wanting × s.wanting_caused × s.ends_caused × s.ends_done × s.ends_uncaused }
+    ensures { s.told × s.told_other × s.cut_off × s.not_cut_off × s.swapped × s.cut_whole × s.torn_off × s.torn_directory × s.not_torn_off × s.wanting × s.not_wanting × s.wanting_caused × s.ends_caused × s.ends_done × s.ends_uncaused × s.silent_done × s.silent_short × s.refused_caused × s.refused_other × s.taken_over × s.taken_later }
 {}
 
 /// Steps of jobs.

@@ -9,10 +9,15 @@ pub fn pages()
 
 /// Steps of a page.
 pub fn parts()
-    ensures { s.link_past × s.appends_one × s.appends_none × s.stops_failed × s.stops_uncaused × s.links_25 × s.links_stay × s.finishes_8 × s.finishes_far × s.finishes_uncaused }
+    ensures { s.link_past × s.appends_one × s.appends_none × s.builds_one × s.builds_none × s.header_goes × s.header_counted × s.stops_failed × s.stops_uncaused × s.links_25 × s.links_stay × s.finishes_8 × s.finishes_far × s.finishes_uncaused × s.torn_link × s.torn_listed }
 {}
 
 /// Causes before a byte.
 pub fn causes()
-    ensures { s.first_sides × s.first_far × s.first_near × s.first_second × s.first_colour × s.first_none × s.strip_few × s.strip_rows × s.strip_far × s.strip_long × s.strip_last × s.strip_more }
+    ensures { s.first_sides × s.first_far × s.first_near × s.first_colour × s.first_none × s.strip_few × s.strip_rows × s.strip_far × s.strip_long × s.strip_last × s.strip_more }
+{}
+
+/// What calls leave in a file.
+pub fn files()
+    ensures { s.left_region × s.left_other × s.left_changed × s.left_torn × s.left_linked × s.left_broken × s.given_two × s.given_few }
 {}

@@ -17,4 +17,6 @@ returns c = (
   p.far_pointer_big,
   p.far_link,
   p.last_link,
+  p.test_parent,
+  p.test_end_far,
 )

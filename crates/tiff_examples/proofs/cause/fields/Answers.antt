@@ -22,4 +22,7 @@ returns c = (
   p.data_long,
   p.data_order,
   p.data_little,
+  p.test_far,
+  p.test_inline,
+  p.test_far_big,
 )

@@ -19,4 +19,10 @@ returns c = (
   p.ends_caused,
   p.ends_done,
   p.ends_uncaused,
+  p.silent_done,
+  p.silent_short,
+  p.refused_caused,
+  p.refused_other,
+  p.taken_over,
+  p.taken_later,
 )

@@ -7,7 +7,6 @@ returns c = (
   p.first_sides,
   p.first_far,
   p.first_near,
-  p.first_second,
   p.first_colour,
   p.first_none,
   p.strip_few,

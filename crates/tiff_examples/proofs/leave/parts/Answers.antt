@@ -7,6 +7,10 @@ returns c = (
   p.link_past,
   p.appends_one,
   p.appends_none,
+  p.builds_one,
+  p.builds_none,
+  p.header_goes,
+  p.header_counted,
   p.stops_failed,
   p.stops_uncaused,
   p.links_25,
@@ -14,4 +18,6 @@ returns c = (
   p.finishes_8,
   p.finishes_far,
   p.finishes_uncaused,
+  p.torn_link,
+  p.torn_listed,
 )
