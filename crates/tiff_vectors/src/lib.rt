@@ -4,6 +4,8 @@
 
 #[cfg(test)]
 mod chain;
+#[cfg(test)]
+mod directories;
 pub mod doubles;
 #[cfg(test)]
 mod lent;

@@ -6,7 +6,7 @@ use std::test::Fail;
 use tiff_base::error::TiffResult;
 use tiff_base::io::{MemorySink, Sink};
 use tiff_base::tags::{PhotometricInterpretation, SampleFormat};
-use tiff_encode::encoder::TiffEncoder;
+use tiff_encode::encoder::{TiffEncoder, TiffKindBig};
 use tiff_value::encoder::colortype::{ColorType, Gray8};
 use tiff_value::encoder::writer::TiffWriter;
 
@@ -19,6 +19,18 @@ const PAGE: [u8; 204] = [
     0, 0, 22, 22, 5, 0, 23, 1, 4, 0, 1, 0, 0, 0, 6, 0, 0, 0, 26, 1, 5, 0, 1, 0, 0, 0, 8, 0, 0, 0,
     27, 1, 5, 0, 1, 0, 0, 0, 16, 0, 0, 0, 40, 1, 3, 0, 1, 0, 0, 0, 1, 0, 0, 0, 61, 1, 3, 0, 1, 0,
     0, 0, 1, 0, 0, 0, 83, 1, 3, 0, 1, 0, 0, 0, 1, 0, 0, 0, 0, 0, 0, 0,
+];
+
+// The end of a file of two pages, from place 211 on: the link of the first, and the second, of one sample 9: a byte of
+// padding, both resolutions, the sample, the directory. Laid out by hand.
+const FURTHER: [u8; 196] = [
+    233, 0, 0, 0, 0, 1, 0, 0, 0, 1, 0, 0, 0, 1, 0, 0, 0, 1, 0, 0, 0, 9, 14, 0, 0, 1, 4, 0, 1, 0, 0,
+    0, 1, 0, 0, 0, 1, 1, 4, 0, 1, 0, 0, 0, 1, 0, 0, 0, 2, 1, 3, 0, 1, 0, 0, 0, 8, 0, 0, 0, 3, 1, 3,
+    0, 1, 0, 0, 0, 1, 0, 0, 0, 6, 1, 3, 0, 1, 0, 0, 0, 1, 0, 0, 0, 17, 1, 4, 0, 1, 0, 0, 0, 232, 0,
+    0, 0, 21, 1, 3, 0, 1, 0, 0, 0, 1, 0, 0, 0, 22, 1, 4, 0, 1, 0, 0, 0, 64, 66, 15, 0, 23, 1, 4, 0,
+    1, 0, 0, 0, 1, 0, 0, 0, 26, 1, 5, 0, 1, 0, 0, 0, 216, 0, 0, 0, 27, 1, 5, 0, 1, 0, 0, 0, 224, 0,
+    0, 0, 40, 1, 3, 0, 1, 0, 0, 0, 1, 0, 0, 0, 61, 1, 3, 0, 1, 0, 0, 0, 1, 0, 0, 0, 83, 1, 3, 0, 1,
+    0, 0, 0, 1, 0, 0, 0, 0, 0, 0, 0,
 ];
 
 fn empty_sink(alloc: Global) -> MemorySink {
@@ -50,13 +62,13 @@ fn written<S: Sink>(
     Ok(format!(in alloc; "{answer:?}")?)
 }
 
-// What writing pages that are refused, one that is not, and a further one answers, and the file then.
+// What writing pages that are refused, and two that are not, answers, and the file then.
 fn pages_written(alloc: Global) -> TiffResult<(String, Vec<u8>)> {
     let mut encoder = TiffEncoder::new(alloc, empty_sink(alloc))?;
     let flat = written(alloc, &mut encoder, (3, 0), &[])?;
     let few = written(alloc, &mut encoder, (3, 2), &[1, 2])?;
     let one = written(alloc, &mut encoder, (1, 1), &[7])?;
-    let further = written(alloc, &mut encoder, (1, 1), &[7])?;
+    let further = written(alloc, &mut encoder, (1, 1), &[9])?;
     let told = format!(in alloc; "{flat} {few} {one} {further}")?;
     Ok((told, encoder.into_inner().into_vec()))
 }
@@ -66,15 +78,20 @@ fn refusals_leave_what_was_appended(rt: HostRuntime) -> Result<(), Fail> {
     let (told, file) = pages_written(rt.alloc())?;
     assert_eq!(rt;
         told.as_str(),
-        "Err(FormatError(InvalidDimensions(3, 0))) Err(IoError(InvalidData)) Ok(()) \
-        Err(UnsupportedError(UnsupportedDataType))"
+        "Err(FormatError(InvalidDimensions(3, 0))) Err(IoError(InvalidData)) Ok(()) Ok(())"
     );
-    assert_eq!(rt; file.len(), 215);
     assert_eq!(rt;
         file.get(..8),
         Some([0x49, 0x49, 0x2a, 0, 0x29, 0, 0, 0].as_slice())
     );
     assert_eq!(rt; file.get(40), Some(&7));
+    Ok(())
+}
+
+#[test]
+fn a_further_page_is_linked(rt: HostRuntime) -> Result<(), Fail> {
+    let (_, file) = pages_written(rt.alloc())?;
+    assert_eq!(rt; file.get(211..), Some(FURTHER.as_slice()));
     Ok(())
 }
 
@@ -98,8 +115,38 @@ fn a_sink_that_fails_is_told_once(rt: HostRuntime) -> Result<(), Fail> {
         )?;
         assert_eq!(rt; told, wanted, "{left}");
     }
-    assert!(rt; written_in(rt.alloc(), 203)?.starts_with("Ok(()) "));
     assert!(rt; written_in(rt.alloc(), 7).is_err());
+    Ok(())
+}
+
+#[test]
+fn a_sink_that_fails_later_is_told(rt: HostRuntime) -> Result<(), Fail> {
+    for left in 203..399 {
+        let told = written_in(rt.alloc(), left)?;
+        let len = (left - 4).min(391);
+        let wanted = format!(in rt.alloc(); "Ok(()) Err(IoError(Device)) {len}")?;
+        assert_eq!(rt; told, wanted, "{left}");
+    }
+    assert_eq!(rt; written_in(rt.alloc(), 399)?.as_str(), "Ok(()) Ok(()) 391");
+    Ok(())
+}
+
+// The header of a BigTIFF file, by the call for that kind and by the one for both.
+fn headers_written(alloc: Global) -> TiffResult<(Vec<u8>, Vec<u8>)> {
+    let big = TiffEncoder::new_big(alloc, empty_sink(alloc))?;
+    let generic: TiffEncoder<MemorySink, TiffKindBig> = TiffEncoder::new_generic(
+        alloc,
+        empty_sink(alloc),
+    )?;
+    Ok((big.into_inner().into_vec(), generic.into_inner().into_vec()))
+}
+
+#[test]
+fn big_headers_are_written(rt: HostRuntime) -> Result<(), Fail> {
+    let header = [73, 73, 43, 0, 8, 0, 0, 0, 0, 0, 0, 0, 0, 0, 0, 0];
+    let (big, generic) = headers_written(rt.alloc())?;
+    assert_eq!(rt; big.as_slice(), header.as_slice());
+    assert_eq!(rt; generic.as_slice(), header.as_slice());
     Ok(())
 }
 
