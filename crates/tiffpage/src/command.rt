@@ -23,6 +23,18 @@ pub enum Command<'a> {
     },
 }
 
+impl<'a> Command<'a> {
+    /// The output, where the same word is the input.
+    pub fn output_that_is_input(&self) -> Option<&'a str> {
+        let (output, input) = match *self {
+            Command::Gray { output, input, .. } => (output, input),
+            Command::Raw { output, input, .. } => (output, input),
+            Command::Tags { .. } => return None,
+        };
+        if output == input { Some(output) } else { None }
+    }
+}
+
 /// The command that the words are, if they are one.
 pub fn parse(words: &[String]) -> Option<Command<'_>> {
     let (name, rest) = words.split_first()?;

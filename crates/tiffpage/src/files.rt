@@ -3,16 +3,38 @@
 use std::fs;
 use std::io::ErrorKind;
 use std::rt::Files as Machine;
-use tiff::io::IoKind;
-use tiff::{TiffError, TiffResult};
+
+/// Why a file was not read or written.
+#[derive(Clone, Copy, Debug, Drop)]
+pub enum FileFault {
+    OutOfMemory,
+    NotFound,
+    NoPermission,
+    Folder,
+    TooLarge,
+    Other,
+}
+
+impl FileFault {
+    /// What is to be said of it, where that is more than that there was a fault.
+    pub fn reason(self) -> Option<&'static str> {
+        match self {
+            FileFault::NotFound => Some("not found"),
+            FileFault::NoPermission => Some("no permission"),
+            FileFault::Folder => Some("a folder"),
+            FileFault::TooLarge => Some("too large"),
+            FileFault::OutOfMemory | FileFault::Other => None,
+        }
+    }
+}
 
 /// Files by their names.
 pub trait Files {
     /// All bytes of a file.
-    fn read(&mut self, name: &str) -> TiffResult<Vec<u8>>;
+    fn read(&mut self, name: &str) -> Result<Vec<u8>, FileFault>;
 
     /// Makes a file of these bytes.
-    fn write(&mut self, name: &str, bytes: &[u8]) -> TiffResult<()>;
+    fn write(&mut self, name: &str, bytes: &[u8]) -> Result<(), FileFault>;
 }
 
 /// The files of the machine.
@@ -28,19 +50,23 @@ impl<'a, R: Machine + AllocGlobal> MachineFiles<'a, R> {
 }
 
 // A fault of the machine.
-fn fault(kind: ErrorKind) -> TiffError {
+fn fault(kind: ErrorKind) -> FileFault {
     match kind {
-        ErrorKind::OutOfMemory => TiffError::OutOfMemory,
-        _ => TiffError::IoError(IoKind::Device),
+        ErrorKind::OutOfMemory => FileFault::OutOfMemory,
+        ErrorKind::NotFound | ErrorKind::NotADirectory => FileFault::NotFound,
+        ErrorKind::PermissionDenied => FileFault::NoPermission,
+        ErrorKind::IsADirectory => FileFault::Folder,
+        ErrorKind::FileTooLarge => FileFault::TooLarge,
+        _ => FileFault::Other,
     }
 }
 
 impl<R: Machine + AllocGlobal> Files for MachineFiles<'_, R> {
-    fn read(&mut self, name: &str) -> TiffResult<Vec<u8>> {
+    fn read(&mut self, name: &str) -> Result<Vec<u8>, FileFault> {
         fs::read(self.rt, name).map_err(|e| fault(e.kind()))
     }
 
-    fn write(&mut self, name: &str, bytes: &[u8]) -> TiffResult<()> {
+    fn write(&mut self, name: &str, bytes: &[u8]) -> Result<(), FileFault> {
         fs::write(self.rt, name, bytes).map_err(|e| fault(e.kind()))
     }
 }

@@ -6,7 +6,7 @@ ghost use Rattle.tiff.specs.Shows.{ShowsOnePage};
 ghost use Rattle.tiffpage.specs.Samples.{sample_bytes};
 
 use crate::command::{Command, parse};
-use crate::files::Files;
+use crate::files::{FileFault, Files};
 use crate::listing::list_entries;
 use std::alloc::Global;
 use std::fmt;
@@ -14,23 +14,43 @@ use std::io::Write;
 use tiff::decoder::Decoder;
 use tiff::encoder::TiffEncoder;
 use tiff::encoder::colortype::Gray8;
-use tiff::io::{MemorySink, MemorySource, Source};
+use tiff::io::{IoKind, MemorySink, MemorySource, Source};
 use tiff::{TiffError, TiffResult};
 
 /// Why a command was not done.
 #[derive(Drop)]
 enum Failure<'a> {
-    Read(&'a str),
+    Read(&'a str, FileFault),
     Write(&'a str),
     Tiff(TiffError),
+
+    /// The input has fewer bytes than there are samples.
+    TooShort {
+        fault: TiffError,
+        input: &'a str,
+        given: usize,
+        wanted: u64,
+    },
 }
 
 impl fmt::Display for Failure<'_> {
     fn fmt<W: fmt::Write>(&self, f: &mut fmt::Formatter<W>) -> fmt::Result {
         match self {
-            Failure::Read(name) => write!(f, "cannot read {name}"),
+            Failure::Read(name, fault) => match fault.reason() {
+                Some(reason) => write!(f, "cannot read {name}: {reason}"),
+                None => write!(f, "cannot read {name}"),
+            },
             Failure::Write(name) => write!(f, "cannot write {name}"),
             Failure::Tiff(fault) => write!(f, "{fault}"),
+            Failure::TooShort {
+                fault,
+                input,
+                given,
+                wanted,
+            } => write!(
+                f,
+                "{fault}\n{wanted} bytes are wanted, and {input} has {given}"
+            ),
         }
     }
 }
@@ -48,15 +68,15 @@ impl<'a> From<TiffError> for Failure<'a> {
 fn read<'a, F: Files>(files: &mut F, name: &'a str) -> Result<Vec<u8>, Failure<'a>> {
     match files.read(name) {
         Ok(bytes) => Ok(bytes),
-        Err(TiffError::OutOfMemory) => Err(Failure::Tiff(TiffError::OutOfMemory)),
-        Err(_) => Err(Failure::Read(name)),
+        Err(FileFault::OutOfMemory) => Err(Failure::Tiff(TiffError::OutOfMemory)),
+        Err(fault) => Err(Failure::Read(name, fault)),
     }
 }
 
 fn write<'a, F: Files>(files: &mut F, name: &'a str, bytes: &[u8]) -> Result<(), Failure<'a>> {
     match files.write(name, bytes) {
         Ok(()) => Ok(()),
-        Err(TiffError::OutOfMemory) => Err(Failure::Tiff(TiffError::OutOfMemory)),
+        Err(FileFault::OutOfMemory) => Err(Failure::Tiff(TiffError::OutOfMemory)),
         Err(_) => Err(Failure::Write(name)),
     }
 }
@@ -68,6 +88,26 @@ fn gray_file(alloc: Global, width: u32, height: u32, samples: &[u8]) -> TiffResu
     let mut encoder = TiffEncoder::new(alloc, MemorySink::new(Vec::new(alloc)))?;
     encoder.write_image::<Gray8>(width, height, samples)?;
     Ok(encoder.into_inner().into_vec())
+}
+
+// Why an input is no page of these sides.
+fn gray_failure<'a>(
+    fault: TiffError,
+    input: &'a str,
+    given: usize,
+    width: u32,
+    height: u32,
+) -> Failure<'a> {
+    let wanted = u64::from(width) * u64::from(height);
+    match fault {
+        TiffError::IoError(IoKind::InvalidData) => Failure::TooShort {
+            fault,
+            input,
+            given,
+            wanted,
+        },
+        fault => Failure::Tiff(fault),
+    }
 }
 
 // A file at a page.
@@ -112,8 +152,12 @@ fn execute<'a, F: Files>(
             input,
         } => {
             let samples = read(files, input)?;
-            let file = gray_file(alloc, width, height, samples.as_slice())?;
-            write(files, output, file.as_slice())?;
+            match gray_file(alloc, width, height, samples.as_slice()) {
+                Ok(file) => write(files, output, file.as_slice())?,
+                Err(fault) => {
+                    return Err(gray_failure(fault, input, samples.len(), width, height));
+                }
+            }
             Ok(String::new(alloc))
         }
         Command::Raw {
@@ -135,10 +179,13 @@ fn execute<'a, F: Files>(
 
 const USAGE: &str = "usage: tiffpage gray|raw|tags ..";
 
+const FORMS: &str = "  gray OUT W H IN\n  raw FILE PAGE OUT\n  tags FILE PAGE";
+
 /// Does what the words ask for, and answers the status: 0; 1 for a fault, with a line `error: ..` on `err`, and where a
-/// write to `out` or `err` fails; 2 for a wrong command line, with the usage on `err`. No words give the usage on `out`.
-/// Faults are found in this order: the command line, reading the input, the decoder's or the encoder's, writing the
-/// output. On a fault nothing is written to `out`.
+/// write to `out` or `err` fails; 2 for a wrong command line, with the usage and a line for each command on `err`, and
+/// for an output that is an input too, with a line that says so, before anything is read. No words give the usage on
+/// `out`, and the lines of the commands on `err`. Faults are found in this order: the command line, reading the input,
+/// the decoder's or the encoder's, writing the output. On a fault nothing is written to `out`.
 pub fn run<F: Files, O: Write, E: Write>(
     alloc: Global,
     words: &[String],
@@ -149,19 +196,17 @@ pub fn run<F: Files, O: Write, E: Write>(
     ensures { result ≤ 2 }
 {
     if words.is_empty() {
-        return if writeln!(out, "{USAGE}").is_ok() {
-            0
-        } else {
-            1
-        };
+        let told = writeln!(out, "{USAGE}").is_ok() && writeln!(err, "{FORMS}").is_ok();
+        return if told { 0 } else { 1 };
     }
     let Some(command) = parse(words) else {
-        return if writeln!(err, "{USAGE}").is_ok() {
-            2
-        } else {
-            1
-        };
+        let told = writeln!(err, "{USAGE}\n{FORMS}").is_ok();
+        return if told { 2 } else { 1 };
     };
+    if let Some(output) = command.output_that_is_input() {
+        let told = writeln!(err, "tiffpage: {output} is an input too").is_ok();
+        return if told { 2 } else { 1 };
+    }
     match execute(alloc, command, files) {
         Ok(text) => match out.write_all(text.as_bytes()) {
             Ok(()) => 0,

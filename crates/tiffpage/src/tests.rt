@@ -1,11 +1,9 @@
 //! The program over files in memory.
 
-use crate::files::Files;
+use crate::files::{FileFault, Files};
 use crate::program::run;
-use std::alloc::Global;
+use std::alloc::{AllocError, AllocFailed, Global};
 use std::test::Fail;
-use tiff::io::IoKind;
-use tiff::{TiffError, TiffResult};
 
 // A file in memory.
 #[derive(Drop)]
@@ -14,7 +12,7 @@ struct File {
     bytes: Vec<u8>,
 }
 
-// Files in memory. One name can't be written.
+// Files in memory. One name can't be written, and some can't be read.
 #[derive(Drop)]
 struct MemoryFiles {
     alloc: Global,
@@ -23,8 +21,27 @@ struct MemoryFiles {
 
 const UNWRITABLE: &str = "FULL";
 
+const UNREADABLE: [(&str, FileFault); 4] = [
+    ("LOCKED", FileFault::NoPermission),
+    ("FOLDER", FileFault::Folder),
+    ("HUGE", FileFault::TooLarge),
+    ("BROKEN", FileFault::Other),
+];
+
+impl From<AllocError> for FileFault {
+    fn from(_: AllocError) -> FileFault {
+        FileFault::OutOfMemory
+    }
+}
+
+impl<T: Drop> From<AllocFailed<T>> for FileFault {
+    fn from(_: AllocFailed<T>) -> FileFault {
+        FileFault::OutOfMemory
+    }
+}
+
 impl MemoryFiles {
-    fn with(alloc: Global, name: &str, bytes: &[u8]) -> TiffResult<Self> {
+    fn with(alloc: Global, name: &str, bytes: &[u8]) -> Result<Self, FileFault> {
         let mut files = MemoryFiles {
             alloc,
             files: Vec::new(alloc),
@@ -35,18 +52,23 @@ impl MemoryFiles {
 }
 
 impl Files for MemoryFiles {
-    fn read(&mut self, name: &str) -> TiffResult<Vec<u8>> {
+    fn read(&mut self, name: &str) -> Result<Vec<u8>, FileFault> {
+        for (unreadable, fault) in UNREADABLE {
+            if name == unreadable {
+                return Err(fault);
+            }
+        }
         for file in self.files.iter() {
             if file.name.as_str() == name {
                 return Ok(Vec::from_slice(self.alloc, file.bytes.as_slice())?);
             }
         }
-        Err(TiffError::IoError(IoKind::Device))
+        Err(FileFault::NotFound)
     }
 
-    fn write(&mut self, name: &str, bytes: &[u8]) -> TiffResult<()> {
+    fn write(&mut self, name: &str, bytes: &[u8]) -> Result<(), FileFault> {
         if name == UNWRITABLE {
-            return Err(TiffError::IoError(IoKind::Device));
+            return Err(FileFault::Other);
         }
         let name = String::from_str(self.alloc, name)?;
         let bytes = Vec::from_slice(self.alloc, bytes)?;
@@ -63,7 +85,7 @@ struct Run {
     err: Vec<u8>,
 }
 
-fn run_words(alloc: Global, files: &mut MemoryFiles, words: &[&str]) -> TiffResult<Run> {
+fn run_words(alloc: Global, files: &mut MemoryFiles, words: &[&str]) -> Result<Run, FileFault> {
     let mut all = Vec::new(alloc);
     for word in words {
         all.push(String::from_str(alloc, word)?)?;
@@ -74,7 +96,14 @@ fn run_words(alloc: Global, files: &mut MemoryFiles, words: &[&str]) -> TiffResu
     Ok(Run { status, out, err })
 }
 
-const USAGE: &[u8] = b"usage: tiffpage gray|raw|tags ..\n";
+const USAGE: &[u8] = b"usage: tiffpage gray|raw|tags ..
+  gray OUT W H IN
+  raw FILE PAGE OUT
+  tags FILE PAGE
+";
+
+// How many bytes of the usage go to standard output.
+const FIRST_LINE: usize = 33;
 
 /// The file of one gray sample 7, byte by byte.
 const ONE: [u8; 199] = [
@@ -148,8 +177,8 @@ fn samples_of_two_bytes_are_written_lowest_first(rt: HostRuntime) -> Result<(), 
     Ok(())
 }
 
-// A command line, its status and its line on the error stream; IN has three bytes, ONE the file of one sample.
-const FAULTS: [(&[&str], u8, &[u8]); 22] = [
+// A command line, its status and its lines on the error stream; IN has three bytes, ONE the file of one sample.
+const FAULTS: [(&[&str], u8, &[u8]); 29] = [
     (
         &["gray", "OUT", "0", "5", "IN"],
         1,
@@ -158,22 +187,22 @@ const FAULTS: [(&[&str], u8, &[u8]); 22] = [
     (
         &["gray", "OUT", "2", "2", "IN"],
         1,
-        b"error: invalid data\n",
+        b"error: invalid data\n4 bytes are wanted, and IN has 3\n",
     ),
     (
         &["gray", "OUT", "1", "1000001", "IN"],
         1,
-        b"error: invalid data\n",
+        b"error: invalid data\n1000001 bytes are wanted, and IN has 3\n",
     ),
     (
         &["gray", "OUT", "1", "1", "NONE"],
         1,
-        b"error: cannot read NONE\n",
+        b"error: cannot read NONE: not found\n",
     ),
     (
         &["gray", "OUT", "0", "5", "NONE"],
         1,
-        b"error: cannot read NONE\n",
+        b"error: cannot read NONE: not found\n",
     ),
     (
         &["gray", "FULL", "1", "1", "IN"],
@@ -220,10 +249,41 @@ const FAULTS: [(&[&str], u8, &[u8]); 22] = [
         b"error: format error: image file directory not found\n",
     ),
     (&["tags", "CUT", "0"], 1, b"error: unexpected end of file\n"),
-    (&["tags", "NONE", "0"], 1, b"error: cannot read NONE\n"),
+    (
+        &["tags", "NONE", "0"],
+        1,
+        b"error: cannot read NONE: not found\n",
+    ),
     (&["tags", "ONE"], 2, USAGE),
     (&["tags", "ONE", "0", "OUT"], 2, USAGE),
     (&["tags", "NONE", "-1"], 2, USAGE),
+    (
+        &["gray", "OUT", "1", "1", "LOCKED"],
+        1,
+        b"error: cannot read LOCKED: no permission\n",
+    ),
+    (
+        &["raw", "FOLDER", "0", "OUT"],
+        1,
+        b"error: cannot read FOLDER: a folder\n",
+    ),
+    (
+        &["tags", "HUGE", "0"],
+        1,
+        b"error: cannot read HUGE: too large\n",
+    ),
+    (&["tags", "BROKEN", "0"], 1, b"error: cannot read BROKEN\n"),
+    (
+        &["gray", "IN", "1", "1", "IN"],
+        2,
+        b"tiffpage: IN is an input too\n",
+    ),
+    (
+        &["raw", "NONE", "0", "NONE"],
+        2,
+        b"tiffpage: NONE is an input too\n",
+    ),
+    (&["gray", "IN", "1", "x", "IN"], 2, USAGE),
 ];
 
 #[test]
@@ -237,6 +297,7 @@ fn faults_are_told_in_their_order(rt: HostRuntime) -> Result<(), Fail> {
         assert_eq!(rt; run.out.len(), 0);
         assert_eq!(rt; run.err.as_slice(), line);
         assert!(rt; files.read("OUT").is_err());
+        assert_eq!(rt; files.files.len(), 3);
     }
     Ok(())
 }
@@ -274,7 +335,7 @@ const BIG_LISTING: &[u8] = b"256 4 1 00000001
 ";
 
 // Lists the entries of a file's first page.
-fn run_tags(alloc: Global, file: &[u8]) -> TiffResult<Run> {
+fn run_tags(alloc: Global, file: &[u8]) -> Result<Run, FileFault> {
     let mut files = MemoryFiles::with(alloc, "IN", file)?;
     run_words(alloc, &mut files, &["tags", "IN", "0"])
 }
@@ -320,7 +381,7 @@ fn no_words_give_the_usage(rt: HostRuntime) -> Result<(), Fail> {
     let mut files = MemoryFiles::with(rt.alloc(), "IN", &[7])?;
     let run = run_words(rt.alloc(), &mut files, &[])?;
     assert_eq!(rt; run.status, 0);
-    assert_eq!(rt; run.out.as_slice(), USAGE);
-    assert_eq!(rt; run.err.len(), 0);
+    assert_eq!(rt; run.out.as_slice(), &USAGE[..FIRST_LINE]);
+    assert_eq!(rt; run.err.as_slice(), &USAGE[FIRST_LINE..]);
     Ok(())
 }
