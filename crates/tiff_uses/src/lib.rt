@@ -1,0 +1,105 @@
+//! Five uses of `tiff`, as a caller writes them.
+#![tactic(auto)]
+
+ghost use Rattle.std.specs.Prelude.{◌≡◌, ◌≤◌, IfOk, Ok};
+ghost use Rattle.tiff.specs.Answers.{Answers};
+ghost use Rattle.tiff.specs.Outcome.{begun};
+ghost use Rattle.tiff.specs.Result.{decoded_as};
+ghost use Rattle.tiff.specs.Shows.{ShowsOnePage};
+ghost use Rattle.tiff_uses.specs.GeoKeys.{geo_key, key_value, value_in};
+ghost use Rattle.tiff_uses.specs.Pages.{AreSides, FileAnswers, first_image, page_chunk};
+
+use std::alloc::Global;
+use tiff::TiffResult;
+use tiff::decoder::{Decoder, DecodingResult};
+use tiff::encoder::TiffEncoder;
+use tiff::encoder::colortype::Gray8;
+use tiff::io::{MemorySink, MemorySource, Source};
+use tiff::tags::Tag;
+
+/// The samples of a file's first page, or the first fault.
+pub fn first_image(alloc: Global, file: Vec<u8>) -> TiffResult<DecodingResult>
+    ensures { FileAnswers decoded_as result (first_image file.items) }
+{
+    Decoder::new(alloc, MemorySource::new(file))?.read_image()
+}
+
+/// The samples of a strip or a tile of a page, each by its number from 0, or the first fault.
+pub fn page_chunk(
+    alloc: Global,
+    file: Vec<u8>,
+    page: usize,
+    chunk: u32,
+) -> TiffResult<DecodingResult>
+    ensures { FileAnswers decoded_as result (page_chunk file.items page chunk) }
+{
+    let mut decoder = Decoder::new(alloc, MemorySource::new(file))?;
+    decoder.seek_to_image(page)?;
+    decoder.read_chunk(chunk)
+}
+
+// The width and the height of each page, from a decoder at its file's first page on.
+fn sides_along(alloc: Global, decoder: &mut Decoder<MemorySource>) -> TiffResult<Vec<(u32, u32)>>
+    // It was opened on its file, and no call moved it since.
+    requires { begun decoder.old.bytes 0 ≡ Ok (record decoder.old { failures = 0 }) }
+    ensures { IfOk result (λ sides. AreSides decoder.old.bytes sides.items) }
+{
+    let mut sides = Vec::new(alloc);
+    sides.push(decoder.dimensions()?)?;
+    'pages: while decoder.more_images() {
+        decoder.next_image()?;
+        sides.push(decoder.dimensions()?)?;
+    }
+    Ok(sides)
+}
+
+/// The width and the height of each page, along the file's chain. It ends since the chain does.
+pub fn page_sides(alloc: Global, file: Vec<u8>) -> TiffResult<Vec<(u32, u32)>>
+    ensures { IfOk result (λ sides. AreSides file.items sides.items) }
+{
+    let mut decoder = Decoder::new(alloc, MemorySource::new(file))?;
+    sides_along(alloc, &mut decoder)
+}
+
+// The value of a key in a directory of keys.
+fn value_of(numbers: &[u16], id: u16) -> Option<u16>
+    ensures { result ≡ key_value id numbers.now }
+{
+    let [_, _, _, count, entries @ ..] = numbers else {
+        return None;
+    };
+    let mut left = entries;
+    'keys: for i in 0..*count {
+        let [key, location, _, value, others @ ..] = left else {
+            return None;
+        };
+        if *key == id && *location == 0 {
+            return Some(*value);
+        }
+        left = others;
+    }
+    None
+}
+
+/// The value of a geographic key of the decoder's page, where its value is in its entry. A page without keys:
+/// `RequiredTagNotFound`. The decoder stays where it is.
+pub fn geo_key<R: Source>(decoder: &mut Decoder<R>, id: u16) -> TiffResult<Option<u16>>
+    ensures answer { Answers (λ value. value) result (geo_key decoder.old id) decoder.old.failures decoder.new.failures }
+    ensures state { decoder.new ≡ record decoder.old { failures = decoder.new.failures } }
+    ensures count { decoder.old.failures ≤ decoder.new.failures }
+{
+    let numbers = decoder.get_tag_u16_vec(Tag::GeoKeyDirectoryTag)?;
+    Ok(value_of(&numbers, id))
+}
+
+/// A file of one gray page, which shows the samples.
+pub fn gray_file(alloc: Global, width: u32, height: u32, samples: &[u8]) -> TiffResult<Vec<u8>>
+    ensures { IfOk result (λ file. ShowsOnePage file.items width height samples.now) }
+{
+    let mut encoder = TiffEncoder::new(alloc, MemorySink::new(Vec::new(alloc)))?;
+    encoder.write_image::<Gray8>(width, height, samples)?;
+    Ok(encoder.into_inner().into_vec())
+}
+
+#[cfg(test)]
+mod tests;
