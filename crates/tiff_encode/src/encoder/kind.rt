@@ -38,10 +38,9 @@ pub trait TiffKind {
     fn convert_offset(offset: u64) -> TiffResult<Self::OffsetType>
         ensures { Gives place result (if is_past kind offset then Err IntSizeError else Ok offset) };
 
-    /// A place that this kind has (this project's).
+    /// A place as this kind has it, where it isn't past its bytes (this project's); else the greatest that it has.
     fn offset_at(offset: u64) -> Self::OffsetType
-        requires { is_past kind offset ≡ false }
-        ensures { place result ≡ offset };
+        ensures { is_past kind offset ≡ false → place result ≡ offset };
 
     /// Writes a place. A place past its bytes: `IntSizeError`, and nothing is done; else the errors of
     /// `TiffWriter::write_plain`.
@@ -80,6 +79,9 @@ impl TiffKind for TiffKindStandard {
     }
 
     fn offset_at(offset: u64) -> u32 {
+        if offset > u64::from(u32::MAX) {
+            return u32::MAX;
+        }
         offset as u32
     }
 
