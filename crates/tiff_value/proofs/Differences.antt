@@ -45,7 +45,7 @@ pub later_kept : (m l s : ℕ) (row : List ℕ) (i : ℕ) → i < l → s ≤ i 
 later_kept m l s row i a b = rw (mod-eq_of_lt a, le-ltb i s b) refl
 
 -- a number of a row of differences
-difference_at : (m s : ℕ) (row : List ℕ) (i : ℕ) → i < length row → get_or (differences Horizontal m (length row) s row) i 0 ≡ kept Horizontal m (length row) s row i
+pub difference_at : (m s : ℕ) (row : List ℕ) (i : ℕ) → i < length row → get_or (differences Horizontal m (length row) s row) i 0 ≡ kept Horizontal m (length row) s row i
 unfolding differences
 difference_at m s row i h = get_or-map-range_with_len (kept Horizontal m (length row) s row) 0 (length row) i i 0 h (omega arith)
 

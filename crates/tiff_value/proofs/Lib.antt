@@ -6,4 +6,5 @@ pub mod ColorTypes
 pub mod Differences
 pub mod Packing
 pub mod Predicted
+pub mod Chunk
 pub mod Lowest

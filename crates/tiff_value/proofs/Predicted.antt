@@ -24,13 +24,17 @@ signed_less w x y f =
     of_z-to_z w ((cast_unsigned w x + (2 ^ bits w - cast_unsigned w y)) % 2 ^ bits w) (mod-lt (cast_unsigned w x + (2 ^ bits w - cast_unsigned w y)) (pow_pos (bits w)))
     ∙ ap (λ (q : ℕ). q % 2 ^ bits w) e
 
+-- the bits of a signed number
+pub signed_below : (w : Width) (x : ℤ) → FitsSigned w x → cast_unsigned w x < 2 ^ bits w
+signed_below w x f = (laws.of_z_fits w x f).fits
+
 module _ {A : Type 0} (b : A → ℕ) (m s : ℕ) (row : List A) where
   -- the first so many differences of a row
   abbrev pub made : ℕ → List ℕ
   made n = map (kept Horizontal m (length (map b row)) s (map b row)) (range_with_len 0 n)
 
   -- those of its first pixel
-  begun : s ≤ length row → map b (take s row) ≡ made s
+  pub begun : s ≤ length row → map b (take s row) ≡ made s
   begun whole =
       let xs : List ℕ = map b row in
       let l : length xs ≡ length row = length-map row b in
@@ -44,7 +48,7 @@ module _ {A : Type 0} (b : A → ℕ) (m s : ℕ) (row : List A) where
       record { added = take s row; whole = e ∙ ap (λ (ys : List A). ys ++ take s row) was; same = begun whole }
 
   -- the next of them
-  next_made : (i : ℕ) (x before next : A) → s ≤ i → i < length row → x ≡ get_or row i x → before ≡ get_or row (i - s) before
+  pub next_made : (i : ℕ) (x before next : A) → s ≤ i → i < length row → x ≡ get_or row i x → before ≡ get_or row (i - s) before
       → b next ≡ (b x + m - b before) % m → kept Horizontal m (length (map b row)) s (map b row) i ≡ b next
   next_made i x before next first within is_x is_before is_next =
       let xs : List ℕ = map b row in
@@ -73,7 +77,7 @@ module _ {A : Type 0} (b : A → ℕ) (m s : ℕ) (row : List A) where
         same = same;
       }
 
-  whole_row : 0 < s → s ≤ length row → made (length row) ≡ predicted_row m s (map b row)
+  pub whole_row : 0 < s → s ≤ length row → made (length row) ≡ predicted_row m s (map b row)
   unfolding differences
   whole_row some whole =
       let l : length (map b row) ≡ length row = length-map row b in

@@ -1,5 +1,6 @@
 //! What files are written by.
 
+pub mod chunk;
 pub mod colortype;
 mod colours;
 pub mod compression;

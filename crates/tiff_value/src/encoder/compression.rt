@@ -7,6 +7,7 @@ ghost use Rattle.tiff_value.specs.Stored.{Stores};
 mod packer;
 
 use crate::encoder::writer::TiffWriter;
+pub use packer::pack_bits;
 use std::alloc::Global;
 use tiff_base::error::{TiffError, TiffResult, UsageError};
 use tiff_base::io::{IoKind, Sink};
@@ -106,7 +107,7 @@ impl CompressionAlgorithm for Packbits {
         if bytes.is_empty() {
             return Err(TiffError::IoError(IoKind::WriteZero));
         }
-        let packed = packer::pack(alloc, bytes)?;
+        let packed = pack_bits(alloc, bytes)?;
         writer.write_plain(&packed)?;
         Ok(packed.len() as u64)
     }

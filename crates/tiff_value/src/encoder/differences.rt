@@ -1,7 +1,11 @@
 //! Rows of samples as differences: each sample less the one a stride before it.
 
 ghost use Rattle.std.specs.Int.{w8, w16, w32, w64, cast_unsigned};
-ghost use Rattle.std.specs.Prelude.{◌≡◌, ◌+◌, ◌-◌, ◌^◌, ◌%◌, map, Ok, refl};
+ghost use Rattle.std.specs.Prelude.{◌≡◌, ◌+◌, ◌-◌, ◌^◌, ◌%◌, ◌<◌, ◌++◌, map, Ok, IfSome, MatchResult, refl};
+ghost use Rattle.std.specs.List.{flat_map};
+ghost use Rattle.tiff_base.specs.Number.{le};
+ghost use Rattle.tiff_base.specs.Types.{type_size};
+ghost use Rattle.tiff_value.specs.ColorType.{sample_number};
 ghost use Rattle.tiff_value.specs.Differences.{predicted_row};
 ghost use Rattle.tiff_value.specs.Predicted.{AppendsRow};
 
@@ -11,9 +15,11 @@ use tiff_base::tags::{Bits32, Bits64};
 
 /// A number that a sample is in memory (this project's).
 pub trait Sample: TiffScalar {
-    ghost use Rattle.std.specs.Prelude.{◌≡◌, ℕ};
+    ghost use Rattle.std.specs.Prelude.{◌≡◌, ◌++◌, ◌^◌, ℕ, map, MatchResult};
+    ghost use Rattle.std.specs.List.{flat_map};
     ghost use Rattle.tiff_base.specs.Number.{le};
     ghost use Rattle.tiff_base.specs.Types.{type_size};
+    ghost use Rattle.tiff_value.specs.Differences.{predicted_row};
     ghost use Rattle.tiff_value.specs.Predicted.{row_of_type};
 
     // Its bits, as a number from 0 on.
@@ -24,21 +30,43 @@ pub trait Sample: TiffScalar {
     fn predict_row(row: &[Self], stride: usize, out: &mut Vec<Self>) -> TiffResult<()>
         ensures { AppendsRow bits (row_of_type Self.value_type stride (map bits row.now)) out.old.items out.new.items result };
 
+    /// Appends the bytes of a row's differences, of the bits of floating numbers too: of each number the lowest first.
+    /// Nothing is appended for a stride of 0, or a row shorter than it. Its only error is `OutOfMemory`, after which `out`
+    /// may hold anything.
+    fn push_row(row: &[Self], stride: usize, out: &mut Vec<u8>) -> TiffResult<()>
+        ensures { MatchResult result
+            (λ _. out.new.items ≡ out.old.items ++ flat_map (le (type_size Self.value_type)) (predicted_row (256 ^ type_size Self.value_type) stride (map (sample_number (type_size Self.value_type) bits) row.now)))
+            (λ e. e ≡ TiffError.OutOfMemory) };
+
+    /// The bytes that samples are written as, without a copy, where each is one byte from 0 on (`u8`); else nothing.
+    fn as_bytes(samples: &[Self]) -> Option<&[u8]>
+        ensures { IfSome result (λ b. b.now ≡ flat_map (le (type_size Self.value_type)) (map (sample_number (type_size Self.value_type) bits) samples.now)) };
+
     // It is written as the bytes of its bits, the lowest first.
     ghost by_bits: { (x : Self) → Self.spelled x ≡ le (type_size Self.value_type) (bits x) };
 }
 
-// A whole number of so many bits.
-trait Whole: Copy {
+// A number of so many bits.
+trait Whole: TiffScalar + Copy {
     ghost use Rattle.std.specs.Prelude.{ℕ};
+    ghost use Rattle.tiff_base.specs.Number.{le};
 
     ghost bits: { Self → ℕ };
 
     // How many such numbers there are.
     ghost modulus: { ℕ };
 
+    // This less the other, modulo; the bits of both are below the modulus.
     fn less(self, other: Self) -> Self
-        ensures { bits result ≡ (bits self + modulus - bits other) % modulus };
+        ensures difference { bits result ≡ (bits self + modulus - bits other) % modulus }
+        ensures own { bits self < modulus }
+        ensures others { bits other < modulus };
+
+    // It is written as the bytes of its bits, the lowest first.
+    ghost by_bits: { (x : Self) → Self.spelled x ≡ le (type_size Self.value_type) (bits x) };
+
+    // There are as many as its bytes can tell.
+    ghost all: { modulus ≡ 256 ^ type_size Self.value_type };
 }
 
 fn push_differences<T: Whole>(row: &[T], stride: usize, out: &mut Vec<T>) -> TiffResult<()>
@@ -55,6 +83,22 @@ fn push_differences<T: Whole>(row: &[T], stride: usize, out: &mut Vec<T>) -> Tif
     Ok(())
 }
 
+// The same as bytes, of each number the lowest first.
+fn push_row_differences<T: Whole>(row: &[T], stride: usize, out: &mut Vec<u8>) -> TiffResult<()>
+    ensures { MatchResult result
+        (λ _. out.new.items ≡ out.old.items ++ flat_map (le (type_size T.value_type)) (predicted_row T.modulus stride (map (sample_number (type_size T.value_type) T.bits) row.now)))
+        (λ e. e ≡ TiffError.OutOfMemory) }
+{
+    if stride == 0 || row.len() < stride {
+        return Ok(());
+    }
+    T::push_all(&row[..stride], out)?;
+    for i in stride..row.len() {
+        row[i].less(row[i - stride]).push_to(out)?;
+    }
+    Ok(())
+}
+
 impl Whole for u8 {
     ghost bits = { λ n. n };
 
@@ -63,6 +107,10 @@ impl Whole for u8 {
     fn less(self, other: u8) -> u8 {
         self.wrapping_sub(other)
     }
+
+    ghost by_bits = { λ x. refl };
+
+    ghost all = { refl };
 }
 
 impl Sample for u8 {
@@ -70,6 +118,14 @@ impl Sample for u8 {
 
     fn predict_row(row: &[u8], stride: usize, out: &mut Vec<u8>) -> TiffResult<()> {
         push_differences(row, stride, out)
+    }
+
+    fn push_row(row: &[u8], stride: usize, out: &mut Vec<u8>) -> TiffResult<()> {
+        push_row_differences(row, stride, out)
+    }
+
+    fn as_bytes(samples: &[u8]) -> Option<&[u8]> {
+        Some(samples)
     }
 
     ghost by_bits = { λ x. refl };
@@ -80,10 +136,14 @@ impl Whole for i8 {
 
     ghost modulus = { 2 ^ 8 };
 
-    #[tactic(auto, using(crate::proofs::Predicted::signed_less))]
+    #[tactic(auto, using(crate::proofs::Predicted::signed_less, crate::proofs::Predicted::signed_below))]
     fn less(self, other: i8) -> i8 {
         self.wrapping_sub(other)
     }
+
+    ghost by_bits = { λ x. refl };
+
+    ghost all = { refl };
 }
 
 impl Sample for i8 {
@@ -91,6 +151,14 @@ impl Sample for i8 {
 
     fn predict_row(row: &[i8], stride: usize, out: &mut Vec<i8>) -> TiffResult<()> {
         push_differences(row, stride, out)
+    }
+
+    fn push_row(row: &[i8], stride: usize, out: &mut Vec<u8>) -> TiffResult<()> {
+        push_row_differences(row, stride, out)
+    }
+
+    fn as_bytes(samples: &[i8]) -> Option<&[u8]> {
+        None
     }
 
     ghost by_bits = { λ x. refl };
@@ -104,6 +172,10 @@ impl Whole for u16 {
     fn less(self, other: u16) -> u16 {
         self.wrapping_sub(other)
     }
+
+    ghost by_bits = { λ x. refl };
+
+    ghost all = { refl };
 }
 
 impl Sample for u16 {
@@ -111,6 +183,14 @@ impl Sample for u16 {
 
     fn predict_row(row: &[u16], stride: usize, out: &mut Vec<u16>) -> TiffResult<()> {
         push_differences(row, stride, out)
+    }
+
+    fn push_row(row: &[u16], stride: usize, out: &mut Vec<u8>) -> TiffResult<()> {
+        push_row_differences(row, stride, out)
+    }
+
+    fn as_bytes(samples: &[u16]) -> Option<&[u8]> {
+        None
     }
 
     ghost by_bits = { λ x. refl };
@@ -121,10 +201,14 @@ impl Whole for i16 {
 
     ghost modulus = { 2 ^ 16 };
 
-    #[tactic(auto, using(crate::proofs::Predicted::signed_less))]
+    #[tactic(auto, using(crate::proofs::Predicted::signed_less, crate::proofs::Predicted::signed_below))]
     fn less(self, other: i16) -> i16 {
         self.wrapping_sub(other)
     }
+
+    ghost by_bits = { λ x. refl };
+
+    ghost all = { refl };
 }
 
 impl Sample for i16 {
@@ -132,6 +216,14 @@ impl Sample for i16 {
 
     fn predict_row(row: &[i16], stride: usize, out: &mut Vec<i16>) -> TiffResult<()> {
         push_differences(row, stride, out)
+    }
+
+    fn push_row(row: &[i16], stride: usize, out: &mut Vec<u8>) -> TiffResult<()> {
+        push_row_differences(row, stride, out)
+    }
+
+    fn as_bytes(samples: &[i16]) -> Option<&[u8]> {
+        None
     }
 
     ghost by_bits = { λ x. refl };
@@ -145,6 +237,10 @@ impl Whole for u32 {
     fn less(self, other: u32) -> u32 {
         self.wrapping_sub(other)
     }
+
+    ghost by_bits = { λ x. refl };
+
+    ghost all = { refl };
 }
 
 impl Sample for u32 {
@@ -152,6 +248,14 @@ impl Sample for u32 {
 
     fn predict_row(row: &[u32], stride: usize, out: &mut Vec<u32>) -> TiffResult<()> {
         push_differences(row, stride, out)
+    }
+
+    fn push_row(row: &[u32], stride: usize, out: &mut Vec<u8>) -> TiffResult<()> {
+        push_row_differences(row, stride, out)
+    }
+
+    fn as_bytes(samples: &[u32]) -> Option<&[u8]> {
+        None
     }
 
     ghost by_bits = { λ x. refl };
@@ -162,10 +266,14 @@ impl Whole for i32 {
 
     ghost modulus = { 2 ^ 32 };
 
-    #[tactic(auto, using(crate::proofs::Predicted::signed_less))]
+    #[tactic(auto, using(crate::proofs::Predicted::signed_less, crate::proofs::Predicted::signed_below))]
     fn less(self, other: i32) -> i32 {
         self.wrapping_sub(other)
     }
+
+    ghost by_bits = { λ x. refl };
+
+    ghost all = { refl };
 }
 
 impl Sample for i32 {
@@ -173,6 +281,14 @@ impl Sample for i32 {
 
     fn predict_row(row: &[i32], stride: usize, out: &mut Vec<i32>) -> TiffResult<()> {
         push_differences(row, stride, out)
+    }
+
+    fn push_row(row: &[i32], stride: usize, out: &mut Vec<u8>) -> TiffResult<()> {
+        push_row_differences(row, stride, out)
+    }
+
+    fn as_bytes(samples: &[i32]) -> Option<&[u8]> {
+        None
     }
 
     ghost by_bits = { λ x. refl };
@@ -186,6 +302,10 @@ impl Whole for u64 {
     fn less(self, other: u64) -> u64 {
         self.wrapping_sub(other)
     }
+
+    ghost by_bits = { λ x. refl };
+
+    ghost all = { refl };
 }
 
 impl Sample for u64 {
@@ -193,6 +313,14 @@ impl Sample for u64 {
 
     fn predict_row(row: &[u64], stride: usize, out: &mut Vec<u64>) -> TiffResult<()> {
         push_differences(row, stride, out)
+    }
+
+    fn push_row(row: &[u64], stride: usize, out: &mut Vec<u8>) -> TiffResult<()> {
+        push_row_differences(row, stride, out)
+    }
+
+    fn as_bytes(samples: &[u64]) -> Option<&[u8]> {
+        None
     }
 
     ghost by_bits = { λ x. refl };
@@ -203,10 +331,14 @@ impl Whole for i64 {
 
     ghost modulus = { 2 ^ 64 };
 
-    #[tactic(auto, using(crate::proofs::Predicted::signed_less))]
+    #[tactic(auto, using(crate::proofs::Predicted::signed_less, crate::proofs::Predicted::signed_below))]
     fn less(self, other: i64) -> i64 {
         self.wrapping_sub(other)
     }
+
+    ghost by_bits = { λ x. refl };
+
+    ghost all = { refl };
 }
 
 impl Sample for i64 {
@@ -216,7 +348,29 @@ impl Sample for i64 {
         push_differences(row, stride, out)
     }
 
+    fn push_row(row: &[i64], stride: usize, out: &mut Vec<u8>) -> TiffResult<()> {
+        push_row_differences(row, stride, out)
+    }
+
+    fn as_bytes(samples: &[i64]) -> Option<&[u8]> {
+        None
+    }
+
     ghost by_bits = { λ x. refl };
+}
+
+impl Whole for Bits32 {
+    ghost bits = { λ n. n.0 };
+
+    ghost modulus = { 2 ^ 32 };
+
+    fn less(self, other: Bits32) -> Bits32 {
+        Bits32(self.0.wrapping_sub(other.0))
+    }
+
+    ghost by_bits = { λ x. refl };
+
+    ghost all = { refl };
 }
 
 impl Sample for Bits32 {
@@ -226,7 +380,29 @@ impl Sample for Bits32 {
         Err(TiffError::UsageError(UsageError::PredictorIncompatible))
     }
 
+    fn push_row(row: &[Bits32], stride: usize, out: &mut Vec<u8>) -> TiffResult<()> {
+        push_row_differences(row, stride, out)
+    }
+
+    fn as_bytes(samples: &[Bits32]) -> Option<&[u8]> {
+        None
+    }
+
     ghost by_bits = { λ x. refl };
+}
+
+impl Whole for Bits64 {
+    ghost bits = { λ n. n.0 };
+
+    ghost modulus = { 2 ^ 64 };
+
+    fn less(self, other: Bits64) -> Bits64 {
+        Bits64(self.0.wrapping_sub(other.0))
+    }
+
+    ghost by_bits = { λ x. refl };
+
+    ghost all = { refl };
 }
 
 impl Sample for Bits64 {
@@ -234,6 +410,14 @@ impl Sample for Bits64 {
 
     fn predict_row(row: &[Bits64], stride: usize, out: &mut Vec<Bits64>) -> TiffResult<()> {
         Err(TiffError::UsageError(UsageError::PredictorIncompatible))
+    }
+
+    fn push_row(row: &[Bits64], stride: usize, out: &mut Vec<u8>) -> TiffResult<()> {
+        push_row_differences(row, stride, out)
+    }
+
+    fn as_bytes(samples: &[Bits64]) -> Option<&[u8]> {
+        None
     }
 
     ghost by_bits = { λ x. refl };

@@ -57,8 +57,9 @@ fn pack_block(bytes: &[u8], out: &mut Vec<u8>) -> TiffResult<usize>
     Ok(count)
 }
 
-// The bytes packed.
-pub(crate) fn pack(alloc: Global, bytes: &[u8]) -> TiffResult<Vec<u8>>
+/// Bytes packed by PackBits (TIFF 6.0 section 9), with at most one byte more for each 128 or part of 128. Its only error is
+/// `OutOfMemory`.
+pub fn pack_bits(alloc: Global, bytes: &[u8]) -> TiffResult<Vec<u8>>
     ensures { MatchResult result (λ packed. IsPacked bytes.now packed.items) (λ e. e ≡ TiffError.OutOfMemory) }
 {
     let mut out = Vec::new(alloc);

@@ -24,7 +24,7 @@ loop-i-preserved g c =
     record {
       whole = continues g.T.Whole.bits g.T.Whole.modulus c.args.stride c.args.row.now c.loop-i.i c.index-row-i.result c.index-row-i-in-loop-i.result c.less.result
           c.args.out.now.items c.loop-i.out.items c.push_reserved.new.self.items c.loop-i.auto.i c.loop-i-test.true c.index-row-i.is c.index-row-i-in-loop-i.is
-          c.less.ensures c.loop-i.invariant.whole h.items;
+          c.less.ensures.difference c.loop-i.invariant.whole h.items;
       room = omega (arith, c.loop-i.invariant.room, c.loop-i-test.true, h.len, h.capacity);
     }
 

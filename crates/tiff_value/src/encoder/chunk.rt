@@ -1,0 +1,57 @@
+//! The bytes of a chunk of samples, before they are packed.
+
+ghost use Rattle.std.specs.Prelude.{◌≡◌, ◌<◌, ◌≤◌, ◌%◌, ◌^◌, ◌++◌, false, length, map, MatchResult};
+ghost use Rattle.std.specs.List.{flat_map};
+ghost use Rattle.tiff_base.specs.Number.{le};
+ghost use Rattle.tiff_base.specs.Types.{type_size};
+ghost use Rattle.tiff_value.specs.ColorType.{sample_number};
+ghost use Rattle.tiff_value.specs.Differences.{differences};
+
+use super::differences::Sample;
+use tiff_base::error::{TiffError, TiffResult};
+use tiff_base::tags::Predictor;
+
+/// Appends the bytes of a chunk before it is packed: rows of `row` samples, `stride` a pixel; with `Predictor::Horizontal`
+/// each row as differences (TIFF 6.0 section 14), else as they are; of each number the least byte first. Its only error
+/// is `OutOfMemory`.
+pub fn push_chunk<T: Sample>(
+    samples: &[T],
+    predictor: Predictor,
+    row: usize,
+    stride: usize,
+    out: &mut Vec<u8>,
+) -> TiffResult<()>
+    requires stride { (0 < stride) × (stride ≤ row) }
+    requires whole { length samples.now % row ≡ 0 }
+    ensures { MatchResult result
+        (λ _. out.new.items ≡ out.old.items ++ flat_map (le (type_size T.value_type)) (differences predictor (256 ^ type_size T.value_type) row stride (map (sample_number (type_size T.value_type) T.bits) samples.now)))
+        (λ e. e ≡ TiffError.OutOfMemory) }
+{
+    let size = usize::from(T::byte_len());
+    out.reserve(samples.len().saturating_mul(size))?;
+    match predictor {
+        Predictor::Horizontal => push_rows(samples, row, stride, out),
+        _ => T::push_all(samples, out),
+    }
+}
+
+// Each row as differences.
+fn push_rows<T: Sample>(
+    samples: &[T],
+    row: usize,
+    stride: usize,
+    out: &mut Vec<u8>,
+) -> TiffResult<()>
+    requires stride { (0 < stride) × (stride ≤ row) }
+    requires whole { length samples.now % row ≡ 0 }
+    ensures { MatchResult result
+        (λ _. out.new.items ≡ out.old.items ++ flat_map (le (type_size T.value_type)) (differences Predictor.Horizontal (256 ^ type_size T.value_type) row stride (map (sample_number (type_size T.value_type) T.bits) samples.now)))
+        (λ e. e ≡ TiffError.OutOfMemory) }
+{
+    let mut at = 0;
+    while at < samples.len() {
+        T::push_row(&samples[at..at + row], stride, out)?;
+        at += row;
+    }
+    Ok(())
+}
