@@ -57,7 +57,7 @@ caused_fits (Some e) call file m f = tt
 -- ---- a value that is handed in
 
 -- a place that is not past the kind's
-place_fits : (kind : FileKind) (n : ℕ) → is_past kind n ≡ false → n < 2 ^ 64 → n < 256 ^ place_len kind
+pub place_fits : (kind : FileKind) (n : ℕ) → is_past kind n ≡ false → n < 2 ^ 64 → n < 256 ^ place_len kind
 place_fits Classic n h l = leb-false (2 ^ 32) n h
 place_fits Big n h l = l
 

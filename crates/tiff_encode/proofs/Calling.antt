@@ -1,5 +1,5 @@
 -- What the calls of a directory end as.
-use Rattle.std.proofs.Common.{◌≡◌, ℕ, ◌*◌, ◌+◌, ◌^◌, ◌<◌, ◌≤◌, zero, suc, Bool, true, false, cond, List, [], ◌∷◌, ◌++◌, length, take, Option, Some, None, Result, Ok, Err, refl, ap, sym, ◌∙◌, inl, inr, ◌⊎◌, subst, arith, lit≤, append-nil}
+use Rattle.std.proofs.Common.{◌≡◌, ℕ, ◌*◌, ◌^◌, ◌<◌, ◌≤◌, suc, Bool, true, false, cond, List, [], ◌∷◌, length, take, Option, Some, None, Result, Ok, Err, refl, ap, sym, ◌∙◌, inl, inr, ◌⊎◌, subst, arith, lit≤, append-nil}
 use Rattle.std.proofs.lemmas.Bool.{lt-ltb, le-ltb, ltb-true, ltb-false}
 use Rattle.std.proofs.Math.Nat.{le-min, min-eq_left}
 use Rattle.std.specs.Prelude.{◌&&◌, ◌-◌, ◌%◌, ◌/◌, ◌==◌, min, nat_lt, IsSome, not}
@@ -18,8 +18,8 @@ use Rattle.tiff_base.specs.Field.{Field}
 use Rattle.tiff_base.specs.Number.{le}
 use Rattle.tiff_base.specs.Types.{type_size}
 use Rattle.tiff_value.specs.Buffer.{BufferRecord}
-use Rattle.tiff_value.specs.Data.{FieldData, IsWhole}
-use Rattle.tiff_value.specs.Values.{values_in, IsValue, IsWritable, byte_count}
+use Rattle.tiff_value.specs.Data.{FieldData}
+use Rattle.tiff_value.specs.Values.{IsValue, IsWritable, byte_count}
 use Rattle.tiff_encode.specs.Written.{place_len}
 use Rattle.tiff_encode.specs.Value.{is_long, filled, field_at, data_in, buffer_data}
 use Rattle.tiff_encode.specs.Deeds.{Deed, Appended, Handed, all_appended}
@@ -28,7 +28,7 @@ use Rattle.tiff_encode.specs.Encoder.{IsCut, IsStopped}
 use Rattle.tiff_encode.specs.Steps.{grown}
 use Rattle.tiff_encode.specs.Causes.{is_past, end_of, unless_ended, data_cause, order_cause, field_cause, write_tag_cause, write_buf_cause, write_entry_bytes_cause, write_data_cause, write_data_buf_cause}
 use Rattle.tiff_encode.specs.Calls.{placed, appends, write_entry, write_entry_buf, write_entry_bytes, write_data, write_data_buf}
-use Rattle.tiff_encode.specs.Ends.{IsTold, IsCutOff, IsShortOfMemory, HasBegun, Fails, Ends}
+use Rattle.tiff_encode.specs.Ends.{IsTold, IsCutOff, HasBegun, Fails, Ends}
 use Rattle.tiff_encode.specs.Placing.{field_test, appended_for, Places}
 
 -- ---- causes

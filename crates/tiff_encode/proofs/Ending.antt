@@ -6,12 +6,10 @@ use Rattle.std.specs.FinMap.{FinMap, len, entries, len-entries}
 use Rattle.std.specs.List.{flat_map, list_any}
 use Rattle.std.specs.Ordering.{nat_cmp}
 use Rattle.tiff_base.specs.declared.error.TiffError.{TiffError}
-use Rattle.tiff_base.specs.declared.error.TiffError.TheVariants.{FormatError, UnsupportedError, IoError, LimitsExceeded, IntSizeError, UsageError, OutOfMemory}
+use Rattle.tiff_base.specs.declared.error.TiffError.TheVariants.{IntSizeError, UsageError, OutOfMemory}
 use Rattle.tiff_base.specs.declared.error.UsageError.TheVariants.{WriterFailed}
-use Rattle.tiff_base.specs.declared.io.IoKind.TheVariants.{UnexpectedEof, InvalidData, InvalidInput, WriteZero, Device}
 use Rattle.tiff_base.specs.declared.tags.FileKind.{FileKind}
 use Rattle.tiff_base.specs.declared.tags.FileKind.TheVariants.{Classic, Big}
-use Rattle.tiff_base.specs.Answers.{IsCause}
 use Rattle.tiff_base.specs.Directory.{entry_len, link_place}
 use Rattle.tiff_base.specs.Field.{Field, In, IsEntry, AreEntries}
 use Rattle.tiff_base.specs.Number.{le}
@@ -26,7 +24,7 @@ use Rattle.tiff_encode.specs.Calls.{Offsets, offsets_of, links_to, chain_after, 
 use Rattle.tiff_encode.specs.Ends.{IsTold, IsTornOff, Ends}
 use Rattle.tiff_encode.specs.Placing.{parent_test, end_test}
 use Rattle.tiff_encode.proofs.Calling.{stopped_cause, fresh_cause, refused, uncaused, wanting, cut_off}
-use Rattle.tiff_encode.proofs.Slices.{ok_inj, length-le, length_put}
+use Rattle.tiff_encode.proofs.Slices.{length-le, length_put}
 
 -- ---- how long a directory is
 

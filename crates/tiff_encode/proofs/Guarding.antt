@@ -5,7 +5,6 @@ use Rattle.std.proofs.lemmas.Bool.{ltb-false}
 use Rattle.std.proofs.lemmas.List.{length-append, take_at}
 use Rattle.std.proofs.lemmas.List.Sums.{fold-append}
 use Rattle.std.specs.FinMap.{FinMap, empty, insert, len}
-use Rattle.std.specs.List.{fold}
 use Rattle.std.specs.Prelude.{nat_lt}
 use Rattle.std.specs.Ordering.{nat_cmp}
 use Rattle.tiff_base.specs.declared.error.TiffError.{TiffError}
@@ -28,7 +27,7 @@ use Rattle.tiff_encode.specs.Encoder.{IsStopped, IsCut}
 use Rattle.tiff_encode.specs.Steps.{grown}
 use Rattle.tiff_encode.specs.Causes.{unless_ended, end_of, begin_cause, write_tag_cause, write_buf_cause, write_entry_bytes_cause, finish_cause}
 use Rattle.tiff_encode.specs.Calls.{Offsets, offsets_of, links_to, chains, opened, pad, image_directory, extra_directory, with_field, placed, write_entry, write_tag, write_entry_buf, write_entry_bytes, write_tag_buf, extend_from, finish}
-use Rattle.tiff_encode.specs.Ends.{IsTold, IsCutOff, IsTornOff, IsShortOfMemory, Fails, Ends}
+use Rattle.tiff_encode.specs.Ends.{IsTold, IsCutOff, IsTornOff, Fails, Ends}
 use Rattle.tiff_encode.specs.Leaves.{IsGiven, LeavesTorn, LeavesLinked}
 use Rattle.tiff_encode.proofs.Calling.{cut_off, refused, uncaused, stopped_cause, fresh_cause}
 use Rattle.tiff_encode.proofs.Leaving.{IsPlain, count_last, refused_leaves, begun_leaves, ok_err, begin_leaves, extra_leaves, entry_leaves, entry_buf_leaves, entry_bytes_leaves, tag_leaves, tag_buf_leaves, finish_plain, finish_leaves}

@@ -249,7 +249,7 @@ extra_leaves view r old new m s e =
 -- ---- a value is handed in
 
 -- what no earlier fault refuses is refused for its own cause
-unended : (fault : Option SinkFault) (cause : Option TiffError) → unless_ended fault cause ≡ None → cause ≡ None
+pub unended : (fault : Option SinkFault) (cause : Option TiffError) → unless_ended fault cause ≡ None → cause ≡ None
 unended None cause h = h
 unended (Some fault) cause h = absurd (some_none h)
 
@@ -511,7 +511,7 @@ finish_plain d file =
     caused_plain 1 (finish_cause file d) (does deeds >>= (λ _. chains d.chained offsets)) file
     (chained_plain 1 d.chained offsets deeds file (parent_links d.parent (end_of file)))
 
-entries_fit : (file : FileState) (m : Model) (d : OpenDirectory) → AreEntries d.fields → len d.fields < 2 ^ 64
+pub entries_fit : (file : FileState) (m : Model) (d : OpenDirectory) → AreEntries d.fields → len d.fields < 2 ^ 64
     → ((place : ℕ) → d.parent ≡ Some place → IsLink file.kind m place) → end_of file < 2 ^ 64
     → DeedsFit file.kind file.bytes m (finish d file).deeds
 unfolding finish

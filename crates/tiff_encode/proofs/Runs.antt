@@ -43,7 +43,7 @@ some_none : {e : TiffError} → let a : Option TiffError = Some e in a ≡ None 
 some_none h = cc
 
 -- a call that answers had no cause
-uncaused : {A : Type 0} (c : Option TiffError) (call : Writing A) (file : FileState) (x : A) → (by_cause c call file).answer ≡ Ok x
+pub uncaused : {A : Type 0} (c : Option TiffError) (call : Writing A) (file : FileState) (x : A) → (by_cause c call file).answer ≡ Ok x
     → (c ≡ None) × ((call file).answer ≡ Ok x)
 uncaused None call file x h = (refl, h)
 uncaused (Some e) call file x h = absurd (err_ok h)

@@ -1,11 +1,15 @@
 -- The laws by which what a call does can be done to a file in which a model stands.
-use Rattle.std.specs.Prelude.{◌≡◌, ℕ, ◌^◌, ◌<◌, length, Some, None}
+use Rattle.std.specs.Prelude.{◌≡◌, ℕ, ◌^◌, ◌<◌, List, length, Some, None, Ok}
+use Rattle.tiff_base.specs.declared.tags.ExtraSamples.{ExtraSamples}
+use Rattle.tiff_base.specs.declared.tags.ResolutionUnit.{ResolutionUnit}
+use Rattle.tiff_base.specs.Field.{AreEntries}
+use Rattle.tiff_value.specs.ColorType.{ColorTypeRecord}
 use Rattle.tiff_value.specs.Data.{FieldData, IsWhole}
 use Rattle.tiff_encode.specs.Model.{Model, IsLink}
 use Rattle.tiff_encode.specs.Laws.{AreListable, DeedsFit}
-use Rattle.tiff_encode.specs.Machine.{FileState, OpenDirectory}
+use Rattle.tiff_encode.specs.Machine.{FileState, OpenDirectory, OpenImage, Writing}
 use Rattle.tiff_encode.specs.Causes.{end_of, field_cause}
-use Rattle.tiff_encode.specs.Calls.{placed, finish}
+use Rattle.tiff_encode.specs.Calls.{Offsets, placed, finish, new_image, extra_samples, set_rows_per_strip, tiles, planar, resolution, x_resolution, y_resolution, resolution_unit, write_strip, write_chunk, finish_image}
 
 -- a value that is handed in, and not refused
 abbrev pub PlacedFits : Type 0
@@ -17,3 +21,42 @@ abbrev pub FinishFits : Type 0
 FinishFits = (file : FileState) (m : Model) (d : OpenDirectory) → AreListable file.kind d.fields
     → ((place : ℕ) → d.parent ≡ Some place → IsLink file.kind m place)
     → end_of file < 2 ^ 64 → DeedsFit file.kind file.bytes m (finish d file).deeds
+
+-- ---- images
+
+-- what a call of an image did, where it was answered, and that the fields of its directory are entries still
+abbrev pub CallFits : (OpenImage → Writing OpenImage) → Type 0
+CallFits call = (file : FileState) (m : Model) (i next : OpenImage) → AreEntries i.directory.fields
+    → (call i file).answer ≡ Ok next → end_of (call i file).next < 2 ^ 64
+    → DeedsFit file.kind file.bytes m (call i file).deeds × AreEntries next.directory.fields
+
+-- a new image
+abbrev pub NewImageFits : Type 0
+NewImageFits = (file : FileState) (m : Model) (colour : ColorTypeRecord) (size width height : ℕ) (i : OpenImage)
+    → (new_image colour size width height file).answer ≡ Ok i → end_of (new_image colour size width height file).next < 2 ^ 64
+    → DeedsFit file.kind file.bytes m (new_image colour size width height file).deeds × AreEntries i.directory.fields
+
+abbrev pub SettingsFit : Type 0
+SettingsFit =
+    ((extra : List ExtraSamples) → CallFits (λ i. extra_samples i extra))
+    × (((rows : ℕ) → CallFits (λ i. set_rows_per_strip i rows))
+    × (((width length : ℕ) → CallFits (λ i. tiles i width length))
+    × CallFits planar))
+
+abbrev pub ResolutionsFit : Type 0
+ResolutionsFit =
+    ((u : ResolutionUnit) (value : ℕ × ℕ) → CallFits (λ i. resolution i u value))
+    × (((value : ℕ × ℕ) → CallFits (λ i. x_resolution i value))
+    × (((value : ℕ × ℕ) → CallFits (λ i. y_resolution i value))
+    × ((u : ResolutionUnit) → CallFits (λ i. resolution_unit i u))))
+
+-- a chunk of so many samples, stored as these bytes
+abbrev pub ChunksFit : Type 0
+ChunksFit = (count : ℕ) (stored : List ℕ) → CallFits (λ i. write_strip i count stored) × CallFits (λ i. write_chunk i count stored)
+
+-- the end of an image, whose parent is a link
+abbrev pub FinishImageFits : Type 0
+FinishImageFits = (file : FileState) (m : Model) (i : OpenImage) (offsets : Offsets) → AreEntries i.directory.fields
+    → (finish_image i file).answer ≡ Ok offsets → end_of (finish_image i file).next < 2 ^ 64
+    → ((place : ℕ) → i.directory.parent ≡ Some place → IsLink file.kind m place)
+    → DeedsFit file.kind file.bytes m (finish_image i file).deeds

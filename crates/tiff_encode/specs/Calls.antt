@@ -24,13 +24,12 @@ use Rattle.tiff_base.specs.Field.{Field}
 use Rattle.tiff_base.specs.Tags.{tag_number}
 use Rattle.tiff_value.specs.ColorType.{ColorTypeRecord}
 use Rattle.tiff_encode.specs.declared.encoder.settings.Compression.{Compression}
-use Rattle.tiff_encode.specs.declared.encoder.settings.Compression.TheVariants.{Uncompressed, Packbits}
 use Rattle.tiff_encode.specs.Written.{padding, rows_per_strip}
 use Rattle.tiff_value.specs.Buffer.{BufferRecord}
 use Rattle.tiff_value.specs.Data.{FieldData, Scalars, u16s, u32s, methods, interpretations, planars, predictors, units, formats, extras, rationals, data_of}
 use Rattle.tiff_encode.specs.Value.{places, data_in, buffer_data, is_long, field_at}
 use Rattle.tiff_encode.specs.Deeds.{Deed, Appended, Handed, Listed, Linked}
-use Rattle.tiff_encode.specs.Machine.{FileState, OpenDirectory, Form, OpenImage, Writing, answers, gives, does, by_cause, ◌>>=◌}
+use Rattle.tiff_encode.specs.Machine.{FileState, method_of, OpenDirectory, Form, OpenImage, Writing, answers, gives, does, by_cause, ◌>>=◌}
 use Rattle.tiff_encode.specs.Chunks.{all_samples, parts_left}
 use Rattle.tiff_encode.specs.Causes.{begin_cause, write_tag_cause, write_buf_cause, write_entry_bytes_cause, write_data_cause, write_data_buf_cause, finish_cause, offset_cause, new_image_cause, extra_samples_cause, rows_per_strip_cause, tiles_cause, planar_cause, resolution_cause, one_resolution_cause, resolution_unit_cause, write_strip_cause, write_chunk_cause, write_image_data_cause, end_of}
 
@@ -38,11 +37,6 @@ use Rattle.tiff_encode.specs.Causes.{begin_cause, write_tag_cause, write_buf_cau
 
 abbrev pub with_predictor : Predictor → FileState → FileState
 with_predictor predictor file = record file { predictor = predictor }
-
--- the method by which strips are packed
-abbrev pub method_of : Compression → CompressionMethod
-method_of Uncompressed = method.None
-method_of Packbits = method.PackBits
 
 abbrev pub with_compression : Compression → FileState → FileState
 with_compression compression file = record file { method = method_of compression }
@@ -198,21 +192,29 @@ strips_of width rows planar = record { chunk_type = Strip; chunk_width = width; 
 abbrev pub tiles_of : ℕ → ℕ → PlanarConfiguration → Form
 tiles_of width length planar = record { chunk_type = Tile; chunk_width = width; chunk_height = length; planar = planar }
 
--- the tags that a new image writes, in their order
-unfoldable pub first_tags : OpenImage → List (Tag × Scalars)
-first_tags i =
+-- what an image is: its sides, how it is packed and differenced, and what its samples mean
+abbrev pub meaning_tags : OpenImage → List (Tag × Scalars)
+meaning_tags i =
     (tag.ImageWidth, u32s (i.width ∷ []))
     ∷ (tag.ImageLength, u32s (i.height ∷ []))
     ∷ (tag.Compression, methods (i.method ∷ []))
     ∷ (tag.Predictor, predictors (i.predictor ∷ []))
     ∷ (tag.PhotometricInterpretation, interpretations (i.colour.interpretation ∷ []))
-    ∷ chroma_tags i.colour.interpretation
-    ++ ((tag.RowsPerStrip, u32s (i.form.chunk_height ∷ []))
+    ∷ []
+
+-- the rows of a strip, the samples of a pixel, and a resolution that says nothing
+abbrev pub layout_tags : OpenImage → List (Tag × Scalars)
+layout_tags i =
+    (tag.RowsPerStrip, u32s (i.form.chunk_height ∷ []))
     ∷ (tag.SamplesPerPixel, u16s (length i.colour.bits ∷ []))
     ∷ (tag.XResolution, rationals ((1, 1) ∷ []))
     ∷ (tag.YResolution, rationals ((1, 1) ∷ []))
     ∷ (tag.ResolutionUnit, units (unit.None ∷ []))
-    ∷ [])
+    ∷ []
+
+-- the tags that a new image writes, in their order
+unfoldable pub first_tags : OpenImage → List (Tag × Scalars)
+first_tags i = meaning_tags i ++ (chroma_tags i.colour.interpretation ++ layout_tags i)
 
 -- an image of these sides with no chunk yet, in a directory; `size` is that of a sample in bytes
 abbrev pub image_in : FileState → OpenDirectory → ColorTypeRecord → ℕ → ℕ → ℕ → OpenImage

@@ -138,13 +138,17 @@ predictor_cause predictor.None formats rest = rest
 predictor_cause predictor.Horizontal formats rest = if is_not_whole formats then Some (UsageError PredictorIncompatible) else rest
 predictor_cause predictor.FloatingPoint formats rest = Some (UsageError PredictorUnavailable)
 
--- `new_image`: the sides; the predictor; a resolution's place, which no BigTIFF file needs
+-- an image of these sides, at the end of a file of this length: the sides; the predictor; a resolution's place, which no
+-- BigTIFF file needs
+unfoldable pub image_cause : FileKind → ℕ → Predictor → List SampleFormat → ℕ → ℕ → Option TiffError
+image_cause kind end predictor formats width height =
+    if width == 0 || height == 0 then Some (FormatError (InvalidDimensions width height))
+    else predictor_cause predictor formats (if is_past kind (resolutions_place end + 8) then Some IntSizeError else None)
+
+-- `new_image`
 unfoldable pub new_image_cause : FileState → ColorTypeRecord → ℕ → ℕ → Option TiffError
 new_image_cause file colour width height =
-    unless_failed file
-    (if width == 0 || height == 0 then Some (FormatError (InvalidDimensions width height))
-    else predictor_cause file.predictor colour.formats
-    (if is_past file.kind (resolutions_place (end_of file) + 8) then Some IntSizeError else None))
+    unless_failed file (image_cause file.kind (end_of file) file.predictor colour.formats width height)
 
 -- `extra_samples`
 unfoldable pub extra_samples_cause : FileState → OpenImage → List ExtraSamples → Option TiffError

@@ -1,5 +1,5 @@
 -- What writing a header and a page of one gray strip does to an encoder's file.
-use Rattle.std.specs.Prelude.{◌≡◌, ℕ, ◌+◌, ◌*◌, ◌^◌, ◌<◌, ◌≤◌, ◌⊎◌, Bool, not, ◌||◌, ◌==◌, List, [], ◌++◌, length, take, Option, Some, None, IsSome, if◌then◌else◌, nat_lt, nat_le}
+use Rattle.std.specs.Prelude.{◌≡◌, ℕ, ◌+◌, ◌*◌, ◌^◌, ◌<◌, ◌≤◌, ◌⊎◌, Bool, true, false, not, ◌&&◌, ◌||◌, ◌==◌, List, [], ◌++◌, length, take, Option, Some, None, IsSome, if◌then◌else◌, nat_lt, nat_le}
 use Rattle.tiff_base.specs.declared.error.TiffError.{TiffError}
 use Rattle.tiff_base.specs.declared.error.TiffError.TheVariants.{FormatError, UnsupportedError, IoError, IntSizeError, UsageError, OutOfMemory}
 use Rattle.tiff_base.specs.declared.error.TiffFormatError.TheVariants.{InvalidDimensions}
@@ -7,9 +7,14 @@ use Rattle.tiff_base.specs.declared.error.TiffUnsupportedError.TheVariants.{Unsu
 use Rattle.tiff_base.specs.declared.error.UsageError.TheVariants.{WriterFailed}
 use Rattle.tiff_base.specs.declared.io.IoKind.TheVariants.{InvalidData}
 use Rattle.tiff_base.specs.declared.io.SinkFault.{SinkFault}
+use Rattle.tiff_base.specs.declared.tags.CompressionMethod.{CompressionMethod}
+use Rattle.tiff_base.specs.declared.tags.CompressionMethod.TheVariants as method
 use Rattle.tiff_base.specs.declared.tags.FileKind.{FileKind}
+use Rattle.tiff_base.specs.declared.tags.Predictor.{Predictor}
+use Rattle.tiff_base.specs.declared.tags.Predictor.TheVariants as predictor
 use Rattle.tiff_base.specs.Number.{le}
 use Rattle.tiff_base.specs.Told.{put, sink_error}
+use Rattle.tiff_value.specs.ColorType.{ColorTypeRecord, is_gray}
 use Rattle.tiff_encode.specs.Machine.{FileState}
 use Rattle.tiff_encode.specs.Written.{place_len, header_bytes, rows_per_strip, resolutions_place, strip_place, directory_place, page_head, page_bytes, with_page, page_link}
 
@@ -41,8 +46,17 @@ stand_in = UnsupportedError UnsupportedDataType
 abbrev pub is_too_far : ℕ → Bool
 is_too_far n = nat_le (2 ^ 32) n
 
--- The first cause that refuses a page: sides of 0; a resolution past 4 bytes; a colour type other than Gray8's,
--- which this version doesn't write; too few samples; more than one strip, which it doesn't write; a strip or a
+-- images are written as they are, neither differenced nor packed
+abbrev pub is_plain_setting : Predictor → CompressionMethod → Bool
+is_plain_setting predictor.None method.None = true
+is_plain_setting _ _ = false
+
+-- what this call writes in this version: gray of 8 bits, neither differenced nor packed
+abbrev pub is_plain_gray : ColorTypeRecord → FileState → Bool
+is_plain_gray colour e = is_gray colour && is_plain_setting e.predictor e.method
+
+-- The first cause that refuses a page: sides of 0; a resolution past 4 bytes; a colour type other than Gray8's, a predictor
+-- or a packing method, none of which this call writes in this version; too few samples; more than one strip, which it doesn't write; a strip or a
 -- directory past 4 bytes. The first three are met before a byte is appended.
 unfoldable pub page_refusal : FileState → Bool → ℕ → ℕ → List ℕ → Option Refusal
 page_refusal e gray width height samples =

@@ -1,5 +1,5 @@
 -- Lists of jobs: what each step of each job replies, and what stands after it (this project's).
-use Rattle.std.specs.Prelude.{◌≡◌, ℕ, ◌<◌, ◌⊎◌, ◌==◌, ◌&&◌, Bool, true, false, not, List, [], ◌∷◌, ◌++◌, length, take, drop, map, slice_get, if◌then◌else◌, Option, Some, None, Result, Ok, Err}
+use Rattle.std.specs.Prelude.{◌≡◌, ℕ, ◌<◌, ◌⊎◌, ◌&&◌, Bool, true, false, not, List, [], ◌∷◌, ◌++◌, length, take, drop, slice_get, if◌then◌else◌, Option, Some, None, Result, Ok, Err}
 use Rattle.std.specs.FinMap.{entries}
 use Rattle.std.specs.List.{list_any}
 use Rattle.tiff_base.specs.declared.error.TiffError.{TiffError}
@@ -9,7 +9,6 @@ use Rattle.tiff_base.specs.declared.io.SinkFault.{SinkFault}
 use Rattle.tiff_base.specs.declared.tags.FileKind.{FileKind}
 use Rattle.tiff_base.specs.declared.tags.ResolutionUnit.{ResolutionUnit}
 use Rattle.tiff_base.specs.declared.tags.Tag.{Tag}
-use Rattle.tiff_base.specs.declared.tags.Tag.TheVariants as tag
 use Rattle.tiff_base.specs.Field.{Field}
 use Rattle.tiff_base.specs.Tags.{tag_number}
 use Rattle.tiff_value.specs.ColorTypes.{colour_type, inner_size}
@@ -36,13 +35,14 @@ use Rattle.tiff_encode.specs.Shows.{Image, Shows}
 use Rattle.tiff_encode.specs.Encoder.{HeaderFails}
 use Rattle.tiff_encode.specs.Deeds.{model_after}
 use Rattle.tiff_encode.specs.Machine.{FileState, OpenDirectory, OpenImage, Told, Writing, begun}
-use Rattle.tiff_encode.specs.Chunks.{image_page, is_left, next_strip_sample_count, parts_left, sample_in}
+use Rattle.tiff_encode.specs.Chunks.{is_left, next_strip_sample_count, parts_left}
 use Rattle.tiff_encode.specs.Causes.{resolution_cause, write_strip_cause, write_image_data_cause}
 use Rattle.tiff_encode.specs.Calls as calls
 use Rattle.tiff_encode.specs.Calls.{Offsets}
 use Rattle.tiff_encode.specs.Ends.{IsTold, IsCutOff, IsTornOff, IsShortOfMemory}
 use Rattle.tiff_encode.specs.Stored.{AreStored, chunk_bytes}
 use Rattle.tiff_value.specs.Packed.{IsStored}
+pub use Rattle.tiff_encode.specs.Held.{page_tags, is_page_tag, image_of}
 use Rattle.tiff_encode.specs.JobValues.{value_data, buffer_in, cut_to}
 
 -- a file, and the model of what was written into it
@@ -334,16 +334,6 @@ abbrev pub DirectoryRanBy : Run → Result (Option Offsets) TiffError → Direct
 DirectoryRanBy old (Ok parent) j r new = DirectoryRan old parent j r new
 DirectoryRanBy old (Err e) j r new = IsRefusedAtOnce e r × (new ≡ ran old old.standing r.last [])
 
--- the tags that a page is read by
-abbrev pub page_tags : List ℕ
-page_tags = map tag_number (tag.ImageWidth ∷ tag.ImageLength ∷ tag.BitsPerSample ∷ tag.Compression
-    ∷ tag.PhotometricInterpretation ∷ tag.StripOffsets ∷ tag.SamplesPerPixel ∷ tag.RowsPerStrip
-    ∷ tag.StripByteCounts ∷ tag.PlanarConfiguration ∷ tag.Predictor ∷ tag.TileWidth ∷ tag.TileLength
-    ∷ tag.TileOffsets ∷ tag.TileByteCounts ∷ tag.ExtraSamples ∷ tag.SampleFormat ∷ tag.ChromaSubsampling ∷ [])
-
-abbrev pub is_page_tag : ℕ → Bool
-is_page_tag n = list_any (λ m. m == n) page_tags
-
 -- Whether a step handed no such tag to its image's directory: it hands none, or it was refused; of fields that a
 -- directory is extended with the first ones are in after a refusal.
 abbrev pub is_apart : ImageStep → Result StepReply TiffError → Bool
@@ -360,10 +350,6 @@ are_apart _ _ = true
 abbrev pub ended_samples : Drawn → ImageEnd → Option (List (List ℕ))
 ended_samples i (iend.WriteData samples) = Some (i.samples ++ parts_left i.image (cut_to i.image.size samples.items))
 ended_samples i _ = if is_left i.image then None else Some i.samples
-
--- an image of these samples
-abbrev pub image_of : OpenImage → List (List ℕ) → Image
-image_of i samples = record { page = image_page i; sample_at = sample_in (image_page i) samples }
 
 -- the images that an end adds: one that is finished with every chunk, and whose page tags are its own
 abbrev pub images_at : Option Offsets → Option (List (List ℕ)) → OpenImage → List Finished

@@ -1,5 +1,5 @@
 -- What an encoder ends as where it begins no directory.
-use Rattle.std.specs.Prelude.{ℕ, Result}
+use Rattle.std.specs.Prelude.{Result}
 use Rattle.std.specs.Borrow.{Fml, RattleType, MutBor, RestsIfErr}
 use Rattle.tiff_base.specs.declared.error.TiffError.{TiffError}
 use Rattle.tiff_base.specs.declared.io.Sink as sink

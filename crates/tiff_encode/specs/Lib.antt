@@ -8,6 +8,7 @@ pub mod Shows
 pub mod Value
 pub mod Deeds
 pub mod Machine
+pub mod Drawn
 pub mod Chunks
 pub mod Causes
 pub mod Calls
@@ -15,6 +16,9 @@ pub mod Ends
 pub mod Placing
 pub mod Leaves
 pub mod Stored
+pub mod Held
+pub mod Open
+pub mod Storing
 pub mod JobValues
 pub mod Jobs
 pub mod RunLaws
@@ -22,3 +26,5 @@ pub mod CallLaws
 pub mod Kind
 pub mod Lending
 pub mod Extending
+pub mod Tagging
+pub mod LastTags

@@ -2,20 +2,27 @@
 use Rattle.std.specs.Prelude.{ℕ, ◌+◌, Bool, List, [], ◌++◌, length, Option, Some, None, Result, Ok, Err}
 use Rattle.std.specs.FinMap.{FinMap}
 use Rattle.std.specs.Ordering.{nat_cmp}
-use Rattle.tiff_base.specs.declared.color.ChunkType.{ChunkType}
 use Rattle.tiff_base.specs.declared.error.TiffError.{TiffError}
 use Rattle.tiff_base.specs.declared.io.SinkFault.{SinkFault}
 use Rattle.tiff_base.specs.declared.tags.CompressionMethod.{CompressionMethod}
 use Rattle.tiff_base.specs.declared.tags.CompressionMethod.TheVariants as method
 use Rattle.tiff_base.specs.declared.tags.ExtraSamples.{ExtraSamples}
 use Rattle.tiff_base.specs.declared.tags.FileKind.{FileKind}
-use Rattle.tiff_base.specs.declared.tags.PlanarConfiguration.{PlanarConfiguration}
 use Rattle.tiff_base.specs.declared.tags.Predictor.{Predictor}
 use Rattle.tiff_base.specs.declared.tags.Predictor.TheVariants as predictor
 use Rattle.tiff_base.specs.Field.{Field}
 use Rattle.tiff_value.specs.ColorType.{ColorTypeRecord}
+use Rattle.tiff_encode.specs.declared.encoder.settings.Compression.{Compression}
+use Rattle.tiff_encode.specs.declared.encoder.settings.Compression.TheVariants.{Uncompressed, Packbits}
+pub use Rattle.tiff_encode.specs.declared.encoder.drawing.Form.{Form}
+pub use Rattle.tiff_encode.specs.declared.encoder.drawing.Chunk.{Chunk}
 use Rattle.tiff_encode.specs.Written.{header_mark, header_bytes}
 use Rattle.tiff_encode.specs.Deeds.{Deed, bytes_after}
+
+-- the method by which strips are packed
+abbrev pub method_of : Compression → CompressionMethod
+method_of Uncompressed = method.None
+method_of Packbits = method.PackBits
 
 -- the file of an encoder: its kind, its bytes, how many writes of its sink failed, the fault of the one that ended all
 -- writing, where the last link of the chain stands, and what the next images are written by
@@ -34,19 +41,6 @@ pub record OpenDirectory : Type 0 where
   pub fields : FinMap nat_cmp Field
   pub parent : Option ℕ
   pub chained : Bool
-
--- how an image is cut: into strips or tiles; their width and their height, which strips have but for the last of a plane;
--- and whether a chunk has all samples of its pixels or those of one plane
-pub record Form : Type 0 where
-  pub chunk_type : ChunkType
-  pub chunk_width : ℕ
-  pub chunk_height : ℕ
-  pub planar : PlanarConfiguration
-
--- a chunk that was written: its place, and how many bytes stand there
-pub record Chunk : Type 0 where
-  pub place : ℕ
-  pub stored : ℕ
 
 -- an open image: its directory, its sides, its colour type and the bytes of a sample, its extra samples, how it is
 -- packed, how it is cut, and the chunks that were written

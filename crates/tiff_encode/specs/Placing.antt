@@ -1,5 +1,5 @@
 -- The steps by which a value is handed in, and a directory ends.
-use Rattle.std.specs.Prelude.{◌≡◌, ℕ, ◌+◌, ◌⊎◌, ◌&&◌, ◌||◌, List, [], length, Option, Some, None, Result, MatchResult, if◌then◌else◌, nat_lt}
+use Rattle.std.specs.Prelude.{◌≡◌, ℕ, ◌+◌, ◌⊎◌, ◌&&◌, ◌||◌, List, [], Option, Some, None, Result, MatchResult, if◌then◌else◌, nat_lt}
 use Rattle.std.specs.FinMap.{len, entries}
 use Rattle.std.specs.List.{list_any}
 use Rattle.tiff_base.specs.declared.error.TiffError.{TiffError}

@@ -23,7 +23,7 @@ use Rattle.tiff_page.specs.Checks.{page_of}
 use Rattle.tiff_page.specs.Layout.{colour_of}
 use Rattle.tiff_page.specs.Counts.{all_chunks}
 use Rattle.tiff_page.specs.Pixels.{is_short, shown_sample}
-use Rattle.tiff_page.specs.Image.{Decoded, image_of, is_gray_strip}
+use Rattle.tiff_page.specs.Image.{image_of, is_gray_strip}
 use Rattle.tiff_encode.specs.Written.{rows_per_strip, strip_place, directory_place, page_link, with_page}
 use Rattle.tiff_encode.specs.Model.{Model, IsLink, Stands, header_model}
 use Rattle.tiff_encode.specs.Laws.{IsGrayPage, page_model}

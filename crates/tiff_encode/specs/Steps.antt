@@ -4,27 +4,26 @@ use Rattle.tiff_base.specs.declared.error.TiffError.{TiffError}
 use Rattle.tiff_base.specs.declared.error.TiffError.TheVariants.{FormatError, IoError, IntSizeError}
 use Rattle.tiff_base.specs.declared.error.TiffFormatError.TheVariants.{InvalidDimensions}
 use Rattle.tiff_base.specs.declared.io.IoKind.TheVariants.{InvalidData}
-use Rattle.tiff_base.specs.declared.tags.CompressionMethod.TheVariants as method
 use Rattle.tiff_base.specs.declared.tags.FileKind.{FileKind}
-use Rattle.tiff_base.specs.declared.tags.Predictor.TheVariants as predictor
+use Rattle.tiff_base.specs.declared.tags.Predictor.{Predictor}
 use Rattle.tiff_base.specs.Number.{le}
 use Rattle.tiff_base.specs.Told.{put}
 use Rattle.tiff_value.specs.Written.{Written}
 use Rattle.tiff_encode.specs.Written.{place_len, rows_per_strip, resolutions_place}
-use Rattle.tiff_encode.specs.Machine.{FileState}
+use Rattle.tiff_encode.specs.declared.encoder.settings.Compression.{Compression}
+use Rattle.tiff_encode.specs.Machine.{FileState, method_of}
 use Rattle.tiff_encode.specs.Encoder.{IsStopped, IsCut, IsTorn, stand_in, is_too_far}
 
--- the file of an encoder of a kind, by its writer and the place of the chain's last link; images are neither differenced
--- nor packed
-abbrev pub file_of : FileKind → Written → ℕ → FileState
-file_of kind w chain = record {
+-- the file of an encoder of a kind, by its writer, the place of the chain's last link, and what images are written by
+abbrev pub file_of : FileKind → Written → ℕ → Predictor → Compression → FileState
+file_of kind w chain predictor compression = record {
   kind = kind;
   bytes = w.bytes;
   failures = w.failures;
   fault = w.fault;
   chain = chain;
-  predictor = predictor.None;
-  method = method.None;
+  predictor = predictor;
+  method = method_of compression;
 }
 
 -- Until a write fails, the writer stands at the end; the chain's last link lies within the bytes.

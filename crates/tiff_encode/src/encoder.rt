@@ -2,8 +2,13 @@
 
 mod directory;
 mod directory_encoder;
+mod drawing;
+mod endings;
 mod ends;
+pub mod fit_laws;
 mod gray;
+pub mod image_laws;
+mod images;
 mod kind;
 pub mod laws;
 mod limits;
@@ -12,11 +17,14 @@ mod open;
 mod page;
 pub mod script;
 mod settings;
+mod storing;
+mod tagging;
 mod values;
 
 ghost use Rattle.std.specs.Prelude.{◌≡◌, ℕ, ◌+◌, ◌<◌, ◌≤◌, [], length, IfOk, IsSome, MatchResult, false};
 ghost use Rattle.tiff_base.specs.declared.tags.FileKind.TheVariants.{Big, Classic};
 ghost use Rattle.tiff_encode.specs.Written.{padding, place_len};
+ghost use Rattle.tiff_encode.specs.Calls as calls;
 ghost use Rattle.tiff_encode.specs.Causes.{is_past};
 ghost use Rattle.tiff_encode.specs.Encoder.{HeaderFails};
 ghost use Rattle.tiff_encode.specs.Machine.{begun};
@@ -41,6 +49,8 @@ pub struct TiffEncoder<W: Sink, K: TiffKind = TiffKindStandard> {
     alloc: Global,
     writer: TiffWriter<W>,
     chain: u64,
+    predictor: Predictor,
+    compression: Compression,
     kind: PhantomData<K>,
 }
 
@@ -50,7 +60,7 @@ impl<W: Sink, K: TiffKind> Model for TiffEncoder<W, K> {
 
     ghost Value = { FileState };
 
-    ghost view = { λ e. file_of K.kind e.writer e.chain };
+    ghost view = { λ e. file_of K.kind e.writer e.chain e.predictor e.compression };
 
     ghost invariant = { λ e. IsPlaced K.kind e.writer e.chain };
 }
@@ -110,6 +120,8 @@ impl<W: Sink + Drop, K: TiffKind> TiffEncoder<W, K> {
             alloc,
             writer,
             chain,
+            predictor: Predictor::None,
+            compression: Compression::Uncompressed,
             kind: PhantomData,
         })
     }
@@ -126,6 +138,22 @@ fn place_bytes<K: TiffKind>() -> u64
 }
 
 impl<W: Sink, K: TiffKind> TiffEncoder<W, K> {
+    /// From here on new images are predicted so, which their page says.
+    pub fn with_predictor(mut self, predictor: Predictor) -> Self
+        ensures { result ≡ calls.with_predictor predictor self }
+    {
+        self.predictor = predictor;
+        self
+    }
+
+    /// From here on the chunks of new images are packed so, which their page says.
+    pub fn with_compression(mut self, compression: Compression) -> Self
+        ensures { result ≡ calls.with_compression compression self }
+    {
+        self.compression = compression;
+        self
+    }
+
     /// The sink.
     pub fn into_inner(self) -> W
         ensures bytes { W.told result ≡ self.bytes }
@@ -136,6 +164,8 @@ impl<W: Sink, K: TiffKind> TiffEncoder<W, K> {
             alloc: _,
             writer,
             chain: _,
+            predictor: _,
+            compression: _,
             kind: _,
         } = self;
         writer.into_inner()

@@ -17,7 +17,7 @@ use Rattle.tiff_encode.specs.Encoder.{is_too_far}
 use Rattle.tiff_encode.specs.Written.{resolutions_place}
 use Rattle.tiff_encode.specs.Machine.{FileState, OpenDirectory}
 use Rattle.tiff_encode.specs.Calls.{opened}
-use Rattle.tiff_encode.specs.Causes.{begin_cause, end_of, extra_samples_cause, field_cause, finish_cause, is_past, is_past_count, new_image_cause, offset_cause, planar_cause, tiles_cause, write_chunk_cause, one_resolution_cause, parent_cause, resolution_cause, resolution_unit_cause, rows_per_strip_cause, unless_failed, write_buf_cause, write_data_buf_cause, write_data_cause, write_entry_bytes_cause, write_image_data_cause, write_strip_cause, write_tag_cause}
+use Rattle.tiff_encode.specs.Causes.{begin_cause, end_of, extra_samples_cause, field_cause, finish_cause, is_past, is_past_count, new_image_cause, image_cause, offset_cause, planar_cause, tiles_cause, write_chunk_cause, one_resolution_cause, parent_cause, resolution_cause, resolution_unit_cause, rows_per_strip_cause, unless_failed, write_buf_cause, write_data_buf_cause, write_data_cause, write_entry_bytes_cause, write_image_data_cause, write_strip_cause, write_tag_cause}
 use Rattle.tiff_encode.specs.Placing.{field_test, end_test, parent_test}
 use Rattle.tiff_examples.proofs.Maps.{entries_puts}
 use Rattle.tiff_examples.specs.Causes as s
@@ -92,7 +92,7 @@ unfolding finish_cause
 failed_finish = refl
 
 pub failed_image : s.failed_image
-unfolding new_image_cause
+unfolding new_image_cause image_cause
 failed_image = refl
 
 pub failed_extra : s.failed_extra
@@ -232,31 +232,31 @@ unfolding offset_cause
 last_link = refl
 
 pub no_side : s.no_side
-unfolding new_image_cause
+unfolding new_image_cause image_cause
 no_side = refl
 
 pub floating : s.floating
-unfolding new_image_cause
+unfolding new_image_cause image_cause
 floating = refl
 
 pub horizontal_float : s.horizontal_float
-unfolding new_image_cause
+unfolding new_image_cause image_cause
 horizontal_float = refl
 
 pub horizontal_gray : s.horizontal_gray
-unfolding new_image_cause
+unfolding new_image_cause image_cause
 horizontal_gray = refl
 
 pub image_far : s.image_far
-unfolding new_image_cause
+unfolding new_image_cause image_cause
 image_far = λ bytes h. ap (λ n. if is_too_far (resolutions_place n + 8) then Some IntSizeError else None) h
 
 pub image_last : s.image_last
-unfolding new_image_cause
+unfolding new_image_cause image_cause
 image_last = λ bytes h. ap (λ n. if is_too_far (resolutions_place n + 8) then Some IntSizeError else None) h
 
 pub image_far_big : s.image_far_big
-unfolding new_image_cause
+unfolding new_image_cause image_cause
 image_far_big = λ bytes. refl
 
 pub extra_late : s.extra_late

@@ -50,7 +50,7 @@ use Rattle.tiff_encode.specs.Deeds.{Deed, Appended, Handed, Listed, Linked, byte
 use Rattle.tiff_encode.specs.Shows.{Image, Shows, page_at, strip_page}
 use Rattle.tiff_encode.specs.Machine.{FileState, OpenDirectory}
 use Rattle.tiff_encode.specs.Chunks.{next_chunk_sample_count, parts_left, sample_in}
-use Rattle.tiff_encode.specs.Causes.{begin_cause, new_image_cause, write_chunk_cause, write_image_data_cause, write_tag_cause}
+use Rattle.tiff_encode.specs.Causes.{begin_cause, new_image_cause, image_cause, write_chunk_cause, write_image_data_cause, write_tag_cause}
 use Rattle.tiff_encode.specs.Calls.{Offsets, extra_directory, finish, finish_image, first_tags, image_directory, last_tags, new_image, opened, write_chunk, write_entry, write_image_data, write_tag}
 use Rattle.tiff_encode.specs.Encoder.{HeaderFails}
 use Rattle.tiff_encode.specs.Jobs as jobs
@@ -267,7 +267,7 @@ none_listable = listable [] tt (lit< tt)
 
 -- behind the resolutions
 begun_fits : DeedsFit Classic header (header_model Classic) (new_image gray 1 1 1 (new_file Classic)).deeds
-unfolding new_image new_image_cause image_directory begin_cause first_tags write_tag write_entry write_tag_cause data_of number
+unfolding new_image new_image_cause image_cause image_directory begin_cause first_tags write_tag write_entry write_tag_cause data_of number
 begun_fits = (
   tt,
   (
@@ -310,7 +310,7 @@ begun_fits = (
 )
 
 begun_stands : Stands Classic (header ++ resolutions) tasks.after_begin.model
-unfolding new_image new_image_cause image_directory begin_cause first_tags write_tag write_entry write_tag_cause data_of
+unfolding new_image new_image_cause image_cause image_directory begin_cause first_tags write_tag write_entry write_tag_cause data_of
 begun_stands = deeds_stand Classic header (header_model Classic) (new_image gray 1 1 1 (new_file Classic)).deeds (header_stands Classic) begun_fits
 
 -- behind the image

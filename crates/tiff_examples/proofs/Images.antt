@@ -12,7 +12,7 @@ use Rattle.tiff_value.specs.Differences.{differences}
 use Rattle.tiff_encode.specs.Encoder.{is_too_far}
 use Rattle.tiff_encode.specs.Written.{short_field, long_field, rational_field}
 use Rattle.tiff_encode.specs.Machine.{by_cause}
-use Rattle.tiff_encode.specs.Causes.{begin_cause, extra_samples_cause, new_image_cause, one_resolution_cause, resolution_cause, resolution_unit_cause, rows_per_strip_cause, write_image_data_cause, write_strip_cause, write_chunk_cause, write_tag_cause}
+use Rattle.tiff_encode.specs.Causes.{begin_cause, extra_samples_cause, new_image_cause, image_cause, one_resolution_cause, resolution_cause, resolution_unit_cause, rows_per_strip_cause, write_image_data_cause, write_strip_cause, write_chunk_cause, write_tag_cause}
 use Rattle.tiff_encode.specs.Calls.{extra_samples, finish_image, first_tags, image_directory, last_tags, new_image, opened, resolution, resolution_tags, resolution_unit, set_rows_per_strip, with_tags, write_entry, write_image, write_image_data, write_strip, write_chunk, write_tag, x_resolution, y_resolution}
 use Rattle.tiff_page.specs.Rect.{rect}
 use Rattle.tiff_encode.specs.Chunks.{next_chunk_sample_count, parts_left}
@@ -54,15 +54,15 @@ packed_fields =
     ∷ (257, long_field 2) ∷ (256, long_field 4) ∷ []
 
 pub gray_begun : s.gray_begun
-unfolding new_image new_image_cause image_directory begin_cause first_tags write_tag write_entry write_tag_cause data_of
+unfolding new_image new_image_cause image_cause image_directory begin_cause first_tags write_tag write_entry write_tag_cause data_of
 gray_begun = (refl, refl)
 
 pub gray_begun_big : s.gray_begun_big
-unfolding new_image new_image_cause image_directory begin_cause first_tags write_tag write_entry write_tag_cause data_of
+unfolding new_image new_image_cause image_cause image_directory begin_cause first_tags write_tag write_entry write_tag_cause data_of
 gray_begun_big = refl
 
 pub no_side : s.no_side
-unfolding new_image new_image_cause image_directory begin_cause first_tags write_tag write_entry write_tag_cause data_of
+unfolding new_image new_image_cause image_cause image_directory begin_cause first_tags write_tag write_entry write_tag_cause data_of
 no_side = refl
 
 pub rows_300 : s.rows_300
@@ -195,45 +195,45 @@ unfolding write_image_data write_image_data_cause finish_image write_chunk write
 pixel_few = (refl, refl)
 
 pub pixel_written : s.pixel_written
-unfolding write_image new_image write_image_data new_image_cause image_directory begin_cause first_tags write_tag write_entry write_tag_cause data_of write_image_data_cause finish_image write_chunk write_chunk_cause next_chunk_sample_count parts_left rect last_tags
+unfolding write_image new_image write_image_data new_image_cause image_cause image_directory begin_cause first_tags write_tag write_entry write_tag_cause data_of write_image_data_cause finish_image write_chunk write_chunk_cause next_chunk_sample_count parts_left rect last_tags
 pixel_written = (ap (λ t. t.answer) (finish_told (record (new_file Classic) { bytes = header ++ (s.resolutions ++ (7 ∷ [])) }) (with_fields (opened (Some 4) true) s.all_fields) 14 (puts s.all_fields) (len_puts s.all_fields) (entries_puts s.all_fields)), ap (λ t. t.next.bytes) (finish_told (record (new_file Classic) { bytes = header ++ (s.resolutions ++ (7 ∷ [])) }) (with_fields (opened (Some 4) true) s.all_fields) 14 (puts s.all_fields) (len_puts s.all_fields) (entries_puts s.all_fields)))
 
 pub pixel_chain : s.pixel_chain
-unfolding write_image new_image write_image_data new_image_cause image_directory begin_cause first_tags write_tag write_entry write_tag_cause data_of write_image_data_cause finish_image write_chunk write_chunk_cause next_chunk_sample_count parts_left rect last_tags
+unfolding write_image new_image write_image_data new_image_cause image_cause image_directory begin_cause first_tags write_tag write_entry write_tag_cause data_of write_image_data_cause finish_image write_chunk write_chunk_cause next_chunk_sample_count parts_left rect last_tags
 pixel_chain = ap (λ t. t.next.chain) (finish_told (record (new_file Classic) { bytes = header ++ (s.resolutions ++ (7 ∷ [])) }) (with_fields (opened (Some 4) true) s.all_fields) 14 (puts s.all_fields) (len_puts s.all_fields) (entries_puts s.all_fields))
 
 pub rgb_few : s.rgb_few
-unfolding write_image new_image write_image_data new_image_cause image_directory begin_cause first_tags write_tag write_entry write_tag_cause data_of write_image_data_cause finish_image write_chunk write_chunk_cause next_chunk_sample_count parts_left rect last_tags
+unfolding write_image new_image write_image_data new_image_cause image_cause image_directory begin_cause first_tags write_tag write_entry write_tag_cause data_of write_image_data_cause finish_image write_chunk write_chunk_cause next_chunk_sample_count parts_left rect last_tags
 rgb_few = (refl, refl)
 
 pub after_few : s.after_few
-unfolding write_image new_image write_image_data new_image_cause image_directory begin_cause first_tags write_tag write_entry write_tag_cause data_of write_image_data_cause finish_image write_chunk write_chunk_cause next_chunk_sample_count parts_left rect last_tags
+unfolding write_image new_image write_image_data new_image_cause image_cause image_directory begin_cause first_tags write_tag write_entry write_tag_cause data_of write_image_data_cause finish_image write_chunk write_chunk_cause next_chunk_sample_count parts_left rect last_tags
 after_few = ap (λ t. t.answer) (finish_told (record (new_file Classic) { bytes = header ++ (s.resolutions ++ (s.resolutions ++ (7 ∷ []))) }) (with_fields (opened (Some 4) true) (page_fields 24 40)) 14 (puts (page_fields 24 40)) (len_puts (page_fields 24 40)) (entries_puts (page_fields 24 40)))
 
 pub packed_written : s.packed_written
-unfolding write_image new_image write_image_data new_image_cause image_directory begin_cause first_tags write_tag write_entry write_tag_cause data_of write_image_data_cause finish_image write_chunk write_chunk_cause next_chunk_sample_count parts_left rect last_tags
+unfolding write_image new_image write_image_data new_image_cause image_cause image_directory begin_cause first_tags write_tag write_entry write_tag_cause data_of write_image_data_cause finish_image write_chunk write_chunk_cause next_chunk_sample_count parts_left rect last_tags
 packed_written = ap (λ t. t.answer) (finish_told (record s.packed_file { bytes = header ++ (s.resolutions ++ (0xfd ∷ 1 ∷ 0xfd ∷ 2 ∷ 24 ∷ 0 ∷ 0 ∷ 0 ∷ 26 ∷ 0 ∷ 0 ∷ 0 ∷ 2 ∷ 0 ∷ 0 ∷ 0 ∷ 2 ∷ 0 ∷ 0 ∷ 0 ∷ [])) }) (with_fields (opened (Some 4) true) packed_fields) 14 (puts packed_fields) (len_puts packed_fields) (entries_puts packed_fields))
 
 pub packed_bytes : s.packed_bytes
-unfolding write_image new_image write_image_data new_image_cause image_directory begin_cause first_tags write_tag write_entry write_tag_cause data_of write_image_data_cause finish_image write_chunk write_chunk_cause next_chunk_sample_count parts_left rect last_tags
+unfolding write_image new_image write_image_data new_image_cause image_cause image_directory begin_cause first_tags write_tag write_entry write_tag_cause data_of write_image_data_cause finish_image write_chunk write_chunk_cause next_chunk_sample_count parts_left rect last_tags
 packed_bytes = ap (λ t. take 20 (drop 24 t.next.bytes)) (finish_told (record s.packed_file { bytes = header ++ (s.resolutions ++ (0xfd ∷ 1 ∷ 0xfd ∷ 2 ∷ 24 ∷ 0 ∷ 0 ∷ 0 ∷ 26 ∷ 0 ∷ 0 ∷ 0 ∷ 2 ∷ 0 ∷ 0 ∷ 0 ∷ 2 ∷ 0 ∷ 0 ∷ 0 ∷ [])) }) (with_fields (opened (Some 4) true) packed_fields) 14 (puts packed_fields) (len_puts packed_fields) (entries_puts packed_fields))
 
 pub stopped_image : s.stopped_image
-unfolding write_image new_image write_image_data new_image_cause image_directory begin_cause first_tags write_tag write_entry write_tag_cause data_of write_image_data_cause finish_image write_chunk write_chunk_cause next_chunk_sample_count parts_left rect last_tags
+unfolding write_image new_image write_image_data new_image_cause image_cause image_directory begin_cause first_tags write_tag write_entry write_tag_cause data_of write_image_data_cause finish_image write_chunk write_chunk_cause next_chunk_sample_count parts_left rect last_tags
 stopped_image = (refl, refl)
 
 pub second_page : s.second_page
-unfolding write_image new_image write_image_data new_image_cause image_directory begin_cause first_tags write_tag write_entry write_tag_cause data_of write_image_data_cause finish_image write_chunk write_chunk_cause next_chunk_sample_count parts_left rect last_tags
+unfolding write_image new_image write_image_data new_image_cause image_cause image_directory begin_cause first_tags write_tag write_entry write_tag_cause data_of write_image_data_cause finish_image write_chunk write_chunk_cause next_chunk_sample_count parts_left rect last_tags
 second_page = ap (λ t. t.answer) (finish_told (record s.page_file { bytes = gray_file ++ (0 ∷ (s.resolutions ++ (7 ∷ []))) }) (with_fields (opened (Some 195) true) (page_fields 200 216)) 14 (puts (page_fields 200 216)) (len_puts (page_fields 200 216)) (entries_puts (page_fields 200 216)))
 
 pub third_page : s.third_page
-unfolding write_image new_image write_image_data new_image_cause image_directory begin_cause first_tags write_tag write_entry write_tag_cause data_of write_image_data_cause finish_image write_chunk write_chunk_cause next_chunk_sample_count parts_left rect last_tags
+unfolding write_image new_image write_image_data new_image_cause image_cause image_directory begin_cause first_tags write_tag write_entry write_tag_cause data_of write_image_data_cause finish_image write_chunk write_chunk_cause next_chunk_sample_count parts_left rect last_tags
 third_page = ap (λ t. t.answer) (finish_told (record s.page_file { bytes = gray_file ++ (0 ∷ (s.resolutions ++ (s.resolutions ++ (7 ∷ [])))) }) (with_fields (opened (Some 195) true) (page_fields 216 232)) 14 (puts (page_fields 216 232)) (len_puts (page_fields 216 232)) (entries_puts (page_fields 216 232)))
 
 pub third_link : s.third_link
-unfolding write_image new_image write_image_data new_image_cause image_directory begin_cause first_tags write_tag write_entry write_tag_cause data_of write_image_data_cause finish_image write_chunk write_chunk_cause next_chunk_sample_count parts_left rect last_tags
+unfolding write_image new_image write_image_data new_image_cause image_cause image_directory begin_cause first_tags write_tag write_entry write_tag_cause data_of write_image_data_cause finish_image write_chunk write_chunk_cause next_chunk_sample_count parts_left rect last_tags
 third_link = ap (λ t. take 4 (drop 195 t.next.bytes)) (finish_told (record s.page_file { bytes = gray_file ++ (0 ∷ (s.resolutions ++ (s.resolutions ++ (7 ∷ [])))) }) (with_fields (opened (Some 195) true) (page_fields 216 232)) 14 (puts (page_fields 216 232)) (len_puts (page_fields 216 232)) (entries_puts (page_fields 216 232)))
 
 pub ycbcr_written : s.ycbcr_written
-unfolding write_image new_image write_image_data new_image_cause image_directory begin_cause first_tags write_tag write_entry write_tag_cause data_of write_image_data_cause finish_image write_chunk write_chunk_cause next_chunk_sample_count parts_left rect last_tags
+unfolding write_image new_image write_image_data new_image_cause image_cause image_directory begin_cause first_tags write_tag write_entry write_tag_cause data_of write_image_data_cause finish_image write_chunk write_chunk_cause next_chunk_sample_count parts_left rect last_tags
 ycbcr_written = ap (λ t. t.answer) (finish_told (record (new_file Classic) { bytes = header ++ (s.resolutions ++ (1 ∷ 2 ∷ 3 ∷ 8 ∷ 0 ∷ 8 ∷ 0 ∷ 8 ∷ 0 ∷ 1 ∷ 0 ∷ 1 ∷ 0 ∷ 1 ∷ 0 ∷ [])) }) (with_fields (opened (Some 4) true) ycbcr_fields) 15 (puts ycbcr_fields) (len_puts ycbcr_fields) (entries_puts ycbcr_fields))

@@ -21,7 +21,7 @@ use Rattle.tiff_encode.specs.Machine.{FileState, OpenDirectory, Told, gives}
 use Rattle.tiff_page.specs.Rect.{rect}
 use Rattle.tiff_encode.specs.Chunks.{next_strip_sample_count, next_chunk_sample_count, parts_left, sample_in}
 use Rattle.tiff_encode.specs.JobValues.{cut_to}
-use Rattle.tiff_encode.specs.Causes.{begin_cause, new_image_cause, rows_per_strip_cause}
+use Rattle.tiff_encode.specs.Causes.{begin_cause, new_image_cause, image_cause, rows_per_strip_cause}
 use Rattle.tiff_encode.specs.Calls.{Offsets, opened, image_directory, new_image, finish, with_compression, set_parent, set_rows_per_strip, extend_from}
 use Rattle.tiff_base.specs.Told.{sink_error}
 use Rattle.tiff_encode.specs.Jobs as jobs
@@ -245,7 +245,7 @@ pub not_wanting : s.not_wanting
 not_wanting = λ w. device_memory w.fault
 
 pub wanting_caused : s.wanting_caused
-unfolding new_image new_image_cause
+unfolding new_image new_image_cause image_cause
 wanting_caused = λ e new w. w.begun
 
 pub ends_caused : s.ends_caused

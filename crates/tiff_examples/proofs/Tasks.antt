@@ -28,7 +28,7 @@ use Rattle.tiff_encode.specs.declared.encoder.script.EndReply.TheVariants as las
 use Rattle.tiff_encode.specs.Machine.{FileState, OpenImage, Told}
 use Rattle.tiff_page.specs.Rect.{rect}
 use Rattle.tiff_encode.specs.Chunks.{next_chunk_sample_count, parts_left, sample_in}
-use Rattle.tiff_encode.specs.Causes.{begin_cause, new_image_cause, resolution_cause, write_chunk_cause, write_image_data_cause, write_strip_cause, write_tag_cause}
+use Rattle.tiff_encode.specs.Causes.{begin_cause, new_image_cause, image_cause, resolution_cause, write_chunk_cause, write_image_data_cause, write_strip_cause, write_tag_cause}
 use Rattle.tiff_encode.specs.Calls.{finish_image, first_tags, image_directory, last_tags, new_image, opened, resolution, write_entry, write_image_data, write_chunk, write_chunks, write_strip, resolution_tags, write_tag}
 use Rattle.tiff_base.specs.Told.{sink_error}
 use Rattle.tiff_encode.specs.Stored.{AreStored, chunk_bytes}
@@ -61,7 +61,7 @@ not_refused told x old new h (inr (inr (inr w))) = size_memory w.1.fault
 
 -- the parts of the page of one pixel
 page_begins : IsDone (new_image gray 1 1 1 (new_file Classic)) (Ok new_pixel) first after_begin
-unfolding new_image new_image_cause image_directory begin_cause first_tags write_tag write_entry write_tag_cause data_of
+unfolding new_image new_image_cause image_cause image_directory begin_cause first_tags write_tag write_entry write_tag_cause data_of
 page_begins = record { ended = record { answer = refl; state = refl }; model = refl }
 
 strip_done : IsDone (write_strip new_pixel 1 (7 ∷ []) after_begin.file) (Ok pixel_in_file) after_begin after_strip
@@ -308,7 +308,7 @@ data_whole : s.data_job
 data_whole j r samples c w h p u e q l = data_ran run_begun j r samples c w h p u e q l
 
 no_side : s.no_side_job
-unfolding new_image new_image_cause
+unfolding new_image new_image_cause image_cause
 no_side j r w h q l =
     let T : ℕ → ℕ → Told OpenImage = λ x y. new_image (colour_type j.colour) (inner_size j.colour) x y (new_file Classic) in
     let new = jobs.ran run_begun first (Err refusal) [] in

@@ -11,17 +11,19 @@ ghost use Rattle.tiff_encode.specs.Leaves.{Leaves, LeavesLinked};
 ghost use Rattle.tiff_encode.specs.Model.{IsLink, Model, Stands};
 
 use crate::encoder::TiffEncoder;
+use crate::encoder::drawing::Drawing;
 use crate::encoder::kind::{DirectoryOffset, TiffKind, TiffKindStandard};
-use crate::encoder::open::Fields;
+use crate::encoder::open::{Fields, State};
 use tiff_base::directory::{Directory, Entry};
 use tiff_base::error::{TiffError, TiffResult};
 use tiff_base::io::Sink;
 use tiff_base::tags::{Tag, Type};
 use tiff_value::buffer::ValueBuffer;
+use tiff_value::encoder::colortype::ColorType;
 use tiff_value::encoder::tiff_value::TiffValue;
 
-/// A directory that is open in the file of an encoder. It ends by `finish`, `finish_with_offsets` or `discard`: one that
-/// isn't spent so doesn't pass the checker. After a fault of the sink each call that writes answers
+/// A directory that is open in the file of an encoder, alone or with an image. It ends by `finish`, `finish_with_offsets` or
+/// `discard`: one that isn't spent so doesn't pass the checker. After a fault of the sink each call that writes answers
 /// `UsageError(WriterFailed)`; after another refusal what was written and what is open are as they were.
 pub struct DirectoryEncoder<'a, W: Sink, K: TiffKind = TiffKindStandard, D = Fields> {
     encoder: &'a mut TiffEncoder<W, K>,
@@ -101,7 +103,7 @@ fn fits_short(buffer: &ValueBuffer)
     let _length = buffer.as_bytes().len();
 }
 
-impl<'a, W: Sink, K: TiffKind> DirectoryEncoder<'a, W, K, Fields> {
+impl<'a, W: Sink, K: TiffKind, D: State> DirectoryEncoder<'a, W, K, D> {
     /// Writes a value's bytes, and answers the entry that holds them or their place; the directory stays. The first cause
     /// that holds: an earlier fault of the sink: `UsageError(WriterFailed)`; a text that can't be written:
     /// `FormatError(InvalidTag)`; a count, or the place of a value that doesn't fit into the entry, past 4 bytes in a
@@ -170,11 +172,12 @@ impl<'a, W: Sink, K: TiffKind> DirectoryEncoder<'a, W, K, Fields> {
     pub fn write_tag<T: TiffValue + Drop>(&mut self, tag: Tag, value: T) -> TiffResult<()>
         ensures same_reference { self.new.encoder.ghost_name ≡ self.old.encoder.ghost_name }
         ensures stays { OnErr result (self.new.state ≡ self.old.state) }
-        ensures answer { Ends (λ _. self.new.state) (calls.write_tag self.old.state tag (T.field_data value) self.old.encoder.now) result self.old.encoder.now self.new.encoder.now }
+        ensures rest { self.new.state ≡ D.with_directory self.old.state (D.open_directory self.new.state) }
+        ensures answer { Ends (λ _. D.open_directory self.new.state) (calls.write_tag (D.open_directory self.old.state) tag (T.field_data value) self.old.encoder.now) result self.old.encoder.now self.new.encoder.now }
 
         // What stood in the file stands.
         ensures leaves { (m : Model) → Stands self.old.encoder.now.kind self.old.encoder.now.bytes m
-            → Leaves (calls.write_tag self.old.state tag (T.field_data value) self.old.encoder.now) result self.old.encoder.now self.new.encoder.now m }
+            → Leaves (calls.write_tag (D.open_directory self.old.state) tag (T.field_data value) self.old.encoder.now) result self.old.encoder.now self.new.encoder.now m }
     {
         let entry = match self.encoder.place_value(&value) {
             Ok(entry) => entry,
@@ -192,11 +195,12 @@ impl<'a, W: Sink, K: TiffKind> DirectoryEncoder<'a, W, K, Fields> {
     pub fn write_tag_buf(&mut self, tag: Tag, buffer: &ValueBuffer) -> TiffResult<()>
         ensures same_reference { self.new.encoder.ghost_name ≡ self.old.encoder.ghost_name }
         ensures stays { OnErr result (self.new.state ≡ self.old.state) }
-        ensures answer { Ends (λ _. self.new.state) (calls.write_tag_buf self.old.state tag buffer.now self.old.encoder.now) result self.old.encoder.now self.new.encoder.now }
+        ensures rest { self.new.state ≡ D.with_directory self.old.state (D.open_directory self.new.state) }
+        ensures answer { Ends (λ _. D.open_directory self.new.state) (calls.write_tag_buf (D.open_directory self.old.state) tag buffer.now self.old.encoder.now) result self.old.encoder.now self.new.encoder.now }
 
         // What stood in the file stands.
         ensures leaves { (m : Model) → Stands self.old.encoder.now.kind self.old.encoder.now.bytes m
-            → Leaves (calls.write_tag_buf self.old.state tag buffer.now self.old.encoder.now) result self.old.encoder.now self.new.encoder.now m }
+            → Leaves (calls.write_tag_buf (D.open_directory self.old.state) tag buffer.now self.old.encoder.now) result self.old.encoder.now self.new.encoder.now m }
     {
         fits_short(buffer);
         let entry = match self.encoder.place_buffer(buffer) {
@@ -206,24 +210,6 @@ impl<'a, W: Sink, K: TiffKind> DirectoryEncoder<'a, W, K, Fields> {
         self.encoder.fits();
         match self.state.set(tag, entry) {
             Ok(()) => return Ok(()),
-            Err(fault) => return Err(fault),
-        }
-    }
-
-    /// Writes a value's bytes and answers their place, in bytes from the file's start. The first cause that holds: an earlier
-    /// fault of the sink: `UsageError(WriterFailed)`; a text that can't be written: `FormatError(InvalidTag)`. Then
-    /// `OutOfMemory`, or the sink's fault: `IoError(Device)` or `OutOfMemory`.
-    pub fn write_data<T: TiffValue + Drop>(&mut self, value: T) -> TiffResult<u64>
-        ensures same_reference { self.new.encoder.ghost_name ≡ self.old.encoder.ghost_name }
-        ensures stays { self.new.state ≡ self.old.state }
-        ensures answer { Ends (λ place. place) (calls.write_data (T.field_data value) self.old.encoder.now) result self.old.encoder.now self.new.encoder.now }
-
-        // What stood in the file stands.
-        ensures leaves { (m : Model) → Stands self.old.encoder.now.kind self.old.encoder.now.bytes m
-            → Leaves (calls.write_data (T.field_data value) self.old.encoder.now) result self.old.encoder.now self.new.encoder.now m }
-    {
-        match self.encoder.append_value(&value) {
-            Ok(place) => return Ok(place),
             Err(fault) => return Err(fault),
         }
     }
@@ -251,10 +237,31 @@ impl<'a, W: Sink, K: TiffKind> DirectoryEncoder<'a, W, K, Fields> {
     pub fn extend_from(&mut self, directory: &Directory) -> TiffResult<()>
         ensures same_reference { self.new.encoder.ghost_name ≡ self.old.encoder.ghost_name }
         ensures stays { self.new.encoder.now ≡ self.old.encoder.now }
-        ensures state { Extends (map.entries directory.now.entries) self.old.state self.new.state result }
+        ensures state { Extends (map.entries directory.now.entries) (D.open_directory self.old.state) (D.open_directory self.new.state) result }
+        ensures rest { self.new.state ≡ D.with_directory self.old.state (D.open_directory self.new.state) }
     {
         match self.state.extend_from(directory) {
             Ok(()) => return Ok(()),
+            Err(fault) => return Err(fault),
+        }
+    }
+}
+
+impl<'a, W: Sink, K: TiffKind> DirectoryEncoder<'a, W, K, Fields> {
+    /// Writes a value's bytes and answers their place, in bytes from the file's start. The first cause that holds: an earlier
+    /// fault of the sink: `UsageError(WriterFailed)`; a text that can't be written: `FormatError(InvalidTag)`. Then
+    /// `OutOfMemory`, or the sink's fault: `IoError(Device)` or `OutOfMemory`.
+    pub fn write_data<T: TiffValue + Drop>(&mut self, value: T) -> TiffResult<u64>
+        ensures same_reference { self.new.encoder.ghost_name ≡ self.old.encoder.ghost_name }
+        ensures stays { self.new.state ≡ self.old.state }
+        ensures answer { Ends (λ place. place) (calls.write_data (T.field_data value) self.old.encoder.now) result self.old.encoder.now self.new.encoder.now }
+
+        // What stood in the file stands.
+        ensures leaves { (m : Model) → Stands self.old.encoder.now.kind self.old.encoder.now.bytes m
+            → Leaves (calls.write_data (T.field_data value) self.old.encoder.now) result self.old.encoder.now self.new.encoder.now m }
+    {
+        match self.encoder.append_value(&value) {
+            Ok(place) => return Ok(place),
             Err(fault) => return Err(fault),
         }
     }
@@ -323,6 +330,25 @@ impl<'a, W: Sink, K: TiffKind> DirectoryEncoder<'a, W, K, Fields> {
         discarded.fits();
         match encoder.finish_directory(&discarded) {
             Ok(_) => return Ok(()),
+            Err(fault) => return Err(fault),
+        }
+    }
+}
+
+impl<'a, W: Sink, K: TiffKind, C: ColorType> DirectoryEncoder<'a, W, K, Drawing<C>> {
+    /// Writes a value's bytes and answers their place, as `write_data` of a directory does; the image's own `write_data`
+    /// writes samples. Errors are those of that.
+    pub fn append_data<T: TiffValue + Drop>(&mut self, value: T) -> TiffResult<u64>
+        ensures same_reference { self.new.encoder.ghost_name ≡ self.old.encoder.ghost_name }
+        ensures stays { self.new.state ≡ self.old.state }
+        ensures answer { Ends (λ place. place) (calls.write_data (T.field_data value) self.old.encoder.now) result self.old.encoder.now self.new.encoder.now }
+
+        // What stood in the file stands.
+        ensures leaves { (m : Model) → Stands self.old.encoder.now.kind self.old.encoder.now.bytes m
+            → Leaves (calls.write_data (T.field_data value) self.old.encoder.now) result self.old.encoder.now self.new.encoder.now m }
+    {
+        match self.encoder.append_value(&value) {
+            Ok(place) => return Ok(place),
             Err(fault) => return Err(fault),
         }
     }

@@ -52,7 +52,7 @@ impl<W: Sink, K: TiffKind> TiffEncoder<W, K> {
     }
 
     // The file is of the encoder's kind.
-    fn is_of_kind(&self)
+    pub(crate) fn is_of_kind(&self)
         ensures { self.now.kind ≡ K.kind }
     {
         let _chain = &self.chain;

@@ -3,9 +3,8 @@
 ghost use Rattle.std.specs.Prelude.{◌≡◌, ℕ, ◌+◌, ◌*◌, ◌^◌, ◌<◌, ◌⊎◌, length, MatchResult, None};
 ghost use Rattle.std.specs.FinMap as map;
 ghost use Rattle.tiff_base.specs.declared.tags.FileKind.TheVariants.{Classic};
-ghost use Rattle.tiff_value.specs.ColorType.{is_gray};
 ghost use Rattle.tiff_encode.specs.Written.{directory_bytes, gray_fields, page_head};
-ghost use Rattle.tiff_encode.specs.Encoder.{PageFails, WritesPage};
+ghost use Rattle.tiff_encode.specs.Encoder.{is_plain_gray, PageFails, WritesPage};
 ghost use Rattle.tiff_encode.specs.GraySteps.{AppendsBuilt, Finishes};
 ghost use Rattle.tiff_encode.specs.Laws.{torn_page_model};
 ghost use Rattle.tiff_encode.specs.Model.{Model, IsLink, Stands};
@@ -16,8 +15,10 @@ use crate::encoder::TiffEncoder;
 use crate::encoder::directory::encode_gray;
 use crate::encoder::kind::TiffKindStandard;
 use crate::encoder::page::{describes_gray, narrow, place_resolutions, strip_len};
+use crate::encoder::settings::Compression;
 use tiff_base::error::{TiffError, TiffResult, UsageError};
 use tiff_base::io::Sink;
+use tiff_base::tags::Predictor;
 use tiff_value::encoder::colortype::ColorType;
 
 /// Two resolutions, each 1/1.
@@ -91,6 +92,15 @@ impl<W: Sink> TiffEncoder<W, TiffKindStandard> {
         Ok(())
     }
 
+    // Whether this version writes an image of a colour type, as images are written now.
+    fn is_plain<C: ColorType>(&self) -> bool
+        ensures { result ≡ is_plain_gray C.described self.now }
+    {
+        matches!(self.predictor, Predictor::None)
+            && matches!(self.compression, Compression::Uncompressed)
+            && describes_gray::<C>()
+    }
+
     // Writes a page in one strip and appends it to the chain.
     fn write_page<C: ColorType<Inner = u8>>(
         &mut self,
@@ -99,14 +109,14 @@ impl<W: Sink> TiffEncoder<W, TiffKindStandard> {
         samples: &[u8],
     ) -> TiffResult<()>
         ensures page { MatchResult result
-            (λ _. WritesPage (is_gray C.described) width height samples.now self.old self.new)
-            (λ e. PageFails (is_gray C.described) width height samples.now e self.old self.new) }
+            (λ _. WritesPage (is_plain_gray C.described self.old) width height samples.now self.old self.new)
+            (λ e. PageFails (is_plain_gray C.described self.old) width height samples.now e self.old self.new) }
         ensures classic { self.old.kind ≡ Classic }
     {
         if self.writer.has_failed() {
             return Err(TiffError::UsageError(UsageError::WriterFailed));
         }
-        let gray = describes_gray::<C>();
+        let gray = self.is_plain::<C>();
         let place = self.writer.offset();
         let resolutions = match place_resolutions(place, gray, width, height) {
             Ok(resolutions) => resolutions,
@@ -134,8 +144,8 @@ impl<W: Sink> TiffEncoder<W, TiffKindStandard> {
     /// Writes a page in one strip and appends it to the chain: padding to a multiple of 4, both resolutions 1/1, the
     /// first `width * height` samples, the directory, and then the link of the page before, or of the header. The
     /// first cause that holds: an earlier fault of the sink: `UsageError(WriterFailed)`; sides of 0:
-    /// `FormatError(InvalidDimensions)`; a resolution past 4 bytes: `IntSizeError`; a colour type that isn't `Gray8`'s:
-    /// `UnsupportedError(UnsupportedDataType)`; too few samples: `IoError(InvalidData)`; more than one strip:
+    /// `FormatError(InvalidDimensions)`; a resolution past 4 bytes: `IntSizeError`; a colour type that isn't `Gray8`'s, a
+    /// predictor or a packing method: `UnsupportedError(UnsupportedDataType)`; too few samples: `IoError(InvalidData)`; more than one strip:
     /// `UnsupportedError(UnsupportedDataType)`; a strip or a directory past 4 bytes: `IntSizeError`. A fault of the
     /// sink: `IoError(Device)` or `OutOfMemory`. What was appended before stays, unused.
     pub fn write_image<C: ColorType<Inner = u8>>(
@@ -145,8 +155,8 @@ impl<W: Sink> TiffEncoder<W, TiffKindStandard> {
         samples: &[u8],
     ) -> TiffResult<()>
         ensures answer { MatchResult result
-            (λ _. WritesPage (is_gray C.described) width height samples.now self.old self.new)
-            (λ e. PageFails (is_gray C.described) width height samples.now e self.old self.new) }
+            (λ _. WritesPage (is_plain_gray C.described self.old) width height samples.now self.old self.new)
+            (λ e. PageFails (is_plain_gray C.described self.old) width height samples.now e self.old self.new) }
 
         // What stood in the file stands, and the page shows its samples; where the chain's link broke off, all but that link.
         ensures leaves { (m : Model) → Stands Classic self.old.bytes m → IsLink Classic m self.old.chain

@@ -1,6 +1,7 @@
 //! The laws by which what stands in a file is kept and grows, each the contract of a function with no work.
 
 ghost use Rattle.tiff_encode.specs.Shows.{PageShows, PageLinks, PageReads};
+ghost use Rattle.tiff_encode.specs.Held.{ChunksShow, ImagesShow, PageTold};
 ghost use Rattle.tiff_encode.specs.RunLaws.{OffsetsAgree, OneStep, OneStored};
 ghost use Rattle.tiff_encode.specs.CallLaws.{PlacedFits, FinishFits};
 ghost use Rattle.tiff_encode.specs.Laws.{HeaderStands, KeptByAppending, KeptByPatching, KeptByTearing, GrownByRegion, GrownByInline, GrownByPlaced, GrownByListing, Finished, DeedsStand, DeedsGrow, DeedsBegun, DeedsTorn, DeedsJoin, DeedsAppend, ModelsAgree, PageStands};
@@ -115,6 +116,11 @@ pub fn page_reads()
     ensures { PageReads }
 {}
 
+/// A directory that holds what an image says of itself is the image's page.
+pub fn page_told()
+    ensures { PageTold }
+{}
+
 /// Where nothing fails, a call has one answer, and leaves one file and one model.
 pub fn one_step()
     ensures { OneStep }
@@ -128,4 +134,14 @@ pub fn one_stored()
 /// The offsets that are made of a finished directory are those that its end answered.
 pub fn offsets_agree()
     ensures { OffsetsAgree }
+{}
+
+/// Chunks that stand for samples show them.
+pub fn chunks_show()
+    ensures { ChunksShow }
+{}
+
+/// What stands and holds an image shows it.
+pub fn images_show()
+    ensures { ImagesShow }
 {}

@@ -33,24 +33,51 @@ impl Model for Fields {
     ghost view = { λ d. record { fields = d.directory.entries; parent = d.parent; chained = d.chained } };
 }
 
-impl Fields {
-    /// Sets the field of a tag, in place of one that it had.
-    pub(crate) fn set(&mut self, tag: Tag, entry: Entry) -> TiffResult<()>
+/// What is open in an encoder's file: a directory, alone or with what an image has (this project's).
+pub trait State {
+    ghost use Rattle.std.specs.Prelude.{◌≡◌};
+    ghost use Rattle.tiff_encode.specs.Machine.{OpenDirectory};
+
+    // Its directory.
+    ghost open_directory: { Self → OpenDirectory };
+
+    // The same with another directory.
+    ghost with_directory: { Self → OpenDirectory → Self };
+
+    /// Sets the field of a tag, in place of one that it had. Its only error is `OutOfMemory`, and then nothing is done.
+    fn set(&mut self, tag: Tag, entry: Entry) -> TiffResult<()>
         ensures { MatchResult result
-            (λ _. self.new ≡ with_field self.old tag entry)
-            (λ e. (e ≡ OutOfMemory) × (self.new ≡ self.old)) }
-    {
+            (λ _. self.new ≡ with_directory self.old (with_field (open_directory self.old) tag entry))
+            (λ e. (e ≡ OutOfMemory) × (self.new ≡ self.old)) };
+
+    /// Sets each field of a directory in turn, in place of one that it had for its tag. Its only error is `OutOfMemory`, and
+    /// then those that came before are set.
+    fn extend_from(&mut self, directory: &Directory) -> TiffResult<()>
+        ensures set { Extends (map.entries directory.now.entries) (open_directory self.old) (open_directory self.new) result }
+        ensures rest { self.new ≡ with_directory self.old (open_directory self.new) };
+
+    // It has the directory that it was given.
+    ghost given_directory: { (s : Self) (d : OpenDirectory) → open_directory (with_directory s d) ≡ d };
+
+    // With its own directory it is what it was.
+    ghost with_its_own: { (s : Self) → with_directory s (open_directory s) ≡ s };
+}
+
+impl State for Fields {
+    ghost use Rattle.std.specs.Prelude.{refl};
+
+    ghost open_directory = { λ d. d };
+
+    ghost with_directory = { λ s d. d };
+
+    fn set(&mut self, tag: Tag, entry: Entry) -> TiffResult<()> {
         match self.directory.insert(tag.to_u16(), entry) {
             Ok(()) => return Ok(()),
             Err(_) => return Err(TiffError::OutOfMemory),
         }
     }
 
-    /// Sets each field of a directory in turn, in place of one that it had for its tag. Its only error is `OutOfMemory`, and
-    /// then those that came before are set.
-    pub(crate) fn extend_from(&mut self, directory: &Directory) -> TiffResult<()>
-        ensures { Extends (map.entries directory.now.entries) self.old self.new result }
-    {
+    fn extend_from(&mut self, directory: &Directory) -> TiffResult<()> {
         for (tag, entry) in directory.iter() {
             let copy = Entry::new_u64(entry.field_type(), entry.count(), entry.value());
             match self.directory.insert(tag, copy) {
@@ -61,6 +88,12 @@ impl Fields {
         Ok(())
     }
 
+    ghost given_directory = { λ s d. refl };
+
+    ghost with_its_own = { λ s. refl };
+}
+
+impl Fields {
     /// Sets where the link stands that is to point to it.
     pub(crate) fn set_parent(&mut self, link: u64)
         ensures { self.new ≡ record self.old { parent = Some link } }

@@ -42,7 +42,7 @@ impl<W: Sink, K: TiffKind> TiffEncoder<W, K> {
     }
 
     // The kind of the file.
-    fn file_kind(&self) -> FileKind
+    pub(crate) fn file_kind(&self) -> FileKind
         ensures { result ≡ self.now.kind }
     {
         let _chain = &self.chain;

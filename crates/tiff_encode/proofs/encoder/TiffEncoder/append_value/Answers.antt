@@ -1,4 +1,4 @@
-use Rattle.std.proofs.Common.{ℕ, ◌≡◌, Ok, Err, Result, List, ◌⊎◌, ap, sym, ◌∙◌, subst, refl}
+use Rattle.std.proofs.Common.{ℕ, Ok, Err, Result, List, ◌⊎◌, ap, ◌∙◌, subst}
 use Rattle.tiff_base.specs.declared.error.TiffError.{TiffError}
 use Rattle.tiff_value.specs.Data.{FieldData}
 use Rattle.tiff_value.specs.Values.{values_in}

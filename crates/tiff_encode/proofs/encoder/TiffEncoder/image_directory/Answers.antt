@@ -1,4 +1,4 @@
-use Rattle.std.proofs.Common.{Err, Some, None, true, false, ap, refl}
+use Rattle.std.proofs.Common.{Err, Some, true, ap, refl}
 use Rattle.tiff_encode.proofs.Leaving.{begin_leaves}
 use Rattle.tiff_encode.proofs.Guarding.{begun_told, begun_fails, begun_left}
 use Rattle.tiff_encode.proofs.encoder.TiffEncoder.image_directory.Goals as goal

@@ -1,4 +1,4 @@
-use Rattle.std.proofs.Common.{ℕ, ◌≡◌, ◌≤◌, length, List, ap, ◌∙◌, subst}
+use Rattle.std.proofs.Common.{ℕ, ◌≤◌, length, List, ap, ◌∙◌, subst}
 use Rattle.tiff_base.specs.Field.{Field}
 use Rattle.tiff_encode.proofs.Calling.{placed_short}
 use Rattle.tiff_encode.proofs.encoder.TiffEncoder.place.Goals as goal

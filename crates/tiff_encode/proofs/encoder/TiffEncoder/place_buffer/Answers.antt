@@ -1,8 +1,5 @@
-use Rattle.std.proofs.Common.{ℕ, List, Result, Ok, Err, None, ap, sym, ◌∙◌, subst}
-use Rattle.tiff_base.specs.Field.{Field}
-use Rattle.tiff_base.specs.declared.error.TiffError.{TiffError}
-use Rattle.tiff_encode.specs.Causes.{order_cause, field_cause}
-use Rattle.tiff_encode.specs.Value.{buffer_data}
+use Rattle.std.proofs.Common.{Ok, Err, None, ap, sym, ◌∙◌}
+use Rattle.tiff_encode.specs.Causes.{order_cause}
 use Rattle.tiff_encode.proofs.Calling.{buf_stopped, buf_refused, buf_of}
 use Rattle.tiff_encode.proofs.encoder.TiffEncoder.place_buffer.Goals as goal
 

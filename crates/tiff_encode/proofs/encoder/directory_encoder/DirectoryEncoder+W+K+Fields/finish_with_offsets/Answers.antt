@@ -1,4 +1,3 @@
-use Rattle.std.proofs.Common.{Ok, Err}
 use Rattle.tiff_encode.specs.Calls.{Offsets}
 use Rattle.tiff_encode.proofs.Guarding.{finish_left}
 use Rattle.tiff_encode.proofs.encoder.directory_encoder.DirectoryEncoder+W+K+Fields.finish_with_offsets.Goals as goal

@@ -1,5 +1,5 @@
 use Rattle.std.proofs.Common.{◌≡◌, ◌⊎◌, List, ℕ, length, None, ap, sym, ◌∙◌, subst}
-use Rattle.tiff_value.specs.ColorType.{is_gray}
+use Rattle.tiff_encode.specs.Encoder.{is_plain_gray}
 use Rattle.tiff_encode.specs.Encoder.{IsStopped, IsCut}
 use Rattle.tiff_encode.specs.Steps.{grown}
 use Rattle.tiff_encode.proofs.Page.{none_failed, FirstPassed, StripPassed, first_is, first_passed, strip_passed, strip_test, strip_is, fails_first, fails_head, fails_strip_len, fails_strip, fails_finish, writes}
@@ -8,7 +8,7 @@ use Rattle.tiff_encode.proofs.encoder.gray.TiffEncoder+W+TiffKindStandard.write_
 pub returns-in-Err-clause-page : goal.returns-in-Err-clause-page
 returns-in-Err-clause-page g c =
     let old = c.args.self.now in
-    let gray = is_gray g.C.ColorType.described in
+    let gray = is_plain_gray g.C.ColorType.described c.args.self.now in
     let width = c.args.width in
     let height = c.args.height in
     let samples = c.args.samples.now in
@@ -16,13 +16,13 @@ returns-in-Err-clause-page g c =
     let place : c.offset-place.result ≡ length old.bytes
     = c.offset-place.ensures.place ∙ c.self.invariant.at_end (ap (λ m. m.fault) c.self.view_is ∙ fresh) ∙ ap (λ m. length m.bytes) c.self.view_is in
     fails_first gray width height samples old c.in-Err.fault fresh
-    (sym (first_is gray width height samples old c.offset-place.result c.describes_gray-gray.result place c.describes_gray-gray.ensures)
+    (sym (first_is gray width height samples old c.offset-place.result c.is_plain-gray.result place c.is_plain-gray.ensures)
     ∙ c.in-Err.ensures)
 
 pub returns-in-Err-append_head-clause-page : goal.returns-in-Err-append_head-clause-page
 returns-in-Err-append_head-clause-page g c =
     let old = c.args.self.now in
-    let gray = is_gray g.C.ColorType.described in
+    let gray = is_plain_gray g.C.ColorType.described c.args.self.now in
     let width = c.args.width in
     let height = c.args.height in
     let samples = c.args.samples.now in
@@ -30,14 +30,14 @@ returns-in-Err-append_head-clause-page g c =
     let place : c.offset-place.result ≡ length old.bytes
     = c.offset-place.ensures.place ∙ c.self.invariant.at_end (ap (λ m. m.fault) c.self.view_is ∙ fresh) ∙ ap (λ m. length m.bytes) c.self.view_is in
     let first : FirstPassed gray width height samples old c.in-Ok.resolutions
-    = first_passed gray width height samples old c.offset-place.result c.in-Ok.resolutions c.describes_gray-gray.result
-    fresh place c.describes_gray-gray.ensures c.in-Ok.ensures.0 c.in-Ok.ensures.3 in
+    = first_passed gray width height samples old c.offset-place.result c.in-Ok.resolutions c.is_plain-gray.result
+    fresh place c.is_plain-gray.ensures c.in-Ok.ensures.0 c.in-Ok.ensures.3 in
     fails_head gray width height samples old c.in-Err-append_head.fault c.append_head.new.self first c.in-Err-append_head.ensures
 
 pub returns-in-Err-strip_len-clause-page : goal.returns-in-Err-strip_len-clause-page
 returns-in-Err-strip_len-clause-page g c =
     let old = c.args.self.now in
-    let gray = is_gray g.C.ColorType.described in
+    let gray = is_plain_gray g.C.ColorType.described c.args.self.now in
     let width = c.args.width in
     let height = c.args.height in
     let samples = c.args.samples.now in
@@ -45,15 +45,15 @@ returns-in-Err-strip_len-clause-page g c =
     let place : c.offset-place.result ≡ length old.bytes
     = c.offset-place.ensures.place ∙ c.self.invariant.at_end (ap (λ m. m.fault) c.self.view_is ∙ fresh) ∙ ap (λ m. length m.bytes) c.self.view_is in
     let first : FirstPassed gray width height samples old c.in-Ok.resolutions
-    = first_passed gray width height samples old c.offset-place.result c.in-Ok.resolutions c.describes_gray-gray.result
-    fresh place c.describes_gray-gray.ensures c.in-Ok.ensures.0 c.in-Ok.ensures.3 in
+    = first_passed gray width height samples old c.offset-place.result c.in-Ok.resolutions c.is_plain-gray.result
+    fresh place c.is_plain-gray.ensures c.in-Ok.ensures.0 c.in-Ok.ensures.3 in
     fails_strip_len gray width height samples old c.in-Err-strip_len.fault c.append_head.new.self first c.in-Ok-append_head.ensures.1
     (sym (strip_test gray width height samples old c.from-strip.result c.in-Ok.resolutions c.from-strip.ensures) ∙ c.in-Err-strip_len.ensures)
 
 pub returns-in-Err-append-clause-page : goal.returns-in-Err-append-clause-page
 returns-in-Err-append-clause-page g c =
     let old = c.args.self.now in
-    let gray = is_gray g.C.ColorType.described in
+    let gray = is_plain_gray g.C.ColorType.described c.args.self.now in
     let width = c.args.width in
     let height = c.args.height in
     let samples = c.args.samples.now in
@@ -61,8 +61,8 @@ returns-in-Err-append-clause-page g c =
     let place : c.offset-place.result ≡ length old.bytes
     = c.offset-place.ensures.place ∙ c.self.invariant.at_end (ap (λ m. m.fault) c.self.view_is ∙ fresh) ∙ ap (λ m. length m.bytes) c.self.view_is in
     let first : FirstPassed gray width height samples old c.in-Ok.resolutions
-    = first_passed gray width height samples old c.offset-place.result c.in-Ok.resolutions c.describes_gray-gray.result
-    fresh place c.describes_gray-gray.ensures c.in-Ok.ensures.0 c.in-Ok.ensures.3 in
+    = first_passed gray width height samples old c.offset-place.result c.in-Ok.resolutions c.is_plain-gray.result
+    fresh place c.is_plain-gray.ensures c.in-Ok.ensures.0 c.in-Ok.ensures.3 in
     let passed : StripPassed gray width height samples old c.in-Ok.resolutions
     = strip_passed gray width height samples old c.from-strip.result c.in-Ok.resolutions c.in-Ok-strip_len.len first c.from-strip.ensures
     c.in-Ok-strip_len.ensures.0 c.in-Ok-strip_len.ensures.1 c.in-Ok-strip_len.ensures.3 in
@@ -74,7 +74,7 @@ returns-in-Err-append-clause-page g c =
 pub returns-in-Ok-finish_page-clause-page : goal.returns-in-Ok-finish_page-clause-page
 returns-in-Ok-finish_page-clause-page g c =
     let old = c.args.self.now in
-    let gray = is_gray g.C.ColorType.described in
+    let gray = is_plain_gray g.C.ColorType.described c.args.self.now in
     let width = c.args.width in
     let height = c.args.height in
     let samples = c.args.samples.now in
@@ -82,8 +82,8 @@ returns-in-Ok-finish_page-clause-page g c =
     let place : c.offset-place.result ≡ length old.bytes
     = c.offset-place.ensures.place ∙ c.self.invariant.at_end (ap (λ m. m.fault) c.self.view_is ∙ fresh) ∙ ap (λ m. length m.bytes) c.self.view_is in
     let first : FirstPassed gray width height samples old c.in-Ok.resolutions
-    = first_passed gray width height samples old c.offset-place.result c.in-Ok.resolutions c.describes_gray-gray.result
-    fresh place c.describes_gray-gray.ensures c.in-Ok.ensures.0 c.in-Ok.ensures.3 in
+    = first_passed gray width height samples old c.offset-place.result c.in-Ok.resolutions c.is_plain-gray.result
+    fresh place c.is_plain-gray.ensures c.in-Ok.ensures.0 c.in-Ok.ensures.3 in
     let passed : StripPassed gray width height samples old c.in-Ok.resolutions
     = strip_passed gray width height samples old c.from-strip.result c.in-Ok.resolutions c.in-Ok-strip_len.len first c.from-strip.ensures
     c.in-Ok-strip_len.ensures.0 c.in-Ok-strip_len.ensures.1 c.in-Ok-strip_len.ensures.3 in
@@ -96,7 +96,7 @@ returns-in-Ok-finish_page-clause-page g c =
 pub returns-in-Err-finish_page-clause-page : goal.returns-in-Err-finish_page-clause-page
 returns-in-Err-finish_page-clause-page g c =
     let old = c.args.self.now in
-    let gray = is_gray g.C.ColorType.described in
+    let gray = is_plain_gray g.C.ColorType.described c.args.self.now in
     let width = c.args.width in
     let height = c.args.height in
     let samples = c.args.samples.now in
@@ -104,8 +104,8 @@ returns-in-Err-finish_page-clause-page g c =
     let place : c.offset-place.result ≡ length old.bytes
     = c.offset-place.ensures.place ∙ c.self.invariant.at_end (ap (λ m. m.fault) c.self.view_is ∙ fresh) ∙ ap (λ m. length m.bytes) c.self.view_is in
     let first : FirstPassed gray width height samples old c.in-Ok.resolutions
-    = first_passed gray width height samples old c.offset-place.result c.in-Ok.resolutions c.describes_gray-gray.result
-    fresh place c.describes_gray-gray.ensures c.in-Ok.ensures.0 c.in-Ok.ensures.3 in
+    = first_passed gray width height samples old c.offset-place.result c.in-Ok.resolutions c.is_plain-gray.result
+    fresh place c.is_plain-gray.ensures c.in-Ok.ensures.0 c.in-Ok.ensures.3 in
     let passed : StripPassed gray width height samples old c.in-Ok.resolutions
     = strip_passed gray width height samples old c.from-strip.result c.in-Ok.resolutions c.in-Ok-strip_len.len first c.from-strip.ensures
     c.in-Ok-strip_len.ensures.0 c.in-Ok-strip_len.ensures.1 c.in-Ok-strip_len.ensures.3 in

@@ -1,0 +1,245 @@
+-- How an image ends.
+use Rattle.std.proofs.Common.{◌≡◌, ℕ, ◌+◌, cond, List, [], ◌∷◌, ◌++◌, length, map, Result, Ok, Err, refl, ap, sym, ◌∙◌, subst, append_assoc}
+use Rattle.std.proofs.lemmas.Bool.{ne_eqb}
+use Rattle.std.proofs.lemmas.List.{map-append}
+use Rattle.std.specs.List.{flat_map}
+use Rattle.tiff_base.specs.declared.color.ChunkType.{ChunkType}
+use Rattle.tiff_base.specs.declared.color.ChunkType.TheVariants.{Strip, Tile}
+use Rattle.tiff_base.specs.declared.error.TiffError.{TiffError}
+use Rattle.tiff_base.specs.declared.tags.FileKind.{FileKind}
+use Rattle.tiff_base.specs.declared.tags.SampleFormat.{SampleFormat}
+use Rattle.tiff_base.specs.declared.tags.Tag.{Tag}
+use Rattle.tiff_base.specs.declared.tags.Tag.TheVariants as tag
+use Rattle.tiff_base.specs.Number.{le}
+use Rattle.tiff_value.specs.Data.{FieldData, Scalars, u16s, formats, data_of}
+use Rattle.tiff_value.specs.Values.{values_in}
+use Rattle.tiff_encode.specs.declared.encoder.endings.Part.TheVariants.{Place, Stored}
+use Rattle.tiff_encode.specs.Calls.{Offsets, repeated, chunk_tags, last_tags, write_tag, write_tags, finish, finish_image}
+use Rattle.tiff_encode.specs.Ends.{IsTold, Fails, Ends}
+use Rattle.tiff_encode.specs.LastTags.{count_tags, bits_tags, samples_tags, part_of, list_tags_of, list_tags, place_type, places_are}
+use Rattle.tiff_encode.specs.Machine.{Chunk, FileState, OpenDirectory, OpenImage, Writing}
+use Rattle.tiff_encode.specs.Tagging.{write_fields, fields_of}
+use Rattle.tiff_encode.specs.Value.{places}
+use Rattle.tiff_encode.specs.Written.{place_len}
+use Rattle.tiff_encode.proofs.Joining.{Adds, tag_adds, bind_told, bind_ends, bind_fails}
+use Rattle.tiff_encode.proofs.Tagging.{tags_are_fields, fields_adds, fields_end, fields_fail}
+
+-- the bytes of places
+pub places_bytes : (k kind : FileKind) (ns empty bytes : List ℕ) → kind ≡ k → empty ≡ [] → bytes ≡ empty ++ flat_map (le (place_len kind)) ns
+    → data_of (places k ns) ≡ values_in (place_type k) (length ns) bytes
+places_bytes k kind ns empty bytes q z b =
+    places_are k ns ∙ ap (values_in (place_type k) (length ns)) (sym (b ∙ (λ i. z i ++ flat_map (le (place_len (q i))) ns)))
+
+-- ---- two tags
+
+module _ (d : OpenDirectory) (t : Tag) (v : FieldData) where
+  -- the first fails, and so do all
+  pub first_fails : (rest : List (Tag × FieldData)) (e : TiffError) (old new : FileState) → Fails (write_tag d t (Ok v) old) e old new
+      → Fails (write_fields d ((t, v) ∷ rest) old) e old new
+  first_fails rest e old new h =
+      let others : OpenDirectory → Writing OpenDirectory = λ next. write_fields next rest in
+      bind_fails (write_tag d t (Ok v)) others e old new (tag_adds d t (Ok v) old) h
+
+  -- the first is written, and the second fails
+  pub second_fails : (next : OpenDirectory) (u : Tag) (w : FieldData) (e : TiffError) (old mid new : FileState)
+      → IsTold (write_tag d t (Ok v) old) (Ok next) mid → Fails (write_tag next u (Ok w) mid) e mid new
+      → Fails (write_fields d ((t, v) ∷ (u, w) ∷ []) old) e old new
+  second_fails next u w e old mid new h f =
+      let others : OpenDirectory → Writing OpenDirectory = λ n. write_fields n ((u, w) ∷ []) in
+      let last : OpenDirectory → Writing OpenDirectory = λ n. write_fields n [] in
+      let view : OpenDirectory → OpenDirectory = λ x. x in
+      bind_ends view (write_tag d t (Ok v)) others next (Err e) old mid new (tag_adds d t (Ok v) old) h
+      (bind_fails (write_tag next u (Ok w)) last e mid new (tag_adds next u (Ok w) mid) f)
+
+  -- both are written
+  pub second_told : (next after : OpenDirectory) (u : Tag) (w : FieldData) (old mid new : FileState)
+      → IsTold (write_tag d t (Ok v) old) (Ok next) mid → IsTold (write_tag next u (Ok w) mid) (Ok after) new
+      → IsTold (write_fields d ((t, v) ∷ (u, w) ∷ []) old) (Ok after) new
+  second_told next after u w old mid new h f =
+      let others : OpenDirectory → Writing OpenDirectory = λ n. write_fields n ((u, w) ∷ []) in
+      let last : OpenDirectory → Writing OpenDirectory = λ n. write_fields n [] in
+      bind_told (write_tag d t (Ok v)) others next (Ok after) old mid new h
+      (bind_told (write_tag next u (Ok w)) last after (Ok after) mid new new f (record { answer = refl; state = refl }))
+
+-- ---- what the samples are
+
+-- a tag as a field
+abbrev told_as : Tag × Scalars → Tag × FieldData
+told_as v = (v.0, data_of v.1)
+
+-- what the bits are given
+abbrev bits_data : List ℕ → ℕ → FieldData
+bits_data bits extra = data_of (u16s (repeated bits extra))
+
+-- the bits are not written
+pub bits_unwritten : (d : OpenDirectory) (bits said : List ℕ) (extra : ℕ) (e : TiffError) (old new : FileState) → said ≡ repeated bits extra
+    → Fails (write_tag d tag.BitsPerSample (Ok (data_of (u16s said))) old) e old new
+    → Fails (write_fields d (fields_of (bits_tags bits extra)) old) e old new
+bits_unwritten d bits said extra e old new q h =
+    first_fails d tag.BitsPerSample (bits_data bits extra) (fields_of (count_tags bits extra)) e old new
+    (subst (λ xs. Fails (write_tag d tag.BitsPerSample (Ok (data_of (u16s xs))) old) e old new) q h)
+
+-- they are, and their number is not
+pub count_unwritten : (d next : OpenDirectory) (bits said : List ℕ) (extra : ℕ) (e : TiffError) (old mid new : FileState)
+    → said ≡ repeated bits extra → (extra ≡ 0 → ⊥)
+    → IsTold (write_tag d tag.BitsPerSample (Ok (data_of (u16s said))) old) (Ok next) mid
+    → Fails (write_tag next tag.SamplesPerPixel (Ok (data_of (u16s ((length bits + extra) ∷ [])))) mid) e mid new
+    → Fails (write_fields d (fields_of (bits_tags bits extra)) old) e old new
+count_unwritten d next bits said extra e old mid new q some h f =
+    let count : Tag × Scalars = (tag.SamplesPerPixel, u16s ((length bits + extra) ∷ [])) in
+    subst (λ b. Fails (write_fields d (fields_of ((tag.BitsPerSample, u16s (repeated bits extra)) ∷ cond b [] (count ∷ []))) old) e old new)
+    (sym (ne_eqb extra 0 some))
+    (second_fails d tag.BitsPerSample (bits_data bits extra) next tag.SamplesPerPixel (data_of count.1) e old mid new
+    (subst (λ xs. IsTold (write_tag d tag.BitsPerSample (Ok (data_of (u16s xs))) old) (Ok next) mid) q h) f)
+
+module _ (d : OpenDirectory) (bits : List ℕ) (kinds : List SampleFormat) (extra : ℕ) where
+  -- the bits and the count, then the formats
+  abbrev formats_tag : Tag × Scalars
+  formats_tag = (tag.SampleFormat, formats (repeated kinds extra))
+
+  samples_split : fields_of (bits_tags bits extra) ++ told_as formats_tag ∷ [] ≡ fields_of (samples_tags bits kinds extra)
+  samples_split = sym (map-append told_as (bits_tags bits extra) (formats_tag ∷ []))
+
+  -- the first of them fail
+  pub bits_fail : (e : TiffError) (old new : FileState) → Fails (write_fields d (fields_of (bits_tags bits extra)) old) e old new
+      → Fails (write_fields d (fields_of (samples_tags bits kinds extra)) old) e old new
+  bits_fail e old new h =
+      subst (λ vs. Fails (write_fields d vs old) e old new) samples_split
+      (fields_fail d (tag.BitsPerSample, bits_data bits extra)
+      (fields_of (count_tags bits extra)) (told_as formats_tag ∷ []) e old new h)
+
+  -- the last one fails
+  pub formats_fail : (said : List SampleFormat) (next : OpenDirectory) (e : TiffError) (old mid new : FileState) → said ≡ repeated kinds extra
+      → IsTold (write_fields d (fields_of (bits_tags bits extra)) old) (Ok next) mid
+      → Fails (write_tag next tag.SampleFormat (Ok (data_of (formats said))) mid) e mid new
+      → Fails (write_fields d (fields_of (samples_tags bits kinds extra)) old) e old new
+  formats_fail said next e old mid new q h f =
+      let view : OpenDirectory → OpenDirectory = λ x. x in
+      subst (λ vs. Fails (write_fields d vs old) e old new) samples_split
+      (fields_end view d next (fields_of (bits_tags bits extra)) (told_as formats_tag ∷ []) (Err e) old mid new h
+      (first_fails next tag.SampleFormat (data_of formats_tag.1) [] e mid new
+      (subst (λ fs. Fails (write_tag next tag.SampleFormat (Ok (data_of (formats fs))) mid) e mid new) q f)))
+
+-- ---- the lists of the chunks
+
+-- their tags, by how the image is cut
+lists_split : (type : ChunkType) (a b : Scalars)
+    → ((list_tags_of type).0, data_of a) ∷ ((list_tags_of type).1, data_of b) ∷ [] ≡ fields_of (chunk_tags type a b)
+lists_split Strip a b = refl
+lists_split Tile a b = refl
+
+module _ (kind : FileKind) (type : ChunkType) (chunks : List Chunk) (tags : Tag × Tag) (q : tags ≡ list_tags_of type) where
+  abbrev at_places : FieldData
+  at_places = data_of (places kind (map (part_of Place) chunks))
+
+  abbrev stored_there : FieldData
+  stored_there = data_of (places kind (map (part_of Stored) chunks))
+
+  lists_are : (tags.0, at_places) ∷ (tags.1, stored_there) ∷ [] ≡ fields_of (list_tags kind type chunks)
+  lists_are =
+      ap (λ ts. (ts.0, at_places) ∷ (ts.1, stored_there) ∷ []) q
+      ∙ lists_split type (places kind (map (part_of Place) chunks)) (places kind (map (part_of Stored) chunks))
+
+  -- the first list fails
+  pub offsets_fail : (d : OpenDirectory) (e : TiffError) (old new : FileState) → Fails (write_tag d tags.0 (Ok at_places) old) e old new
+      → Fails (write_fields d (fields_of (list_tags kind type chunks)) old) e old new
+  offsets_fail d e old new h =
+      subst (λ vs. Fails (write_fields d vs old) e old new) lists_are
+      (first_fails d tags.0 at_places ((tags.1, stored_there) ∷ []) e old new h)
+
+  -- the second one fails
+  pub counts_fail : (d next : OpenDirectory) (e : TiffError) (old mid new : FileState)
+      → IsTold (write_tag d tags.0 (Ok at_places) old) (Ok next) mid → Fails (write_tag next tags.1 (Ok stored_there) mid) e mid new
+      → Fails (write_fields d (fields_of (list_tags kind type chunks)) old) e old new
+  counts_fail d next e old mid new h f =
+      subst (λ vs. Fails (write_fields d vs old) e old new) lists_are
+      (second_fails d tags.0 at_places next tags.1 stored_there e old mid new h f)
+
+  -- both are written
+  pub lists_told : (d next after : OpenDirectory) (old mid new : FileState)
+      → IsTold (write_tag d tags.0 (Ok at_places) old) (Ok next) mid → IsTold (write_tag next tags.1 (Ok stored_there) mid) (Ok after) new
+      → IsTold (write_fields d (fields_of (list_tags kind type chunks)) old) (Ok after) new
+  lists_told d next after old mid new h f =
+      subst (λ vs. IsTold (write_fields d vs old) (Ok after) new) lists_are
+      (second_told d tags.0 at_places next after tags.1 stored_there old mid new h f)
+
+-- ---- all last tags
+
+module _ (kind : FileKind) (i : OpenImage) where
+  -- what the samples are, and the lists
+  abbrev first_part : List (Tag × Scalars)
+  first_part = samples_tags i.colour.bits i.colour.formats (length i.extra)
+
+  abbrev last_part : List (Tag × Scalars)
+  last_part = list_tags kind i.form.chunk_type i.chunks
+
+  last_split : fields_of first_part ++ fields_of last_part ≡ fields_of (last_tags kind i)
+  unfolding last_tags
+  last_split =
+      sym (map-append told_as first_part last_part)
+      ∙ ap (λ vs. fields_of vs) (append_assoc (bits_tags i.colour.bits (length i.extra))
+      ((tag.SampleFormat, formats (repeated i.colour.formats (length i.extra))) ∷ []) last_part)
+
+  -- of what a call is given
+  module _ (d : OpenDirectory) (bits : List ℕ) (kinds : List SampleFormat) (extra : ℕ) (at : d ≡ i.directory) (b : bits ≡ i.colour.bits)
+      (f : kinds ≡ i.colour.formats) (x : extra ≡ length i.extra) where
+    first_given : (old : FileState)
+        → write_fields d (fields_of (samples_tags bits kinds extra)) old ≡ write_fields i.directory (fields_of first_part) old
+    first_given old j = write_fields (at j) (fields_of (samples_tags (b j) (f j) (x j))) old
+
+    -- what the samples are is not written
+    pub samples_unwritten : (e : TiffError) (old new : FileState)
+        → Fails (write_fields d (fields_of (samples_tags bits kinds extra)) old) e old new
+        → Fails (write_fields i.directory (fields_of (last_tags kind i)) old) e old new
+    samples_unwritten e old new h =
+        let others : List (Tag × Scalars) =
+        count_tags i.colour.bits (length i.extra) ++ (tag.SampleFormat, formats (repeated i.colour.formats (length i.extra))) ∷ [] in
+        subst (λ vs. Fails (write_fields i.directory vs old) e old new) last_split
+        (fields_fail i.directory (tag.BitsPerSample, bits_data i.colour.bits (length i.extra)) (fields_of others) (fields_of last_part) e old new
+        (subst (λ told. Fails told e old new) (first_given old) h))
+
+    -- it is, and the lists end
+    pub last_set : {X : Type 0} (view : X → OpenDirectory) (next : OpenDirectory) (k : FileKind) (type : ChunkType) (chunks : List Chunk)
+        (r : Result X TiffError) (old mid new : FileState) → kind ≡ k → type ≡ i.form.chunk_type → chunks ≡ i.chunks
+        → IsTold (write_fields d (fields_of (samples_tags bits kinds extra)) old) (Ok next) mid
+        → Ends view (write_fields next (fields_of (list_tags k type chunks)) mid) r mid new
+        → Ends view (write_fields i.directory (fields_of (last_tags kind i)) old) r old new
+    last_set view next k type chunks r old mid new q t c h e =
+        let lists : fields_of (list_tags k type chunks) ≡ fields_of last_part = λ j. fields_of (list_tags (sym q j) (t j) (c j)) in
+        subst (λ vs. Ends view (write_fields i.directory vs old) r old new) last_split
+        (fields_end view i.directory next (fields_of first_part) (fields_of last_part) r old mid new
+        (subst (λ told. IsTold told (Ok next) mid) (first_given old) h)
+        (subst (λ vs. Ends view (write_fields next vs mid) r mid new) lists e))
+
+-- ---- `finish` of an image
+
+module _ (i : OpenImage) (old : FileState) where
+  abbrev tags_last : List (Tag × Scalars)
+  tags_last = last_tags old.kind i
+
+  last_add : Adds (write_tags i.directory tags_last old) old
+  unfolding last_tags
+  last_add =
+      let others : List (Tag × Scalars) =
+      count_tags i.colour.bits (length i.extra)
+      ++ (tag.SampleFormat, formats (repeated i.colour.formats (length i.extra))) ∷ list_tags old.kind i.form.chunk_type i.chunks in
+      subst (λ told. Adds told old) (sym (tags_are_fields i.directory tags_last old))
+      (fields_adds i.directory (tag.BitsPerSample, bits_data i.colour.bits (length i.extra)) (fields_of others) old)
+
+  -- its last tags fail
+  pub image_unfinished : (e : TiffError) (new : FileState) → Fails (write_fields i.directory (fields_of tags_last) old) e old new
+      → Fails (finish_image i old) e old new
+  unfolding finish_image
+  image_unfinished e new h =
+      bind_fails (write_tags i.directory tags_last) finish e old new last_add
+      (subst (λ told. Fails told e old new) (sym (tags_are_fields i.directory tags_last old)) h)
+
+  -- they are written, and its directory ends
+  pub image_ends : {X : Type 0} (view : X → Offsets) (last given : OpenDirectory) (r : Result X TiffError) (mid new : FileState)
+      → IsTold (write_fields i.directory (fields_of tags_last) old) (Ok last) mid → given ≡ last → Ends view (finish given mid) r mid new
+      → Ends view (finish_image i old) r old new
+  unfolding finish_image
+  image_ends view last given r mid new h q e =
+      bind_ends view (write_tags i.directory tags_last) finish last r old mid new last_add
+      (subst (λ told. IsTold told (Ok last) mid) (sym (tags_are_fields i.directory tags_last old)) h)
+      (subst (λ d. Ends view (finish d mid) r mid new) q e)

@@ -1,0 +1,416 @@
+-- How two calls, one after another, end as one.
+use Rattle.std.proofs.Common.{◌≡◌, ℕ, ◌+◌, ◌≤◌, Bool, true, false, cond, List, [], ◌∷◌, ◌++◌, length, take, Option, Some, None, Result, Ok, Err, refl, ap, sym, ◌∙◌, inl, inr, subst, arith, append_assoc, append-nil}
+use Rattle.std.proofs.Math.Seq.{take-length, take-append-add}
+use Rattle.std.proofs.lemmas.List.{length-append, take-append-le}
+use Rattle.tiff_base.specs.declared.error.TiffError.{TiffError}
+use Rattle.tiff_base.specs.declared.error.TiffError.TheVariants.{OutOfMemory}
+use Rattle.tiff_base.specs.declared.tags.FileKind.{FileKind}
+use Rattle.tiff_base.specs.declared.tags.Tag.{Tag}
+use Rattle.tiff_base.specs.declared.tags.«Type».{«Type»}
+use Rattle.tiff_base.specs.Field.{Field}
+use Rattle.tiff_base.specs.Number.{le}
+use Rattle.tiff_base.specs.Told.{put}
+use Rattle.tiff_value.specs.Data.{FieldData}
+use Rattle.tiff_encode.specs.Written.{place_len, directory_bytes, padding}
+use Rattle.tiff_encode.specs.Model.{HandedField}
+use Rattle.tiff_encode.specs.Deeds.{Deed, Appended, Handed, Listed, Linked, all_appended}
+use Rattle.tiff_encode.specs.Laws.{AreAppending}
+use Rattle.tiff_encode.specs.Value.{is_long, field_at, data_in}
+use Rattle.tiff_encode.specs.Machine.{FileState, OpenDirectory, Told, Writing, answers, gives, does, behind, by_cause, going_on, ◌>>=◌}
+use Rattle.tiff_encode.specs.Steps.{grown}
+use Rattle.tiff_encode.specs.Causes.{end_of, begin_cause, write_tag_cause, write_entry_bytes_cause}
+use Rattle.tiff_encode.specs.Calls.{opened, pad, image_directory, extra_directory, with_field, placed, appends, write_entry, write_entry_bytes, write_tag}
+use Rattle.tiff_encode.specs.Ends.{IsTold, HasBegun, Fails, Ends}
+use Rattle.tiff_encode.proofs.Deeds.{deeds_append}
+use Rattle.tiff_encode.proofs.Leaving.{ok_err}
+
+-- ---- calls that append
+
+-- something is done where the call is not refused
+abbrev pub HasDeeds : {A : Type 0} → Result A TiffError → List Deed → Type 0
+HasDeeds (Ok x) [] = ⊥
+HasDeeds (Ok x) (deed ∷ deeds) = Unit {0}
+HasDeeds (Err e) deeds = Unit {0}
+
+-- What a call is told to append is all that it does to the file; it may do nothing.
+pub record IsAdding {A : Type 0} (told : Told A) (file : FileState) : Type 0 where
+  pub next : told.next ≡ grown file (all_appended file.kind told.deeds)
+  pub appending : AreAppending told.deeds
+
+-- The same, and it does something unless it is refused.
+pub record Adds {A : Type 0} (told : Told A) (file : FileState) : Type 0 where
+  pub next : told.next ≡ grown file (all_appended file.kind told.deeds)
+  pub appending : AreAppending told.deeds
+  pub some : HasDeeds told.answer told.deeds
+
+pub adding : {A : Type 0} (told : Told A) (file : FileState) → Adds told file → IsAdding told file
+adding told file a = record { next = a.next; appending = a.appending }
+
+-- ---- deeds, and more after them
+
+-- what both append
+pub appended_joined : (kind : FileKind) (deeds more : List Deed)
+    → all_appended kind (deeds ++ more) ≡ all_appended kind deeds ++ all_appended kind more
+appended_joined kind [] more = refl
+appended_joined kind (Appended xs ∷ deeds) more =
+    ap (λ ys. xs ++ ys) (appended_joined kind deeds more) ∙ sym (append_assoc xs (all_appended kind deeds) (all_appended kind more))
+appended_joined kind (Handed handed ∷ deeds) more = appended_joined kind deeds more
+appended_joined kind (Listed fields ∷ deeds) more =
+    ap (λ ys. directory_bytes kind fields ++ ys) (appended_joined kind deeds more)
+    ∙ sym (append_assoc (directory_bytes kind fields) (all_appended kind deeds) (all_appended kind more))
+appended_joined kind (Linked place target ∷ deeds) more = appended_joined kind deeds more
+
+-- a file that both were appended to
+pub appended_both : (kind : FileKind) (bytes : List ℕ) (deeds more : List Deed)
+    → (bytes ++ all_appended kind deeds) ++ all_appended kind more ≡ bytes ++ all_appended kind (deeds ++ more)
+appended_both kind bytes deeds more =
+    append_assoc bytes (all_appended kind deeds) (all_appended kind more) ∙ ap (λ ys. bytes ++ ys) (sym (appended_joined kind deeds more))
+
+-- how much both append
+appended_len : (kind : FileKind) (deeds more : List Deed)
+    → length (all_appended kind (deeds ++ more)) ≡ length (all_appended kind deeds) + length (all_appended kind more)
+appended_len kind deeds more =
+    ap (λ xs. length xs) (appended_joined kind deeds more) ∙ length-append (all_appended kind deeds) (all_appended kind more)
+
+-- the first, and a beginning of the others
+begun_both : (kind : FileKind) (bytes : List ℕ) (deeds more : List Deed) (count : ℕ)
+    → (bytes ++ all_appended kind deeds) ++ take count (all_appended kind more)
+    ≡ bytes ++ take (length (all_appended kind deeds) + count) (all_appended kind (deeds ++ more))
+begun_both kind bytes deeds more count =
+    append_assoc bytes (all_appended kind deeds) (take count (all_appended kind more))
+    ∙ ap (λ ys. bytes ++ ys) (sym (take-append-add (all_appended kind deeds) (all_appended kind more) count)
+    ∙ ap (take (length (all_appended kind deeds) + count)) (sym (appended_joined kind deeds more)))
+
+-- a beginning of the first is one of both
+begun_first : (kind : FileKind) (deeds more : List Deed) (count : ℕ) → count ≤ length (all_appended kind deeds)
+    → take count (all_appended kind deeds) ≡ take count (all_appended kind (deeds ++ more))
+begun_first kind deeds more count l =
+    sym (take-append-le count (all_appended kind deeds) (all_appended kind more) l)
+    ∙ ap (take count) (sym (appended_joined kind deeds more))
+
+-- none of them is a link
+appending_joined : (deeds more : List Deed) → AreAppending deeds → AreAppending more → AreAppending (deeds ++ more)
+appending_joined [] more a b = b
+appending_joined (Appended xs ∷ deeds) more a b = appending_joined deeds more a b
+appending_joined (Handed handed ∷ deeds) more a b = appending_joined deeds more a b
+appending_joined (Listed fields ∷ deeds) more a b = appending_joined deeds more a b
+appending_joined (Linked place target ∷ deeds) more a b = absurd a
+
+-- a link last is none of those that only append
+ends_torn : (before : List Deed) (place target : ℕ) → AreAppending (before ++ Linked place target ∷ []) → ⊥
+ends_torn [] place target a = a
+ends_torn (Appended xs ∷ before) place target a = ends_torn before place target a
+ends_torn (Handed handed ∷ before) place target a = ends_torn before place target a
+ends_torn (Listed fields ∷ before) place target a = ends_torn before place target a
+ends_torn (Linked p t ∷ before) place target a = a
+
+-- some are some with more after them
+more_begun : {A B : Type 0} (x : A) (r : Result B TiffError) (deeds more : List Deed)
+    → (let done : Result A TiffError = Ok x in HasDeeds done deeds) → HasBegun r (deeds ++ more)
+more_begun x (Ok y) deeds more h = tt
+more_begun x (Err e) [] more h = absurd h
+more_begun x (Err e) (deed ∷ deeds) more h = tt
+
+-- and so with some before them
+begun_behind : {A : Type 0} (r : Result A TiffError) (deeds more : List Deed) → HasBegun r more → HasBegun r (deeds ++ more)
+begun_behind (Ok x) deeds more h = tt
+begun_behind (Err e) [] more h = h
+begun_behind (Err e) (deed ∷ deeds) more h = tt
+
+more_deeds : {A B : Type 0} (x : A) (r : Result B TiffError) (deeds more : List Deed)
+    → (let done : Result A TiffError = Ok x in HasDeeds done deeds) → HasDeeds r (deeds ++ more)
+more_deeds x (Ok y) [] more h = absurd h
+more_deeds x (Ok y) (deed ∷ deeds) more h = tt
+more_deeds x (Err e) deeds more h = tt
+
+-- ---- one call after another
+
+module _ {X B : Type 0} (view : X → B) where
+  -- The second call ended in the file that the first had left: both end so.
+  behind_ends : (deeds : List Deed) (told : Told B) (r : Result X TiffError) (old new : FileState)
+      → Ends view told r (grown old (all_appended old.kind deeds)) new → Ends view (behind deeds told) r old new
+  behind_ends deeds told (Ok x) old new h = record { answer = h.answer; state = h.state }
+  behind_ends deeds told (Err e) old new h =
+      let mid : FileState = grown old (all_appended old.kind deeds) in
+      let n : ℕ = length (all_appended old.kind deeds) in
+      elim h as (λ _. Fails (behind deeds told) e old new) [
+        | inl t ↦ inl (record { answer = t.answer; state = t.state })
+        | inr h ↦ elim h [
+          | inl c ↦ inr (inl (record {
+            fresh = c.fresh;
+            fault = c.fault;
+            answer = c.answer;
+            count = n + c.count;
+            within = (let w = c.within in let l = appended_len old.kind deeds told.deeds in omega (arith, w, l));
+            state = c.state ∙ ap (λ bytes. record old { bytes = bytes; failures = old.failures + 1; fault = Some c.fault }) (begun_both old.kind old.bytes deeds told.deeds c.count);
+          }))
+          | inr h ↦ elim h [
+            | inl t ↦ inr (inr (inl (record {
+              fresh = t.fresh;
+              fault = t.fault;
+              answer = t.answer;
+              before = deeds ++ t.before;
+              place = t.place;
+              target = t.target;
+              last = ap (λ ds. deeds ++ ds) t.last ∙ sym (append_assoc deeds t.before (Linked t.place t.target ∷ []));
+              count = t.count;
+              within = t.within;
+              state = t.state ∙ ap (λ bytes. record old { bytes = put bytes t.place (take t.count (le (place_len old.kind) t.target)); failures = old.failures + 1; fault = Some t.fault }) (appended_both old.kind old.bytes deeds t.before);
+            })))
+            | inr s ↦ inr (inr (inr (record {
+              fresh = s.fresh;
+              fault = s.fault;
+              begun = begun_behind told.answer deeds told.deeds s.begun;
+              count = n + s.count;
+              within = (let w = s.within in let l = appended_len old.kind deeds told.deeds in omega (arith, w, l));
+              state = s.state ∙ ap (λ bytes. record old { bytes = bytes }) (begun_both old.kind old.bytes deeds told.deeds s.count);
+            })))
+          ]
+        ]
+      ]
+
+module _ {A B : Type 0} (rest : A → Writing B) where
+  -- what was told of the first
+  abbrev first_told : Result A TiffError → List Deed → FileState → Told A
+  first_told r deeds next = record { answer = r; deeds = deeds; next = next }
+
+  -- a fault of the first as one of both
+  abbrev fault_or : TiffError → Result A TiffError → Result B TiffError
+  fault_or e (Ok x) = Err e
+  fault_or e (Err f) = Err f
+
+  -- The first fails, and so do both.
+  first_fails : (r : Result A TiffError) (deeds : List Deed) (next : FileState) (e : TiffError) (old new : FileState)
+      → AreAppending deeds → HasDeeds r deeds → Fails (first_told r deeds next) e old new → Fails (going_on r deeds next rest) e old new
+  first_fails (Err f) deeds next e old new a d h =
+      let told : Told B = record { answer = Err f; deeds = deeds; next = next } in
+      elim h as (λ _. Fails told e old new) [
+        | inl t ↦ inl (record { answer = ap (fault_or e) t.answer; state = t.state })
+        | inr h ↦ elim h [
+          | inl c ↦ inr (inl c)
+          | inr h ↦ elim h [
+            | inl t ↦ inr (inr (inl t))
+            | inr s ↦ inr (inr (inr (record {
+              fresh = s.fresh;
+              fault = s.fault;
+              begun = s.begun;
+              count = s.count;
+              within = s.within;
+              state = s.state;
+            })))
+          ]
+        ]
+      ]
+  first_fails (Ok x) deeds next e old new a d h =
+      let second : Told B = rest x next in
+      elim h as (λ _. Fails (behind deeds second) e old new) [
+        | inl t ↦ absurd (ok_err t.answer)
+        | inr h ↦ elim h [
+          | inl c ↦ inr (inl (record {
+            fresh = c.fresh;
+            fault = c.fault;
+            answer = c.answer;
+            count = c.count;
+            within = (let w = c.within in let l = appended_len old.kind deeds second.deeds in omega (arith, w, l));
+            state = c.state ∙ ap (λ xs. record old { bytes = old.bytes ++ xs; failures = old.failures + 1; fault = Some c.fault }) (begun_first old.kind deeds second.deeds c.count (let w = c.within in omega (arith, w)));
+          }))
+          | inr h ↦ elim h [
+            | inl t ↦ absurd (ends_torn t.before t.place t.target (subst (λ ds. AreAppending ds) t.last a))
+            | inr s ↦ inr (inr (inr (record {
+              fresh = s.fresh;
+              fault = s.fault;
+              begun = more_begun x second.answer deeds second.deeds d;
+              count = s.count;
+              within = (let w = s.within in let l = appended_len old.kind deeds second.deeds in omega (arith, w, l));
+              state = s.state ∙ ap (λ xs. record old { bytes = old.bytes ++ xs }) (begun_first old.kind deeds second.deeds s.count s.within);
+            })))
+          ]
+        ]
+      ]
+
+  -- The second is told on from where the first left the file.
+  after_told : (r : Result A TiffError) (deeds : List Deed) (next : FileState) (x : A) (mid new : FileState) (s : Result B TiffError)
+      → r ≡ Ok x → mid ≡ next → IsTold (rest x mid) s new → IsTold (going_on r deeds next rest) s new
+  after_told r deeds next x mid new s a m h =
+      let t : IsTold (rest x next) s new = subst (λ f. IsTold (rest x f) s new) m h in
+      let done : IsTold (behind deeds (rest x next)) s new = record { answer = t.answer; state = t.state } in
+      subst (λ q. IsTold (going_on q deeds next rest) s new) (sym a) done
+
+  -- and ends so
+  after_ends : {X : Type 0} (view : X → B) (r : Result A TiffError) (deeds : List Deed) (next : FileState) (x : A) (old mid new : FileState)
+      (s : Result X TiffError) → next ≡ grown old (all_appended old.kind deeds) → r ≡ Ok x → mid ≡ next → Ends view (rest x mid) s mid new
+      → Ends view (going_on r deeds next rest) s old new
+  after_ends view r deeds next x old mid new s n a m h =
+      let at_next : Ends view (rest x next) s next new = subst (λ f. Ends view (rest x f) s f new) m h in
+      let at_grown : Ends view (rest x next) s (grown old (all_appended old.kind deeds)) new =
+      subst (λ f. Ends view (rest x next) s f new) n at_next in
+      let P : Result A TiffError → Type 0 = λ q. Ends view (going_on q deeds next rest) s old new in
+      subst P (sym a) (behind_ends view deeds (rest x next) s old new at_grown)
+
+  -- There is no memory before the second is begun.
+  after_short : (r : Result A TiffError) (deeds : List Deed) (next : FileState) (x : A) (e : TiffError) (old mid : FileState)
+      → next ≡ grown old (all_appended old.kind deeds) → HasDeeds r deeds → r ≡ Ok x → mid ≡ next → mid.fault ≡ None → e ≡ OutOfMemory
+      → Fails (going_on r deeds next rest) e old mid
+  after_short (Err f) deeds next x e old mid n d a m f0 q = absurd (ok_err (sym a))
+  after_short (Ok y) deeds next x e old mid n d a m f q =
+      let second : Told B = rest y next in
+      let all : List ℕ = all_appended old.kind deeds in
+      inr (inr (inr (record {
+        fresh = sym (ap (λ file. file.fault) (m ∙ n)) ∙ f;
+        fault = q;
+        begun = more_begun y second.answer deeds second.deeds d;
+        count = length all;
+        within = (let l = appended_len old.kind deeds second.deeds in omega (arith, l));
+        state = m ∙ n ∙ ap (grown old) (sym (take-length all) ∙ begun_first old.kind deeds second.deeds (length all) (omega arith));
+      })))
+
+  -- Both append.
+  joined_adding : (r : Result A TiffError) (deeds : List Deed) (next : FileState) (old : FileState) → IsAdding (first_told r deeds next) old
+      → ((x : A) → r ≡ Ok x → IsAdding (rest x next) next) → IsAdding (going_on r deeds next rest) old
+  joined_adding (Err e) deeds next old a b = record { next = a.next; appending = a.appending }
+  joined_adding (Ok x) deeds next old a b =
+      let second : Told B = rest x next in
+      let at_grown : IsAdding second (grown old (all_appended old.kind deeds)) = subst (λ f. IsAdding second f) a.next (b x refl) in
+      record {
+        next = at_grown.next ∙ ap (λ bytes. record old { bytes = bytes }) (appended_both old.kind old.bytes deeds second.deeds);
+        appending = appending_joined deeds second.deeds a.appending at_grown.appending;
+      }
+
+  joined_some : (r : Result A TiffError) (deeds : List Deed) (next : FileState) → HasDeeds r deeds
+      → HasDeeds (going_on r deeds next rest).answer (going_on r deeds next rest).deeds
+  joined_some (Err e) deeds next d = tt
+  joined_some (Ok x) deeds next d = let second : Told B = rest x next in more_deeds x second.answer deeds second.deeds d
+
+-- The first call is done, and the second is told to answer so: both are.
+pub bind_told : {A B : Type 0} (call : Writing A) (rest : A → Writing B) (x : A) (r : Result B TiffError) (old mid new : FileState)
+    → IsTold (call old) (Ok x) mid → IsTold (rest x mid) r new → IsTold ((call >>= rest) old) r new
+bind_told call rest x r old mid new h t =
+    after_told rest (call old).answer (call old).deeds (call old).next x mid new r h.answer h.state t
+
+-- The first call is done, and the second ends: both end so.
+pub bind_ends : {X A B : Type 0} (view : X → B) (call : Writing A) (rest : A → Writing B) (x : A) (r : Result X TiffError)
+    (old mid new : FileState) → Adds (call old) old → IsTold (call old) (Ok x) mid → Ends view (rest x mid) r mid new
+    → Ends view ((call >>= rest) old) r old new
+bind_ends view call rest x r old mid new a h e =
+    after_ends rest view (call old).answer (call old).deeds (call old).next x old mid new r a.next h.answer h.state e
+
+-- The same of a first call that may do nothing.
+pub bind_ends_adding : {X A B : Type 0} (view : X → B) (call : Writing A) (rest : A → Writing B) (x : A) (r : Result X TiffError)
+    (old mid new : FileState) → IsAdding (call old) old → IsTold (call old) (Ok x) mid → Ends view (rest x mid) r mid new
+    → Ends view ((call >>= rest) old) r old new
+bind_ends_adding view call rest x r old mid new a h e =
+    after_ends rest view (call old).answer (call old).deeds (call old).next x old mid new r a.next h.answer h.state e
+
+-- The first call fails, and so do both.
+pub bind_fails : {A B : Type 0} (call : Writing A) (rest : A → Writing B) (e : TiffError) (old new : FileState) → Adds (call old) old
+    → Fails (call old) e old new → Fails ((call >>= rest) old) e old new
+bind_fails call rest e old new a h =
+    first_fails rest (call old).answer (call old).deeds (call old).next e old new a.appending a.some h
+
+-- The first call is done, and there is no memory before the second is begun.
+pub bind_short : {A B : Type 0} (call : Writing A) (rest : A → Writing B) (x : A) (e : TiffError) (old mid : FileState)
+    → Adds (call old) old → IsTold (call old) (Ok x) mid → mid.fault ≡ None → e ≡ OutOfMemory → Fails ((call >>= rest) old) e old mid
+bind_short call rest x e old mid a h f q =
+    after_short rest (call old).answer (call old).deeds (call old).next x e old mid a.next a.some h.answer h.state f q
+
+-- Both append.
+pub bind_adding : {A B : Type 0} (call : Writing A) (rest : A → Writing B) (old : FileState) → IsAdding (call old) old
+    → ((x : A) → (call old).answer ≡ Ok x → IsAdding (rest x (call old).next) (call old).next) → IsAdding ((call >>= rest) old) old
+bind_adding call rest old a b = joined_adding rest (call old).answer (call old).deeds (call old).next old a b
+
+-- and do something where the first does
+pub bind_adds : {A B : Type 0} (call : Writing A) (rest : A → Writing B) (old : FileState) → Adds (call old) old
+    → ((x : A) → (call old).answer ≡ Ok x → IsAdding (rest x (call old).next) (call old).next) → Adds ((call >>= rest) old) old
+bind_adds call rest old a b =
+    let both : IsAdding ((call >>= rest) old) old = bind_adding call rest old (adding (call old) old a) b in
+    record {
+      next = both.next;
+      appending = both.appending;
+      some = joined_some rest (call old).answer (call old).deeds (call old).next a.some;
+    }
+
+-- ---- which calls append
+
+-- an answer does nothing
+pub answers_adding : {A : Type 0} (r : Result A TiffError) (file : FileState) → IsAdding (answers r file) file
+answers_adding r file = record { next = ap (λ bytes. record file { bytes = bytes }) (sym (append-nil file.bytes)); appending = tt }
+
+-- nor does a refusal
+pub refusal_adds : {A : Type 0} (e : TiffError) (file : FileState) → let told : Told A = answers (Err e) file in Adds told file
+refusal_adds e file =
+    record { next = ap (λ bytes. record file { bytes = bytes }) (sym (append-nil file.bytes)); appending = tt; some = tt }
+
+-- a call that may have a cause to be refused
+pub caused_adds : {A : Type 0} (cause : Option TiffError) (call : Writing A) (file : FileState) → Adds (call file) file
+    → Adds (by_cause cause call file) file
+caused_adds None call file a = a
+caused_adds (Some e) call file a = refusal_adds e file
+
+-- some deeds
+pub does_adds : (deed : Deed) (deeds : List Deed) (file : FileState) → AreAppending (deed ∷ deeds) → Adds (does (deed ∷ deeds) file) file
+does_adds deed deeds file a = record {
+  next = ap (λ bytes. record file { bytes = bytes }) (deeds_append file.kind file.bytes (deed ∷ deeds) a);
+  appending = a;
+  some = tt;
+}
+
+-- and an answer
+done_adds : {A : Type 0} (x : A) (deed : Deed) (deeds : List Deed) (file : FileState) → AreAppending (deed ∷ deeds)
+    → Adds ((does (deed ∷ deeds) >>= (λ _. gives x)) file) file
+done_adds x deed deeds file a =
+    let answer : Unit {0} → Writing _ = λ _. gives x in
+    bind_adds (does (deed ∷ deeds)) answer file (does_adds deed deeds file a) (λ _ _. answers_adding (Ok x) (does (deed ∷ deeds) file).next)
+
+-- zeros up to a multiple of 4
+pub pad_adds : (file : FileState) → Adds (pad file) file
+pad_adds file = does_adds (Appended (padding (end_of file))) [] file tt
+
+-- a directory is opened
+opens_adds : (cause : Option TiffError) (d : OpenDirectory) (file : FileState) → Adds (by_cause cause (pad >>= (λ _. gives d)) file) file
+opens_adds cause d file =
+    caused_adds cause (pad >>= (λ _. gives d)) file (done_adds d (Appended (padding (end_of file))) [] file tt)
+
+pub begin_adds : (file : FileState) → Adds (image_directory file) file
+unfolding image_directory
+begin_adds file = opens_adds (begin_cause file) (opened (Some file.chain) true) file
+
+pub extra_adds : (file : FileState) → Adds (extra_directory file) file
+unfolding extra_directory
+extra_adds file = opens_adds (begin_cause file) (opened None false) file
+
+-- bytes are appended
+pub appends_adds : (bytes : List ℕ) (file : FileState) → Adds (appends bytes file) file
+appends_adds bytes file = done_adds (end_of file) (Appended bytes) [] file tt
+
+-- a value is handed in, by whether it is long
+handed_adds : (long : Bool) (bytes : List ℕ) (h : HandedField) (field : Field) (file : FileState)
+    → Adds ((does (cond long (Appended bytes ∷ Handed h ∷ []) (Handed h ∷ [])) >>= (λ _. gives field)) file) file
+handed_adds true bytes h field file = done_adds field (Appended bytes) (Handed h ∷ []) file tt
+handed_adds false bytes h field file = done_adds field (Handed h) [] file tt
+
+pub placed_adds : (value : FieldData) (file : FileState) → Adds (placed value file) file
+placed_adds value file =
+    let field : Field = field_at file.kind (end_of file) value in
+    handed_adds (is_long file.kind value) value.bytes (record { field = field; bytes = value.bytes }) field file
+
+-- `write_entry`
+pub entry_adds : (value : Result FieldData TiffError) (file : FileState) → Adds (write_entry value file) file
+unfolding write_entry
+entry_adds (Ok value) file =
+    caused_adds (write_tag_cause file (Ok value)) (answers (Ok value) >>= placed) file (placed_adds value file)
+entry_adds (Err e) file =
+    caused_adds (write_tag_cause file (Err e)) (answers (Err e) >>= placed) file (refusal_adds e file)
+
+-- `write_entry_bytes`
+pub entry_bytes_adds : (type : «Type») (bytes : List ℕ) (file : FileState) → Adds (write_entry_bytes type bytes file) file
+unfolding write_entry_bytes
+entry_bytes_adds type bytes file =
+    let value : FieldData = data_in type bytes in
+    caused_adds (write_entry_bytes_cause file type bytes) (placed value) file (placed_adds value file)
+
+-- `write_tag`
+pub tag_adds : (d : OpenDirectory) (t : Tag) (value : Result FieldData TiffError) (file : FileState) → Adds (write_tag d t value file) file
+unfolding write_tag
+tag_adds d t value file =
+    bind_adds (write_entry value) (λ field. gives (with_field d t field)) file (entry_adds value file)
+    (λ field _. answers_adding (Ok (with_field d t field)) (write_entry value file).next)

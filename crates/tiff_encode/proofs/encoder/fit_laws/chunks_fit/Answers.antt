@@ -1,0 +1,5 @@
+use Rattle.tiff_encode.proofs.ImageFits.{chunks_fit}
+use Rattle.tiff_encode.proofs.encoder.fit_laws.chunks_fit.Goals as goal
+
+pub returns : goal.returns
+returns c = chunks_fit

@@ -1,0 +1,5 @@
+use Rattle.tiff_encode.proofs.ImageFits.{settings_fit}
+use Rattle.tiff_encode.proofs.encoder.fit_laws.settings_fit.Goals as goal
+
+pub returns : goal.returns
+returns c = settings_fit

@@ -1,0 +1,5 @@
+use Rattle.tiff_encode.proofs.OpenHeld.{grown_open}
+use Rattle.tiff_encode.proofs.encoder.image_laws.grown_open.Goals as goal
+
+pub returns : goal.returns
+returns c = grown_open

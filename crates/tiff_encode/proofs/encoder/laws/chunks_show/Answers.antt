@@ -1,0 +1,5 @@
+use Rattle.tiff_encode.proofs.ChunksShow.{chunks_show}
+use Rattle.tiff_encode.proofs.encoder.laws.chunks_show.Goals as goal
+
+pub returns : goal.returns
+returns c = chunks_show

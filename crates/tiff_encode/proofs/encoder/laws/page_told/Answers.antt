@@ -1,0 +1,5 @@
+use Rattle.tiff_encode.proofs.PageTold.{page_told}
+use Rattle.tiff_encode.proofs.encoder.laws.page_told.Goals as goal
+
+pub returns : goal.returns
+returns c = page_told

@@ -1,0 +1,73 @@
+-- The last tags of an image, part by part (this project's).
+use Rattle.std.specs.Prelude.{◌≡◌, ℕ, ◌+◌, ◌==◌, List, [], ◌∷◌, ◌++◌, length, map, replicate, Ok, if◌then◌else◌}
+use Rattle.std.proofs.Common.{refl}
+use Rattle.tiff_base.specs.declared.color.ChunkType.{ChunkType}
+use Rattle.tiff_base.specs.declared.color.ChunkType.TheVariants.{Strip, Tile}
+use Rattle.tiff_base.specs.declared.tags.FileKind.{FileKind}
+use Rattle.tiff_base.specs.declared.tags.FileKind.TheVariants.{Classic, Big}
+use Rattle.tiff_base.specs.declared.tags.SampleFormat.{SampleFormat}
+use Rattle.tiff_base.specs.declared.tags.Tag.{Tag}
+use Rattle.tiff_base.specs.declared.tags.Tag.TheVariants as tag
+use Rattle.tiff_base.specs.declared.tags.«Type».{«Type»}
+use Rattle.tiff_base.specs.declared.tags.«Type».TheVariants.{LONG, LONG8}
+use Rattle.tiff_base.specs.Number.{le}
+use Rattle.tiff_value.specs.Data.{Scalars, u16s, formats, data_by, data_of}
+use Rattle.tiff_value.specs.ValueLaws.{each_whole}
+use Rattle.tiff_value.specs.Values.{IsValue}
+use Rattle.tiff_encode.specs.declared.encoder.endings.Part.{Part}
+use Rattle.tiff_encode.specs.declared.encoder.endings.Part.TheVariants.{Place, Stored}
+use Rattle.tiff_encode.specs.Machine.{Chunk}
+use Rattle.tiff_encode.specs.Value.{places}
+use Rattle.tiff_encode.specs.Written.{place_len}
+use Rattle.tiff_encode.specs.Calls.{repeated, chunk_tags}
+
+-- the first of a list so many times, if it has one
+abbrev pub more_of : {A : Type 0} → List A → ℕ → List A
+more_of [] count = []
+more_of (x ∷ xs) count = replicate count x
+
+-- how many samples a pixel has, where some are extra
+abbrev pub count_tags : List ℕ → ℕ → List (Tag × Scalars)
+count_tags bits extra = if extra == 0 then [] else (tag.SamplesPerPixel, u16s ((length bits + extra) ∷ [])) ∷ []
+
+-- the bits of each sample, and their number
+abbrev pub bits_tags : List ℕ → ℕ → List (Tag × Scalars)
+bits_tags bits extra = (tag.BitsPerSample, u16s (repeated bits extra)) ∷ count_tags bits extra
+
+-- the same, and the format of each sample
+abbrev pub samples_tags : List ℕ → List SampleFormat → ℕ → List (Tag × Scalars)
+samples_tags bits kinds extra = bits_tags bits extra ++ (tag.SampleFormat, formats (repeated kinds extra)) ∷ []
+
+-- a number of a chunk
+abbrev pub part_of : Part → Chunk → ℕ
+part_of Place chunk = chunk.place
+part_of Stored chunk = chunk.stored
+
+-- the tags of the lists of chunks
+abbrev pub list_tags_of : ChunkType → Tag × Tag
+list_tags_of Strip = (tag.StripOffsets, tag.StripByteCounts)
+list_tags_of Tile = (tag.TileOffsets, tag.TileByteCounts)
+
+-- where the chunks stand, and how many bytes each has there
+abbrev pub list_tags : FileKind → ChunkType → List Chunk → List (Tag × Scalars)
+list_tags kind type chunks =
+    chunk_tags type (places kind (map (λ chunk. chunk.place) chunks)) (places kind (map (λ chunk. chunk.stored) chunks))
+
+-- ---- places as values
+
+-- the type of a place
+abbrev pub place_type : FileKind → «Type»
+place_type Classic = LONG
+place_type Big = LONG8
+
+-- places have as many bytes as their count and their type say
+pub places_value : (kind : FileKind) (ns : List ℕ) → IsValue (place_type kind) (length ns) (Ok (data_of (places kind ns)))
+unfolding data_of
+places_value Classic ns = (refl, refl, each_whole 4 (le 4) (λ n. refl) ns)
+places_value Big ns = (refl, refl, each_whole 8 (le 8) (λ n. refl) ns)
+
+-- and these bytes
+pub places_are : (kind : FileKind) (ns : List ℕ) → data_of (places kind ns) ≡ data_by (place_type kind) (le (place_len kind)) ns
+unfolding data_of
+places_are Classic ns = refl
+places_are Big ns = refl

@@ -1,0 +1,164 @@
+-- An image that is open in a file in which a model stands, and the laws by which its calls keep it, and its end shows it
+-- (this project's).
+use Rattle.std.specs.Prelude.{◌≡◌, ℕ, ◌^◌, ◌-◌, ◌<◌, ◌≤◌, ◌⊎◌, false, List, [], ◌∷◌, ◌++◌, length, get_or, slice_index, Some, None, Result, Ok}
+use Rattle.std.specs.List.{list_any}
+use Rattle.tiff_base.specs.declared.color.ChunkType.{ChunkType}
+use Rattle.tiff_base.specs.declared.color.ChunkType.TheVariants.{Strip, Tile}
+use Rattle.tiff_base.specs.declared.error.TiffError.{TiffError}
+use Rattle.tiff_base.specs.declared.tags.CompressionMethod.TheVariants as method
+use Rattle.tiff_base.specs.declared.tags.ExtraSamples.{ExtraSamples}
+use Rattle.tiff_base.specs.declared.tags.FileKind.{FileKind}
+use Rattle.tiff_base.specs.declared.tags.Predictor.TheVariants as predictor
+use Rattle.tiff_base.specs.declared.tags.ResolutionUnit.{ResolutionUnit}
+use Rattle.tiff_base.specs.declared.tags.Tag.{Tag}
+use Rattle.tiff_base.specs.declared.tags.Tag.TheVariants as tag
+use Rattle.tiff_base.specs.Field.{Field}
+use Rattle.tiff_base.specs.Tags.{tag_number}
+use Rattle.tiff_value.specs.declared.encoder.colortype.ColorTypeName.{ColorTypeName}
+use Rattle.tiff_value.specs.Buffer.{BufferRecord}
+use Rattle.tiff_value.specs.ColorTypes.{colour_type, inner_size}
+use Rattle.tiff_value.specs.Data.{FieldData, u16s, u32s, methods, interpretations, predictors}
+use Rattle.tiff_value.specs.Packed.{IsStored}
+use Rattle.tiff_page.specs.Counts.{all_chunks}
+use Rattle.tiff_encode.specs.Written.{place_len}
+use Rattle.tiff_encode.specs.Model.{In, Model, Stands, Grows}
+use Rattle.tiff_encode.specs.Deeds.{model_after}
+use Rattle.tiff_encode.specs.Machine.{FileState, OpenDirectory, Chunk, OpenImage, Told, Writing}
+use Rattle.tiff_encode.specs.Drawn.{IsSide, IsForm}
+use Rattle.tiff_encode.specs.Chunks.{all_samples, image_page, chunk_samples, is_left}
+use Rattle.tiff_encode.specs.Causes.{end_of}
+use Rattle.tiff_encode.specs.Calls as calls
+use Rattle.tiff_encode.specs.Calls.{Offsets}
+use Rattle.tiff_encode.specs.Stored.{chunk_bytes}
+use Rattle.tiff_encode.specs.Shows.{Shows}
+use Rattle.tiff_encode.specs.Held.{is_page_tag, Given, Holds, chroma_given, planar_given, ExtraGiven, samples_of, StandsFor, image_of}
+
+-- ---- what an open image has
+
+-- how it is cut
+abbrev pub TellsForm : ChunkType → OpenImage → Given → Type 0
+TellsForm Strip i given = given (tag_number tag.RowsPerStrip) ≡ Some (u32s (i.form.chunk_height ∷ []))
+TellsForm Tile i given =
+    (given (tag_number tag.TileWidth) ≡ Some (u32s (i.form.chunk_width ∷ [])))
+    × (given (tag_number tag.TileLength) ≡ Some (u32s (i.form.chunk_height ∷ [])))
+
+-- The values of the tags of a page are those that an image says of itself before its end: all but the bits and the
+-- formats of its samples, and where its chunks stand. Extra samples are not counted yet.
+pub record TellsOpen (i : OpenImage) (given : Given) : Type 0 where
+  pub width : given (tag_number tag.ImageWidth) ≡ Some (u32s (i.width ∷ []))
+  pub height : given (tag_number tag.ImageLength) ≡ Some (u32s (i.height ∷ []))
+  pub packed_by : given (tag_number tag.Compression) ≡ Some (methods (i.method ∷ []))
+  pub interpretation : given (tag_number tag.PhotometricInterpretation) ≡ Some (interpretations (i.colour.interpretation ∷ []))
+  pub samples : given (tag_number tag.SamplesPerPixel) ≡ Some (u16s (length i.colour.bits ∷ []))
+  pub predicted_by : given (tag_number tag.Predictor) ≡ Some (predictors (i.predictor ∷ []))
+  pub planar : given (tag_number tag.PlanarConfiguration) ≡ planar_given i.form.planar
+  pub extra : ExtraGiven i.extra (given (tag_number tag.ExtraSamples))
+  pub subsampling : given (tag_number tag.ChromaSubsampling) ≡ chroma_given i.colour.interpretation
+  pub form : TellsForm i.form.chunk_type i given
+  pub no_strips : given (tag_number tag.StripOffsets) ≡ None
+  pub no_strip_counts : given (tag_number tag.StripByteCounts) ≡ None
+  pub no_tiles : given (tag_number tag.TileOffsets) ≡ None
+  pub no_tile_counts : given (tag_number tag.TileByteCounts) ≡ None
+
+-- The sides, the samples, the packing and the cut of an image are such as an encoder makes.
+pub record IsOpen (i : OpenImage) : Type 0 where
+  pub name : ColorTypeName
+  pub colour : i.colour ≡ colour_type name
+  pub size : i.size ≡ inner_size name
+  pub wide : IsSide i.width
+  pub high : IsSide i.height
+  pub few : all_samples i < 2 ^ 16
+  pub packed_by : (i.method ≡ method.None) ⊎ (i.method ≡ method.PackBits)
+  pub predicted_by : (i.predictor ≡ predictor.None) ⊎ (i.predictor ≡ predictor.Horizontal)
+  pub form : IsForm i.width i.form
+
+-- The chunks of an image so far were handed these samples: as many as each has, numbers of the bytes of a sample; and
+-- regions of the model stand for them.
+pub record HoldsChunks (kind : FileKind) (m : Model) (i : OpenImage) (samples : List (List ℕ)) : Type 0 where
+  pub as_many : length samples ≡ length i.chunks
+  pub within : length i.chunks ≤ all_chunks (image_page i)
+  pub few : 0 < length i.chunks → all_chunks (image_page i) < 2 ^ 32
+  pub lengths : (k : ℕ) → k < length i.chunks → length (samples_of samples k) ≡ chunk_samples (image_page i) k
+  pub small : (k n : ℕ) → get_or (samples_of samples k) n 0 < 256 ^ i.size
+  pub regions : (k : ℕ) → k < length i.chunks
+      → (stored : List ℕ) × (In (record { place = slice_index (image_page i).offsets k; bytes = stored }) m.regions × StandsFor i samples k stored)
+  pub fit : (c : Chunk) → In c i.chunks → (c.place < 256 ^ place_len kind) × (c.stored < 256 ^ place_len kind)
+
+-- The model holds an image that is open, whose chunks so far were handed these samples.
+pub record HoldsOpen (kind : FileKind) (m : Model) (i : OpenImage) (samples : List (List ℕ)) : Type 0 where
+  pub given : Given
+  pub holds : Holds m i.directory.fields given
+  pub tells : TellsOpen i given
+  pub open_so : IsOpen i
+  pub chunks : HoldsChunks kind m i samples
+
+-- ---- the laws
+
+-- the model after what a call did
+abbrev pub model_by : {A : Type 0} → FileState → Model → Told A → Model
+model_by file m told = model_after file.kind file.bytes m told.deeds
+
+-- a new image is held
+abbrev pub BeginsOpen : Type 0
+BeginsOpen = (file : FileState) (m : Model) (name : ColorTypeName) (width height : ℕ) (i : OpenImage)
+    → width < 2 ^ 32 → height < 2 ^ 32 → (file.method ≡ method.None) ⊎ (file.method ≡ method.PackBits)
+    → (calls.new_image (colour_type name) (inner_size name) width height file).answer ≡ Ok i
+    → HoldsOpen file.kind (model_by file m (calls.new_image (colour_type name) (inner_size name) width height file)) i []
+
+-- what holds it still holds it when more is written
+abbrev pub GrownOpen : Type 0
+GrownOpen = (kind : FileKind) (m n : Model) (i : OpenImage) (samples : List (List ℕ))
+    → HoldsOpen kind m i samples → Grows m n → HoldsOpen kind n i samples
+
+-- a call of an image that is answered keeps it held
+abbrev pub KeepsOpen : (OpenImage → Writing OpenImage) → Type 0
+KeepsOpen call = (file : FileState) (m : Model) (i next : OpenImage) (samples : List (List ℕ))
+    → HoldsOpen file.kind m i samples → (call i file).answer ≡ Ok next
+    → HoldsOpen file.kind (model_by file m (call i file)) next samples
+
+abbrev pub SettingsKeepOpen : Type 0
+SettingsKeepOpen =
+    ((extra : List ExtraSamples) → KeepsOpen (λ i. calls.extra_samples i extra))
+    × (((rows : ℕ) → rows < 2 ^ 32 → KeepsOpen (λ i. calls.set_rows_per_strip i rows))
+    × (((width length : ℕ) → width < 2 ^ 32 → length < 2 ^ 32 → KeepsOpen (λ i. calls.tiles i width length))
+    × KeepsOpen calls.planar))
+
+abbrev pub ResolutionsKeepOpen : Type 0
+ResolutionsKeepOpen =
+    ((u : ResolutionUnit) (value : ℕ × ℕ) → KeepsOpen (λ i. calls.resolution i u value))
+    × (((value : ℕ × ℕ) → KeepsOpen (λ i. calls.x_resolution i value))
+    × (((value : ℕ × ℕ) → KeepsOpen (λ i. calls.y_resolution i value))
+    × ((u : ResolutionUnit) → KeepsOpen (λ i. calls.resolution_unit i u))))
+
+-- a tag that a page isn't read by
+abbrev pub TagsKeepOpen : Type 0
+TagsKeepOpen = (file : FileState) (m : Model) (i : OpenImage) (samples : List (List ℕ)) (t : Tag) (d : OpenDirectory)
+    → HoldsOpen file.kind m i samples → is_page_tag (tag_number t) ≡ false
+    → (((value : Result FieldData TiffError) → (calls.write_tag i.directory t value file).answer ≡ Ok d
+    → HoldsOpen file.kind (model_by file m (calls.write_tag i.directory t value file)) (calls.with_directory_of i d) samples)
+    × ((b : BufferRecord) → (calls.write_tag_buf i.directory t b file).answer ≡ Ok d
+    → HoldsOpen file.kind (model_by file m (calls.write_tag_buf i.directory t b file)) (calls.with_directory_of i d) samples))
+
+-- fields of such tags
+abbrev pub FieldsKeepOpen : Type 0
+FieldsKeepOpen = (kind : FileKind) (m : Model) (i : OpenImage) (samples : List (List ℕ)) (fields : List (ℕ × Field))
+    → HoldsOpen kind m i samples → list_any (λ entry. is_page_tag entry.0) fields ≡ false
+    → HoldsOpen kind m (calls.with_directory_of i (calls.extend_from i.directory fields)) samples
+
+-- a chunk that is written is held too, with its samples
+abbrev pub ChunksKeepOpen : Type 0
+ChunksKeepOpen = (file : FileState) (m : Model) (i next : OpenImage) (samples : List (List ℕ)) (numbers stored : List ℕ)
+    → HoldsOpen file.kind m i samples → ((n : ℕ) → get_or numbers n 0 < 256 ^ i.size) → length numbers < 2 ^ 64 - 1
+    → IsStored i.method stored (chunk_bytes i numbers) → end_of file < 2 ^ 64 → length stored < 2 ^ 64
+    → (((calls.write_chunk i (length numbers) stored file).answer ≡ Ok next
+    → HoldsOpen file.kind (model_by file m (calls.write_chunk i (length numbers) stored file)) next (samples ++ numbers ∷ []))
+    × ((calls.write_strip i (length numbers) stored file).answer ≡ Ok next
+    → HoldsOpen file.kind (model_by file m (calls.write_strip i (length numbers) stored file)) next (samples ++ numbers ∷ [])))
+
+-- an image that ends with every chunk is shown
+abbrev pub EndsShown : Type 0
+EndsShown = (file : FileState) (m : Model) (i : OpenImage) (samples : List (List ℕ)) (offsets : Offsets)
+    → HoldsOpen file.kind m i samples → is_left i ≡ false
+    → (calls.finish_image i file).answer ≡ Ok offsets
+    → Stands file.kind (calls.finish_image i file).next.bytes (model_by file m (calls.finish_image i file))
+    → Shows file.kind (calls.finish_image i file).next.bytes offsets.pointer (image_of i samples)

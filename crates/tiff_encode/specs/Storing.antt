@@ -1,0 +1,36 @@
+-- How a chunk of samples is written (this project's).
+use Rattle.std.specs.Prelude.{◌≡◌, ℕ, ◌⊎◌, ◌==◌, ◌||◌, not, List, length, Option, Some, None, Result, Ok, Err, if◌then◌else◌}
+use Rattle.tiff_base.specs.declared.error.TiffError.{TiffError}
+use Rattle.tiff_base.specs.declared.error.TiffError.TheVariants.{IoError, IntSizeError, OutOfMemory}
+use Rattle.tiff_base.specs.declared.io.IoKind.TheVariants.{InvalidData}
+use Rattle.tiff_base.specs.declared.tags.FileKind.{FileKind}
+use Rattle.tiff_value.specs.Packed.{IsStored}
+use Rattle.tiff_encode.specs.Machine.{FileState, OpenImage, Writing}
+use Rattle.tiff_encode.specs.Chunks.{is_left, next_chunk_sample_count}
+use Rattle.tiff_encode.specs.Causes.{is_past, is_past_chunks}
+use Rattle.tiff_encode.specs.Ends.{IsTold, Fails}
+use Rattle.tiff_encode.specs.Stored.{chunk_bytes}
+
+-- the causes of a chunk that no packing changes, at the end of a file of this length
+abbrev pub chunk_test : FileKind → ℕ → OpenImage → ℕ → Option TiffError
+chunk_test kind end i count =
+    if is_past_chunks i then Some IntSizeError
+    else if not (is_left i) || not (count == next_chunk_sample_count i) then Some (IoError InvalidData)
+    else if is_past kind end then Some IntSizeError
+    else None
+
+-- `write_strip` or `write_chunk`, of so many samples that are stored as some bytes
+module _ {A : Type 0} (call : OpenImage → ℕ → List ℕ → Writing OpenImage) where
+  -- A chunk of samples is stored as some bytes that may stand for them; or the call fails with such bytes; or there was
+  -- no memory, and nothing was done. After an error the image is as it was.
+  abbrev pub StoresChunk : OpenImage → List ℕ → Result A TiffError → FileState → FileState → OpenImage → Type 0
+  StoresChunk i samples (Ok x) old new next =
+      (stored : List ℕ) × (IsStored i.method stored (chunk_bytes i samples) × IsTold (call i (length samples) stored old) (Ok next) new)
+  StoresChunk i samples (Err e) old new next =
+      (next ≡ i) × (((e ≡ OutOfMemory) × (new ≡ old))
+      ⊎ ((stored : List ℕ) × (IsStored i.method stored (chunk_bytes i samples) × Fails (call i (length samples) stored old) e old new)))
+
+  -- a chunk is refused for a cause that no packing changes, and nothing is done; or it is stored
+  abbrev pub WritesChunk : Option TiffError → OpenImage → List ℕ → Result A TiffError → FileState → FileState → OpenImage → Type 0
+  WritesChunk (Some cause) i samples r old new next = (r ≡ Err cause) × ((next ≡ i) × (new ≡ old))
+  WritesChunk None i samples r old new next = StoresChunk i samples r old new next

@@ -1,0 +1,340 @@
+//! The ends of images.
+
+ghost use Rattle.std.specs.Prelude.{◌≡◌, ℕ, ◌+◌, ◌^◌, ◌<◌, ◌++◌, length, map, replicate, MatchResult, Ok};
+ghost use Rattle.std.specs.List.{flat_map};
+ghost use Rattle.tiff_base.specs.Number.{le};
+ghost use Rattle.tiff_value.specs.Data.{data_of};
+ghost use Rattle.tiff_encode.specs.Calls as calls;
+ghost use Rattle.tiff_encode.specs.Ends.{Ends};
+ghost use Rattle.tiff_encode.specs.LastTags.{bits_tags, list_tags, list_tags_of, more_of, part_of, samples_tags};
+ghost use Rattle.tiff_encode.specs.Tagging.{fields_of, write_fields};
+ghost use Rattle.tiff_encode.specs.Value.{places};
+ghost use Rattle.tiff_encode.specs.Written.{place_len};
+
+use crate::encoder::TiffEncoder;
+use crate::encoder::drawing::{Chunk, Drawing};
+use crate::encoder::kind::{DirectoryOffset, TiffKind};
+use crate::encoder::limits::place_bytes;
+use crate::encoder::open::Fields;
+use std::alloc::Global;
+use std::marker::{Model, PhantomData};
+use tiff_base::color::ChunkType;
+use tiff_base::error::{TiffError, TiffResult};
+use tiff_base::io::Sink;
+use tiff_base::tags::{FileKind, SampleFormat, Tag, Type};
+use tiff_value::encoder::colortype::ColorType;
+use tiff_value::encoder::tiff_value::{TiffScalar, TiffValue};
+
+// ---- a list whose first item comes several times more
+
+// Appends the bytes of an item so many times.
+fn push_copies<T: TiffScalar>(item: &T, count: usize, out: &mut Vec<u8>) -> TiffResult<()>
+    ensures { MatchResult result (λ _. out.new.items ≡ out.old.items ++ flat_map T.spelled (replicate count item.now)) (λ e. e ≡ TiffError.OutOfMemory) }
+{
+    for _ in 0..count {
+        item.push_to(out)?;
+    }
+    Ok(())
+}
+
+// The same of the first item of a list, if it has one.
+fn push_first<T: TiffScalar>(items: &[T], count: usize, out: &mut Vec<u8>) -> TiffResult<()>
+    ensures { MatchResult result (λ _. out.new.items ≡ out.old.items ++ flat_map T.spelled (more_of items.now count)) (λ e. e ≡ TiffError.OutOfMemory) }
+{
+    match items {
+        [] => Ok(()),
+        [first, ..] => push_copies(first, count, out),
+    }
+}
+
+/// A list of values, and its first so many times more.
+#[derive(Drop)]
+pub(crate) struct Repeated<'a, T> {
+    items: &'a [T],
+    more: usize,
+}
+
+impl<'a, T> Model for Repeated<'a, T> {
+    ghost use Rattle.std.specs.Prelude.{List, ◌+◌, ◌^◌, ◌<◌, length};
+    ghost use Rattle.tiff_encode.specs.Calls.{repeated};
+
+    ghost Value = { List T };
+
+    ghost view = { λ r. repeated r.items.now r.more };
+
+    ghost invariant = { λ r. length r.items.now + r.more < 2 ^ 64 };
+}
+
+impl<'a, T> Repeated<'a, T> {
+    // A list, and its first so many times more.
+    fn of(items: &'a [T], more: usize) -> Self
+        requires { length items.now + more < 2 ^ 64 }
+        ensures { result ≡ calls.repeated items.now more }
+    {
+        Repeated { items, more }
+    }
+}
+
+impl<'a, T: TiffScalar> TiffValue for Repeated<'a, T> {
+    ghost use Rattle.std.specs.Prelude.{length, Ok};
+    ghost use Rattle.tiff_value.specs.Data.{data_of};
+    ghost use Rattle.tiff_value.specs.ValueLaws.{several};
+
+    ghost value_type = { T.value_type };
+
+    ghost value_count = { λ xs. length xs };
+
+    ghost field_data = { λ xs. Ok (data_of (T.scalars xs)) };
+
+    fn field_type() -> Type {
+        T::field_type()
+    }
+
+    fn count(&self) -> usize {
+        if self.items.is_empty() {
+            return 0;
+        }
+        self.items.len() + self.more
+    }
+
+    fn check(&self) -> TiffResult<()> {
+        Ok(())
+    }
+
+    fn data(&self, alloc: Global) -> TiffResult<Vec<u8>> {
+        let size = usize::from(T::byte_len());
+        let count = self.items.len().saturating_add(self.more);
+        let mut out = Vec::with_capacity(alloc, count.saturating_mul(size))?;
+        T::push_all(self.items, &mut out)?;
+        push_first(self.items, self.more, &mut out)?;
+        Ok(out)
+    }
+
+    ghost sized = { λ xs. several T.value_type T.spelled T.scalars T.listed T.value_count T.field_data T.sized T.alone xs };
+}
+
+// ---- the lists of chunks
+
+/// A number of a chunk: its place, or how many bytes stand there.
+#[derive(Clone, Copy, Drop)]
+pub enum Part {
+    Place,
+    Stored,
+}
+
+impl Part {
+    // That number.
+    fn of(self, chunk: &Chunk) -> u64
+        ensures { result ≡ part_of self chunk.now }
+    {
+        match self {
+            Part::Place => chunk.place,
+            Part::Stored => chunk.stored,
+        }
+    }
+}
+
+/// A number of each chunk, as a file of a kind has places.
+#[derive(Drop)]
+pub(crate) struct Places<'a, K: TiffKind> {
+    chunks: &'a [Chunk],
+    part: Part,
+    kind: PhantomData<K>,
+}
+
+impl<'a, K: TiffKind> TiffValue for Places<'a, K> {
+    ghost use Rattle.std.specs.Prelude.{length, map, Ok};
+    ghost use Rattle.tiff_value.specs.Data.{data_of};
+    ghost use Rattle.tiff_encode.specs.LastTags.{part_of, place_type, places_value};
+    ghost use Rattle.tiff_encode.specs.Value.{places};
+
+    ghost value_type = { place_type K.kind };
+
+    ghost value_count = { λ p. length (map (part_of p.part) p.chunks.now) };
+
+    ghost field_data = { λ p. Ok (data_of (places K.kind (map (part_of p.part) p.chunks.now))) };
+
+    fn field_type() -> Type
+        ensures { result ≡ place_type K.kind }
+    {
+        match K::file_kind() {
+            FileKind::Classic => Type::LONG,
+            FileKind::Big => Type::LONG8,
+        }
+    }
+
+    fn count(&self) -> usize {
+        self.chunks.len()
+    }
+
+    fn check(&self) -> TiffResult<()> {
+        Ok(())
+    }
+
+    fn data(&self, alloc: Global) -> TiffResult<Vec<u8>> {
+        let kind = K::file_kind();
+        let size = place_bytes(kind) as usize;
+        let mut out = Vec::with_capacity(alloc, self.chunks.len().saturating_mul(size))?;
+        push_places(kind, self.chunks, self.part, &mut out)?;
+        Ok(out)
+    }
+
+    ghost sized = { λ p. places_value K.kind (map (part_of p.part) p.chunks.now) };
+}
+
+// Appends a number of each chunk, as a file of a kind has places.
+fn push_places(kind: FileKind, chunks: &[Chunk], part: Part, out: &mut Vec<u8>) -> TiffResult<()>
+    ensures { MatchResult result (λ _. out.new.items ≡ out.old.items ++ flat_map (le (place_len kind)) (map (part_of part) chunks.now)) (λ e. e ≡ TiffError.OutOfMemory) }
+{
+    for chunk in chunks {
+        push_place(kind, part.of(chunk), out)?;
+    }
+    Ok(())
+}
+
+// Appends a number, as a file of a kind has places.
+fn push_place(kind: FileKind, n: u64, out: &mut Vec<u8>) -> TiffResult<()>
+    ensures { MatchResult result (λ _. out.new.items ≡ out.old.items ++ le (place_len kind) n) (λ e. e ≡ TiffError.OutOfMemory) }
+{
+    let bytes = n.to_le_bytes();
+    match kind {
+        FileKind::Classic => out.extend_from_slice(&bytes[..4])?,
+        FileKind::Big => out.extend_from_slice(&bytes)?,
+    }
+    Ok(())
+}
+
+// ---- the last tags
+
+impl<W: Sink, K: TiffKind> TiffEncoder<W, K> {
+    // The bits of each sample, and how many samples there are, where some are extra.
+    fn set_bits(&mut self, fields: &mut Fields, bits: &[u16], extra: usize) -> TiffResult<()>
+        requires { length bits.now + extra < 2 ^ 16 }
+        ensures { Ends (λ _. fields.new) (write_fields fields.old (fields_of (bits_tags bits.now extra)) self.old) result self.old self.new }
+    {
+        match self.set_tag(fields, Tag::BitsPerSample, &Repeated::of(bits, extra)) {
+            Ok(()) => {}
+            Err(fault) => return Err(fault),
+        }
+        if extra == 0 {
+            return Ok(());
+        }
+        let samples = (bits.len() + extra) as u16;
+        match self.set_tag(fields, Tag::SamplesPerPixel, &samples) {
+            Ok(()) => return Ok(()),
+            Err(fault) => return Err(fault),
+        }
+    }
+
+    // The same, and the format of each sample.
+    fn set_samples(
+        &mut self,
+        fields: &mut Fields,
+        bits: &[u16],
+        formats: &[SampleFormat],
+        extra: usize,
+    ) -> TiffResult<()>
+        requires few { length bits.now + extra < 2 ^ 16 }
+        requires as_many { length formats.now ≡ length bits.now }
+        ensures { Ends (λ _. fields.new) (write_fields fields.old (fields_of (samples_tags bits.now formats.now extra)) self.old) result self.old self.new }
+    {
+        match self.set_bits(fields, bits, extra) {
+            Ok(()) => {}
+            Err(fault) => return Err(fault),
+        }
+        match self.set_tag(fields, Tag::SampleFormat, &Repeated::of(formats, extra)) {
+            Ok(()) => return Ok(()),
+            Err(fault) => return Err(fault),
+        }
+    }
+
+    // A number of each chunk.
+    fn set_places(
+        &mut self,
+        fields: &mut Fields,
+        tag: Tag,
+        chunks: &[Chunk],
+        part: Part,
+    ) -> TiffResult<()>
+        ensures { Ends (λ _. fields.new) (calls.write_tag fields.old tag (Ok (data_of (places K.kind (map (part_of part) chunks.now)))) self.old) result self.old self.new }
+    {
+        let places = Places::<K> {
+            chunks,
+            part,
+            kind: PhantomData,
+        };
+        match self.set_tag(fields, tag, &places) {
+            Ok(()) => return Ok(()),
+            Err(fault) => return Err(fault),
+        }
+    }
+
+    // Where the chunks stand, and how many bytes each has there.
+    fn set_lists(
+        &mut self,
+        fields: &mut Fields,
+        chunk_type: ChunkType,
+        chunks: &[Chunk],
+    ) -> TiffResult<()>
+        ensures { Ends (λ _. fields.new) (write_fields fields.old (fields_of (list_tags K.kind chunk_type chunks.now)) self.old) result self.old self.new }
+    {
+        let (offsets, byte_counts) = tags_of(chunk_type);
+        match self.set_places(fields, offsets, chunks, Part::Place) {
+            Ok(()) => {}
+            Err(fault) => return Err(fault),
+        }
+        match self.set_places(fields, byte_counts, chunks, Part::Stored) {
+            Ok(()) => return Ok(()),
+            Err(fault) => return Err(fault),
+        }
+    }
+
+    // The tags that the end of an image writes. After an error the image isn't to be used.
+    fn set_last<C: ColorType>(&mut self, image: &mut Drawing<C>) -> TiffResult<()>
+        ensures { Ends (λ _. image.new.directory) (write_fields image.old.directory (fields_of (calls.last_tags self.old.kind image.old)) self.old) result self.old self.new }
+    {
+        self.is_of_kind();
+        let extra = image.extra.len();
+        let chunk_type = image.form.chunk_type;
+        match self.set_samples(
+            &mut image.directory,
+            C::bits_per_sample(),
+            C::sample_format(),
+            extra,
+        ) {
+            Ok(()) => {}
+            Err(fault) => return Err(fault),
+        }
+        match self.set_lists(&mut image.directory, chunk_type, &image.chunks) {
+            Ok(()) => return Ok(()),
+            Err(fault) => return Err(fault),
+        }
+    }
+
+    // `finish` of an image: its last tags, then the end of its directory. After an error the image isn't to be used.
+    pub(crate) fn finish_image<C: ColorType>(
+        &mut self,
+        image: &mut Drawing<C>,
+    ) -> TiffResult<DirectoryOffset<K>>
+        ensures { Ends (λ d. d) (calls.finish_image image.old self.old) result self.old self.new }
+    {
+        match self.set_last(image) {
+            Ok(()) => {}
+            Err(fault) => return Err(fault),
+        }
+        match self.finish_directory(&image.directory) {
+            Ok(offset) => return Ok(offset),
+            Err(fault) => return Err(fault),
+        }
+    }
+}
+
+// The tags of both lists.
+fn tags_of(chunk_type: ChunkType) -> (Tag, Tag)
+    ensures { result ≡ list_tags_of chunk_type }
+{
+    match chunk_type {
+        ChunkType::Strip => (Tag::StripOffsets, Tag::StripByteCounts),
+        ChunkType::Tile => (Tag::TileOffsets, Tag::TileByteCounts),
+    }
+}

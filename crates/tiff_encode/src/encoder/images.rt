@@ -1,0 +1,238 @@
+//! Images are begun.
+
+ghost use Rattle.std.specs.Prelude.{◌≡◌, ℕ, ◌+◌, ◌*◌, ◌^◌, ◌<◌, [], ◌∷◌, length, IfOk, MatchOption, MatchResult, None, Some, true};
+ghost use Rattle.tiff_base.specs.Types.{type_size};
+ghost use Rattle.tiff_encode.specs.Calls as calls;
+ghost use Rattle.tiff_encode.specs.Calls.{default_rows, image_in, opened};
+ghost use Rattle.tiff_encode.specs.Causes as causes;
+ghost use Rattle.tiff_encode.specs.Causes.{end_of, image_cause, is_past, new_image_cause};
+ghost use Rattle.tiff_encode.specs.Ends.{Ends};
+ghost use Rattle.tiff_encode.specs.Machine.{method_of};
+ghost use Rattle.tiff_encode.specs.Placing.{Checks};
+ghost use Rattle.tiff_encode.specs.Tagging.{fields_of};
+ghost use Rattle.tiff_encode.specs.Written.{resolutions_place};
+
+use crate::encoder::TiffEncoder;
+use crate::encoder::drawing::{Drawing, Form};
+use crate::encoder::kind::TiffKind;
+use crate::encoder::open::Fields;
+use crate::encoder::settings::Compression;
+use crate::encoder::tagging::TagValue;
+use std::alloc::{AllocError, Global};
+use std::marker::PhantomData;
+use tiff_base::color::ChunkType;
+use tiff_base::directory::Directory;
+use tiff_base::error::{TiffError, TiffFormatError, TiffResult, UsageError};
+use tiff_base::io::Sink;
+use tiff_base::tags::{
+    CompressionMethod, FileKind, PhotometricInterpretation, PlanarConfiguration, Predictor,
+    ResolutionUnit, SampleFormat, Tag,
+};
+use tiff_value::encoder::colortype::ColorType;
+use tiff_value::encoder::tiff_value::TiffValue;
+
+// Whether differences of the bits of these samples say nothing.
+fn is_not_whole(formats: &[SampleFormat]) -> bool
+    ensures { result ≡ causes.is_not_whole formats.now }
+{
+    matches!(formats, [SampleFormat::IEEEFP | SampleFormat::Void, ..])
+}
+
+// Whether the second resolution would stand past what the kind can hold.
+#[tactic(auto, using(crate::proofs::Places::resolutions_of))]
+fn is_past_resolutions(kind: FileKind, end: u64) -> bool
+    ensures { result ≡ is_past kind (resolutions_place end + 8) }
+{
+    let limit = u64::from(u32::MAX);
+    match kind {
+        FileKind::Classic => end > limit || end + (4 - end % 4) % 4 + 8 > limit,
+        FileKind::Big => false,
+    }
+}
+
+/// Whether an image can begin here: `new_image`'s causes but for an earlier fault.
+#[tactic(auto, unfolding(crate::specs::Causes::image_cause))]
+fn check_image(
+    kind: FileKind,
+    end: u64,
+    predictor: Predictor,
+    formats: &[SampleFormat],
+    sides: (u32, u32),
+) -> TiffResult<()>
+    ensures { Checks (image_cause kind end predictor formats.now sides.0 sides.1) result }
+{
+    if sides.0 == 0 || sides.1 == 0 {
+        return Err(TiffError::FormatError(TiffFormatError::InvalidDimensions(sides.0, sides.1)));
+    }
+    match predictor {
+        Predictor::None => {}
+        Predictor::Horizontal => {
+            if is_not_whole(formats) {
+                return Err(TiffError::UsageError(UsageError::PredictorIncompatible));
+            }
+        }
+        _ => return Err(TiffError::UsageError(UsageError::PredictorUnavailable)),
+    }
+    if is_past_resolutions(kind, end) {
+        return Err(TiffError::IntSizeError);
+    }
+    Ok(())
+}
+
+// The method of a packing.
+fn method(compression: Compression) -> CompressionMethod
+    ensures { result ≡ method_of compression }
+{
+    match compression {
+        Compression::Uncompressed => CompressionMethod::None,
+        Compression::Packbits => CompressionMethod::PackBits,
+    }
+}
+
+// The rows of a strip by default, of rows of so many bytes.
+fn rows_of_strip(compression: Compression, row_bytes: u64) -> u32
+    requires { 0 < row_bytes }
+    ensures rows { result ≡ default_rows (method_of compression) row_bytes }
+    ensures some { 0 < result }
+{
+    match compression {
+        Compression::Uncompressed => 1_000_000u64.div_ceil(row_bytes) as u32,
+        Compression::Packbits => 1,
+    }
+}
+
+impl<W: Sink, K: TiffKind> TiffEncoder<W, K> {
+    // Where an image begins; else `new_image`'s cause.
+    #[tactic(auto, unfolding(crate::specs::Causes::new_image_cause))]
+    fn check_new_image<C: ColorType>(&self, width: u32, height: u32) -> TiffResult<()>
+        ensures { MatchResult result
+            (λ _. (self.now.fault ≡ None) × (0 < width) × (0 < height) × (new_image_cause self.now C.described width height ≡ None))
+            (λ e. new_image_cause self.now C.described width height ≡ Some e) }
+    {
+        let end = match self.end() {
+            Ok(end) => end,
+            Err(fault) => return Err(fault),
+        };
+        match check_image(
+            self.file_kind(),
+            end,
+            self.predictor,
+            C::sample_format(),
+            (width, height),
+        ) {
+            Ok(()) => return Ok(()),
+            Err(fault) => return Err(fault),
+        }
+    }
+
+    // An image without chunks, in a directory of the chain without fields.
+    fn blank<C: ColorType>(&self, width: u32, height: u32) -> Drawing<C>
+        requires sides { (0 < width) × (0 < height) }
+        ensures { result ≡ image_in self.now (opened (Some self.now.chain) true) C.described (type_size C.Inner.value_type) width height }
+    {
+        let pixel = C::bits_per_sample().len() as u64 * u64::from(C::Inner::byte_len());
+        let rows = rows_of_strip(self.compression, u64::from(width) * pixel);
+        Drawing {
+            directory: Fields {
+                directory: Directory::empty(self.alloc),
+                parent: Some(self.chain),
+                chained: true,
+            },
+            width,
+            height,
+            extra: Vec::new(self.alloc),
+            predictor: self.predictor,
+            compression: self.compression,
+            form: Form {
+                chunk_type: ChunkType::Strip,
+                chunk_width: width,
+                chunk_height: rows,
+                planar: PlanarConfiguration::Chunky,
+            },
+            chunks: Vec::new(self.alloc),
+            colour: PhantomData,
+        }
+    }
+}
+
+// What an image is.
+#[tactic(auto, unfolding(tiff_value::specs::Data::data_of))]
+fn meaning_values<C: ColorType>(image: &Drawing<C>) -> [TagValue; 5]
+    ensures { result ≡ fields_of (calls.meaning_tags image.now) }
+{
+    [
+        TagValue::long(Tag::ImageWidth, image.width),
+        TagValue::long(Tag::ImageLength, image.height),
+        TagValue::short(Tag::Compression, method(image.compression).to_u16()),
+        TagValue::short(Tag::Predictor, image.predictor.to_u16()),
+        TagValue::short(Tag::PhotometricInterpretation, C::TIFF_VALUE.to_u16()),
+    ]
+}
+
+// Samples of YCbCr are not subsampled, which is said.
+fn chroma_value<C: ColorType>(image: &Drawing<C>) -> Option<TagValue>
+    ensures { MatchOption result
+        (fields_of (calls.chroma_tags image.now.colour.interpretation) ≡ [])
+        (λ v. fields_of (calls.chroma_tags image.now.colour.interpretation) ≡ v ∷ []) }
+{
+    let _form = &image.form;
+    match C::TIFF_VALUE {
+        PhotometricInterpretation::YCbCr => Some(TagValue::shorts(Tag::ChromaSubsampling, 1, 1)),
+        _ => None,
+    }
+}
+
+// The rows of a strip, the samples of a pixel, and a resolution that says nothing.
+#[tactic(auto, unfolding(tiff_value::specs::Data::data_of))]
+fn layout_values<C: ColorType>(image: &Drawing<C>) -> [TagValue; 5]
+    ensures { result ≡ fields_of (calls.layout_tags image.now) }
+{
+    [
+        TagValue::long(Tag::RowsPerStrip, image.form.chunk_height),
+        TagValue::short(Tag::SamplesPerPixel, C::bits_per_sample().len() as u16),
+        TagValue::rational(Tag::XResolution, 1, 1),
+        TagValue::rational(Tag::YResolution, 1, 1),
+        TagValue::short(Tag::ResolutionUnit, ResolutionUnit::None.to_u16()),
+    ]
+}
+
+impl<W: Sink, K: TiffKind> TiffEncoder<W, K> {
+    // `new_image`, but for the guard
+    fn begin_image<C: ColorType>(&mut self, width: u32, height: u32) -> TiffResult<Drawing<C>>
+        ensures { Ends (λ i. i) (calls.new_image C.described (type_size C.Inner.value_type) width height self.old) result self.old self.new }
+    {
+        match self.check_new_image::<C>(width, height) {
+            Ok(()) => {}
+            Err(fault) => return Err(fault),
+        }
+        let mut image = self.blank::<C>(width, height);
+        let Ok(values) = first_values(self.alloc, &image) else {
+            return Err(TiffError::OutOfMemory);
+        };
+        match self.pad() {
+            Ok(()) => {}
+            Err(fault) => return Err(fault),
+        }
+        match self.set_tags(&mut image.directory, &values) {
+            Ok(()) => return Ok(image),
+            Err(fault) => return Err(fault),
+        }
+    }
+}
+
+// The tags that a new image writes, in their order.
+#[tactic(auto, unfolding(crate::specs::Calls::first_tags))]
+fn first_values<C: ColorType>(
+    alloc: Global,
+    image: &Drawing<C>,
+) -> Result<Vec<TagValue>, AllocError>
+    ensures { IfOk result (λ v. v.items ≡ fields_of (calls.first_tags image.now)) }
+{
+    let mut values = Vec::new(alloc);
+    values.extend_from_slice(&meaning_values(image))?;
+    if let Some(chroma) = chroma_value(image) {
+        values.push(chroma)?;
+    }
+    values.extend_from_slice(&layout_values(image))?;
+    Ok(values)
+}

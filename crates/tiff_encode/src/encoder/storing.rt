@@ -1,0 +1,124 @@
+//! Chunks are written.
+
+ghost use Rattle.std.specs.Prelude.{◌≡◌, ℕ, ◌-◌, ◌^◌, ◌<◌, length, map, MatchResult, Ok};
+ghost use Rattle.tiff_base.specs.Types.{type_size};
+ghost use Rattle.tiff_value.specs.ColorType.{sample_number};
+ghost use Rattle.tiff_value.specs.Packed.{IsStored};
+ghost use Rattle.tiff_encode.specs.Calls as calls;
+ghost use Rattle.tiff_encode.specs.Causes.{write_chunk_cause};
+ghost use Rattle.tiff_encode.specs.Chunks.{next_chunk_sample_count};
+ghost use Rattle.tiff_encode.specs.Machine.{method_of};
+ghost use Rattle.tiff_encode.specs.Placing.{Checks};
+ghost use Rattle.tiff_encode.specs.Storing.{chunk_test, WritesChunk};
+ghost use Rattle.tiff_encode.specs.Stored as stored;
+
+use crate::encoder::TiffEncoder;
+use crate::encoder::drawing::{Chunk, Drawing};
+use crate::encoder::kind::TiffKind;
+use crate::encoder::limits::is_past_place;
+use crate::encoder::settings::Compression;
+use std::alloc::Global;
+use tiff_base::error::{TiffError, TiffResult};
+use tiff_base::io::{IoKind, Sink};
+use tiff_base::tags::FileKind;
+use tiff_value::encoder::chunk::push_chunk;
+use tiff_value::encoder::colortype::ColorType;
+use tiff_value::encoder::compression::pack_bits;
+
+// The bytes that stand for others by a packing.
+fn pack(alloc: Global, compression: Compression, bytes: Vec<u8>) -> TiffResult<Vec<u8>>
+    ensures { MatchResult result (λ v. IsStored (method_of compression) v.items bytes.items) (λ e. e ≡ TiffError.OutOfMemory) }
+{
+    match compression {
+        Compression::Uncompressed => Ok(bytes),
+        Compression::Packbits => pack_bits(alloc, &bytes),
+    }
+}
+
+impl<C: ColorType> Drawing<C> {
+    // The bytes of the next chunk before it is packed.
+    #[tactic(auto, unfolding(crate::specs::Stored::chunk_bytes))]
+    fn chunk_bytes(&self, alloc: Global, samples: &[C::Inner]) -> TiffResult<Vec<u8>>
+        requires next { length samples.now ≡ next_chunk_sample_count self.now }
+        requires fits { length samples.now < 2 ^ 64 - 1 }
+        ensures { MatchResult result
+            (λ v. v.items ≡ stored.chunk_bytes self.now (map (sample_number (type_size C.Inner.value_type) C.Inner.bits) samples.now))
+            (λ e. e ≡ TiffError.OutOfMemory) }
+    {
+        let stride = self.stored_samples() as usize;
+        let row = self.form.chunk_width as usize * stride;
+        let mut bytes = Vec::new(alloc);
+        push_chunk(samples, self.predictor, row, stride, &mut bytes)?;
+        Ok(bytes)
+    }
+
+    // The bytes that stand for the samples of the next chunk. Its only error is `OutOfMemory`: so many samples as a number
+    // can tell are in no memory.
+    fn stored_bytes(&self, alloc: Global, samples: &[C::Inner]) -> TiffResult<Vec<u8>>
+        requires { length samples.now ≡ next_chunk_sample_count self.now }
+        ensures { MatchResult result
+            (λ v. IsStored self.now.method v.items (stored.chunk_bytes self.now (map (sample_number (type_size C.Inner.value_type) C.Inner.bits) samples.now)))
+            (λ e. e ≡ TiffError.OutOfMemory) }
+    {
+        if samples.len() == usize::MAX {
+            return Err(TiffError::OutOfMemory);
+        }
+        let bytes = self.chunk_bytes(alloc, samples)?;
+        pack(alloc, self.compression, bytes)
+    }
+
+    // Whether a chunk of so many samples may be written at the end of a file: the causes that no packing changes.
+    fn check_chunk(&self, kind: FileKind, end: u64, count: usize) -> TiffResult<()>
+        ensures { Checks (chunk_test kind end self.now count) result }
+    {
+        if self.is_past_chunks() {
+            return Err(TiffError::IntSizeError);
+        }
+        if !self.is_left() || count as u64 != self.next_samples() {
+            return Err(TiffError::IoError(IoKind::InvalidData));
+        }
+        if is_past_place(kind, end) {
+            return Err(TiffError::IntSizeError);
+        }
+        Ok(())
+    }
+}
+
+impl<W: Sink, K: TiffKind> TiffEncoder<W, K> {
+    // `write_chunk`
+    pub(crate) fn store_chunk<C: ColorType>(
+        &mut self,
+        image: &mut Drawing<C>,
+        samples: &[C::Inner],
+    ) -> TiffResult<()>
+        ensures { WritesChunk calls.write_chunk (write_chunk_cause self.old image.old (length samples.now) 0) image.old (map (sample_number (type_size C.Inner.value_type) C.Inner.bits) samples.now) result self.old self.new image.new }
+    {
+        let end = match self.end() {
+            Ok(end) => end,
+            Err(fault) => return Err(fault),
+        };
+        match image.check_chunk(self.file_kind(), end, samples.len()) {
+            Ok(()) => {}
+            Err(fault) => return Err(fault),
+        }
+        let stored = match image.stored_bytes(self.alloc, samples) {
+            Ok(stored) => stored,
+            Err(fault) => return Err(fault),
+        };
+        if is_past_place(self.file_kind(), stored.len() as u64) {
+            return Err(TiffError::IntSizeError);
+        }
+        let Ok(()) = image.chunks.reserve(1) else {
+            return Err(TiffError::OutOfMemory);
+        };
+        match self.append(&stored) {
+            Ok(()) => {}
+            Err(fault) => return Err(fault),
+        }
+        image.chunks.push_reserved(Chunk {
+            place: end,
+            stored: stored.len() as u64,
+        });
+        Ok(())
+    }
+}

@@ -1,0 +1,169 @@
+//! Tags are written one after another.
+
+ghost use Rattle.std.specs.Prelude.{◌≡◌, ℕ, ◌≤◌, ◌/◌, ◌%◌, ◌++◌, [], ◌∷◌, length, OnErr, Ok};
+ghost use Rattle.tiff_base.specs.Types.{type_size};
+ghost use Rattle.tiff_value.specs.Data.{data_of, rationals, u16s, u32s};
+ghost use Rattle.tiff_encode.specs.Calls as calls;
+ghost use Rattle.tiff_encode.specs.Ends.{Ends};
+ghost use Rattle.tiff_encode.specs.Tagging.{StandsInPart, write_fields};
+
+use crate::encoder::TiffEncoder;
+use crate::encoder::kind::TiffKind;
+use crate::encoder::limits::fill;
+use crate::encoder::open::{Fields, State};
+use std::marker::Model;
+use tiff_base::error::TiffResult;
+use tiff_base::io::Sink;
+use tiff_base::tags::{Tag, Type};
+use tiff_value::encoder::tiff_value::TiffValue;
+
+// The bytes of two numbers of 2 bytes.
+fn join_shorts(a: [u8; 2], b: [u8; 2]) -> [u8; 4]
+    ensures { result ≡ a ++ b }
+{
+    let mut bytes = [0u8; 4];
+    bytes[..2].copy_from_slice(&a);
+    bytes[2..].copy_from_slice(&b);
+    bytes
+}
+
+// The bytes of two numbers of 4 bytes.
+fn join_longs(a: [u8; 4], b: [u8; 4]) -> [u8; 8]
+    ensures { result ≡ a ++ b }
+{
+    let mut bytes = [0u8; 8];
+    bytes[..4].copy_from_slice(&a);
+    bytes[4..].copy_from_slice(&b);
+    bytes
+}
+
+/// A tag and its value, of at most eight bytes.
+#[derive(Clone, Copy, Drop)]
+pub(crate) struct TagValue {
+    tag: Tag,
+    field_type: Type,
+    len: usize,
+    bytes: [u8; 8],
+}
+
+impl Model for TagValue {
+    ghost use Rattle.std.specs.Prelude.{◌≡◌, ◌/◌, ◌%◌, ◌≤◌, length, take};
+    ghost use Rattle.tiff_base.specs.declared.tags.Tag.{Tag};
+    ghost use Rattle.tiff_base.specs.Types.{type_size};
+    ghost use Rattle.tiff_value.specs.Data.{FieldData};
+    ghost use Rattle.tiff_encode.specs.Value.{filled};
+
+    ghost Value = { Tag × FieldData };
+
+    ghost view = { λ v. (v.tag, record { field_type = v.field_type; count = v.len / type_size v.field_type; bytes = take v.len v.bytes }) };
+
+    // The bytes behind the value are zeros.
+    ghost invariant = { λ v. (v.len ≤ 8) × (v.len % type_size v.field_type ≡ 0) × (length (take v.len v.bytes) ≡ v.len) × (filled (take v.len v.bytes) ≡ v.bytes) };
+
+    ghost inverse = { λ d. record { tag = d.0; field_type = d.1.field_type; len = length d.1.bytes; bytes = filled d.1.bytes } };
+
+    ghost inverse_ok = { λ a h i. record { tag = a.tag; field_type = a.field_type; len = h.2 i; bytes = h.3 i } };
+}
+
+impl TagValue {
+    // Some whole values of a type.
+    fn of(tag: Tag, field_type: Type, bytes: &[u8]) -> Self
+        requires short { length bytes.now ≤ 8 }
+        requires whole { length bytes.now % type_size field_type ≡ 0 }
+        ensures { result ≡ (tag, record { field_type = field_type; count = length bytes.now / type_size field_type; bytes = bytes.now }) }
+    {
+        TagValue {
+            tag,
+            field_type,
+            len: bytes.len(),
+            bytes: fill(bytes),
+        }
+    }
+
+    /// One number of 4 bytes.
+    pub(crate) fn long(tag: Tag, n: u32) -> Self
+        ensures { result ≡ (tag, data_of (u32s (n ∷ []))) }
+    {
+        TagValue::of(tag, Type::LONG, &n.to_le_bytes())
+    }
+
+    /// One number of 2 bytes.
+    pub(crate) fn short(tag: Tag, n: u16) -> Self
+        ensures { result ≡ (tag, data_of (u16s (n ∷ []))) }
+    {
+        TagValue::of(tag, Type::SHORT, &n.to_le_bytes())
+    }
+
+    /// Two numbers of 2 bytes.
+    pub(crate) fn shorts(tag: Tag, a: u16, b: u16) -> Self
+        ensures { result ≡ (tag, data_of (u16s (a ∷ b ∷ []))) }
+    {
+        TagValue::of(
+            tag,
+            Type::SHORT,
+            &join_shorts(a.to_le_bytes(), b.to_le_bytes()),
+        )
+    }
+
+    /// One fraction.
+    pub(crate) fn rational(tag: Tag, n: u32, d: u32) -> Self
+        ensures { result ≡ (tag, data_of (rationals ((n, d) ∷ []))) }
+    {
+        TagValue::of(
+            tag,
+            Type::RATIONAL,
+            &join_longs(n.to_le_bytes(), d.to_le_bytes()),
+        )
+    }
+}
+
+impl<W: Sink, K: TiffKind> TiffEncoder<W, K> {
+    // `write_tag`: a value is handed in, and then the field of its tag is set. After an error the fields are as they were.
+    pub(crate) fn set_tag<T: TiffValue>(
+        &mut self,
+        fields: &mut Fields,
+        tag: Tag,
+        value: &T,
+    ) -> TiffResult<()>
+        ensures stays { OnErr result (fields.new ≡ fields.old) }
+        ensures answer { Ends (λ _. fields.new) (calls.write_tag fields.old tag (T.field_data value.now) self.old) result self.old self.new }
+    {
+        let entry = match self.place_value(value) {
+            Ok(entry) => entry,
+            Err(fault) => return Err(fault),
+        };
+        match fields.set(tag, entry) {
+            Ok(()) => return Ok(()),
+            Err(fault) => return Err(fault),
+        }
+    }
+
+    // The same, of a value that takes no memory (but for the directory's).
+    fn set_value(&mut self, fields: &mut Fields, value: &TagValue) -> TiffResult<()>
+        ensures stays { OnErr result (fields.new ≡ fields.old) }
+        ensures answer { Ends (λ _. fields.new) (calls.write_tag fields.old value.now.0 (Ok value.now.1) self.old) result self.old self.new }
+    {
+        let entry = match self.place_bytes(value.field_type, &value.bytes[..value.len]) {
+            Ok(entry) => entry,
+            Err(fault) => return Err(fault),
+        };
+        match fields.set(value.tag, entry) {
+            Ok(()) => return Ok(()),
+            Err(fault) => return Err(fault),
+        }
+    }
+
+    // Tags one after another, of values that take no memory (but for the directory's). After an error the first ones are set.
+    pub(crate) fn set_tags(&mut self, fields: &mut Fields, values: &[TagValue]) -> TiffResult<()>
+        ensures part { OnErr result (StandsInPart fields.old values.now self.old fields.new) }
+        ensures answer { Ends (λ _. fields.new) (write_fields fields.old values.now self.old) result self.old self.new }
+    {
+        for value in values {
+            match self.set_value(fields, value) {
+                Ok(()) => {}
+                Err(fault) => return Err(fault),
+            }
+        }
+        Ok(())
+    }
+}
