@@ -1,7 +1,7 @@
 //! The links of a chain of directories, and the numbers at a place.
 
+use crate::expect::{copy_of, expect_text};
 use std::alloc::Global;
-use std::test::Fail;
 use tiff_base::error::TiffResult;
 use tiff_base::io::MemorySource;
 use tiff_base::tags::{ByteOrder, IfdPointer};
@@ -32,13 +32,16 @@ fn inserted(
 }
 
 #[test]
-fn links_that_close_a_cycle_are_refused(rt: HostRuntime) -> Result<(), Fail> {
+fn links_that_close_a_cycle_are_refused(rt: HostRuntime) {
     let mut links = IfdCycles::new(rt.alloc());
     for (from, to, answer) in LINKS {
-        let told = inserted(rt.alloc(), &mut links, from, to)?;
-        assert_eq!(rt; told.as_str(), answer, "{from}");
+        expect_text(
+            &rt,
+            from,
+            inserted(rt.alloc(), &mut links, from, to),
+            answer,
+        );
     }
-    Ok(())
 }
 
 // Numbers read one after another, and the first again as another number.
@@ -51,13 +54,15 @@ fn numbers_read(alloc: Global, reader: &mut EndianReader<MemorySource>) -> TiffR
     Ok(format!(in alloc; "{first} {cut:?} {second:#010x} {again}")?)
 }
 
-#[test]
-fn a_reader_of_numbers_stands_after_a_refusal(rt: HostRuntime) -> Result<(), Fail> {
-    let bytes = Vec::from_slice(rt.alloc(), &[0xff, 0xfe, 1, 2, 3, 4])?;
+// What a reader of six bytes tells.
+fn numbers_told(alloc: Global) -> TiffResult<String> {
+    let bytes = copy_of(alloc, &[0xff, 0xfe, 1, 2, 3, 4])?;
     let mut reader = EndianReader::new(MemorySource::new(bytes), ByteOrder::BigEndian);
-    assert_eq!(rt;
-        numbers_read(rt.alloc(), &mut reader)?.as_str(),
-        "-2 Err(IoError(UnexpectedEof)) 0x01020304 -130814"
-    );
-    Ok(())
+    numbers_read(alloc, &mut reader)
+}
+
+#[test]
+fn a_reader_of_numbers_stands_after_a_refusal(rt: HostRuntime) {
+    let wanted = "-2 Err(IoError(UnexpectedEof)) 0x01020304 -130814";
+    expect_text(&rt, 0, numbers_told(rt.alloc()), wanted);
 }

@@ -1,9 +1,11 @@
 //! Directories that are written tag by tag. The files are laid out by hand, after TIFF 6.0 and BigTIFF.
 
 use crate::doubles::FailingSink;
+use crate::expect::{copy_of, expect_bytes, expect_text, told_with};
 use std::alloc::Global;
 use std::boxed::Box;
-use std::test::Fail;
+use std::fmt::Display;
+use std::process::Abort;
 use tiff_base::directory::{Directory, Entry};
 use tiff_base::error::TiffResult;
 use tiff_base::io::{MemorySink, MemorySource, Sink};
@@ -16,6 +18,7 @@ use tiff_ifd::decode::read_directory;
 use tiff_ifd::header::{FileHeader, read_header};
 use tiff_ifd::limits::Limits;
 use tiff_ifd::read_value::find_value;
+use tiff_ifd::value::Value;
 use tiff_value::buffer::ValueBuffer;
 use tiff_value::encoder::tiff_value::{Ifd, Ifd8, Rational, SRational, Slice, Text};
 
@@ -45,10 +48,12 @@ const BIG: [u8; 84] = [
     0x00, 0x00, 0x00, 0x00, 0x00, 0x00, 0x00, 0x00, //
 ];
 
-// After so many directories: the file's length, and the first byte of the first directory's link.
-const CLASSIC_STEPS: [(u32, usize, u8); 3] = [(1, 26, 0), (2, 34, 0x1c), (3, 42, 0x24)];
-
-const BIG_STEPS: [(u32, usize, u8); 3] = [(1, 52, 0), (2, 68, 0x34), (3, 84, 0x44)];
+// After so many directories, in each kind: the file's length, and the first byte of the first directory's link.
+const STEPS: [(u32, (usize, u8), (usize, u8)); 3] = [
+    (1, (26, 0), (52, 0)),
+    (2, (34, 0x1c), (68, 0x34)),
+    (3, (42, 0x24), (84, 0x44)),
+];
 
 fn empty_sink(alloc: Global) -> MemorySink {
     MemorySink::new(Vec::new(alloc))
@@ -82,23 +87,37 @@ fn third_written<W: Sink, K: TiffKind>(encoder: &mut TiffEncoder<W, K>) -> TiffR
     encoder.image_directory()?.finish()
 }
 
-// The file of so many of the three directories, and where the first stands.
-fn steps_written<K: TiffKind>(
+// Writes so many of the three directories, and tells where the first stands.
+fn write_steps<W: Sink, K: TiffKind>(
     alloc: Global,
+    encoder: &mut TiffEncoder<W, K>,
     steps: u32,
-) -> TiffResult<(DirectoryOffset<K>, Vec<u8>)> {
+) -> TiffResult<String>
+where
+    K::OffsetType: Display,
+{
+    let first = first_written(encoder)?;
+    if steps > 1 {
+        second_written(encoder, Some(&first))?;
+    }
+    if steps > 2 {
+        third_written(encoder)?;
+    }
+    Ok(format!(in alloc; "{:?} {}", first.pointer, first.offset())?)
+}
+
+// Where the first of so many of the three directories stands, and their file.
+fn steps_written<K: TiffKind>(alloc: Global, steps: u32) -> TiffResult<(String, Vec<u8>)>
+where
+    K::OffsetType: Display,
+{
     let mut encoder: TiffEncoder<MemorySink, K> = TiffEncoder::new_generic(
         alloc,
         empty_sink(alloc),
     )?;
-    let first = first_written(&mut encoder)?;
-    if steps > 1 {
-        second_written(&mut encoder, Some(&first))?;
-    }
-    if steps > 2 {
-        third_written(&mut encoder)?;
-    }
-    Ok((first, encoder.into_inner().into_vec()))
+    let told = write_steps(alloc, &mut encoder, steps);
+    let file = encoder.into_inner().into_vec();
+    Ok((told?, file))
 }
 
 // The beginning of a file, with another byte at a place.
@@ -110,21 +129,39 @@ fn began(alloc: Global, file: &[u8], len: usize, place: usize, byte: u8) -> Tiff
     Ok(bytes)
 }
 
+// What an answer without a value is.
+fn told(alloc: Global, answer: TiffResult<()>) -> TiffResult<String> {
+    Ok(format!(in alloc; "{answer:?}")?)
+}
+
+// Adds an answer, behind a blank where it isn't the first.
+fn add(notes: &mut String, answer: TiffResult<()>) -> TiffResult<()> {
+    let note = told(*notes.allocator(), answer)?;
+    if !notes.is_empty() {
+        notes.push(' ')?;
+    }
+    Ok(notes.push_str(&note)?)
+}
+
+// Where the first of so many directories stands, in each kind, if the files are as wanted.
+fn classic_steps(alloc: Global, steps: u32, len: usize, link: u8) -> TiffResult<String> {
+    let written = steps_written::<TiffKindStandard>(alloc, steps);
+    told_with(alloc, written, began(alloc, &CLASSIC, len, 22, link))
+}
+
+fn big_steps(alloc: Global, steps: u32, len: usize, link: u8) -> TiffResult<String> {
+    let written = steps_written::<TiffKindBig>(alloc, steps);
+    told_with(alloc, written, began(alloc, &BIG, len, 44, link))
+}
+
 #[test]
-fn directories_are_linked(rt: HostRuntime) -> Result<(), Fail> {
-    for (steps, len, link) in CLASSIC_STEPS {
-        let (first, file) = steps_written::<TiffKindStandard>(rt.alloc(), steps)?;
-        let wanted = began(rt.alloc(), &CLASSIC, len, 22, link)?;
-        assert_eq!(rt; file, wanted, "{steps}");
-        assert_eq!(rt; (first.pointer, first.offset()), (IfdPointer(8), 8));
+fn directories_are_linked(rt: HostRuntime) {
+    for (steps, (len, link), (big_len, big_link)) in STEPS {
+        let told = classic_steps(rt.alloc(), steps, len, link);
+        expect_text(&rt, steps.into(), told, "IfdPointer(8) 8");
+        let told = big_steps(rt.alloc(), steps, big_len, big_link);
+        expect_text(&rt, steps.into(), told, "IfdPointer(16) 16");
     }
-    for (steps, len, link) in BIG_STEPS {
-        let (first, file) = steps_written::<TiffKindBig>(rt.alloc(), steps)?;
-        let wanted = began(rt.alloc(), &BIG, len, 44, link)?;
-        assert_eq!(rt; file, wanted, "{steps}");
-        assert_eq!(rt; (first.pointer, first.offset()), (IfdPointer(16), 16));
-    }
-    Ok(())
 }
 
 // The ImageWidth of the directory at a place, and where it links to.
@@ -148,84 +185,114 @@ fn directory_told(
     Ok(format!(in alloc; " {at}: {width:?} {:?}", directory.next())?)
 }
 
-// The header's link of a file, and its directories at these places.
-fn file_told(alloc: Global, file: &[u8], places: [u64; 3]) -> TiffResult<String> {
-    let mut source = MemorySource::new(Vec::from_slice(alloc, file)?);
-    let header = read_header(&mut source)?;
+// The header's link, and the directories at these places.
+fn places_told(alloc: Global, source: &mut MemorySource, places: [u64; 3]) -> TiffResult<String> {
+    let header = read_header(source)?;
     let mut told = format!(in alloc; "{}", header.first)?;
     for at in places {
-        told.push_str(&directory_told(alloc, &mut source, &header, at)?)?;
+        told.push_str(&directory_told(alloc, source, &header, at)?)?;
     }
     Ok(told)
 }
 
-#[test]
-fn directories_are_read_back(rt: HostRuntime) -> Result<(), Fail> {
-    assert_eq!(rt;
-        file_told(rt.alloc(), &CLASSIC, [8, 28, 36])?.as_str(),
-        "8 8: Some(Unsigned(5)) Some(IfdPointer(36)) 28: None None 36: None None"
-    );
-    assert_eq!(rt;
-        file_told(rt.alloc(), &BIG, [16, 52, 68])?.as_str(),
-        "16 16: Some(Unsigned(5)) Some(IfdPointer(68)) 52: None None 68: None None"
-    );
-    Ok(())
+// The header's link of a file, and its directories at these places.
+fn file_told(alloc: Global, file: &[u8], places: [u64; 3]) -> TiffResult<String> {
+    let mut source = MemorySource::new(copy_of(alloc, file)?);
+    places_told(alloc, &mut source, places)
 }
 
-// The file of the first directory, which is discarded.
-fn discarded<K: TiffKind>(alloc: Global) -> TiffResult<Vec<u8>> {
+#[test]
+fn directories_are_read_back(rt: HostRuntime) {
+    expect_text(
+        &rt,
+        0,
+        file_told(rt.alloc(), &CLASSIC, [8, 28, 36]),
+        "8 8: Some(Unsigned(5)) Some(IfdPointer(36)) 28: None None 36: None None",
+    );
+    expect_text(
+        &rt,
+        1,
+        file_told(rt.alloc(), &BIG, [16, 52, 68]),
+        "16 16: Some(Unsigned(5)) Some(IfdPointer(68)) 52: None None 68: None None",
+    );
+}
+
+// Writes the first directory, which is discarded, and tells what that answers.
+fn discard_first<W: Sink, K: TiffKind>(
+    alloc: Global,
+    encoder: &mut TiffEncoder<W, K>,
+) -> TiffResult<String> {
+    let mut directory = encoder.image_directory()?;
+    let set = directory.write_tag(Tag::ImageWidth, 5u32);
+    let ended = directory.discard();
+    told(alloc, set.and(ended))
+}
+
+// What discarding the first directory answers, and its file.
+fn discarded<K: TiffKind>(alloc: Global) -> TiffResult<(String, Vec<u8>)> {
     let mut encoder: TiffEncoder<MemorySink, K> = TiffEncoder::new_generic(
         alloc,
         empty_sink(alloc),
     )?;
-    let mut directory = encoder.image_directory()?;
-    let set = directory.write_tag(Tag::ImageWidth, 5u32);
-    let ended = directory.discard();
-    set?;
-    ended?;
-    Ok(encoder.into_inner().into_vec())
+    let told = discard_first(alloc, &mut encoder);
+    let file = encoder.into_inner().into_vec();
+    Ok((told?, file))
 }
 
 #[test]
-fn a_discarded_directory_is_written(rt: HostRuntime) -> Result<(), Fail> {
-    assert_eq!(rt;
-        discarded::<TiffKindStandard>(rt.alloc())?,
-        began(rt.alloc(), &CLASSIC, 26, 22, 0)?
-    );
-    assert_eq!(rt;
-        discarded::<TiffKindBig>(rt.alloc())?,
-        began(rt.alloc(), &BIG, 52, 44, 0)?
-    );
-    Ok(())
+fn a_discarded_directory_is_written(rt: HostRuntime) {
+    let written = discarded::<TiffKindStandard>(rt.alloc());
+    let wanted = began(rt.alloc(), &CLASSIC, 26, 22, 0);
+    expect_text(&rt, 0, told_with(rt.alloc(), written, wanted), "Ok(())");
+    let written = discarded::<TiffKindBig>(rt.alloc());
+    let wanted = began(rt.alloc(), &BIG, 52, 44, 0);
+    expect_text(&rt, 1, told_with(rt.alloc(), written, wanted), "Ok(())");
 }
 
-// What a directory without values refuses, in order: texts, big-endian bytes, and bytes that end within a value.
-const REFUSALS: [&str; 8] = [
-    "Err(FormatError(InvalidTag))",
-    "Err(FormatError(InvalidTag))",
-    "Err(FormatError(InvalidTag))",
-    "Err(FormatError(InvalidTag))",
-    "Err(UsageError(ByteOrderMismatch))",
-    "Err(UsageError(ByteOrderMismatch))",
-    "Err(UsageError(ByteOrderMismatch))",
-    "Err(UsageError(MismatchedEntryLength { ty: SHORT, found: 3 }))",
-];
+// What a directory without values refuses, in order: texts, big-endian bytes, and bytes that end within a value, each with
+// the file's length then; and what one is answered at its end whose parent was never written.
+const CLASSIC_REFUSALS: &str = "\
+Err(FormatError(InvalidTag)) 8 \
+Err(FormatError(InvalidTag)) 8 \
+Err(FormatError(InvalidTag)) 8 \
+Err(FormatError(InvalidTag)) 8 \
+Err(UsageError(ByteOrderMismatch)) 8 \
+Err(UsageError(ByteOrderMismatch)) 8 \
+Err(UsageError(ByteOrderMismatch)) 8 \
+Err(UsageError(MismatchedEntryLength { ty: SHORT, found: 3 })) 8 \
+Err(UsageError(ParentNotWritten))";
+
+const BIG_REFUSALS: &str = "\
+Err(FormatError(InvalidTag)) 16 \
+Err(FormatError(InvalidTag)) 16 \
+Err(FormatError(InvalidTag)) 16 \
+Err(FormatError(InvalidTag)) 16 \
+Err(UsageError(ByteOrderMismatch)) 16 \
+Err(UsageError(ByteOrderMismatch)) 16 \
+Err(UsageError(ByteOrderMismatch)) 16 \
+Err(UsageError(MismatchedEntryLength { ty: SHORT, found: 3 })) 16 \
+Err(UsageError(ParentNotWritten))";
+
+// Adds how long the file is.
+fn add_end(notes: &mut String, end: u64) -> TiffResult<()> {
+    let note = format!(in *notes.allocator(); " {end}")?;
+    Ok(notes.push_str(&note)?)
+}
 
 // Notes an answer, and how long the file is then: where no bytes stand that are written next.
 fn note<W: Sink, K: TiffKind>(
-    notes: &mut Vec<(String, u64)>,
+    notes: &mut String,
     directory: &mut DirectoryEncoder<'_, W, K>,
     answer: TiffResult<()>,
 ) -> TiffResult<()> {
     let end = directory.write_data(Slice::<u8>(&[]))?;
-    let text = format!(in *notes.allocator(); "{answer:?}")?;
-    notes.push((text, end))?;
-    Ok(())
+    add(notes, answer)?;
+    add_end(notes, end)
 }
 
 // Notes the texts that are refused.
 fn refuse_texts<W: Sink, K: TiffKind>(
-    notes: &mut Vec<(String, u64)>,
+    notes: &mut String,
     directory: &mut DirectoryEncoder<'_, W, K>,
 ) -> TiffResult<()> {
     let answer = directory.write_tag(Tag::Artist, Text("\u{e9}"));
@@ -240,7 +307,7 @@ fn refuse_texts<W: Sink, K: TiffKind>(
 
 // Notes the bytes that are refused.
 fn refuse_bytes<W: Sink, K: TiffKind>(
-    notes: &mut Vec<(String, u64)>,
+    notes: &mut String,
     directory: &mut DirectoryEncoder<'_, W, K>,
     buffer: &ValueBuffer,
 ) -> TiffResult<()> {
@@ -256,56 +323,80 @@ fn refuse_bytes<W: Sink, K: TiffKind>(
     note(notes, directory, answer)
 }
 
-// What a directory whose parent was never written answers at its end.
+// Notes what a directory whose parent was never written answers at its end.
 fn lost_written<W: Sink, K: TiffKind>(
     alloc: Global,
     encoder: &mut TiffEncoder<W, K>,
-) -> TiffResult<String> {
+    notes: &mut String,
+) -> TiffResult<()> {
     let parent = DirectoryOffset::new(IfdPointer(1000), &Directory::empty(alloc))?;
     let mut directory = encoder.extra_directory()?;
     directory.set_parent(&parent);
-    let ended = directory.finish();
-    Ok(format!(in alloc; "{ended:?}")?)
+    add(notes, directory.finish())
 }
 
-// The file of three directories, where the first goes on after refusals and the second is refused.
-fn refused_written<K: TiffKind>(
+// Writes a directory that goes on after refusals.
+fn refused_written<W: Sink, K: TiffKind>(
+    encoder: &mut TiffEncoder<W, K>,
+    notes: &mut String,
+    buffer: &ValueBuffer,
+) -> TiffResult<()> {
+    let mut directory = encoder.image_directory()?;
+    let texts = refuse_texts(notes, &mut directory);
+    let bytes = refuse_bytes(notes, &mut directory, buffer);
+    let set = directory.write_tag(Tag::ImageWidth, 5u32);
+    let ended = directory.finish();
+    texts.and(bytes).and(set).and(ended)
+}
+
+// Writes three directories, where the first goes on after refusals and the second is refused.
+fn write_refused<W: Sink, K: TiffKind>(
     alloc: Global,
-    notes: &mut Vec<(String, u64)>,
-) -> TiffResult<(String, Vec<u8>)> {
+    encoder: &mut TiffEncoder<W, K>,
+    notes: &mut String,
+) -> TiffResult<()> {
+    let buffer = buffer_of(alloc, ByteOrder::BigEndian, Type::SHORT, &[0, 1])?;
+    refused_written(encoder, notes, &buffer)?;
+    lost_written(alloc, encoder, notes)?;
+    third_written(encoder)
+}
+
+// A buffer of these bytes.
+fn buffer_of(
+    alloc: Global,
+    order: ByteOrder,
+    data_type: Type,
+    bytes: &[u8],
+) -> TiffResult<ValueBuffer> {
+    Ok(ValueBuffer::from_parts(order, data_type, copy_of(alloc, bytes)?))
+}
+
+// What is refused, and the file.
+fn refusals_written<K: TiffKind>(alloc: Global) -> TiffResult<(String, Vec<u8>)> {
     let mut encoder: TiffEncoder<MemorySink, K> = TiffEncoder::new_generic(
         alloc,
         empty_sink(alloc),
     )?;
-    let bytes = Vec::from_slice(alloc, &[0, 1])?;
-    let buffer = ValueBuffer::from_parts(ByteOrder::BigEndian, Type::SHORT, bytes);
-    let mut directory = encoder.image_directory()?;
-    let texts = refuse_texts(notes, &mut directory);
-    let bytes = refuse_bytes(notes, &mut directory, &buffer);
-    let set = directory.write_tag(Tag::ImageWidth, 5u32);
-    let ended = directory.finish();
-    texts.and(bytes).and(set).and(ended)?;
-    let lost = lost_written(alloc, &mut encoder)?;
-    third_written(&mut encoder)?;
-    Ok((lost, encoder.into_inner().into_vec()))
+    let mut notes = String::new(alloc);
+    let written = write_refused(alloc, &mut encoder, &mut notes);
+    let file = encoder.into_inner().into_vec();
+    written?;
+    Ok((notes, file))
 }
 
 #[test]
-fn a_directory_goes_on_after_refusals(rt: HostRuntime) -> Result<(), Fail> {
-    let mut notes = Vec::new(rt.alloc());
-    let (lost, classic) = refused_written::<TiffKindStandard>(rt.alloc(), &mut notes)?;
-    assert_eq!(rt; classic, began(rt.alloc(), &CLASSIC, 34, 22, 0x1c)?);
-    assert_eq!(rt; lost.as_str(), "Err(UsageError(ParentNotWritten))");
-    let (lost, big) = refused_written::<TiffKindBig>(rt.alloc(), &mut notes)?;
-    assert_eq!(rt; big, began(rt.alloc(), &BIG, 68, 44, 0x34)?);
-    assert_eq!(rt; lost.as_str(), "Err(UsageError(ParentNotWritten))");
-    assert_eq!(rt; notes.len(), 16);
-    let wanted = REFUSALS.iter().chain(REFUSALS.iter());
-    for (i, ((text, end), refusal)) in notes.iter().zip(wanted).enumerate() {
-        assert_eq!(rt; text.as_str(), *refusal, "{i}");
-        assert_eq!(rt; *end, if i < 8 { 8 } else { 16 }, "{i}");
-    }
-    Ok(())
+fn a_directory_goes_on_after_refusals(rt: HostRuntime) {
+    let written = refusals_written::<TiffKindStandard>(rt.alloc());
+    let wanted = began(rt.alloc(), &CLASSIC, 34, 22, 0x1c);
+    expect_text(
+        &rt,
+        0,
+        told_with(rt.alloc(), written, wanted),
+        CLASSIC_REFUSALS,
+    );
+    let written = refusals_written::<TiffKindBig>(rt.alloc());
+    let wanted = began(rt.alloc(), &BIG, 68, 44, 0x34);
+    expect_text(&rt, 1, told_with(rt.alloc(), written, wanted), BIG_REFUSALS);
 }
 
 // What the place of a directory without entries answers.
@@ -339,14 +430,13 @@ const PLACES: [(u64, &str, &str); 4] = [
 ];
 
 #[test]
-fn places_of_directories_fit_the_kind(rt: HostRuntime) -> Result<(), Fail> {
+fn places_of_directories_fit_the_kind(rt: HostRuntime) {
     for (place, classic, big) in PLACES {
-        let told = place_told::<TiffKindStandard>(rt.alloc(), place)?;
-        assert_eq!(rt; told.as_str(), classic, "{place}");
-        let told = place_told::<TiffKindBig>(rt.alloc(), place)?;
-        assert_eq!(rt; told.as_str(), big, "{place}");
+        let told = place_told::<TiffKindStandard>(rt.alloc(), place);
+        expect_text(&rt, place, told, classic);
+        let told = place_told::<TiffKindBig>(rt.alloc(), place);
+        expect_text(&rt, place, told, big);
     }
-    Ok(())
 }
 
 // A directory of a width, a height, RowsPerStrip given twice, and a text out of line; two numbers stand alone at 13.
@@ -400,29 +490,46 @@ fn set_values<W: Sink, K: TiffKind>(
     directory.write_data(Slice(&[1u16, 2]))
 }
 
-// The file of the values, and the place of the numbers.
-fn values_written<K: TiffKind>(alloc: Global) -> TiffResult<(u64, Vec<u8>)> {
+// Writes the directory of the values, and tells the place of the numbers.
+fn write_values<W: Sink, K: TiffKind>(
+    encoder: &mut TiffEncoder<W, K>,
+    given: &Directory,
+) -> TiffResult<u64> {
+    let mut directory = encoder.image_directory()?;
+    let place = set_values(&mut directory, given);
+    directory.finish()?;
+    place
+}
+
+// The place of the numbers, as a text.
+fn place_of_values<W: Sink, K: TiffKind>(
+    alloc: Global,
+    encoder: &mut TiffEncoder<W, K>,
+) -> TiffResult<String> {
+    let given = given(alloc)?;
+    let place = write_values(encoder, &given)?;
+    Ok(format!(in alloc; "{place}")?)
+}
+
+// The place of the numbers, and the file of the values.
+fn values_written<K: TiffKind>(alloc: Global) -> TiffResult<(String, Vec<u8>)> {
     let mut encoder: TiffEncoder<MemorySink, K> = TiffEncoder::new_generic(
         alloc,
         empty_sink(alloc),
     )?;
-    let given = given(alloc)?;
-    let mut directory = encoder.image_directory()?;
-    let place = set_values(&mut directory, &given);
-    let ended = directory.finish();
-    ended?;
-    Ok((place?, encoder.into_inner().into_vec()))
+    let told = place_of_values(alloc, &mut encoder);
+    let file = encoder.into_inner().into_vec();
+    Ok((told?, file))
 }
 
 #[test]
-fn values_stand_in_or_out_of_line(rt: HostRuntime) -> Result<(), Fail> {
-    let (place, file) = values_written::<TiffKindStandard>(rt.alloc())?;
-    assert_eq!(rt; file.as_slice(), CLASSIC_VALUES.as_slice());
-    assert_eq!(rt; place, 13);
-    let (place, file) = values_written::<TiffKindBig>(rt.alloc())?;
-    assert_eq!(rt; file.as_slice(), BIG_VALUES.as_slice());
-    assert_eq!(rt; place, 16);
-    Ok(())
+fn values_stand_in_or_out_of_line(rt: HostRuntime) {
+    let written = values_written::<TiffKindStandard>(rt.alloc());
+    let wanted = copy_of(rt.alloc(), &CLASSIC_VALUES);
+    expect_text(&rt, 0, told_with(rt.alloc(), written, wanted), "13");
+    let written = values_written::<TiffKindBig>(rt.alloc());
+    let wanted = copy_of(rt.alloc(), &BIG_VALUES);
+    expect_text(&rt, 1, told_with(rt.alloc(), written, wanted), "16");
 }
 
 // The writes of the three directories, each at its place, in order.
@@ -479,17 +586,33 @@ fn after_writes(alloc: Global, writes: &[(usize, &[u8])], left: u64) -> TiffResu
     Ok(file)
 }
 
+// Notes what writing the three directories and one more answers.
+fn write_on<W: Sink, K: TiffKind>(
+    notes: &mut String,
+    encoder: &mut TiffEncoder<W, K>,
+) -> TiffResult<()> {
+    let first = first_written(encoder);
+    let second = second_written(encoder, first.as_ref().ok());
+    add(notes, first.map(|_| ()))?;
+    add(notes, second)?;
+    add(notes, third_written(encoder))?;
+    add(notes, third_written(encoder))
+}
+
 // What writing the three directories and one more answers on a sink that takes so many bytes, and the file then.
 fn steps_told<K: TiffKind>(alloc: Global, left: u64) -> TiffResult<(String, Vec<u8>)> {
     let sink = FailingSink::new(empty_sink(alloc), left);
     let mut encoder: TiffEncoder<FailingSink, K> = TiffEncoder::new_generic(alloc, sink)?;
-    let first = first_written(&mut encoder);
-    let second = second_written(&mut encoder, first.as_ref().ok());
-    let third = third_written(&mut encoder);
-    let further = third_written(&mut encoder);
-    let first = first.map(|_| ());
-    let told = format!(in alloc; "{first:?} {second:?} {third:?} {further:?}")?;
-    Ok((told, encoder.into_inner().into_vec()))
+    let mut notes = String::new(alloc);
+    let noted = write_on(&mut notes, &mut encoder);
+    let file = encoder.into_inner().into_vec();
+    noted?;
+    Ok((notes, file))
+}
+
+// Whether there is no encoder on a sink that takes so many bytes.
+fn is_refused<K: TiffKind>(alloc: Global, left: u64) -> bool {
+    steps_told::<K>(alloc, left).is_err()
 }
 
 // From how many bytes on, up to how many in each kind, what is told.
@@ -516,85 +639,92 @@ const FAULTS: [((u64, u64), (u64, u64), &str); 4] = [
     ),
 ];
 
+// What is told on a sink that takes so many bytes, if the file is as wanted.
+fn classic_fault(alloc: Global, left: u64) -> TiffResult<String> {
+    let written = steps_told::<TiffKindStandard>(alloc, left);
+    told_with(alloc, written, after_writes(alloc, &CLASSIC_WRITES, left))
+}
+
+fn big_fault(alloc: Global, left: u64) -> TiffResult<String> {
+    let written = steps_told::<TiffKindBig>(alloc, left);
+    told_with(alloc, written, after_writes(alloc, &BIG_WRITES, left))
+}
+
 #[test]
-fn a_fault_in_a_classic_file_is_told_once(rt: HostRuntime) -> Result<(), Fail> {
-    assert!(rt; steps_told::<TiffKindStandard>(rt.alloc(), 7).is_err());
+fn a_fault_in_a_classic_file_is_told_once(rt: HostRuntime) {
+    assert!(rt; is_refused::<TiffKindStandard>(rt.alloc(), 7));
     for ((from, to), _, wanted) in FAULTS {
         for left in from..to {
-            let (told, file) = steps_told::<TiffKindStandard>(rt.alloc(), left)?;
-            assert_eq!(rt; told.as_str(), wanted, "{left}");
-            assert_eq!(rt;
-                file,
-                after_writes(rt.alloc(), &CLASSIC_WRITES, left)?,
-                "{left}"
-            );
+            expect_text(&rt, left, classic_fault(rt.alloc(), left), wanted);
         }
     }
-    let whole = after_writes(rt.alloc(), &CLASSIC_WRITES, 54)?;
-    assert_eq!(rt; whole.as_slice(), CLASSIC.as_slice());
-    Ok(())
+    let whole = after_writes(rt.alloc(), &CLASSIC_WRITES, 54);
+    expect_bytes(&rt, 54, whole, &CLASSIC);
 }
 
 #[test]
-fn a_fault_in_a_big_file_is_told_once(rt: HostRuntime) -> Result<(), Fail> {
-    assert!(rt; steps_told::<TiffKindBig>(rt.alloc(), 15).is_err());
+fn a_fault_in_a_big_file_is_told_once(rt: HostRuntime) {
+    assert!(rt; is_refused::<TiffKindBig>(rt.alloc(), 15));
     for (_, (from, to), wanted) in FAULTS {
         for left in from..to {
-            let (told, file) = steps_told::<TiffKindBig>(rt.alloc(), left)?;
-            assert_eq!(rt; told.as_str(), wanted, "{left}");
-            assert_eq!(rt;
-                file,
-                after_writes(rt.alloc(), &BIG_WRITES, left)?,
-                "{left}"
-            );
+            expect_text(&rt, left, big_fault(rt.alloc(), left), wanted);
         }
     }
-    let whole = after_writes(rt.alloc(), &BIG_WRITES, 108)?;
-    assert_eq!(rt; whole.as_slice(), BIG.as_slice());
-    Ok(())
+    let whole = after_writes(rt.alloc(), &BIG_WRITES, 108);
+    expect_bytes(&rt, 108, whole, &BIG);
 }
 
-// What a directory answers after a fault: each call that writes is refused, and the two that don't are not.
+// Notes what a directory answers after a fault: each call that writes is refused, and the one that doesn't is not.
 fn use_after_fault<W: Sink, K: TiffKind>(
-    alloc: Global,
+    notes: &mut String,
     directory: &mut DirectoryEncoder<'_, W, K>,
     given: &Directory,
-) -> TiffResult<String> {
-    let fault = directory.write_data(Text("abc"));
-    let buffer = ValueBuffer::empty(alloc, Type::BYTE);
-    let data = directory.write_data_buf(&buffer);
-    let tag = directory.write_tag(Tag::ImageWidth, 5u32);
-    let tag_buf = directory.write_tag_buf(Tag::ImageWidth, &buffer);
-    let bytes = directory.write_entry_bytes(Type::BYTE, &[]).map(|_| ());
-    let extended = directory.extend_from(given);
-    Ok(format!(in alloc; "{fault:?} {data:?} {tag:?} {tag_buf:?} {bytes:?} {extended:?}")?)
+    buffer: &ValueBuffer,
+) -> TiffResult<()> {
+    add(notes, directory.write_data(Text("abc")).map(|_| ()))?;
+    add(notes, directory.write_data_buf(buffer).map(|_| ()))?;
+    add(notes, directory.write_tag(Tag::ImageWidth, 5u32))?;
+    add(notes, directory.write_tag_buf(Tag::ImageWidth, buffer))?;
+    let bytes = directory.write_entry_bytes(Type::BYTE, &[]);
+    add(notes, bytes.map(|_| ()))?;
+    add(notes, directory.extend_from(given))
 }
 
-// What a directory answers on a sink that fails at its second byte of a value, and the file then.
+// Notes what a directory answers after a fault, and at its end.
+fn write_after_fault<W: Sink, K: TiffKind>(
+    alloc: Global,
+    notes: &mut String,
+    encoder: &mut TiffEncoder<W, K>,
+) -> TiffResult<()> {
+    let given = given(alloc)?;
+    let buffer = ValueBuffer::empty(alloc, Type::BYTE);
+    let mut directory = encoder.image_directory()?;
+    let used = use_after_fault(notes, &mut directory, &given, &buffer);
+    let ended = directory.discard();
+    used.and(add(notes, ended))
+}
+
+// What a directory and a further one answer on a sink that fails at the second byte of a value, and the file then.
 fn used_after_fault(alloc: Global) -> TiffResult<(String, Vec<u8>)> {
     let sink = FailingSink::new(empty_sink(alloc), 9);
     let mut encoder = TiffEncoder::new(alloc, sink)?;
-    let given = given(alloc)?;
-    let mut directory = encoder.image_directory()?;
-    let told = use_after_fault(alloc, &mut directory, &given);
-    let ended = directory.discard();
+    let mut notes = String::new(alloc);
+    let used = write_after_fault(alloc, &mut notes, &mut encoder);
     let further = second_written(&mut encoder, None);
-    let told = format!(in alloc; "{} {ended:?} {further:?}", told?)?;
-    Ok((told, encoder.into_inner().into_vec()))
+    let file = encoder.into_inner().into_vec();
+    used.and(add(&mut notes, further))?;
+    Ok((notes, file))
 }
 
+// The fault, and what each call answers then, in order.
+const AFTER_FAULT: &str =
+    "Err(IoError(Device)) Err(UsageError(WriterFailed)) Err(UsageError(WriterFailed)) Err(UsageError(WriterFailed)) Err(UsageError(WriterFailed)) Ok(()) Err(UsageError(WriterFailed)) Err(UsageError(WriterFailed))";
+
 #[test]
-fn a_directory_is_refused_after_a_fault(rt: HostRuntime) -> Result<(), Fail> {
-    let (told, file) = used_after_fault(rt.alloc())?;
-    assert_eq!(rt;
-        told.as_str(),
-        "Err(IoError(Device)) Err(UsageError(WriterFailed)) Err(UsageError(WriterFailed)) Err(UsageError(WriterFailed)) Err(UsageError(WriterFailed)) Ok(()) Err(UsageError(WriterFailed)) Err(UsageError(WriterFailed))"
-    );
-    assert_eq!(rt;
-        file.as_slice(),
-        [0x49, 0x49, 0x2a, 0, 0, 0, 0, 0, 0x61].as_slice()
-    );
-    Ok(())
+fn a_directory_is_refused_after_a_fault(rt: HostRuntime) {
+    let written = used_after_fault(rt.alloc());
+    let wanted = copy_of(rt.alloc(), &[0x49, 0x49, 0x2a, 0, 0, 0, 0, 0, 0x61]);
+    expect_text(&rt, 0, told_with(rt.alloc(), written, wanted), AFTER_FAULT);
 }
 
 // The tags of a page of 3 by 2 samples that stand at a place.
@@ -646,23 +776,45 @@ fn set_all<W: Sink, K: TiffKind>(
     set_long(directory)
 }
 
+// Writes a page of twenty tags.
+fn write_page<W: Sink, K: TiffKind>(
+    encoder: &mut TiffEncoder<W, K>,
+    buffer: &ValueBuffer,
+) -> TiffResult<()> {
+    let mut directory = encoder.image_directory()?;
+    let set = set_all(&mut directory, buffer);
+    let ended = directory.finish();
+    set.and(ended)
+}
+
+// Writes a directory that is linked from nowhere, and answers its place.
+fn write_other<W: Sink, K: TiffKind>(encoder: &mut TiffEncoder<W, K>) -> TiffResult<IfdPointer> {
+    let mut other = encoder.extra_directory()?;
+    let set = other.write_tag(Tag::ImageWidth, 5u32);
+    let offsets = other.finish_with_offsets();
+    set?;
+    Ok(offsets?.pointer)
+}
+
+// Writes both.
+fn write_both<W: Sink, K: TiffKind>(
+    alloc: Global,
+    encoder: &mut TiffEncoder<W, K>,
+) -> TiffResult<IfdPointer> {
+    let buffer = buffer_of(alloc, ByteOrder::LittleEndian, Type::UNDEFINED, &[1, 2, 3])?;
+    write_page(encoder, &buffer)?;
+    write_other(encoder)
+}
+
 // A page of twenty tags, and the place of a directory that is linked from nowhere.
 fn page_written<K: TiffKind>(alloc: Global) -> TiffResult<(IfdPointer, Vec<u8>)> {
     let mut encoder: TiffEncoder<MemorySink, K> = TiffEncoder::new_generic(
         alloc,
         empty_sink(alloc),
     )?;
-    let bytes = Vec::from_slice(alloc, &[1, 2, 3])?;
-    let buffer = ValueBuffer::from_parts(ByteOrder::LittleEndian, Type::UNDEFINED, bytes);
-    let mut directory = encoder.image_directory()?;
-    let set = set_all(&mut directory, &buffer);
-    let ended = directory.finish();
-    set.and(ended)?;
-    let mut other = encoder.extra_directory()?;
-    let set = other.write_tag(Tag::ImageWidth, 5u32);
-    let offsets = other.finish_with_offsets();
-    set?;
-    Ok((offsets?.pointer, encoder.into_inner().into_vec()))
+    let other = write_both(alloc, &mut encoder);
+    let file = encoder.into_inner().into_vec();
+    Ok((other?, file))
 }
 
 // The values of the page's tags but for the place of its samples.
@@ -694,10 +846,14 @@ const VALUES: [(Tag, &str); 19] = [
     (Tag::Unknown(65011), "IfdBig(16)"),
 ];
 
-// A decoder of a file.
-fn opened(alloc: Global, file: Vec<u8>) -> TiffResult<Box<Decoder<MemorySource>>> {
+// A decoder of a page, and the place of the other directory.
+fn opened(
+    alloc: Global,
+    page: TiffResult<(IfdPointer, Vec<u8>)>,
+) -> TiffResult<(IfdPointer, Box<Decoder<MemorySource>>)> {
+    let (other, file) = page?;
     let decoder = Decoder::new(alloc, MemorySource::new(file))?;
-    Ok(Box::new(alloc, decoder)?)
+    Ok((other, Box::new(alloc, decoder)?))
 }
 
 // The value of a tag of the page.
@@ -709,8 +865,8 @@ fn value_told(alloc: Global, decoder: &mut Decoder<MemorySource>, tag: Tag) -> T
     })
 }
 
-// The width in a directory at any place, the place of the page's samples, and how many tags it has.
-fn rest_told(
+// The width in a directory at any place.
+fn width_told(
     alloc: Global,
     decoder: &mut Decoder<MemorySource>,
     pointer: IfdPointer,
@@ -718,27 +874,60 @@ fn rest_told(
     let other = decoder.read_directory(pointer)?;
     let width = decoder
         .read_directory_tags(&other)
-        .find_tag(Tag::ImageWidth)?;
-    let place = decoder.find_tag(Tag::StripOffsets)?;
+        .find_tag(Tag::ImageWidth);
+    shown(alloc, width)
+}
+
+// What is found of a tag.
+fn shown(alloc: Global, value: TiffResult<Option<Value>>) -> TiffResult<String> {
+    Ok(format!(in alloc; "{:?}", value?)?)
+}
+
+// The width in a directory at any place, the place of the page's samples, and how many tags it has.
+fn rest_told(
+    alloc: Global,
+    decoder: &mut Decoder<MemorySource>,
+    pointer: IfdPointer,
+) -> TiffResult<String> {
+    let width = width_told(alloc, decoder, pointer)?;
+    let place = shown(alloc, decoder.find_tag(Tag::StripOffsets))?;
     let tags = decoder.image_ifd().directory().len();
-    Ok(format!(in alloc; "{width:?} {place:?} {tags}")?)
+    Ok(format!(in alloc; "{width} {place} {tags}")?)
+}
+
+// Expects the values of a page, and what is told of the rest.
+fn expect_page(
+    rt: &impl Abort,
+    alloc: Global,
+    page: TiffResult<(IfdPointer, Vec<u8>)>,
+    rest: &str,
+) {
+    match opened(alloc, page) {
+        Ok((other, mut decoder)) => {
+            expect_text(rt, 0, rest_told(alloc, &mut decoder, other), rest);
+            for (tag, value) in VALUES {
+                let told = value_told(alloc, &mut decoder, tag);
+                expect_text(rt, tag.to_u16().into(), told, value);
+            }
+        }
+        Err(fault) => panic!(rt; "{fault:?}"),
+    }
 }
 
 #[test]
-fn tags_of_all_types_are_read_back(rt: HostRuntime) -> Result<(), Fail> {
-    let (other, file) = page_written::<TiffKindStandard>(rt.alloc())?;
-    let mut classic = opened(rt.alloc(), file)?;
-    let told = rest_told(rt.alloc(), &mut classic, other)?;
-    assert_eq!(rt; told.as_str(), "Some(Unsigned(5)) Some(Unsigned(8)) 20");
-    let (other, file) = page_written::<TiffKindBig>(rt.alloc())?;
-    let mut big = opened(rt.alloc(), file)?;
-    let told = rest_told(rt.alloc(), &mut big, other)?;
-    assert_eq!(rt; told.as_str(), "Some(Unsigned(5)) Some(Unsigned(16)) 20");
-    for (tag, value) in VALUES {
-        let told = value_told(rt.alloc(), &mut classic, tag)?;
-        assert_eq!(rt; told.as_str(), value, "{tag:?}");
-        let told = value_told(rt.alloc(), &mut big, tag)?;
-        assert_eq!(rt; told.as_str(), value, "{tag:?}");
-    }
-    Ok(())
+fn tags_of_all_types_are_read_back(rt: HostRuntime) {
+    let page = page_written::<TiffKindStandard>(rt.alloc());
+    expect_page(
+        &rt,
+        rt.alloc(),
+        page,
+        "Some(Unsigned(5)) Some(Unsigned(8)) 20",
+    );
+    let page = page_written::<TiffKindBig>(rt.alloc());
+    expect_page(
+        &rt,
+        rt.alloc(),
+        page,
+        "Some(Unsigned(5)) Some(Unsigned(16)) 20",
+    );
 }

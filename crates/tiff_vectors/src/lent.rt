@@ -1,8 +1,8 @@
 //! Slices, lists and buffers that a caller lends to a decoder, with contents of its own.
 
+use crate::expect::{expect_bytes, expect_text};
 use std::alloc::Global;
 use std::boxed::Box;
-use std::test::Fail;
 use tiff_base::error::TiffResult;
 use tiff_base::io::MemorySource;
 use tiff_base::tags::{ByteOrder, Tag, Type};
@@ -60,13 +60,11 @@ fn copied(alloc: Global, decoder: &mut Decoder<MemorySource>, at: u64) -> TiffRe
 }
 
 #[test]
-fn a_copy_leaves_the_rest_of_a_slice(rt: HostRuntime) -> Result<(), Fail> {
-    let mut decoder = opened(rt.alloc())?;
+fn a_copy_leaves_the_rest_of_a_slice(rt: HostRuntime) {
+    let mut decoder = opened(rt.alloc()).expect(&rt, "the page");
     for (at, text) in COPIES {
-        let told = copied(rt.alloc(), &mut decoder, at)?;
-        assert_eq!(rt; told.as_str(), text, "{at}");
+        expect_text(&rt, at, copied(rt.alloc(), &mut decoder, at), text);
     }
-    Ok(())
 }
 
 // Whether the page has a tag, and the type, the count and the bytes of the buffer then.
@@ -89,17 +87,16 @@ fn held(
 }
 
 #[test]
-fn a_buffer_holds_the_bytes_of_a_field(rt: HostRuntime) -> Result<(), Fail> {
-    let mut decoder = opened(rt.alloc())?;
+fn a_buffer_holds_the_bytes_of_a_field(rt: HostRuntime) {
+    let mut decoder = opened(rt.alloc()).expect(&rt, "the page");
     let mut buf = ValueBuffer::empty(rt.alloc(), Type::BYTE);
-    let width = held(rt.alloc(), &mut decoder, Tag::ImageWidth, &mut buf)?;
-    assert_eq!(rt; width.as_str(), "Ok(true) LONG 1 [0, 0, 0, 2]");
+    let width = held(rt.alloc(), &mut decoder, Tag::ImageWidth, &mut buf);
+    expect_text(&rt, 0, width, "Ok(true) LONG 1 [0, 0, 0, 2]");
     assert_eq!(rt; buf.byte_order(), ByteOrder::BigEndian);
-    let none = held(rt.alloc(), &mut decoder, Tag::Artist, &mut buf)?;
-    assert_eq!(rt; none.as_str(), "Ok(false) LONG 1 [0, 0, 0, 2]");
-    let cut = held(rt.alloc(), &mut decoder, UNNAMED, &mut buf)?;
-    assert_eq!(rt; cut.as_str(), "Err(IoError(UnexpectedEof)) SHORT 0 []");
-    Ok(())
+    let none = held(rt.alloc(), &mut decoder, Tag::Artist, &mut buf);
+    expect_text(&rt, 1, none, "Ok(false) LONG 1 [0, 0, 0, 2]");
+    let cut = held(rt.alloc(), &mut decoder, UNNAMED, &mut buf);
+    expect_text(&rt, 2, cut, "Err(IoError(UnexpectedEof)) SHORT 0 []");
 }
 
 // What finding a number below 2^16, and a list of them, answers.
@@ -120,13 +117,12 @@ const NUMBERS: [(Tag, &str); 3] = [
 ];
 
 #[test]
-fn numbers_are_of_the_type_that_is_asked_for(rt: HostRuntime) -> Result<(), Fail> {
-    let mut decoder = opened(rt.alloc())?;
+fn numbers_are_of_the_type_that_is_asked_for(rt: HostRuntime) {
+    let mut decoder = opened(rt.alloc()).expect(&rt, "the page");
     for (tag, text) in NUMBERS {
-        let told = found_u16(rt.alloc(), &mut decoder, tag)?;
-        assert_eq!(rt; told.as_str(), text, "{tag:?}");
+        let told = found_u16(rt.alloc(), &mut decoder, tag);
+        expect_text(&rt, tag.to_u16().into(), told, text);
     }
-    Ok(())
 }
 
 // A decoder of the page that has a limit from the start.
@@ -145,16 +141,10 @@ fn found_under(alloc: Global, limit: usize) -> TiffResult<String> {
 }
 
 #[test]
-fn a_decoder_is_made_with_limits(rt: HostRuntime) -> Result<(), Fail> {
-    assert_eq!(rt;
-        found_under(rt.alloc(), 64)?.as_str(),
-        "Ok(Some(List(ValueList { items: [Unsigned(8), Unsigned(10)] })))"
-    );
-    assert_eq!(rt;
-        found_under(rt.alloc(), 63)?.as_str(),
-        "Err(LimitsExceeded)"
-    );
-    Ok(())
+fn a_decoder_is_made_with_limits(rt: HostRuntime) {
+    let text = "Ok(Some(List(ValueList { items: [Unsigned(8), Unsigned(10)] })))";
+    expect_text(&rt, 64, found_under(rt.alloc(), 64), text);
+    expect_text(&rt, 63, found_under(rt.alloc(), 63), "Err(LimitsExceeded)");
 }
 
 // A slice of so many bytes 0xAA after the image was read into it.
@@ -175,15 +165,14 @@ fn unit_in(alloc: Global, decoder: &mut Decoder<MemorySource>, len: usize) -> Ti
 const SLICES: [&[u8]; 4] = [&[7, 8], &[7, 8, 0xAA], &[7, 8, 9, 10], &[7, 8, 9, 10, 0xAA]];
 
 #[test]
-fn the_rest_of_a_slice_stays(rt: HostRuntime) -> Result<(), Fail> {
-    let mut decoder = opened(rt.alloc())?;
+fn the_rest_of_a_slice_stays(rt: HostRuntime) {
+    let mut decoder = opened(rt.alloc()).expect(&rt, "the page");
     for slice in SLICES {
-        let image = image_in(rt.alloc(), &mut decoder, slice.len())?;
-        assert_eq!(rt; image.as_slice(), slice);
-        let unit = unit_in(rt.alloc(), &mut decoder, slice.len())?;
-        assert_eq!(rt; unit.as_slice(), slice);
+        let image = image_in(rt.alloc(), &mut decoder, slice.len());
+        expect_bytes(&rt, 0, image, slice);
+        let unit = unit_in(rt.alloc(), &mut decoder, slice.len());
+        expect_bytes(&rt, 1, unit, slice);
     }
-    Ok(())
 }
 
 // The samples of the second plane, which are read into a list of others, in rows of four bytes.
@@ -194,11 +183,10 @@ fn listed(alloc: Global, decoder: &mut Decoder<MemorySource>) -> TiffResult<Stri
 }
 
 #[test]
-fn a_list_takes_the_type_and_the_length_of_a_chunk(rt: HostRuntime) -> Result<(), Fail> {
-    let mut decoder = opened(rt.alloc())?;
-    let text = listed(rt.alloc(), &mut decoder)?;
-    assert_eq!(rt; text.as_str(), "U8([9, 10, 0, 0])");
-    Ok(())
+fn a_list_takes_the_type_and_the_length_of_a_chunk(rt: HostRuntime) {
+    let mut decoder = opened(rt.alloc()).expect(&rt, "the page");
+    let told = listed(rt.alloc(), &mut decoder);
+    expect_text(&rt, 0, told, "U8([9, 10, 0, 0])");
 }
 
 // The layout of the page, with another number type and length.
@@ -223,6 +211,18 @@ fn resized(
     Ok(format!(in alloc; "{answer:?} {list:?}")?)
 }
 
+// The same, for the layout of the page with another number type and length.
+fn resized_as(
+    alloc: Global,
+    decoder: &mut Decoder<MemorySource>,
+    list: &mut DecodingResult,
+    sample_type: Option<DecodingSampleType>,
+    len: usize,
+) -> TiffResult<String> {
+    let layout = layout_of(decoder, sample_type, len)?;
+    resized(alloc, list, &layout)
+}
+
 // Number types and lengths of a layout, and what resizing a list to it one after another leaves.
 const LAYOUTS: [(Option<DecodingSampleType>, usize, &str); 3] = [
     (Some(DecodingSampleType::U16), 3, "Ok(()) U16([0, 0])"),
@@ -239,15 +239,13 @@ const LAYOUTS: [(Option<DecodingSampleType>, usize, &str); 3] = [
 ];
 
 #[test]
-fn a_list_is_made_as_long_as_its_layout(rt: HostRuntime) -> Result<(), Fail> {
-    let mut decoder = opened(rt.alloc())?;
+fn a_list_is_made_as_long_as_its_layout(rt: HostRuntime) {
+    let mut decoder = opened(rt.alloc()).expect(&rt, "the page");
     let mut list = DecodingResult::U8(Vec::new(rt.alloc()));
     for (sample_type, len, text) in LAYOUTS {
-        let layout = layout_of(&mut decoder, sample_type, len)?;
-        let told = resized(rt.alloc(), &mut list, &layout)?;
-        assert_eq!(rt; told.as_str(), text);
+        let told = resized_as(rt.alloc(), &mut decoder, &mut list, sample_type, len);
+        expect_text(&rt, 0, told, text);
     }
-    Ok(())
 }
 
 fn put(buffer: &mut DecodingBuffer<'_>, n: u16) {
@@ -267,13 +265,14 @@ fn written(alloc: Global, list: &mut DecodingResult, n: u16) -> TiffResult<Strin
     Ok(format!(in alloc; "{} {bytes:?}", buffer.byte_len())?)
 }
 
+// A list, as a text.
+fn shown(alloc: Global, list: &DecodingResult) -> TiffResult<String> {
+    Ok(format!(in alloc; "{list:?}")?)
+}
+
 #[test]
-fn samples_are_written_in_place(rt: HostRuntime) -> Result<(), Fail> {
+fn samples_are_written_in_place(rt: HostRuntime) {
     let mut list = DecodingResult::U16(Vec::new(rt.alloc()));
-    assert_eq!(rt; written(rt.alloc(), &mut list, 258)?.as_str(), "2 [2, 1]");
-    assert_eq!(rt;
-        format!(in rt.alloc(); "{list:?}")?.as_str(),
-        "U16([0, 258])"
-    );
-    Ok(())
+    expect_text(&rt, 0, written(rt.alloc(), &mut list, 258), "2 [2, 1]");
+    expect_text(&rt, 1, shown(rt.alloc(), &list), "U16([0, 258])");
 }

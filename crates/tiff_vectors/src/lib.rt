@@ -8,6 +8,8 @@ mod chain;
 mod directories;
 pub mod doubles;
 #[cfg(test)]
+mod expect;
+#[cfg(test)]
 mod lent;
 #[cfg(test)]
 mod packed;

@@ -1,8 +1,8 @@
 //! Packed bytes are read in pieces of any size.
 
 use crate::doubles::FailingSource;
+use crate::expect::{copy_of, expect_same, expect_text, expect_true, told_with};
 use std::alloc::Global;
-use std::test::Fail;
 use tiff_base::error::{TiffError, TiffResult};
 use tiff_base::io::{IoKind, MemorySource, Source};
 use tiff_ifd::stream::PackBitsReader;
@@ -73,16 +73,19 @@ const ROWS: [(&[u8], u64, &[u8], &str); 9] = [
     (&[], 0, &[], WHOLE),
 ];
 
+// What such a reader is to give.
+fn wanted(alloc: Global, unpacked: &[u8], fault: &str) -> TiffResult<String> {
+    Ok(format!(in alloc; "{unpacked:?} {fault}, [] {fault}")?)
+}
+
 #[test]
-fn packed_rows_unpack_in_pieces(rt: HostRuntime) -> Result<(), Fail> {
+fn packed_rows_unpack_in_pieces(rt: HostRuntime) {
     for (packed, length, unpacked, fault) in ROWS {
-        let wanted = format!(in rt.alloc(); "{unpacked:?} {fault}, [] {fault}")?;
         for piece in 1..30 {
-            let told = told_twice(rt.alloc(), packed, length, piece)?;
-            assert_eq!(rt; told, wanted, "{packed:?} by {piece}");
+            let told = told_twice(rt.alloc(), packed, length, piece);
+            expect_same(&rt, length, told, wanted(rt.alloc(), unpacked, fault));
         }
     }
-    Ok(())
 }
 
 // What a source of the three runs gives that answers so many reads, a byte each.
@@ -91,12 +94,17 @@ fn told_slowly(alloc: Global, left: u64) -> TiffResult<(Vec<u8>, Option<TiffErro
     read_all(alloc, &mut PackBitsReader::new(slow, 0, 15), 7)
 }
 
+// The bytes of a source that answers so many reads, beside its fault as a text.
+fn slowly_written(alloc: Global, left: u64) -> TiffResult<(String, Vec<u8>)> {
+    let (bytes, fault) = told_slowly(alloc, left)?;
+    Ok((format!(in alloc; "{fault:?}")?, bytes))
+}
+
 #[test]
-fn a_source_that_gives_single_bytes_is_unpacked(rt: HostRuntime) -> Result<(), Fail> {
-    let (bytes, fault) = told_slowly(rt.alloc(), 1000)?;
-    assert_eq!(rt; bytes.as_slice(), UNPACKED.as_slice());
-    assert!(rt; fault.is_none());
-    Ok(())
+fn a_source_that_gives_single_bytes_is_unpacked(rt: HostRuntime) {
+    let wanted = copy_of(rt.alloc(), &UNPACKED);
+    let told = told_with(rt.alloc(), slowly_written(rt.alloc(), 1000), wanted);
+    expect_text(&rt, 1000, told, "None");
 }
 
 // Whether a source that fails behind so many reads gives the front of the bytes, and then its fault.
@@ -107,31 +115,40 @@ fn is_cut_short(alloc: Global, left: u64) -> TiffResult<bool> {
 }
 
 #[test]
-fn a_source_that_fails_is_told(rt: HostRuntime) -> Result<(), Fail> {
+fn a_source_that_fails_is_told(rt: HostRuntime) {
     for left in 0..14 {
-        assert!(rt; is_cut_short(rt.alloc(), left)?, "{left}");
+        expect_true(&rt, left, is_cut_short(rt.alloc(), left));
     }
-    Ok(())
 }
 
 // How many bytes an empty read gives, and what comes behind it.
-fn told_behind_nothing(alloc: Global) -> TiffResult<String> {
-    let mut reader = PackBitsReader::new(source(alloc, &THREE_RUNS)?, 0, 15);
+fn read_behind_nothing(
+    alloc: Global,
+    reader: &mut PackBitsReader<MemorySource>,
+) -> TiffResult<String> {
     let none = reader.read(&mut [])?;
-    let rest = told(alloc, &mut reader, 5)?;
+    let rest = told(alloc, reader, 5)?;
     Ok(format!(in alloc; "{none} {rest}")?)
 }
 
+fn told_behind_nothing(alloc: Global) -> TiffResult<String> {
+    let mut reader = PackBitsReader::new(source(alloc, &THREE_RUNS)?, 0, 15);
+    read_behind_nothing(alloc, &mut reader)
+}
+
+// What is to be told then.
+fn wanted_behind_nothing(alloc: Global) -> TiffResult<String> {
+    Ok(format!(in alloc; "0 {UNPACKED:?} {WHOLE}")?)
+}
+
 #[test]
-fn an_empty_read_passes_nothing(rt: HostRuntime) -> Result<(), Fail> {
-    let wanted = format!(in rt.alloc(); "0 {UNPACKED:?} {WHOLE}")?;
-    assert_eq!(rt; told_behind_nothing(rt.alloc())?, wanted);
-    Ok(())
+fn an_empty_read_passes_nothing(rt: HostRuntime) {
+    let told = told_behind_nothing(rt.alloc());
+    expect_same(&rt, 0, told, wanted_behind_nothing(rt.alloc()));
 }
 
 // A row of three, the refusal of another one, and the one byte that is left.
-fn rows_filled(alloc: Global) -> TiffResult<String> {
-    let mut reader = PackBitsReader::new(source(alloc, &[9, 0xFE, 7, 0, 8])?, 1, 4);
+fn fill_rows(alloc: Global, reader: &mut PackBitsReader<MemorySource>) -> TiffResult<String> {
     let mut row = [0u8; 3];
     reader.read_exact(&mut row)?;
     let refusal = reader.read_exact(&mut [0u8; 3]);
@@ -140,11 +157,13 @@ fn rows_filled(alloc: Global) -> TiffResult<String> {
     Ok(format!(in alloc; "{row:?} {refusal:?} {last:?}")?)
 }
 
+fn rows_filled(alloc: Global) -> TiffResult<String> {
+    let mut reader = PackBitsReader::new(source(alloc, &[9, 0xFE, 7, 0, 8])?, 1, 4);
+    fill_rows(alloc, &mut reader)
+}
+
 #[test]
-fn rows_are_filled_or_stay_to_be_read(rt: HostRuntime) -> Result<(), Fail> {
-    assert_eq!(rt;
-        rows_filled(rt.alloc())?.as_str(),
-        "[7, 7, 7] Err(IoError(UnexpectedEof)) [8]"
-    );
-    Ok(())
+fn rows_are_filled_or_stay_to_be_read(rt: HostRuntime) {
+    let wanted = "[7, 7, 7] Err(IoError(UnexpectedEof)) [8]";
+    expect_text(&rt, 0, rows_filled(rt.alloc()), wanted);
 }

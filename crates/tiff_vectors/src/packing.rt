@@ -1,7 +1,7 @@
 //! Which packed list is written for bytes, of those that may be.
 
+use crate::expect::{expect_bytes, expect_true};
 use std::alloc::Global;
-use std::test::Fail;
 use tiff_base::error::{TiffError, TiffResult};
 use tiff_base::io::{IoKind, MemorySink};
 use tiff_value::encoder::compression::{Compression, CompressionAlgorithm, Compressor, Packbits};
@@ -98,23 +98,20 @@ const ROWS: [(&[Piece], &[Piece]); 11] = [
 ];
 
 #[test]
-fn bytes_are_packed_so(rt: HostRuntime) -> Result<(), Fail> {
+fn bytes_are_packed_so(rt: HostRuntime) {
     for (bytes, wanted) in ROWS {
-        assert!(rt; is_packed_so(rt.alloc(), bytes, wanted)?);
+        expect_true(&rt, 0, is_packed_so(rt.alloc(), bytes, wanted));
     }
-    Ok(())
 }
 
 #[test]
-fn no_bytes_are_not_packed(rt: HostRuntime) -> Result<(), Fail> {
+fn no_bytes_are_not_packed(rt: HostRuntime) {
     let none = stored(rt.alloc(), &mut Packbits.get_algorithm(), &[]);
     assert!(rt; matches!(none, Err(TiffError::IoError(IoKind::WriteZero))));
-    Ok(())
 }
 
 #[test]
-fn bytes_stand_by_default(rt: HostRuntime) -> Result<(), Fail> {
-    let plain = stored(rt.alloc(), &mut Compressor::default(), &[5, 5, 5])?;
-    assert!(rt; plain.as_slice() == [5, 5, 5].as_slice());
-    Ok(())
+fn bytes_stand_by_default(rt: HostRuntime) {
+    let plain = stored(rt.alloc(), &mut Compressor::default(), &[5, 5, 5]);
+    expect_bytes(&rt, 0, plain, &[5, 5, 5]);
 }
