@@ -14,7 +14,7 @@ use tiff_base::error::{TiffError, TiffResult, UsageError};
 use tiff_base::tags::{Bits32, Bits64};
 
 /// A number that a sample is in memory (this project's).
-pub trait Sample: TiffScalar {
+pub trait Sample: TiffScalar + Copy {
     ghost use Rattle.std.specs.Prelude.{◌≡◌, ◌++◌, ◌^◌, ℕ, map, MatchResult};
     ghost use Rattle.std.specs.List.{flat_map};
     ghost use Rattle.tiff_base.specs.Number.{le};
@@ -24,6 +24,10 @@ pub trait Sample: TiffScalar {
 
     // Its bits, as a number from 0 on.
     ghost bits: { Self → ℕ };
+
+    /// The sample of zeros.
+    fn zero() -> Self
+        ensures { bits result ≡ 0 };
 
     /// Appends a row's first `stride` samples, then each less, modulo its width, the one `stride` before it. Nothing is
     /// appended for a stride of 0, or a row shorter than it. Floating numbers: `UsageError(PredictorIncompatible)`.
@@ -116,6 +120,10 @@ impl Whole for u8 {
 impl Sample for u8 {
     ghost bits = { λ n. n };
 
+    fn zero() -> u8 {
+        0
+    }
+
     fn predict_row(row: &[u8], stride: usize, out: &mut Vec<u8>) -> TiffResult<()> {
         push_differences(row, stride, out)
     }
@@ -149,6 +157,10 @@ impl Whole for i8 {
 impl Sample for i8 {
     ghost bits = { cast_unsigned w8 };
 
+    fn zero() -> i8 {
+        0
+    }
+
     fn predict_row(row: &[i8], stride: usize, out: &mut Vec<i8>) -> TiffResult<()> {
         push_differences(row, stride, out)
     }
@@ -180,6 +192,10 @@ impl Whole for u16 {
 
 impl Sample for u16 {
     ghost bits = { λ n. n };
+
+    fn zero() -> u16 {
+        0
+    }
 
     fn predict_row(row: &[u16], stride: usize, out: &mut Vec<u16>) -> TiffResult<()> {
         push_differences(row, stride, out)
@@ -214,6 +230,10 @@ impl Whole for i16 {
 impl Sample for i16 {
     ghost bits = { cast_unsigned w16 };
 
+    fn zero() -> i16 {
+        0
+    }
+
     fn predict_row(row: &[i16], stride: usize, out: &mut Vec<i16>) -> TiffResult<()> {
         push_differences(row, stride, out)
     }
@@ -245,6 +265,10 @@ impl Whole for u32 {
 
 impl Sample for u32 {
     ghost bits = { λ n. n };
+
+    fn zero() -> u32 {
+        0
+    }
 
     fn predict_row(row: &[u32], stride: usize, out: &mut Vec<u32>) -> TiffResult<()> {
         push_differences(row, stride, out)
@@ -279,6 +303,10 @@ impl Whole for i32 {
 impl Sample for i32 {
     ghost bits = { cast_unsigned w32 };
 
+    fn zero() -> i32 {
+        0
+    }
+
     fn predict_row(row: &[i32], stride: usize, out: &mut Vec<i32>) -> TiffResult<()> {
         push_differences(row, stride, out)
     }
@@ -310,6 +338,10 @@ impl Whole for u64 {
 
 impl Sample for u64 {
     ghost bits = { λ n. n };
+
+    fn zero() -> u64 {
+        0
+    }
 
     fn predict_row(row: &[u64], stride: usize, out: &mut Vec<u64>) -> TiffResult<()> {
         push_differences(row, stride, out)
@@ -344,6 +376,10 @@ impl Whole for i64 {
 impl Sample for i64 {
     ghost bits = { cast_unsigned w64 };
 
+    fn zero() -> i64 {
+        0
+    }
+
     fn predict_row(row: &[i64], stride: usize, out: &mut Vec<i64>) -> TiffResult<()> {
         push_differences(row, stride, out)
     }
@@ -376,6 +412,10 @@ impl Whole for Bits32 {
 impl Sample for Bits32 {
     ghost bits = { λ n. n.0 };
 
+    fn zero() -> Bits32 {
+        Bits32(0)
+    }
+
     fn predict_row(row: &[Bits32], stride: usize, out: &mut Vec<Bits32>) -> TiffResult<()> {
         Err(TiffError::UsageError(UsageError::PredictorIncompatible))
     }
@@ -407,6 +447,10 @@ impl Whole for Bits64 {
 
 impl Sample for Bits64 {
     ghost bits = { λ n. n.0 };
+
+    fn zero() -> Bits64 {
+        Bits64(0)
+    }
 
     fn predict_row(row: &[Bits64], stride: usize, out: &mut Vec<Bits64>) -> TiffResult<()> {
         Err(TiffError::UsageError(UsageError::PredictorIncompatible))

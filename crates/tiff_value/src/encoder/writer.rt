@@ -1,7 +1,7 @@
 //! Numbers and bytes are written at a place of a sink.
 
 ghost use Rattle.std.specs.Int.{w8, w16, w32, w64};
-ghost use Rattle.std.specs.Prelude.{◌≡◌, ℕ, ◌+◌, ◌-◌, ◌%◌, ◌<◌, ◌≤◌, List, [], ◌∷◌, length, replicate, take, is_some, IsSome, IfOk, IfErr, MatchResult, None};
+ghost use Rattle.std.specs.Prelude.{◌≡◌, ℕ, ◌+◌, ◌-◌, ◌%◌, ◌^◌, ◌<◌, ◌≤◌, List, [], ◌∷◌, length, replicate, take, is_some, IsSome, IfOk, IfErr, MatchResult, None};
 ghost use Rattle.tiff_base.specs.Number.{le};
 ghost use Rattle.tiff_base.specs.declared.tags.CompressionMethod.TheVariants as method;
 ghost use Rattle.tiff_value.specs.Compressors.{compressor_method};
@@ -79,8 +79,16 @@ impl<W: Sink> TiffWriter<W> {
     pub fn offset(&self) -> u64
         ensures place { result ≡ self.now.at }
         ensures within { result ≤ length self.now.bytes }
+        ensures short { length self.now.bytes < 2 ^ 64 }
     {
         self.at
+    }
+
+    /// How many bytes the sink has (this project's).
+    pub fn len(&self) -> u64
+        ensures { result ≡ length self.now.bytes }
+    {
+        self.sink.len()
     }
 
     /// How many bytes the last whole write had.
