@@ -1,7 +1,8 @@
 //! Files are written.
 
 pub use tiff_encode::encoder::{
-    DirectoryEncoder, DirectoryOffset, TiffEncoder, TiffKind, TiffKindBig, TiffKindStandard, laws,
+    Compression, DirectoryEncoder, DirectoryOffset, ImageEncoder, TiffEncoder, TiffKind,
+    TiffKindBig, TiffKindStandard, data_laws, image_laws, laws, reading_laws,
 };
 pub use tiff_value::encoder::tiff_value::{
     Ifd, Ifd8, Rational, SRational, Slice, Text, TiffScalar, TiffValue,

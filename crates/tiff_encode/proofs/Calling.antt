@@ -264,7 +264,7 @@ module _ {X : Type 0} (view : X → Field) where
 pub appends_done : (bytes : List ℕ) (n : ℕ) (old new : FileState) → n ≡ end_of old → new ≡ grown old bytes → IsTold (appends bytes old) (Ok n) new
 appends_done bytes n old new at h = record { answer = ap Ok (sym at); state = h }
 
-none_some : (o : Option SinkFault) → o ≡ None → IsSome o → ⊥
+pub none_some : (o : Option SinkFault) → o ≡ None → IsSome o → ⊥
 none_some None f s = cc
 none_some (Some x) f s = cc
 

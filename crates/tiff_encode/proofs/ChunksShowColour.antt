@@ -139,7 +139,7 @@ module _ (p : PageRecord) (most : ℕ) (all : p.samples ≤ most) where
             (Multiband p.depth p.samples, (rw t refl, all))
       ] e
 
-  family_has : (f : Family) → p.samples ≡ count_of f + length p.extra → photometric p ≡ count_of f → HasColour (meaning_of f) p most
+  pub family_has : (f : Family) → p.samples ≡ count_of f + length p.extra → photometric p ≡ count_of f → HasColour (meaning_of f) p most
   family_has OneGray e h = gray_has e
   family_has ThreeRgb e h =
       by_test (first_is_alpha p.extra) (RGBA p.depth) (RGB p.depth) meaning.RGB p most (rw h refl)

@@ -188,13 +188,13 @@ placed_growing value file =
     handed_growing (is_long file.kind value) value.bytes (record { field = field; bytes = value.bytes }) field file
 
 -- a call that was not refused had no cause
-uncaused_by : {A : Type 0} (cause : Option TiffError) (call : Writing A) (file : FileState) (x : A)
+pub uncaused_by : {A : Type 0} (cause : Option TiffError) (call : Writing A) (file : FileState) (x : A)
     → (by_cause cause call file).answer ≡ Ok x → cause ≡ None
 uncaused_by None call file x h = refl
 uncaused_by (Some e) call file x h = absurd (ok_err (sym h))
 
 -- and no fault before it
-fresh_by : (fault : Option SinkFault) (cause : Option TiffError) → unless_ended fault cause ≡ None → fault ≡ None
+pub fresh_by : (fault : Option SinkFault) (cause : Option TiffError) → unless_ended fault cause ≡ None → fault ≡ None
 fresh_by None cause h = refl
 fresh_by (Some f) cause h = absurd cc
 

@@ -16,7 +16,7 @@ zero_fits Classic = lit< tt
 zero_fits Big = lit< tt
 
 -- a header has no link but its own
-only_link : (kind : FileKind) (q : ℕ) → IsLink kind (header_model kind) q → q ≡ header_link kind
+pub only_link : (kind : FileKind) (q : ℕ) → IsLink kind (header_model kind) q → q ≡ header_link kind
 only_link kind q l = elim l [ inl e ↦ e | inr y ↦ absurd y.1.0 ]
 
 -- a header that was written stands

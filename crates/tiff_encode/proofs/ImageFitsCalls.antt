@@ -62,7 +62,7 @@ bind_done call rest file a d =
     joined_done (call file).answer (call file).deeds (call file).next rest file a.kind a.bytes d
 
 -- bytes that are written over others take none away
-put_longer : (bytes : List ℕ) (at : ℕ) (over : List ℕ) → length bytes ≤ length (put bytes at over)
+pub put_longer : (bytes : List ℕ) (at : ℕ) (over : List ℕ) → length bytes ≤ length (put bytes at over)
 put_longer bytes at over =
     let behind : List ℕ = drop (at + length over) bytes in
     omega (

@@ -67,13 +67,13 @@ appended_both kind bytes deeds more =
     append_assoc bytes (all_appended kind deeds) (all_appended kind more) ∙ ap (λ ys. bytes ++ ys) (sym (appended_joined kind deeds more))
 
 -- how much both append
-appended_len : (kind : FileKind) (deeds more : List Deed)
+pub appended_len : (kind : FileKind) (deeds more : List Deed)
     → length (all_appended kind (deeds ++ more)) ≡ length (all_appended kind deeds) + length (all_appended kind more)
 appended_len kind deeds more =
     ap (λ xs. length xs) (appended_joined kind deeds more) ∙ length-append (all_appended kind deeds) (all_appended kind more)
 
 -- the first, and a beginning of the others
-begun_both : (kind : FileKind) (bytes : List ℕ) (deeds more : List Deed) (count : ℕ)
+pub begun_both : (kind : FileKind) (bytes : List ℕ) (deeds more : List Deed) (count : ℕ)
     → (bytes ++ all_appended kind deeds) ++ take count (all_appended kind more)
     ≡ bytes ++ take (length (all_appended kind deeds) + count) (all_appended kind (deeds ++ more))
 begun_both kind bytes deeds more count =
@@ -89,7 +89,7 @@ begun_first kind deeds more count l =
     ∙ ap (take count) (sym (appended_joined kind deeds more))
 
 -- none of them is a link
-appending_joined : (deeds more : List Deed) → AreAppending deeds → AreAppending more → AreAppending (deeds ++ more)
+pub appending_joined : (deeds more : List Deed) → AreAppending deeds → AreAppending more → AreAppending (deeds ++ more)
 appending_joined [] more a b = b
 appending_joined (Appended xs ∷ deeds) more a b = appending_joined deeds more a b
 appending_joined (Handed handed ∷ deeds) more a b = appending_joined deeds more a b
@@ -97,7 +97,7 @@ appending_joined (Listed fields ∷ deeds) more a b = appending_joined deeds mor
 appending_joined (Linked place target ∷ deeds) more a b = absurd a
 
 -- a link last is none of those that only append
-ends_torn : (before : List Deed) (place target : ℕ) → AreAppending (before ++ Linked place target ∷ []) → ⊥
+pub ends_torn : (before : List Deed) (place target : ℕ) → AreAppending (before ++ Linked place target ∷ []) → ⊥
 ends_torn [] place target a = a
 ends_torn (Appended xs ∷ before) place target a = ends_torn before place target a
 ends_torn (Handed handed ∷ before) place target a = ends_torn before place target a

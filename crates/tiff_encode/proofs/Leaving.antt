@@ -41,7 +41,7 @@ link_count (Handed handed ∷ deeds) = link_count deeds
 link_count (Listed fields ∷ deeds) = link_count deeds
 link_count (Linked place target ∷ deeds) = suc (link_count deeds)
 
-count_joined : (deeds more : List Deed) → link_count (deeds ++ more) ≡ link_count deeds + link_count more
+pub count_joined : (deeds more : List Deed) → link_count (deeds ++ more) ≡ link_count deeds + link_count more
 count_joined [] more = omega arith
 count_joined (Appended x ∷ deeds) more = count_joined deeds more
 count_joined (Handed x ∷ deeds) more = count_joined deeds more
@@ -49,7 +49,7 @@ count_joined (Listed x ∷ deeds) more = count_joined deeds more
 count_joined (Linked place target ∷ deeds) more = let e = count_joined deeds more in omega (arith, e)
 
 -- with none they only append
-appending : (deeds : List Deed) → link_count deeds ≡ 0 → AreAppending deeds
+pub appending : (deeds : List Deed) → link_count deeds ≡ 0 → AreAppending deeds
 appending [] h = tt
 appending (Appended x ∷ deeds) h = appending deeds h
 appending (Handed x ∷ deeds) h = appending deeds h
@@ -259,7 +259,7 @@ in_order LittleEndian cause h = h
 in_order BigEndian cause h = absurd (some_none h)
 
 -- a test that refused nothing
-passed : (b : Bool) (e : TiffError) (cause : Option TiffError) → cond b (Some e) cause ≡ None → (b ≡ false) × (cause ≡ None)
+pub passed : (b : Bool) (e : TiffError) (cause : Option TiffError) → cond b (Some e) cause ≡ None → (b ≡ false) × (cause ≡ None)
 passed true e cause h = absurd (some_none h)
 passed false e cause h = (refl, h)
 

@@ -84,7 +84,12 @@ record IsNext (file : FileState) (i : OpenImage) (count stored : ℕ) : Type 0 w
   place : is_past file.kind (end_of file) ≡ false
   short : is_past file.kind stored ≡ false
 
-is_next : (file : FileState) (i : OpenImage) (count stored : ℕ) → count < 2 ^ 64 - 1 → chunk_cause file i count stored ≡ None
+-- as many samples as the call asks for are as many as the chunk has
+abbrev pub IsAsked : OpenImage → ℕ → Type 0
+IsAsked i count =
+    count ≡ min (chunk_samples (image_page i) (length i.chunks)) (2 ^ 64 - 1) → count ≡ chunk_samples (image_page i) (length i.chunks)
+
+is_next : (file : FileState) (i : OpenImage) (count stored : ℕ) → IsAsked i count → chunk_cause file i count stored ≡ None
     → IsNext file i count stored
 unfolding next_chunk_sample_count
 is_next file i count stored l c =
@@ -98,7 +103,7 @@ is_next file i count stored l c =
     record {
       few = leb-false (2 ^ 32) (all_chunks (image_page i)) past.0;
       left = ltb-true (length i.chunks) (all_chunks (image_page i)) left;
-      samples = least count s (2 ^ 64 - 1) (same ∙ ap (λ b. cond b (min s (2 ^ 64 - 1)) 0) left) l;
+      samples = l (same ∙ ap (λ b. cond b (min s (2 ^ 64 - 1)) 0) left);
       place = far.0;
       short = far.1;
     }
@@ -173,7 +178,7 @@ module _ (file : FileState) (m : Model) (i : OpenImage) (samples : List (List �
 
   -- the image
   chunk_kept : HoldsOpen file.kind m i samples → chunk_cause file i (length numbers) (length stored) ≡ None
-      → ((n : ℕ) → get_or numbers n 0 < 256 ^ i.size) → length numbers < 2 ^ 64 - 1
+      → ((n : ℕ) → get_or numbers n 0 < 256 ^ i.size) → IsAsked i (length numbers)
       → IsStored i.method stored (chunk_bytes i numbers) → end_of file < 2 ^ 64 → length stored < 2 ^ 64
       → HoldsOpen file.kind later image all
   chunk_kept h c s l is near short = record {
@@ -186,19 +191,31 @@ module _ (file : FileState) (m : Model) (i : OpenImage) (samples : List (List �
 
   -- the call
   appended_kept : (next : OpenImage) → HoldsOpen file.kind m i samples → chunk_cause file i (length numbers) (length stored) ≡ None
-      → ((n : ℕ) → get_or numbers n 0 < 256 ^ i.size) → length numbers < 2 ^ 64 - 1
+      → ((n : ℕ) → get_or numbers n 0 < 256 ^ i.size) → IsAsked i (length numbers)
       → IsStored i.method stored (chunk_bytes i numbers) → end_of file < 2 ^ 64 → length stored < 2 ^ 64
       → (appends_chunk i stored file).answer ≡ Ok next
       → HoldsOpen file.kind (model_by file m (appends_chunk i stored file)) next all
   appended_kept next h c s l is near short a =
       subst (λ j. HoldsOpen file.kind later j all) (ok_inj image next a) (chunk_kept h c s l is near short)
 
+-- a chunk of as many samples as it has
+pub chunk_keeps_open : (file : FileState) (m : Model) (i next : OpenImage) (samples : List (List ℕ)) (numbers stored : List ℕ)
+    → HoldsOpen file.kind m i samples → ((n : ℕ) → get_or numbers n 0 < 256 ^ i.size) → IsAsked i (length numbers)
+    → IsStored i.method stored (chunk_bytes i numbers) → end_of file < 2 ^ 64 → length stored < 2 ^ 64
+    → (write_chunk i (length numbers) stored file).answer ≡ Ok next
+    → HoldsOpen file.kind (model_by file m (write_chunk i (length numbers) stored file)) next (samples ++ numbers ∷ [])
+unfolding write_chunk write_chunk_cause
+chunk_keeps_open file m i next samples numbers stored h s l is near short a =
+    let P : Model → Type 0 = λ n. HoldsOpen file.kind n next (samples ++ numbers ∷ []) in
+    caused_held (write_chunk_cause file i (length numbers) (length stored)) (appends_chunk i stored) file m P next a
+    (λ c b. appended_kept file m i samples numbers stored next h (fresh file.fault _ c) s l is near short b)
+
 pub chunks_keep_open : ChunksKeepOpen
-unfolding write_chunk write_strip write_chunk_cause write_strip_cause
+unfolding write_strip write_strip_cause
 chunks_keep_open file m i next samples numbers stored h s l is near short =
-    let P : Model → Type 0 = λ n. HoldsOpen file.kind n next (samples ++ numbers ∷ []) in (
-      λ a. caused_held (write_chunk_cause file i (length numbers) (length stored)) (appends_chunk i stored) file m P next a
-          (λ c b. appended_kept file m i samples numbers stored next h (fresh file.fault _ c) s l is near short b),
+    let P : Model → Type 0 = λ n. HoldsOpen file.kind n next (samples ++ numbers ∷ []) in
+    let asked : IsAsked i (length numbers) = λ e. least (length numbers) _ (2 ^ 64 - 1) e l in (
+      λ a. chunk_keeps_open file m i next samples numbers stored h s asked is near short a,
       λ a. caused_held (write_strip_cause file i (length numbers) (length stored)) (appends_chunk i stored) file m P next a
-          (λ c b. appended_kept file m i samples numbers stored next h (first_test _ _ _ (fresh file.fault _ c)).1 s l is near short b),
+          (λ c b. appended_kept file m i samples numbers stored next h (first_test _ _ _ (fresh file.fault _ c)).1 s asked is near short b),
     )

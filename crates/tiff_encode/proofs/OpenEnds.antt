@@ -1,4 +1,4 @@
--- An image that ends with every chunk is shown.
+-- An image that ends with every chunk is held, and shown.
 use Rattle.std.proofs.Common.{◌≡◌, ℕ, ◌^◌, ◌<◌, inl, inr, Bool, true, false, cond, List, [], ◌∷◌, ◌++◌, length, map, Some, None, Ok, refl, ap, sym, ◌∙◌, subst, arith}
 use Rattle.std.proofs.lemmas.Bool.{eqb-true, ltb-false, cases_lt}
 use Rattle.std.specs.Prelude.{◌==◌}
@@ -19,7 +19,7 @@ use Rattle.tiff_encode.specs.Causes.{end_of, finish_cause}
 use Rattle.tiff_encode.specs.Chunks.{all_samples, image_page, is_left}
 use Rattle.tiff_encode.specs.Calls.{Offsets, links_to, offsets_of, chains, finish, write_tags, repeated, sample_tags, chunk_tags, last_tags, finish_image}
 use Rattle.tiff_encode.specs.Held.{Given, Holds, ExtraGiven, TellsChunks, TellsImage, IsWholeImage, AreHanded, RegionsHaveChunks, ImagesShow}
-use Rattle.tiff_encode.specs.Open.{TellsForm, TellsOpen, IsOpen, HoldsChunks, HoldsOpen, model_by, EndsShown}
+use Rattle.tiff_encode.specs.Open.{TellsForm, TellsOpen, IsOpen, HoldsChunks, HoldsOpen, model_by, EndsHeld, GrownEnded, EndedShown, EndsShown}
 use Rattle.tiff_encode.proofs.Slices.{ok_inj}
 use Rattle.tiff_encode.proofs.Deeds.{deeds_grow}
 use Rattle.tiff_encode.proofs.OpenHeld.{holds_grown, chunks_grown, set}
@@ -163,7 +163,7 @@ module _ (kind : FileKind) (m : Model) (i : OpenImage) (samples : List (List ℕ
 -- ---- its end
 
 -- the directory that a call ends
-finish_listed : (d : OpenDirectory) (file : FileState) (m : Model) (offsets : Offsets) → (finish d file).answer ≡ Ok offsets
+pub finish_listed : (d : OpenDirectory) (file : FileState) (m : Model) (offsets : Offsets) → (finish d file).answer ≡ Ok offsets
     → (let listed : FinishedDirectory = record { place = offsets.pointer; fields = standing_fields file.kind d.fields } in
     In listed (model_by file m (finish d file)).directories)
 unfolding finish
@@ -212,14 +212,44 @@ image_ended file m i samples offsets h a =
       ),
     ))
 
--- where what stands and holds an image shows it
-pub ends_shown_by : ImagesShow → EndsShown
-ends_shown_by show file m i samples offsets h left a stands =
+-- it is held as one that has ended
+pub ends_held : EndsHeld
+ends_held file m i samples offsets h left a =
     let n : Model = model_by file m (finish_image i file) in
     let e = image_ended file m i samples offsets h a in
-    let fields = e.0.fields in
     let c : HoldsChunks file.kind n i samples =
     chunks_grown file.kind m n i samples (deeds_grow file.kind file.bytes m (finish_image i file).deeds) h.chunks in
-    show file.kind (finish_image i file).next.bytes n (record { place = offsets.pointer; fields = standing_fields file.kind fields }) fields
-    (last_given file.kind i h.given) i samples stands e.1.0 refl e.1.1 (is_whole file.kind n i samples h.open_so c left)
-    (last_tells file.kind i h.given h.tells) (are_handed file.kind n i samples c left) (regions_have file.kind n i samples c left)
+    record {
+      fields = e.0.fields;
+      given = last_given file.kind i h.given;
+      listed = e.1.0;
+      holds = e.1.1;
+      whole = is_whole file.kind n i samples h.open_so c left;
+      tells = last_tells file.kind i h.given h.tells;
+      handed = are_handed file.kind n i samples c left;
+      regions = regions_have file.kind n i samples c left;
+    }
+
+-- also when more is written
+pub grown_ended : GrownEnded
+grown_ended kind m n i samples place g h = record {
+  fields = h.fields;
+  given = h.given;
+  listed = g.directories _ h.listed;
+  holds = holds_grown m n h.fields h.given g h.holds;
+  whole = h.whole;
+  tells = h.tells;
+  handed = h.handed;
+  regions = λ k b. let r = h.regions k b in (r.0, (g.regions _ r.1.0, r.1.1));
+}
+
+-- where what stands and holds an image shows it, it is shown
+pub ended_shown_by : ImagesShow → EndedShown
+ended_shown_by show kind file m i samples place stands h =
+    show kind file m (record { place = place; fields = standing_fields kind h.fields }) h.fields h.given i samples
+    stands h.listed refl h.holds h.whole h.tells h.handed h.regions
+
+pub ends_shown_by : ImagesShow → EndsShown
+ends_shown_by show file m i samples offsets h left a stands =
+    ended_shown_by show file.kind (finish_image i file).next.bytes (model_by file m (finish_image i file)) i samples offsets.pointer
+    stands (ends_held file m i samples offsets h left a)

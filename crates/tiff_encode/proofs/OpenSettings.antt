@@ -1,8 +1,7 @@
 -- An image that is open is held still when it is set how it is cut and what extra samples it has.
 use Rattle.std.proofs.Common.{◌≡◌, ℕ, ◌+◌, ◌^◌, ◌<◌, ◌≤◌, inl, Bool, true, false, cond, List, [], ◌∷◌, length, get_or, Option, Some, None, Ok, refl, ap, sym, ◌∙◌, subst, arith}
-use Rattle.std.proofs.lemmas.Bool.{ltb-false, eqb-false, false≢true}
+use Rattle.std.proofs.lemmas.Bool.{ltb-false, eqb-false}
 use Rattle.std.specs.Prelude.{◌==◌}
-use Rattle.tiff_base.specs.declared.color.ChunkType.{ChunkType}
 use Rattle.tiff_base.specs.declared.color.ChunkType.TheVariants.{Strip, Tile}
 use Rattle.tiff_base.specs.declared.error.TiffError.{TiffError}
 use Rattle.tiff_base.specs.declared.io.SinkFault.{SinkFault}
@@ -39,11 +38,6 @@ fresh (Some f) cause h = absurd cc
 pub first_test : (a : Bool) (e : TiffError) (rest : Option TiffError) → cond a (Some e) rest ≡ None → (a ≡ false) × (rest ≡ None)
 first_test true e rest h = absurd cc
 first_test false e rest h = (refl, h)
-
--- no tile is a strip
-strip_is : (c : ChunkType) → is_tile c ≡ false → c ≡ Strip
-strip_is Strip h = refl
-strip_is Tile h = absurd (false≢true (sym h))
 
 no_strip : Tile ≡ Strip → ⊥
 no_strip e = cc

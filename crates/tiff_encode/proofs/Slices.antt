@@ -48,12 +48,6 @@ pub is_exact : (file : List ℕ) (p n : ℕ) (s : List ℕ) → exactly_at file 
     → (n ≤ length file - p) × (take n (drop p file) ≡ s)
 is_exact file p n s e = let o = opened _ _ s _ e in (leb-true _ _ o.0, o.1)
 
--- they are as many as were asked for
-pub length_exact : (file : List ℕ) (p n : ℕ) (s : List ℕ) → exactly_at file p n ≡ Ok s → length s ≡ n
-length_exact file p n s e =
-    let o = is_exact file p n s e in
-    ap length (sym o.1) ∙ length-take-le n (drop p file) (omega (arith, o.0, length-drop p file))
-
 -- what is read of a file is read of each longer file
 pub exact_append : (file more : List ℕ) (p n : ℕ) (s : List ℕ) → exactly_at file p n ≡ Ok s
     → exactly_at (file ++ more) p n ≡ Ok s
@@ -176,14 +170,6 @@ number_kept file new w p x f e =
     let F : List ℕ → Result ℕ TiffError = λ s. Ok (number LittleEndian w s) in
     let i = bind_ok (exactly_at file p (byte_len w)) F x e in
     ok_bind (exactly_at new p (byte_len w)) F i.0 x (f i.0 i.1.0) i.1.1
-
--- a number stands in the file
-pub number_within : (file : List ℕ) (w : Width) (p x : ℕ) → number_at LittleEndian w file p ≡ Ok x
-    → byte_len w ≤ length file - p
-number_within file w p x e =
-    let F : List ℕ → Result ℕ TiffError = λ s. Ok (number LittleEndian w s) in
-    let i = bind_ok (exactly_at file p (byte_len w)) F x e in
-    (is_exact file p (byte_len w) i.0 i.1.0).0
 
 -- a number that was written between two pieces is read
 pub number_mid : (w : Width) (a b : List ℕ) (p x : ℕ) → (w ≡ w16) ⊎ ((w ≡ w32) ⊎ (w ≡ w64)) → length a ≡ p

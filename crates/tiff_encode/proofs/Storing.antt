@@ -1,24 +1,23 @@
 -- A chunk is written.
-use Rattle.std.proofs.Common.{◌≡◌, ℕ, ◌-◌, ◌*◌, ◌%◌, ◌^◌, ◌<◌, min, Bool, true, false, cond, List, length, Option, Some, None, Result, Ok, Err, refl, ap, sym, ◌∙◌, subst, inl, inr, arith}
+use Rattle.std.proofs.Common.{◌≡◌, ℕ, ◌-◌, ◌*◌, ◌%◌, ◌^◌, ◌<◌, min, Bool, true, false, cond, List, length, Option, Some, None, Result, Ok, Err, refl, ap, sym, ◌∙◌, subst, inl, inr, arith, append-nil}
+use Rattle.std.proofs.lemmas.Bool.{eqb-true}
 use Rattle.std.proofs.Math.Nat.{mul-mod_left, zero-mod}
-use Rattle.std.specs.Prelude.{◌⊎◌, ◌==◌, ◌||◌, not, IsSome}
+use Rattle.std.specs.Prelude.{◌⊎◌, ◌==◌, ◌||◌, not}
 use Rattle.tiff_base.specs.declared.error.TiffError.{TiffError}
-use Rattle.tiff_base.specs.declared.error.TiffError.TheVariants.{IoError, IntSizeError, UsageError, OutOfMemory}
-use Rattle.tiff_base.specs.declared.error.UsageError.TheVariants.{WriterFailed}
+use Rattle.tiff_base.specs.declared.error.TiffError.TheVariants.{IoError, IntSizeError, OutOfMemory}
 use Rattle.tiff_base.specs.declared.io.IoKind.TheVariants.{InvalidData}
-use Rattle.tiff_base.specs.declared.tags.FileKind.{FileKind}
-use Rattle.tiff_base.specs.declared.tags.FileKind.TheVariants.{Classic, Big}
+use Rattle.tiff_base.specs.declared.io.SinkFault.{SinkFault}
 use Rattle.tiff_value.specs.Packed.{IsStored}
-use Rattle.tiff_encode.specs.Machine.{FileState, OpenImage, Writing, gives}
+use Rattle.tiff_encode.specs.Machine.{FileState, OpenImage, Told, Writing, by_cause}
 use Rattle.tiff_encode.specs.Chunks.{image_page, row_samples, chunk_rows, is_left, next_chunk_sample_count}
-use Rattle.tiff_encode.specs.Causes.{is_past, is_past_chunks, end_of, write_chunk_cause}
-use Rattle.tiff_encode.specs.Calls.{appends, with_chunk, appends_chunk, write_chunk}
+use Rattle.tiff_encode.specs.Causes.{is_past, is_past_chunks, unless_ended, end_of, write_chunk_cause}
+use Rattle.tiff_encode.specs.Calls.{with_chunk, appends_chunk, write_chunk}
 use Rattle.tiff_encode.specs.Encoder.{IsStopped, IsCut}
+use Rattle.tiff_encode.specs.Ends.{IsTold, IsCutOff, Fails}
 use Rattle.tiff_encode.specs.Steps.{grown}
 use Rattle.tiff_encode.specs.Stored.{chunk_bytes}
-use Rattle.tiff_encode.specs.Storing.{chunk_test, WritesChunk}
-use Rattle.tiff_encode.proofs.Calling.{stopped_cause, fresh_cause, refused, uncaused, appends_done, appends_fails}
-use Rattle.tiff_encode.proofs.Joining.{bind_told, bind_fails, appends_adds}
+use Rattle.tiff_encode.specs.Storing.{AppendsChunk, StoresChunk, WritesChunk}
+use Rattle.tiff_encode.proofs.Calling.{none_some, cut_off}
 
 -- ---- a chunk is whole rows
 
@@ -31,119 +30,101 @@ unfolding next_chunk_sample_count
 whole_rows i n row h l r =
     ap (λ x. n % x) r ∙ rows_by (is_left i) (chunk_rows (image_page i) (length i.chunks)) (row_samples (image_page i)) n h l
 
--- ---- causes
+-- ---- a chunk that is stored as given bytes
 
--- a test that refuses a chunk is its cause, whatever it is stored as
-test_some : (far none other past : Bool) (e : TiffError) → cond far (Some IntSizeError) (cond none (Some (IoError InvalidData)) (cond other (Some IntSizeError) None)) ≡ Some e
-    → cond far (Some IntSizeError) (cond none (Some (IoError InvalidData)) (cond (other || past) (Some IntSizeError) None)) ≡ Some e
-test_some true none other past e h = h
-test_some false true other past e h = h
-test_some false false true past e h = h
-test_some false false false past e h = absurd cc
+-- a call that is refused is told so
+refused_told : {A : Type 0} (cause : Option TiffError) (call : Writing A) (file : FileState) (e : TiffError) → cause ≡ Some e
+    → IsTold (by_cause cause call file) (Err e) file
+refused_told cause call file e c =
+    let P : Option TiffError → Type 0 = λ k. IsTold (by_cause k call file) (Err e) file in
+    subst P (sym c) (record { answer = refl; state = refl })
 
--- one that doesn't leaves the length of what it is stored as
-test_none : (far none other past : Bool) → cond far (Some IntSizeError) (cond none (Some (IoError InvalidData)) (cond other (Some IntSizeError) None)) ≡ None
-    → cond far (Some IntSizeError) (cond none (Some (IoError InvalidData)) (cond (other || past) (Some IntSizeError) None)) ≡ cond past (Some IntSizeError) None
-test_none true none other past h = absurd cc
-test_none false true other past h = absurd cc
-test_none false false true past h = absurd cc
-test_none false false false past h = refl
+module _ (old : FileState) (i : OpenImage) (n : ℕ) (stored : List ℕ) where
+  abbrev Appended : Result (Unit {0}) TiffError → FileState → OpenImage → Type 0
+  Appended r new next = AppendsChunk (write_chunk i n stored old) i r old new next
 
-past_none : (kind : FileKind) → is_past kind 0 ≡ false
-past_none Classic = refl
-past_none Big = refl
+  -- what is told of the call, by its cause
+  abbrev told_by : Option TiffError → Told OpenImage
+  told_by cause = by_cause cause (appends_chunk i stored) old
 
-module _ (old : FileState) (i : OpenImage) (n : ℕ) where
-  at_test : (kind : FileKind) (end : ℕ) (c : Option TiffError) → kind ≡ old.kind → end ≡ end_of old → chunk_test kind end i n ≡ c
-      → chunk_test old.kind (end_of old) i n ≡ c
-  at_test kind end c k e h = sym (λ j. chunk_test (k j) (e j) i n) ∙ h
+  abbrev AppendedBy : Option TiffError → Result (Unit {0}) TiffError → FileState → OpenImage → Type 0
+  AppendedBy cause r new next = AppendsChunk (told_by cause) i r old new next
 
-  pub test_caused : (kind : FileKind) (end : ℕ) (e : TiffError) → old.fault ≡ None → kind ≡ old.kind → end ≡ end_of old
-      → chunk_test kind end i n ≡ Some e → write_chunk_cause old i n 0 ≡ Some e
-  unfolding write_chunk_cause
-  test_caused kind end e f k at h =
-      fresh_cause old.fault _ f
-      ∙ test_some (is_past_chunks i) (not (is_left i) || not (n == next_chunk_sample_count i)) (is_past old.kind (end_of old)) (is_past old.kind 0) e (at_test kind end (Some e) k at h)
+  by_none : (m : ℕ) (r : Result (Unit {0}) TiffError) (new : FileState) (next : OpenImage) → m ≡ length stored
+      → write_chunk_cause old i n m ≡ None → AppendedBy None r new next → Appended r new next
+  unfolding write_chunk
+  by_none m r new next l c h =
+      subst (λ cause. AppendedBy cause r new next) (sym c ∙ ap (write_chunk_cause old i n) l) h
 
-  pub test_passed : (kind : FileKind) (end stored : ℕ) → old.fault ≡ None → kind ≡ old.kind → end ≡ end_of old
-      → chunk_test kind end i n ≡ None → write_chunk_cause old i n stored ≡ cond (is_past old.kind stored) (Some IntSizeError) None
-  unfolding write_chunk_cause
-  test_passed kind end stored f k at h =
-      fresh_cause old.fault _ f
-      ∙ test_none (is_past_chunks i) (not (is_left i) || not (n == next_chunk_sample_count i)) (is_past old.kind (end_of old)) (is_past old.kind stored) (at_test kind end None k at h)
+  -- it is refused
+  pub append_refused : (m : ℕ) (e : TiffError) → m ≡ length stored → write_chunk_cause old i n m ≡ Some e → Appended (Err e) old i
+  unfolding write_chunk
+  append_refused m e l c =
+      (refl, inl (refused_told (write_chunk_cause old i n (length stored)) (appends_chunk i stored) old e (ap (write_chunk_cause old i n) (sym l) ∙ c)))
 
-  pub test_stopped : (e : TiffError) → IsSome old.fault → e ≡ UsageError WriterFailed → write_chunk_cause old i n 0 ≡ Some e
-  unfolding write_chunk_cause
-  test_stopped e s q = stopped_cause old.fault _ s ∙ ap Some (sym q)
+  -- there was no memory
+  pub append_wanting : (m : ℕ) (next : OpenImage) → m ≡ length stored → write_chunk_cause old i n m ≡ None → next ≡ i
+      → Appended (Err OutOfMemory) old next
+  append_wanting m next l c q =
+      by_none m (Err OutOfMemory) old next l c
+      (q, inr (inr (refl, refl)))
 
--- ---- what is answered
+  -- the sink failed
+  pub append_cut : (m : ℕ) (e : TiffError) (new : FileState) (next : OpenImage) → m ≡ length stored → old.fault ≡ None
+      → write_chunk_cause old i n m ≡ None → IsStopped e old new ⊎ IsCut stored e old new → next ≡ i → Appended (Err e) new next
+  append_cut m e new next l f c h q =
+      by_none m (Err e) new next l c (
+        q,
+        inr (inl (elim h as (λ _. IsCutOff (told_by None).deeds e old new) [
+          | inl s ↦ absurd (none_some old.fault f s.failed)
+          | inr x ↦ cut_off (told_by None).deeds e old new (subst (λ xs. IsCut xs e old new) (sym (append-nil stored)) x)
+        ])),
+      )
 
-module _ (old : FileState) (i : OpenImage) (samples : List ℕ) where
-  abbrev Written : Option TiffError → Result (Unit {0}) TiffError → FileState → OpenImage → Type 0
-  Written cause r new next = WritesChunk write_chunk cause i samples r old new next
+  -- it is stored
+  pub append_done : (m place : ℕ) (new : FileState) (next : OpenImage) → m ≡ length stored → write_chunk_cause old i n m ≡ None
+      → place ≡ end_of old → new ≡ grown old stored → next ≡ with_chunk i place (length stored) → Appended (Ok tt) new next
+  append_done m place new next l c at g q =
+      by_none m (Ok tt) new next l c
+      (record { answer = ap Ok (ap (λ p. with_chunk i p (length stored)) (sym at) ∙ sym q); state = g })
 
-  -- it is refused before it is packed
-  pub chunk_refused : (n : ℕ) (e : TiffError) → write_chunk_cause old i n 0 ≡ Some e → Written (write_chunk_cause old i n 0) (Err e) old i
-  chunk_refused n e c = subst (λ x. Written x (Err e) old i) (sym c) (refl, (refl, refl))
+-- ---- samples that are packed first
 
-  module _ (n : ℕ) (counted : n ≡ length samples) (uncaused_at : (stored : ℕ) → write_chunk_cause old i n stored ≡ cond (is_past old.kind stored) (Some IntSizeError) None) where
-    -- no packing is refused yet
-    open_cause : write_chunk_cause old i n 0 ≡ None
-    open_cause = uncaused_at 0 ∙ ap (λ b. cond b (Some IntSizeError) None) (past_none old.kind)
+counted_by : (fault : Option SinkFault) (far left same other : Bool)
+    → unless_ended fault (cond far (Some IntSizeError) (cond (not left || not same) (Some (IoError InvalidData)) (cond other (Some IntSizeError) None))) ≡ None
+    → same ≡ true
+counted_by None false true true other h = refl
+counted_by None false true false other h = absurd cc
+counted_by None false false same other h = absurd cc
+counted_by None true left same other h = absurd cc
+counted_by (Some f) far left same other h = absurd cc
 
-    by_none : (r : Result (Unit {0}) TiffError) (new : FileState) (next : OpenImage) → Written None r new next → Written (write_chunk_cause old i n 0) r new next
-    by_none r new next h = subst (λ x. Written x r new next) (sym open_cause) h
+-- a chunk that isn't refused has as many samples as are wanted
+pub chunk_counted : (old : FileState) (i : OpenImage) (n stored : ℕ) → write_chunk_cause old i n stored ≡ None → n ≡ next_chunk_sample_count i
+unfolding write_chunk_cause
+chunk_counted old i n stored h =
+    eqb-true n (next_chunk_sample_count i)
+    (counted_by old.fault (is_past_chunks i) (is_left i) (n == next_chunk_sample_count i) (is_past old.kind (end_of old) || is_past old.kind stored) h)
 
-    -- there was no memory
-    pub chunk_wanting : (e : TiffError) (next : OpenImage) → e ≡ OutOfMemory → next ≡ i → Written (write_chunk_cause old i n 0) (Err e) old next
-    chunk_wanting e next q s = by_none (Err e) old next (s, inl (q, refl))
+module _ (old : FileState) (i : OpenImage) (samples : List ℕ) (n count : ℕ) (stored : List ℕ) (new : FileState) (next : OpenImage) (e : TiffError) where
+  abbrev told : Told OpenImage
+  told = write_chunk i (length samples) stored old
 
-    cause_is : (stored : List ℕ) → write_chunk_cause old i (length samples) (length stored) ≡ cond (is_past old.kind (length stored)) (Some IntSizeError) None
-    cause_is stored = ap (λ m. write_chunk_cause old i m (length stored)) (sym counted) ∙ uncaused_at (length stored)
-
-    -- it is stored as more bytes than the kind can tell
-    pub chunk_past : (stored : List ℕ) → IsStored i.method stored (chunk_bytes i samples) → is_past old.kind (length stored) ≡ true
-        → Written (write_chunk_cause old i n 0) (Err IntSizeError) old i
-    unfolding write_chunk
-    chunk_past stored s p =
-        let cause : write_chunk_cause old i (length samples) (length stored) ≡ Some IntSizeError = cause_is stored ∙ ap (λ b. cond b (Some IntSizeError) None) p in
-        by_none (Err IntSizeError) old i
-        (refl, inr (stored, (s, refused (λ x. x) (write_chunk_cause old i (length samples) (length stored)) (appends_chunk i stored) old IntSizeError cause)))
-
-    no_cause : (stored : List ℕ) → is_past old.kind (length stored) ≡ false → write_chunk_cause old i (length samples) (length stored) ≡ None
-    no_cause stored p = cause_is stored ∙ ap (λ b. cond b (Some IntSizeError) None) p
-
-    -- the sink failed
-    pub chunk_cut : (stored : List ℕ) (e : TiffError) (new : FileState) (next : OpenImage) → old.fault ≡ None
-        → IsStored i.method stored (chunk_bytes i samples) → is_past old.kind (length stored) ≡ false
-        → IsStopped e old new ⊎ IsCut stored e old new → next ≡ i → Written (write_chunk_cause old i n 0) (Err e) new next
-    unfolding write_chunk
-    chunk_cut stored e new next f s p h q =
-        let rest : ℕ → Writing OpenImage = λ place. gives (with_chunk i place (length stored)) in
-        by_none (Err e) new next (
-          q,
-          inr (
-            stored,
-            (
-              s,
-              uncaused (λ x. x) (write_chunk_cause old i (length samples) (length stored)) (appends_chunk i stored) (Err e) old new (no_cause stored p)
-                  (bind_fails (appends stored) rest e old new (appends_adds stored old) (appends_fails stored e old new f h)),
-            ),
-          ),
-        )
-
-    -- it is stored
-    pub chunk_done : (stored : List ℕ) (place : ℕ) (new : FileState) (next : OpenImage) → place ≡ end_of old
-        → IsStored i.method stored (chunk_bytes i samples) → is_past old.kind (length stored) ≡ false → new ≡ grown old stored
-        → next ≡ with_chunk i place (length stored) → Written (write_chunk_cause old i n 0) (Ok tt) new next
-    unfolding write_chunk
-    chunk_done stored place new next at s p g q =
-        let rest : ℕ → Writing OpenImage = λ place. gives (with_chunk i place (length stored)) in
-        by_none (Ok tt) new next (
-          stored,
-          (
-            s,
-            uncaused (λ x. x) (write_chunk_cause old i (length samples) (length stored)) (appends_chunk i stored) (Ok next) old new (no_cause stored p)
-                (bind_told (appends stored) rest place (Ok next) old new new (appends_done stored place old new at g) (record { answer = ap Ok (sym q); state = refl })),
-          ),
-        )
+  -- the call fails once they are packed
+  pub chunk_fails : write_chunk_cause old i n 0 ≡ None → count ≡ length samples → IsStored i.method stored (chunk_bytes i samples)
+      → (let r : Result (Unit {0}) TiffError = Err e in AppendsChunk (write_chunk i count stored old) i r old new next)
+      → (let r : Result (Unit {0}) TiffError = Err e in WritesChunk write_chunk (write_chunk_cause old i n 0) i samples r old new next)
+  chunk_fails uncaused counted is_stored h =
+      let r : Result (Unit {0}) TiffError = Err e in
+      let same : write_chunk i count stored old ≡ told = ap (λ k. write_chunk i k stored old) counted in
+      let ends : StoresChunk write_chunk i samples r old new next = (
+        h.0,
+        elim h.1 as (λ _. ((e ≡ OutOfMemory) × (new ≡ old)) ⊎ ((xs : List ℕ) × (IsStored i.method xs (chunk_bytes i samples) × Fails (write_chunk i (length samples) xs old) e old new))) [
+          | inl t ↦ inr (stored, (is_stored, inl (subst (λ t. IsTold t (Err e) new) same t)))
+          | inr h ↦ elim h [
+            | inl c ↦ inr (stored, (is_stored, inr (inl (subst (λ (t : Told OpenImage). IsCutOff t.deeds e old new) same c))))
+            | inr w ↦ inl w
+          ]
+        ],
+      ) in
+      subst (λ cause. WritesChunk write_chunk cause i samples r old new next) (sym uncaused) ends

@@ -22,14 +22,14 @@ use Rattle.tiff_encode.specs.Machine.{FileState, OpenDirectory, Told, Writing, g
 use Rattle.tiff_encode.specs.Causes.{unless_ended, field_cause, write_tag_cause, write_entry_bytes_cause}
 use Rattle.tiff_encode.specs.Calls.{placed, write_entry, write_entry_bytes, write_tag, write_tags}
 use Rattle.tiff_encode.specs.Ends.{IsTold, Fails, Ends}
-use Rattle.tiff_encode.specs.Tagging.{write_fields, fields_of}
+use Rattle.tiff_encode.specs.Tagging.{write_fields, StopsInPart, fields_of}
 use Rattle.tiff_encode.proofs.Listing.{filled_whole}
 use Rattle.tiff_encode.proofs.Joining.{IsAdding, Adds, adding, answers_adding, tag_adds, bind_told, bind_ends_adding, bind_fails, bind_adding, bind_adds}
 
 -- ---- calls that are alike
 
 -- what goes on alike ends alike
-going_alike : {A B : Type 0} (r : Result A TiffError) (deeds : List Deed) (next : FileState) (rest other : A → Writing B)
+pub going_alike : {A B : Type 0} (r : Result A TiffError) (deeds : List Deed) (next : FileState) (rest other : A → Writing B)
     → ((x : A) (file : FileState) → rest x file ≡ other x file) → going_on r deeds next rest ≡ going_on r deeds next other
 going_alike (Ok x) deeds next rest other h = ap (behind deeds) (h x next)
 going_alike (Err e) deeds next rest other h = refl
@@ -44,7 +44,7 @@ module _ {A B : Type 0} (deeds : List Deed) (rest : A → Writing B) where
       ap (λ ds. record { answer = third.answer; deeds = ds; next = third.next }) (sym (append_assoc deeds more third.deeds))
 
 -- three calls
-going_further : {A B C : Type 0} (r : Result A TiffError) (deeds : List Deed) (next : FileState) (second : A → Writing B)
+pub going_further : {A B C : Type 0} (r : Result A TiffError) (deeds : List Deed) (next : FileState) (second : A → Writing B)
     (third : B → Writing C)
     → going_on r deeds next (λ x. second x >>= third)
     ≡ (let both : Told B = going_on r deeds next second in going_on both.answer both.deeds both.next third)
@@ -159,6 +159,24 @@ next_fails d now values value n e old mid new l v h f =
     let whole : take n values ++ value ∷ rest ≡ values =
     sym (append_assoc (take n values) (value ∷ []) rest) ∙ ap (λ xs. xs ++ rest) (sym more) ∙ take-append-drop (n + 1) values in
     one_fails d now (take n values) rest values value e old mid new whole h f
+
+-- so the first ones are set, and the others fail
+pub next_stops : (d now next : OpenDirectory) (values : List (Tag × FieldData)) (value : Tag × FieldData) (n : ℕ) (e : TiffError)
+    (old mid new : FileState) → n < length values → value ≡ get_or values n value → IsTold (write_fields d (take n values) old) (Ok now) mid
+    → Fails (write_tag now value.0 (Ok value.1) mid) e mid new → next ≡ now → StopsInPart d values e old new next
+next_stops d now next values value n e old mid new l v h f s =
+    let rest : List (Tag × FieldData) = drop (n + 1) values in
+    let others : OpenDirectory → Writing OpenDirectory = λ x. write_fields x rest in
+    let more : take (n + 1) values ≡ take n values ++ value ∷ [] =
+    take_more values n value l ∙ ap (λ x. take n values ++ x ∷ []) (sym v) in
+    let whole : take n values ++ value ∷ rest ≡ values =
+    sym (append_assoc (take n values) (value ∷ []) rest) ∙ ap (λ xs. xs ++ rest) (sym more) ∙ take-append-drop (n + 1) values in
+    let left : value ∷ rest ≡ drop n values =
+    sym (drop_at (take n values) (value ∷ rest) n (length-take-le n values (omega (arith, l)))) ∙ ap (drop n) whole in
+    let fails : Fails (write_fields now (drop n values) mid) e mid new =
+    subst (λ vs. Fails (write_fields now vs mid) e mid new) left
+    (bind_fails (write_tag now value.0 (Ok value.1)) others e mid new (tag_adds now value.0 (Ok value.1) mid) f) in
+    subst (λ x. StopsInPart d values e old new x) (sym s) (n, (l, (mid, (h, fails))))
 
 -- ---- a value of whole bytes
 

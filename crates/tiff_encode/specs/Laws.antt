@@ -1,15 +1,15 @@
 -- The laws by which what stands in a file is kept, and grows, as the file is appended to and links are patched.
-use Rattle.std.specs.Prelude.{◌≡◌, ℕ, ◌+◌, ◌*◌, ◌^◌, ◌<◌, ◌≤◌, ◌⊎◌, List, [], ◌∷◌, ◌++◌, length, take}
+use Rattle.std.specs.Prelude.{◌≡◌, ℕ, ◌^◌, ◌<◌, ◌≤◌, ◌⊎◌, List, [], ◌∷◌, ◌++◌, length, take, Ok}
 use Rattle.std.specs.FinMap.{FinMap, len, entries}
 use Rattle.std.specs.Ordering.{nat_cmp}
 use Rattle.tiff_base.specs.declared.tags.FileKind.{FileKind}
-use Rattle.tiff_base.specs.declared.tags.FileKind.TheVariants.{Classic}
 use Rattle.tiff_base.specs.declared.tags.ByteOrder.TheVariants.{LittleEndian}
 use Rattle.tiff_base.specs.Field.{Field}
+use Rattle.tiff_base.specs.Header.{header_at}
 use Rattle.tiff_base.specs.Told.{put}
 use Rattle.tiff_base.specs.Number.{le}
 use Rattle.tiff_base.specs.FieldBytes.{field_len, field_place}
-use Rattle.tiff_encode.specs.Written.{place_len, count_len, header_bytes, directory_bytes, short_field, long_field, rational_field, one_to_one, rows_per_strip, resolutions_place, strip_place, directory_place, page_map, with_page}
+use Rattle.tiff_encode.specs.Written.{place_len, count_len, header_bytes, directory_bytes}
 use Rattle.tiff_encode.specs.Deeds.{Deed, Appended, Handed, Listed, Linked, after_deed, bytes_after, all_appended, standing_fields, model_after_deed, model_after}
 use Rattle.tiff_encode.specs.Model.{In, FinishedDirectory, HandedField, Region, Model, header_link, own_link, IsLink, Stands, header_model, relinked, with_directory, with_region, with_handed, Grows}
 
@@ -138,6 +138,13 @@ abbrev pub DeedsAppend : Type 0
 DeedsAppend = (kind : FileKind) (bytes : List ℕ) (deeds : List Deed) → AreAppending deeds
     → bytes_after kind bytes deeds ≡ bytes ++ all_appended kind deeds
 
+-- ---- the first directory
+
+-- the header of a file in which a model stands tells its kind, that it is little-endian, and where its link points to
+abbrev pub FirstTold : Type 0
+FirstTold = (kind : FileKind) (file : List ℕ) (m : Model) (place : ℕ) → Stands kind file m → m.links (header_link kind) ≡ place → 0 < place
+    → header_at file ≡ Ok (record { order = LittleEndian; kind = kind; first = place })
+
 -- ---- two models
 
 -- two models that stand in one file agree on the header's link, and on the fields and the link of each place at which
@@ -147,55 +154,3 @@ ModelsAgree = (kind : FileKind) (m n : Model) (file : List ℕ) → Stands kind 
     → (m.links (header_link kind) ≡ n.links (header_link kind))
     × ((d e : FinishedDirectory) → In d m.directories → In e n.directories → d.place ≡ e.place
     → (d.fields ≡ e.fields) × (m.links (own_link kind d) ≡ n.links (own_link kind e)))
-
--- ---- the page of one gray strip
-
--- what is handed in for the page's fields
-abbrev pub handed_short : ℕ → HandedField
-handed_short n = record { field = short_field n; bytes = le 2 n }
-
-abbrev pub handed_long : ℕ → HandedField
-handed_long n = record { field = long_field n; bytes = le 4 n }
-
-abbrev pub handed_resolution : ℕ → HandedField
-handed_resolution place = record { field = rational_field place; bytes = one_to_one }
-
-abbrev pub gray_handed : ℕ → ℕ → ℕ → ℕ → List HandedField
-gray_handed width height resolutions strip =
-    handed_long width ∷ handed_long height ∷ handed_short 8 ∷ handed_short 1 ∷ handed_long strip ∷ handed_long (rows_per_strip width)
-    ∷ handed_long (width * height) ∷ handed_resolution resolutions ∷ handed_resolution (resolutions + 8) ∷ []
-
--- the model after the page was appended to a file of length n, before a link points to it
-abbrev pub unlinked_page_model : Model → ℕ → ℕ → ℕ → List ℕ → Model
-unlinked_page_model m n width height samples =
-    with_directory Classic (record m {
-      handed = gray_handed width height (resolutions_place n) (strip_place n) ++ m.handed;
-      regions = record { place = strip_place n; bytes = take (width * height) samples }
-          ∷ record { place = resolutions_place n + 8; bytes = one_to_one }
-          ∷ record { place = resolutions_place n; bytes = one_to_one }
-          ∷ m.regions;
-    }) (record { place = directory_place n width height; fields = page_map n width height })
-
--- the same, where the link at a place points to it
-unfoldable pub page_model : Model → ℕ → ℕ → ℕ → ℕ → List ℕ → Model
-page_model m n link width height samples =
-    relinked Classic (unlinked_page_model m n width height samples) link (directory_place n width height)
-
--- the model after the page was appended to a file, and the write of the link at a place broke off, which holds some number
-unfoldable pub torn_page_model : Model → List ℕ → ℕ → ℕ → ℕ → List ℕ → ℕ → Model
-torn_page_model m file link width height samples holds =
-    relinked Classic (unlinked_page_model m (length file) width height samples) link holds
-
--- sides and samples of a page of one strip that fits a classic file of length n
-pub record IsGrayPage (n width height : ℕ) (samples : List ℕ) : Type 0 where
-  pub wide : 0 < width
-  pub high : 0 < height
-  pub width_fits : width < 2 ^ 32
-  pub one_strip : height ≤ rows_per_strip width
-  pub enough : width * height ≤ length samples
-  pub place_fits : directory_place n width height < 2 ^ 32
-
-abbrev pub PageStands : Type 0
-PageStands = (m : Model) (file : List ℕ) (link width height : ℕ) (samples : List ℕ)
-    → IsLink Classic m link → IsGrayPage (length file) width height samples → Stands Classic file m
-    → Stands Classic (with_page file link width height samples) (page_model m (length file) link width height samples)

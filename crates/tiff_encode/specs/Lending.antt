@@ -1,8 +1,9 @@
--- What an encoder ends as where it begins no directory.
-use Rattle.std.specs.Prelude.{Result}
+-- What an encoder ends as where it begins no directory, or no image.
+use Rattle.std.specs.Prelude.{ℕ, Result}
 use Rattle.std.specs.Borrow.{Fml, RattleType, MutBor, RestsIfErr}
 use Rattle.tiff_base.specs.declared.error.TiffError.{TiffError}
 use Rattle.tiff_base.specs.declared.io.Sink as sink
+use Rattle.tiff_value.specs.ColorType.{ColorTypeRecord}
 use Rattle.tiff_encode.specs.declared.encoder.kind.TiffKind as kind
 use Rattle.tiff_encode.specs.declared.encoder.open.Fields.{Fields}
 use Rattle.tiff_encode.specs.declared.encoder.directory_encoder.DirectoryEncoder.{DirectoryEncoder}
@@ -13,7 +14,7 @@ use Rattle.tiff_encode.specs.Ends.{EndsRefused}
 use Rattle.tiff_encode.specs.Leaves.{LeavesRefused}
 
 module _ (W K O : RattleType) (g : sink.Ghosts W.Denot) (h : kind.Ghosts K.Denot O.Denot) where
-  abbrev pub rests : (FileState → Told OpenDirectory) → MutBor FileState → Result (DirectoryEncoder W.Denot K.Denot Fields O.Denot) TiffError → Fml
+  abbrev pub rests : {D A : Type 0} → (FileState → Told A) → MutBor FileState → Result (DirectoryEncoder W.Denot K.Denot D O.Denot) TiffError → Fml
   rests call e r = RestsIfErr (encoder.the_row W K O g h) e (λ d. d.encoder.ghost_name) r (λ last. EndsRefused (call e.now) r e.now last × LeavesRefused r e.now last)
 
   abbrev pub image_rests : MutBor FileState → Result (DirectoryEncoder W.Denot K.Denot Fields O.Denot) TiffError → Fml
@@ -21,3 +22,6 @@ module _ (W K O : RattleType) (g : sink.Ghosts W.Denot) (h : kind.Ghosts K.Denot
 
   abbrev pub extra_rests : MutBor FileState → Result (DirectoryEncoder W.Denot K.Denot Fields O.Denot) TiffError → Fml
   extra_rests = rests calls.extra_directory
+
+  abbrev pub new_image_rests : {D : Type 0} → ColorTypeRecord → ℕ → ℕ → ℕ → MutBor FileState → Result (DirectoryEncoder W.Denot K.Denot D O.Denot) TiffError → Fml
+  new_image_rests colour size width height = rests (calls.new_image colour size width height)

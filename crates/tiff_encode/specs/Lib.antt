@@ -3,7 +3,6 @@ pub mod Model
 pub mod Laws
 pub mod Encoder
 pub mod Steps
-pub mod GraySteps
 pub mod Shows
 pub mod Value
 pub mod Deeds
@@ -28,3 +27,6 @@ pub mod Lending
 pub mod Extending
 pub mod Tagging
 pub mod LastTags
+pub mod ImageData
+pub mod ReadsBack
+pub mod Parts

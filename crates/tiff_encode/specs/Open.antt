@@ -2,6 +2,8 @@
 -- (this project's).
 use Rattle.std.specs.Prelude.{◌≡◌, ℕ, ◌^◌, ◌-◌, ◌<◌, ◌≤◌, ◌⊎◌, false, List, [], ◌∷◌, ◌++◌, length, get_or, slice_index, Some, None, Result, Ok}
 use Rattle.std.specs.List.{list_any}
+use Rattle.std.specs.FinMap.{FinMap}
+use Rattle.std.specs.Ordering.{nat_cmp}
 use Rattle.tiff_base.specs.declared.color.ChunkType.{ChunkType}
 use Rattle.tiff_base.specs.declared.color.ChunkType.TheVariants.{Strip, Tile}
 use Rattle.tiff_base.specs.declared.error.TiffError.{TiffError}
@@ -22,7 +24,7 @@ use Rattle.tiff_value.specs.Packed.{IsStored}
 use Rattle.tiff_page.specs.Counts.{all_chunks}
 use Rattle.tiff_encode.specs.Written.{place_len}
 use Rattle.tiff_encode.specs.Model.{In, Model, Stands, Grows}
-use Rattle.tiff_encode.specs.Deeds.{model_after}
+use Rattle.tiff_encode.specs.Deeds.{model_after, standing_fields}
 use Rattle.tiff_encode.specs.Machine.{FileState, OpenDirectory, Chunk, OpenImage, Told, Writing}
 use Rattle.tiff_encode.specs.Drawn.{IsSide, IsForm}
 use Rattle.tiff_encode.specs.Chunks.{all_samples, image_page, chunk_samples, is_left}
@@ -31,7 +33,7 @@ use Rattle.tiff_encode.specs.Calls as calls
 use Rattle.tiff_encode.specs.Calls.{Offsets}
 use Rattle.tiff_encode.specs.Stored.{chunk_bytes}
 use Rattle.tiff_encode.specs.Shows.{Shows}
-use Rattle.tiff_encode.specs.Held.{is_page_tag, Given, Holds, chroma_given, planar_given, ExtraGiven, samples_of, StandsFor, image_of}
+use Rattle.tiff_encode.specs.Held.{is_page_tag, Given, Holds, chroma_given, planar_given, ExtraGiven, samples_of, StandsFor, TellsImage, IsWholeImage, AreHanded, RegionsHaveChunks, image_of}
 
 -- ---- what an open image has
 
@@ -91,6 +93,19 @@ pub record HoldsOpen (kind : FileKind) (m : Model) (i : OpenImage) (samples : Li
   pub tells : TellsOpen i given
   pub open_so : IsOpen i
   pub chunks : HoldsChunks kind m i samples
+
+-- The model holds an image that has ended with every chunk: a directory that it lists at a place has the values of the
+-- tags of a page, which are those that the image says of itself; its chunks were handed these samples, and regions of the
+-- model stand for them.
+pub record HoldsEnded (kind : FileKind) (m : Model) (i : OpenImage) (samples : List (List ℕ)) (place : ℕ) : Type 0 where
+  pub fields : FinMap nat_cmp Field
+  pub given : Given
+  pub listed : In (record { place = place; fields = standing_fields kind fields }) m.directories
+  pub holds : Holds m fields given
+  pub whole : IsWholeImage kind i
+  pub tells : TellsImage kind i given
+  pub handed : AreHanded i samples
+  pub regions : RegionsHaveChunks m i samples
 
 -- ---- the laws
 
@@ -155,7 +170,24 @@ ChunksKeepOpen = (file : FileState) (m : Model) (i next : OpenImage) (samples : 
     × ((calls.write_strip i (length numbers) stored file).answer ≡ Ok next
     → HoldsOpen file.kind (model_by file m (calls.write_strip i (length numbers) stored file)) next (samples ++ numbers ∷ [])))
 
--- an image that ends with every chunk is shown
+-- an image that ends with every chunk is held as one that has ended
+abbrev pub EndsHeld : Type 0
+EndsHeld = (file : FileState) (m : Model) (i : OpenImage) (samples : List (List ℕ)) (offsets : Offsets)
+    → HoldsOpen file.kind m i samples → is_left i ≡ false
+    → (calls.finish_image i file).answer ≡ Ok offsets
+    → HoldsEnded file.kind (model_by file m (calls.finish_image i file)) i samples offsets.pointer
+
+-- what holds it still holds it when more is written
+abbrev pub GrownEnded : Type 0
+GrownEnded = (kind : FileKind) (m n : Model) (i : OpenImage) (samples : List (List ℕ)) (place : ℕ)
+    → Grows m n → HoldsEnded kind m i samples place → HoldsEnded kind n i samples place
+
+-- where it stands in a file, the file shows the image
+abbrev pub EndedShown : Type 0
+EndedShown = (kind : FileKind) (file : List ℕ) (m : Model) (i : OpenImage) (samples : List (List ℕ)) (place : ℕ)
+    → Stands kind file m → HoldsEnded kind m i samples place → Shows kind file place (image_of i samples)
+
+-- so an image that ends with every chunk is shown
 abbrev pub EndsShown : Type 0
 EndsShown = (file : FileState) (m : Model) (i : OpenImage) (samples : List (List ℕ)) (offsets : Offsets)
     → HoldsOpen file.kind m i samples → is_left i ≡ false

@@ -1,18 +1,15 @@
 -- The steps by which a file is written.
-use Rattle.std.specs.Prelude.{◌≡◌, ℕ, ◌+◌, ◌*◌, ◌≤◌, ◌⊎◌, Bool, not, ◌||◌, ◌==◌, List, [], ◌++◌, length, Option, Some, None, Result, MatchResult, if◌then◌else◌, nat_lt}
+use Rattle.std.specs.Prelude.{◌≡◌, ℕ, ◌+◌, ◌≤◌, ◌⊎◌, List, [], ◌++◌, length, None, Result, MatchResult}
 use Rattle.tiff_base.specs.declared.error.TiffError.{TiffError}
-use Rattle.tiff_base.specs.declared.error.TiffError.TheVariants.{FormatError, IoError, IntSizeError}
-use Rattle.tiff_base.specs.declared.error.TiffFormatError.TheVariants.{InvalidDimensions}
-use Rattle.tiff_base.specs.declared.io.IoKind.TheVariants.{InvalidData}
 use Rattle.tiff_base.specs.declared.tags.FileKind.{FileKind}
 use Rattle.tiff_base.specs.declared.tags.Predictor.{Predictor}
 use Rattle.tiff_base.specs.Number.{le}
 use Rattle.tiff_base.specs.Told.{put}
 use Rattle.tiff_value.specs.Written.{Written}
-use Rattle.tiff_encode.specs.Written.{place_len, rows_per_strip, resolutions_place}
+use Rattle.tiff_encode.specs.Written.{place_len}
 use Rattle.tiff_encode.specs.declared.encoder.settings.Compression.{Compression}
 use Rattle.tiff_encode.specs.Machine.{FileState, method_of}
-use Rattle.tiff_encode.specs.Encoder.{IsStopped, IsCut, IsTorn, stand_in, is_too_far}
+use Rattle.tiff_encode.specs.Encoder.{IsStopped, IsCut, IsTorn}
 
 -- the file of an encoder of a kind, by its writer, the place of the chain's last link, and what images are written by
 abbrev pub file_of : FileKind → Written → ℕ → Predictor → Compression → FileState
@@ -47,19 +44,3 @@ module _ {A : Type 0} where
       MatchResult r
       (λ _. (old.fault ≡ None) × (new ≡ record old { bytes = put old.bytes parent (le (place_len old.kind) directory) }))
       (λ e. IsStopped e old new ⊎ IsTorn [] parent directory e old new)
-
--- a page with these sides, refused before a byte is appended
-unfoldable pub first_cause : ℕ → Bool → ℕ → ℕ → Option TiffError
-first_cause n gray width height =
-    if width == 0 || height == 0 then Some (FormatError (InvalidDimensions width height))
-    else if is_too_far (resolutions_place n + 8) then Some IntSizeError
-    else if not gray then Some stand_in
-    else None
-
--- a strip at a place, refused before a byte of it is appended
-unfoldable pub strip_cause : ℕ → ℕ → ℕ → ℕ → Option TiffError
-strip_cause strip width height count =
-    if nat_lt count (width * height) then Some (IoError InvalidData)
-    else if nat_lt (rows_per_strip width) height then Some stand_in
-    else if is_too_far strip || is_too_far (width * height) then Some IntSizeError
-    else None

@@ -5,10 +5,10 @@ use Rattle.tiff_base.specs.declared.error.TiffError.TheVariants.{IoError, IntSiz
 use Rattle.tiff_base.specs.declared.io.IoKind.TheVariants.{InvalidData}
 use Rattle.tiff_base.specs.declared.tags.FileKind.{FileKind}
 use Rattle.tiff_value.specs.Packed.{IsStored}
-use Rattle.tiff_encode.specs.Machine.{FileState, OpenImage, Writing}
+use Rattle.tiff_encode.specs.Machine.{FileState, OpenImage, Told, Writing}
 use Rattle.tiff_encode.specs.Chunks.{is_left, next_chunk_sample_count}
 use Rattle.tiff_encode.specs.Causes.{is_past, is_past_chunks}
-use Rattle.tiff_encode.specs.Ends.{IsTold, Fails}
+use Rattle.tiff_encode.specs.Ends.{IsTold, IsCutOff, Fails}
 use Rattle.tiff_encode.specs.Stored.{chunk_bytes}
 
 -- the causes of a chunk that no packing changes, at the end of a file of this length
@@ -18,6 +18,14 @@ chunk_test kind end i count =
     else if not (is_left i) || not (count == next_chunk_sample_count i) then Some (IoError InvalidData)
     else if is_past kind end then Some IntSizeError
     else None
+
+-- What a chunk that is stored as given bytes is told to be: it is; or it is refused, or the sink fails; or there was no
+-- memory, and nothing was done. After an error the image is as it was.
+abbrev pub AppendsChunk : {A : Type 0} → Told OpenImage → OpenImage → Result A TiffError → FileState → FileState → OpenImage → Type 0
+AppendsChunk told i (Ok x) old new next = IsTold told (Ok next) new
+AppendsChunk told i (Err e) old new next =
+    (next ≡ i) × (IsTold told (Err e) new
+    ⊎ (IsCutOff told.deeds e old new ⊎ ((e ≡ OutOfMemory) × (new ≡ old))))
 
 -- `write_strip` or `write_chunk`, of so many samples that are stored as some bytes
 module _ {A : Type 0} (call : OpenImage → ℕ → List ℕ → Writing OpenImage) where

@@ -1,20 +1,22 @@
 //! Files are written.
 
-mod directory;
+pub mod data_laws;
 mod directory_encoder;
 mod drawing;
+mod drawn_data;
 mod endings;
 mod ends;
 pub mod fit_laws;
-mod gray;
+mod image_encoder;
 pub mod image_laws;
+mod image_settings;
 mod images;
 mod kind;
 pub mod laws;
 mod limits;
 mod listing;
 mod open;
-mod page;
+pub mod reading_laws;
 pub mod script;
 mod settings;
 mod storing;
@@ -32,6 +34,7 @@ ghost use Rattle.tiff_encode.specs.Shows.{LeavesHeader};
 ghost use Rattle.tiff_encode.specs.Steps.{Appends, Links};
 
 pub use self::directory_encoder::DirectoryEncoder;
+pub use self::image_encoder::ImageEncoder;
 pub use self::kind::{DirectoryOffset, TiffKind, TiffKindBig, TiffKindStandard};
 pub use self::settings::Compression;
 use std::alloc::Global;

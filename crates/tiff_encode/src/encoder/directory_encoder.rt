@@ -26,8 +26,8 @@ use tiff_value::encoder::tiff_value::TiffValue;
 /// `discard`: one that isn't spent so doesn't pass the checker. After a fault of the sink each call that writes answers
 /// `UsageError(WriterFailed)`; after another refusal what was written and what is open are as they were.
 pub struct DirectoryEncoder<'a, W: Sink, K: TiffKind = TiffKindStandard, D = Fields> {
-    encoder: &'a mut TiffEncoder<W, K>,
-    state: D,
+    pub(crate) encoder: &'a mut TiffEncoder<W, K>,
+    pub(crate) state: D,
 }
 
 impl<W: Sink, K: TiffKind> TiffEncoder<W, K> {
@@ -35,10 +35,17 @@ impl<W: Sink, K: TiffKind> TiffEncoder<W, K> {
     ghost use Rattle.tiff_encode.specs.Lending.{image_rests, extra_rests};
 
     // Its file's end, a number of 64 bits.
-    fn fits(&self)
+    pub(crate) fn fits(&self)
         ensures { self.now.fault ≡ None → end_of self.now < 2 ^ 64 }
     {
         let _end = self.writer.offset();
+    }
+
+    // The same, also after a fault.
+    pub(crate) fn is_short(&self)
+        ensures { end_of self.now < 2 ^ 64 }
+    {
+        let _len = self.writer.len();
     }
 
     /// Begins a directory of the chain: padding to a multiple of 4. It is linked from the chain's last link, and its

@@ -1,11 +1,13 @@
 //! What an image has that is open.
 
-ghost use Rattle.std.specs.Prelude.{◌≡◌, ℕ, ◌^◌, ◌<◌, ◌≤◌, MatchOption};
+ghost use Rattle.std.specs.Prelude.{◌≡◌, ℕ, ◌^◌, ◌<◌, ◌≤◌, MatchOption, false};
+ghost use Rattle.tiff_base.specs.Field.{AreEntries};
+ghost use Rattle.tiff_base.specs.Types.{type_size};
 ghost use Rattle.tiff_page.specs.Counts.{all_chunks, parts, planes_of};
 ghost use Rattle.tiff_page.specs.Pixels.{stored_samples};
 ghost use Rattle.tiff_page.specs.Rect.{chunks_of_plane};
-ghost use Rattle.tiff_encode.specs.Causes.{is_past_chunks};
-ghost use Rattle.tiff_encode.specs.Chunks.{all_samples, chunk_rows, image_page, is_begun, is_left, next_chunk_sample_count, next_strip_sample_count};
+ghost use Rattle.tiff_encode.specs.Causes.{image_samples, is_past_chunks};
+ghost use Rattle.tiff_encode.specs.Chunks.{all_samples, chunk_rows, chunks_left, image_page, is_begun, is_in_order, is_left, next_chunk_sample_count, next_strip_sample_count};
 
 use crate::encoder::open::{Fields, State};
 use crate::encoder::settings::Compression;
@@ -104,6 +106,20 @@ impl<C: ColorType> State for Drawing<C> {
 }
 
 impl<C: ColorType> Drawing<C> {
+    /// The fields of its directory are entries that a directory can have.
+    pub(crate) fn fits(&self)
+        ensures { AreEntries self.now.directory.fields }
+    {
+        self.directory.fits();
+    }
+
+    /// Its samples have as many bytes as its colour type's.
+    pub(crate) fn is_of_type(&self)
+        ensures { self.now.size ≡ type_size C.Inner.value_type }
+    {
+        let _form = &self.form;
+    }
+
     /// All samples of a pixel.
     pub(crate) fn samples(&self) -> u64
         ensures count { result ≡ all_samples self.now }
@@ -177,9 +193,36 @@ impl<C: ColorType> Drawing<C> {
         }
     }
 
-    // The rows of the chunk that follows so many.
+    /// How many chunks are left.
+    pub(crate) fn chunks_left(&self) -> u64
+        requires { is_past_chunks self.now ≡ false }
+        ensures { result ≡ chunks_left self.now }
+    {
+        match self.all_chunks() {
+            Some(count) => count.saturating_sub(self.chunks.len() as u64),
+            None => 0,
+        }
+    }
+
+    /// Whether the samples of the chunks, one chunk after another, are those of the image in its order.
+    pub(crate) fn is_in_order(&self) -> bool
+        ensures { result ≡ is_in_order self.now.form }
+    {
+        matches!(self.form.chunk_type, ChunkType::Strip)
+            && matches!(self.form.planar, PlanarConfiguration::Chunky)
+    }
+
+    /// The samples of the image, where that is a number of 64 bits.
+    pub(crate) fn image_samples(&self) -> Option<u64>
+        ensures { MatchOption result (2 ^ 64 ≤ image_samples self.now) (λ n. n ≡ image_samples self.now) }
+    {
+        let pixels = u64::from(self.width) * u64::from(self.height);
+        pixels.checked_mul(self.samples())
+    }
+
+    /// The rows of the chunk that follows so many.
     #[tactic(auto, unfolding(tiff_page::specs::Rect::rect))]
-    fn rows_of(&self, chunk: u64) -> u64
+    pub(crate) fn rows_of(&self, chunk: u64) -> u64
         ensures count { result ≡ chunk_rows (image_page self.now) chunk }
         ensures few { result < 2 ^ 32 }
     {
@@ -218,8 +261,8 @@ impl<C: ColorType> Drawing<C> {
     }
 }
 
-// How many parts of a size cover a length.
-fn parts_of(length: u32, size: u32) -> u64
+/// How many parts of a size cover a length.
+pub(crate) fn parts_of(length: u32, size: u32) -> u64
     requires { 0 < size }
     ensures count { result ≡ parts length size }
     ensures few { result ≤ length }

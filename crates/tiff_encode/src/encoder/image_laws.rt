@@ -1,6 +1,6 @@
 //! The laws by which a model holds an image that is open, each the contract of a function with no work.
 
-ghost use Rattle.tiff_encode.specs.Open.{BeginsOpen, GrownOpen, TagsKeepOpen, FieldsKeepOpen, ResolutionsKeepOpen, SettingsKeepOpen, ChunksKeepOpen, EndsShown};
+ghost use Rattle.tiff_encode.specs.Open.{BeginsOpen, GrownOpen, TagsKeepOpen, FieldsKeepOpen, ResolutionsKeepOpen, SettingsKeepOpen, ChunksKeepOpen, EndsHeld, GrownEnded, EndedShown, EndsShown};
 
 /// A new image is held.
 pub fn begins_open()
@@ -37,7 +37,22 @@ pub fn chunks_keep_open()
     ensures { ChunksKeepOpen }
 {}
 
-/// An image that ends with every chunk is shown.
+/// An image that ends with every chunk is held as one that has ended.
+pub fn ends_held()
+    ensures { EndsHeld }
+{}
+
+/// What holds it still holds it when more is written.
+pub fn grown_ended()
+    ensures { GrownEnded }
+{}
+
+/// Where what holds it stands in a file, the file shows it.
+pub fn ended_shown()
+    ensures { EndedShown }
+{}
+
+/// So an image that ends with every chunk is shown.
 pub fn ends_shown()
     ensures { EndsShown }
 {}

@@ -198,7 +198,11 @@ fn layout_values<C: ColorType>(image: &Drawing<C>) -> [TagValue; 5]
 
 impl<W: Sink, K: TiffKind> TiffEncoder<W, K> {
     // `new_image`, but for the guard
-    fn begin_image<C: ColorType>(&mut self, width: u32, height: u32) -> TiffResult<Drawing<C>>
+    pub(crate) fn begin_image<C: ColorType>(
+        &mut self,
+        width: u32,
+        height: u32,
+    ) -> TiffResult<Drawing<C>>
         ensures { Ends (λ i. i) (calls.new_image C.described (type_size C.Inner.value_type) width height self.old) result self.old self.new }
     {
         match self.check_new_image::<C>(width, height) {

@@ -12,7 +12,6 @@ ghost use Rattle.tiff_encode.specs.Causes.{is_past, is_past_count};
 ghost use Rattle.tiff_encode.specs.Written.{count_len, place_len};
 ghost use Rattle.tiff_encode.specs.Kind.{WritesHeader, WritesWithin};
 
-use crate::encoder::page::narrow;
 use std::marker::{Model, PhantomData};
 use tiff_base::directory::Directory;
 use tiff_base::error::{TiffError, TiffResult, UsageError};
@@ -75,7 +74,10 @@ impl TiffKind for TiffKindStandard {
     }
 
     fn convert_offset(offset: u64) -> TiffResult<u32> {
-        narrow(offset)
+        if offset > u64::from(u32::MAX) {
+            return Err(TiffError::IntSizeError);
+        }
+        Ok(offset as u32)
     }
 
     fn offset_at(offset: u64) -> u32 {

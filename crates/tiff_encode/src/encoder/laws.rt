@@ -1,10 +1,9 @@
 //! The laws by which what stands in a file is kept and grows, each the contract of a function with no work.
 
-ghost use Rattle.tiff_encode.specs.Shows.{PageShows, PageLinks, PageReads};
 ghost use Rattle.tiff_encode.specs.Held.{ChunksShow, ImagesShow, PageTold};
+ghost use Rattle.tiff_encode.specs.Laws.{HeaderStands, KeptByAppending, KeptByPatching, KeptByTearing, GrownByRegion, GrownByInline, GrownByPlaced, GrownByListing, Finished, DeedsStand, DeedsGrow, DeedsBegun, DeedsTorn, DeedsJoin, DeedsAppend, FirstTold, ModelsAgree};
 ghost use Rattle.tiff_encode.specs.RunLaws.{OffsetsAgree, OneStep, OneStored};
 ghost use Rattle.tiff_encode.specs.CallLaws.{PlacedFits, FinishFits};
-ghost use Rattle.tiff_encode.specs.Laws.{HeaderStands, KeptByAppending, KeptByPatching, KeptByTearing, GrownByRegion, GrownByInline, GrownByPlaced, GrownByListing, Finished, DeedsStand, DeedsGrow, DeedsBegun, DeedsTorn, DeedsJoin, DeedsAppend, ModelsAgree, PageStands};
 
 /// A header that was written stands.
 pub fn header_stands()
@@ -91,29 +90,14 @@ pub fn finish_fits()
     ensures { FinishFits }
 {}
 
+/// The header of a file in which a model stands tells its first directory.
+pub fn first_told()
+    ensures { FirstTold }
+{}
+
 /// Models that stand in one file agree on what is finished in both.
 pub fn models_agree()
     ensures { ModelsAgree }
-{}
-
-/// The page of one gray strip, appended and linked to, stands.
-pub fn page_stands()
-    ensures { PageStands }
-{}
-
-/// A page of one gray strip that is appended shows its image.
-pub fn page_shows()
-    ensures { PageShows }
-{}
-
-/// The own link of a page that is appended is one at which a next page can be linked.
-pub fn page_links()
-    ensures { PageLinks }
-{}
-
-/// A page of one gray strip that is appended is read as it was handed in, under limits that let its samples pass.
-pub fn page_reads()
-    ensures { PageReads }
 {}
 
 /// A directory that holds what an image says of itself is the image's page.

@@ -4,9 +4,10 @@ ghost use Rattle.std.specs.Prelude.{◌≡◌, ◌^◌, ◌<◌, MatchResult, So
 ghost use Rattle.std.specs.FinMap as map;
 ghost use Rattle.tiff_base.specs.declared.error.TiffError.TheVariants.{OutOfMemory};
 ghost use Rattle.tiff_base.specs.Field.{AreEntries};
-ghost use Rattle.tiff_encode.specs.Calls.{with_field};
+ghost use Rattle.tiff_encode.specs.Calls.{with_field, without_field};
 ghost use Rattle.tiff_encode.specs.Extending.{Extends};
 
+use std::alloc::Global;
 use std::marker::Model;
 use tiff_base::directory::{Directory, Entry};
 use tiff_base::error::{TiffError, TiffResult};
@@ -99,6 +100,28 @@ impl Fields {
         ensures { self.new ≡ record self.old { parent = Some link } }
     {
         self.parent = Some(link);
+    }
+
+    /// Takes the field of a tag away.
+    pub(crate) fn remove(&mut self, tag: Tag)
+        ensures { self.new ≡ without_field self.old tag }
+    {
+        let _taken = self.directory.remove(tag);
+    }
+
+    /// Another directory that is as this one is. Its only error is `OutOfMemory`.
+    pub(crate) fn copy(&self, alloc: Global) -> TiffResult<Fields>
+        ensures { MatchResult result (λ d. d ≡ self.now) (λ e. e ≡ OutOfMemory) }
+    {
+        let mut copy = Fields {
+            directory: Directory::empty(alloc),
+            parent: self.parent,
+            chained: self.chained,
+        };
+        match copy.extend_from(&self.directory) {
+            Ok(()) => return Ok(copy),
+            Err(fault) => return Err(fault),
+        }
     }
 
     /// Its fields are entries that a directory can have, and fewer than 2^64.

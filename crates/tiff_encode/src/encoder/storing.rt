@@ -1,15 +1,15 @@
 //! Chunks are written.
 
-ghost use Rattle.std.specs.Prelude.{◌≡◌, ℕ, ◌-◌, ◌^◌, ◌<◌, length, map, MatchResult, Ok};
+ghost use Rattle.std.specs.Prelude.{◌≡◌, ℕ, ◌-◌, ◌^◌, ◌<◌, length, map, MatchResult, None, Some};
 ghost use Rattle.tiff_base.specs.Types.{type_size};
 ghost use Rattle.tiff_value.specs.ColorType.{sample_number};
 ghost use Rattle.tiff_value.specs.Packed.{IsStored};
 ghost use Rattle.tiff_encode.specs.Calls as calls;
-ghost use Rattle.tiff_encode.specs.Causes.{write_chunk_cause};
+ghost use Rattle.tiff_encode.specs.Causes.{end_of, write_chunk_cause, write_strip_cause};
 ghost use Rattle.tiff_encode.specs.Chunks.{next_chunk_sample_count};
 ghost use Rattle.tiff_encode.specs.Machine.{method_of};
 ghost use Rattle.tiff_encode.specs.Placing.{Checks};
-ghost use Rattle.tiff_encode.specs.Storing.{chunk_test, WritesChunk};
+ghost use Rattle.tiff_encode.specs.Storing.{chunk_test, AppendsChunk, WritesChunk};
 ghost use Rattle.tiff_encode.specs.Stored as stored;
 
 use crate::encoder::TiffEncoder;
@@ -18,7 +18,8 @@ use crate::encoder::kind::TiffKind;
 use crate::encoder::limits::is_past_place;
 use crate::encoder::settings::Compression;
 use std::alloc::Global;
-use tiff_base::error::{TiffError, TiffResult};
+use tiff_base::color::ChunkType;
+use tiff_base::error::{TiffError, TiffResult, UsageError};
 use tiff_base::io::{IoKind, Sink};
 use tiff_base::tags::FileKind;
 use tiff_value::encoder::chunk::push_chunk;
@@ -52,9 +53,9 @@ impl<C: ColorType> Drawing<C> {
         Ok(bytes)
     }
 
-    // The bytes that stand for the samples of the next chunk. Its only error is `OutOfMemory`: so many samples as a number
-    // can tell are in no memory.
-    fn stored_bytes(&self, alloc: Global, samples: &[C::Inner]) -> TiffResult<Vec<u8>>
+    /// The bytes that stand for the samples of the next chunk. Its only error is `OutOfMemory`: so many samples as a number
+    /// can tell are in no memory.
+    pub(crate) fn stored_bytes(&self, alloc: Global, samples: &[C::Inner]) -> TiffResult<Vec<u8>>
         requires { length samples.now ≡ next_chunk_sample_count self.now }
         ensures { MatchResult result
             (λ v. IsStored self.now.method v.items (stored.chunk_bytes self.now (map (sample_number (type_size C.Inner.value_type) C.Inner.bits) samples.now)))
@@ -85,7 +86,61 @@ impl<C: ColorType> Drawing<C> {
 }
 
 impl<W: Sink, K: TiffKind> TiffEncoder<W, K> {
-    // `write_chunk`
+    // Whether a chunk of so many samples, stored as so many bytes, may be written at the end, which is answered: else the
+    // first cause of `write_chunk`.
+    #[tactic(auto, unfolding(crate::specs::Causes::write_chunk_cause))]
+    fn chunk_place<C: ColorType>(
+        &self,
+        image: &Drawing<C>,
+        count: usize,
+        stored: usize,
+    ) -> TiffResult<u64>
+        ensures { MatchResult result
+            (λ end. (self.now.fault ≡ None) × (end ≡ end_of self.now) × (write_chunk_cause self.now image.now count stored ≡ None))
+            (λ e. write_chunk_cause self.now image.now count stored ≡ Some e) }
+    {
+        let end = match self.end() {
+            Ok(end) => end,
+            Err(fault) => return Err(fault),
+        };
+        match image.check_chunk(self.file_kind(), end, count) {
+            Ok(()) => {}
+            Err(fault) => return Err(fault),
+        }
+        if is_past_place(self.file_kind(), stored as u64) {
+            return Err(TiffError::IntSizeError);
+        }
+        Ok(end)
+    }
+
+    /// A chunk of so many samples, which is stored as these bytes.
+    pub(crate) fn append_chunk<C: ColorType>(
+        &mut self,
+        image: &mut Drawing<C>,
+        count: usize,
+        stored: &[u8],
+    ) -> TiffResult<()>
+        ensures { AppendsChunk (calls.write_chunk image.old count stored.now self.old) image.old result self.old self.new image.new }
+    {
+        let place = match self.chunk_place(image, count, stored.len()) {
+            Ok(place) => place,
+            Err(fault) => return Err(fault),
+        };
+        let Ok(()) = image.chunks.reserve(1) else {
+            return Err(TiffError::OutOfMemory);
+        };
+        match self.append(stored) {
+            Ok(()) => {}
+            Err(fault) => return Err(fault),
+        }
+        image.chunks.push_reserved(Chunk {
+            place,
+            stored: stored.len() as u64,
+        });
+        Ok(())
+    }
+
+    /// `write_chunk`: what no packing changes is told before the samples are packed.
     pub(crate) fn store_chunk<C: ColorType>(
         &mut self,
         image: &mut Drawing<C>,
@@ -93,32 +148,38 @@ impl<W: Sink, K: TiffKind> TiffEncoder<W, K> {
     ) -> TiffResult<()>
         ensures { WritesChunk calls.write_chunk (write_chunk_cause self.old image.old (length samples.now) 0) image.old (map (sample_number (type_size C.Inner.value_type) C.Inner.bits) samples.now) result self.old self.new image.new }
     {
-        let end = match self.end() {
-            Ok(end) => end,
-            Err(fault) => return Err(fault),
-        };
-        match image.check_chunk(self.file_kind(), end, samples.len()) {
-            Ok(()) => {}
+        match self.chunk_place(image, samples.len(), 0) {
+            Ok(_) => {}
             Err(fault) => return Err(fault),
         }
         let stored = match image.stored_bytes(self.alloc, samples) {
             Ok(stored) => stored,
             Err(fault) => return Err(fault),
         };
-        if is_past_place(self.file_kind(), stored.len() as u64) {
-            return Err(TiffError::IntSizeError);
-        }
-        let Ok(()) = image.chunks.reserve(1) else {
-            return Err(TiffError::OutOfMemory);
-        };
-        match self.append(&stored) {
-            Ok(()) => {}
+        match self.append_chunk(image, samples.len(), &stored) {
+            Ok(()) => return Ok(()),
             Err(fault) => return Err(fault),
         }
-        image.chunks.push_reserved(Chunk {
-            place: end,
-            stored: stored.len() as u64,
-        });
-        Ok(())
+    }
+
+    // `write_strip`: a tile is none
+    pub(crate) fn store_strip<C: ColorType>(
+        &mut self,
+        image: &mut Drawing<C>,
+        samples: &[C::Inner],
+    ) -> TiffResult<()>
+        ensures { WritesChunk calls.write_strip (write_strip_cause self.old image.old (length samples.now) 0) image.old (map (sample_number (type_size C.Inner.value_type) C.Inner.bits) samples.now) result self.old self.new image.new }
+    {
+        match self.end() {
+            Ok(_) => {}
+            Err(fault) => return Err(fault),
+        }
+        if let ChunkType::Tile = image.form.chunk_type {
+            return Err(TiffError::UsageError(UsageError::InvalidChunkType(
+                ChunkType::Strip,
+                ChunkType::Tile,
+            )));
+        }
+        self.store_chunk(image, samples)
     }
 }

@@ -1,11 +1,11 @@
 //! Tags are written one after another.
 
-ghost use Rattle.std.specs.Prelude.{◌≡◌, ℕ, ◌≤◌, ◌/◌, ◌%◌, ◌++◌, [], ◌∷◌, length, OnErr, Ok};
+ghost use Rattle.std.specs.Prelude.{◌≡◌, ℕ, ◌≤◌, ◌/◌, ◌%◌, ◌++◌, [], ◌∷◌, length, IfErr, OnErr, Ok};
 ghost use Rattle.tiff_base.specs.Types.{type_size};
 ghost use Rattle.tiff_value.specs.Data.{data_of, rationals, u16s, u32s};
 ghost use Rattle.tiff_encode.specs.Calls as calls;
 ghost use Rattle.tiff_encode.specs.Ends.{Ends};
-ghost use Rattle.tiff_encode.specs.Tagging.{StandsInPart, write_fields};
+ghost use Rattle.tiff_encode.specs.Tagging.{StopsInPart, write_fields};
 
 use crate::encoder::TiffEncoder;
 use crate::encoder::kind::TiffKind;
@@ -155,7 +155,7 @@ impl<W: Sink, K: TiffKind> TiffEncoder<W, K> {
 
     // Tags one after another, of values that take no memory (but for the directory's). After an error the first ones are set.
     pub(crate) fn set_tags(&mut self, fields: &mut Fields, values: &[TagValue]) -> TiffResult<()>
-        ensures part { OnErr result (StandsInPart fields.old values.now self.old fields.new) }
+        ensures part { IfErr result (λ e. StopsInPart fields.old values.now e self.old self.new fields.new) }
         ensures answer { Ends (λ _. fields.new) (write_fields fields.old values.now self.old) result self.old self.new }
     {
         for value in values {

@@ -1,0 +1,201 @@
+-- How the calls end that set what an open image is, and how it is cut.
+use Rattle.std.proofs.Common.{◌≡◌, ℕ, ◌+◌, cond, List, [], ◌∷◌, ◌++◌, length, Option, Some, None, Ok, Err, refl, ap, sym, ◌∙◌, subst, reverse}
+use Rattle.std.proofs.lemmas.List.{reverse-append}
+use Rattle.std.specs.FinMap.{FinMap, empty, insert, entries, from_entries}
+use Rattle.std.specs.List.{fold}
+use Rattle.std.specs.Prelude.{nat_lt}
+use Rattle.std.specs.Ordering.{nat_cmp}
+use Rattle.tiff_base.specs.declared.error.TiffError.{TiffError}
+use Rattle.tiff_base.specs.declared.error.TiffError.TheVariants.{IntSizeError, UsageError, OutOfMemory}
+use Rattle.tiff_base.specs.declared.error.UsageError.TheVariants.{ReconfiguredAfterImageWrite}
+use Rattle.tiff_base.specs.declared.tags.ExtraSamples.{ExtraSamples}
+use Rattle.tiff_base.specs.declared.tags.FileKind.{FileKind}
+use Rattle.tiff_base.specs.declared.tags.FileKind.TheVariants.{Classic, Big}
+use Rattle.tiff_base.specs.declared.tags.Tag.{Tag}
+use Rattle.tiff_base.specs.declared.tags.Tag.TheVariants as tag
+use Rattle.tiff_base.specs.declared.tags.«Type».TheVariants.{SHORT}
+use Rattle.tiff_base.specs.Directory.{last_of_each}
+use Rattle.tiff_base.specs.Field.{Field}
+use Rattle.tiff_base.specs.Number.{le}
+use Rattle.tiff_base.specs.Tags.{extra_number}
+use Rattle.tiff_value.specs.Data.{FieldData, Scalars, extras, rationals, u32s, data_of}
+use Rattle.tiff_value.specs.ValueLaws.{each_whole}
+use Rattle.tiff_value.specs.Values.{IsValue}
+use Rattle.tiff_encode.specs.Machine.{FileState, OpenDirectory, OpenImage, Writing, gives, by_cause, ◌>>=◌}
+use Rattle.tiff_encode.specs.Placing.{field_test}
+use Rattle.tiff_encode.specs.Chunks.{is_begun}
+use Rattle.tiff_encode.specs.Causes.{end_of, field_cause, extra_samples_cause, tiles_cause}
+use Rattle.tiff_encode.specs.Calls.{placed, write_tag, write_tags, extend_from}
+use Rattle.tiff_encode.specs.Ends.{IsTold, Fails}
+use Rattle.tiff_encode.specs.Tagging.{write_fields, StopsInPart, fields_of}
+use Rattle.tiff_encode.proofs.Calling.{refused, uncaused, wanting, entry_uncaused}
+use Rattle.tiff_encode.proofs.Entries.{last_of_entries}
+use Rattle.tiff_encode.proofs.Guarding.{tag_fails, fresh_by}
+use Rattle.tiff_encode.proofs.Leaving.{passed, unended}
+use Rattle.tiff_encode.proofs.Joining.{Adds, bind_told, bind_fails, tag_adds}
+use Rattle.tiff_encode.proofs.Tagging.{tags_are_fields, fields_adds}
+
+-- ---- causes
+
+-- a fraction can be a field, by the test
+pub rational_test : (file : FileState) (kind : FileKind) (end : ℕ) → kind ≡ file.kind → end ≡ end_of file
+    → field_test kind end 1 8 ≡ field_cause file (data_of (rationals ((1, 1) ∷ [])))
+unfolding field_test data_of
+rational_test file kind end k e = λ i. field_test (k i) (e i) 1 8
+
+-- extra samples are values
+pub extras_value : (es : List ExtraSamples) → IsValue SHORT (length es) (Ok (data_of (extras es)))
+unfolding data_of
+extras_value es = (refl, refl, each_whole 2 (λ e. le 2 (extra_number e)) (λ e. refl) es)
+
+-- ---- a directory is copied
+
+-- entries put into a map, the last first
+abbrev onto : FinMap nat_cmp Field → List (ℕ × Field) → FinMap nat_cmp Field
+onto m [] = m
+onto m (e ∷ es) = insert (onto m es) e.0 e.1
+
+onto_last : (m : FinMap nat_cmp Field) (es : List (ℕ × Field)) (e : ℕ × Field) → onto m (es ++ e ∷ []) ≡ onto (insert m e.0 e.1) es
+onto_last m [] e = refl
+onto_last m (x ∷ es) e = ap (λ n. insert n x.0 x.1) (onto_last m es e)
+
+onto_empty : (es : List (ℕ × Field)) → onto empty es ≡ from_entries es
+onto_empty [] = refl
+onto_empty (e ∷ es) = ap (λ n. insert n e.0 e.1) (onto_empty es)
+
+in_turn : (m : FinMap nat_cmp Field) (es : List (ℕ × Field)) → fold (λ n e. insert n e.0 e.1) m es ≡ onto m (reverse es)
+in_turn m [] = refl
+in_turn m (e ∷ es) =
+    in_turn (insert m e.0 e.1) es ∙ sym (onto_last m (reverse es) e) ∙ ap (onto m) (sym (reverse-append (e ∷ []) es))
+
+-- all fields of a directory are put into one that has none
+pub copied : (d now next : OpenDirectory) (none : FinMap nat_cmp Field) → d ≡ now → none ≡ empty
+    → next ≡ extend_from (record d { fields = none }) (entries d.fields) → next ≡ now
+unfolding extend_from last_of_each
+copied d now next none s n h =
+    h ∙ ap (λ m. record d { fields = fold (λ fields e. insert fields e.0 e.1) m (entries d.fields) }) n
+    ∙ ap (λ m. record d { fields = m })
+    (in_turn empty (entries d.fields) ∙ onto_empty (reverse (entries d.fields)) ∙ last_of_entries d.fields)
+    ∙ s
+
+-- ---- a setting, unless there is a cause
+
+module _ (cause : Option TiffError) (call : OpenDirectory → Writing OpenDirectory) (g : OpenDirectory → OpenImage) (d : OpenDirectory) (old : FileState) where
+  -- the directory is written to, and an image has it
+  abbrev set_in : Writing OpenImage
+  set_in = call d >>= (λ x. gives (g x))
+
+  abbrev view : OpenImage → OpenImage
+  view i = i
+
+  -- it is refused
+  pub set_refused : (e : TiffError) → cause ≡ Some e → Fails (by_cause cause set_in old) e old old
+  set_refused e c = refused view cause set_in old e c
+
+  -- its tags fail
+  pub set_fails : (e : TiffError) (b : OpenDirectory) (new : FileState) → cause ≡ None → b ≡ d → Adds (call d old) old
+      → Fails (call b old) e old new → Fails (by_cause cause set_in old) e old new
+  set_fails e b new c s a h =
+      uncaused view cause set_in (Err e) old new c
+      (bind_fails (call d) (λ x. gives (g x)) e old new a (subst (λ x. Fails (call x old) e old new) s h))
+
+  -- it is done
+  pub set_so : (b next : OpenDirectory) (i : OpenImage) (new : FileState) → cause ≡ None → b ≡ d → IsTold (call b old) (Ok next) new
+      → i ≡ g next → IsTold (by_cause cause set_in old) (Ok i) new
+  set_so b next i new c s h q =
+      uncaused view cause set_in (Ok i) old new c
+      (bind_told (call d) (λ x. gives (g x)) next (Ok i) old new new (subst (λ x. IsTold (call x old) (Ok next) new) s h)
+      (record { answer = ap Ok (sym q); state = refl }))
+
+-- ---- tags
+
+module _ (t : Tag) (value : Scalars) where
+  abbrev pub one_tag : OpenDirectory → Writing OpenDirectory
+  one_tag d = write_tag d t (Ok (data_of value))
+
+  pub one_adds : (d : OpenDirectory) (file : FileState) → Adds (one_tag d file) file
+  one_adds d file = tag_adds d t (Ok (data_of value)) file
+
+  -- there is no memory for it
+  pub one_short : (d : OpenDirectory) (e : TiffError) (file : FileState) → file.fault ≡ None → field_cause file (data_of value) ≡ None
+      → e ≡ OutOfMemory → Fails (one_tag d file) e file file
+  one_short d e file f c q =
+      let same : Field → Field = λ x. x in
+      tag_fails d t (Ok (data_of value)) e file file
+      (entry_uncaused same (Ok (data_of value)) (data_of value) (Err e) file file f refl c (wanting same (placed (data_of value) file) e file f q tt))
+
+  -- one of several
+  pub tags_of_one : (d : OpenDirectory) (e : TiffError) (old new : FileState) → Fails (one_tag d old) e old new
+      → Fails (write_tags d ((t, value) ∷ []) old) e old new
+  tags_of_one d e old new h = bind_fails (one_tag d) (λ next. gives next) e old new (one_adds d old) h
+
+  pub tags_are_one : (d next : OpenDirectory) (old new : FileState) → IsTold (one_tag d old) (Ok next) new
+      → IsTold (write_tags d ((t, value) ∷ []) old) (Ok next) new
+  tags_are_one d next old new h =
+      bind_told (one_tag d) (λ next. gives next) next (Ok next) old new new h (record { answer = refl; state = refl })
+
+pub several_adds : (t : Tag) (value : Scalars) (values : List (Tag × Scalars)) (d : OpenDirectory) (file : FileState)
+    → Adds (write_tags d ((t, value) ∷ values) file) file
+several_adds t value values d file =
+    subst (λ told. Adds told file) (sym (tags_are_fields d ((t, value) ∷ values) file))
+    (fields_adds d (t, data_of value) (fields_of values) file)
+
+module _ (values : List (Tag × FieldData)) (tags : List (Tag × Scalars)) (same : values ≡ fields_of tags) where
+  pub tags_fail : (d : OpenDirectory) (e : TiffError) (old new : FileState) → Fails (write_fields d values old) e old new
+      → Fails (write_tags d tags old) e old new
+  tags_fail d e old new h =
+      subst (λ told. Fails told e old new) (ap (λ vs. write_fields d vs old) same ∙ sym (tags_are_fields d tags old)) h
+
+  pub tags_so : (d next : OpenDirectory) (old new : FileState) → IsTold (write_fields d values old) (Ok next) new
+      → IsTold (write_tags d tags old) (Ok next) new
+  tags_so d next old new h =
+      subst (λ told. IsTold told (Ok next) new) (ap (λ vs. write_fields d vs old) same ∙ sym (tags_are_fields d tags old)) h
+
+  pub stops_so : (d b next : OpenDirectory) (e : TiffError) (old new : FileState) → b ≡ d → StopsInPart b values e old new next
+      → StopsInPart d (fields_of tags) e old new next
+  stops_so d b next e old new s h =
+      subst (λ vs. StopsInPart d vs e old new next) same (subst (λ x. StopsInPart x values e old new next) s h)
+
+-- ---- no memory before anything is done
+
+-- one number of 4 bytes can be a field anywhere
+by_kind : (kind : FileKind) (end : ℕ) → field_test kind end 1 4 ≡ None
+unfolding field_test
+by_kind Classic end = refl
+by_kind Big end = refl
+
+long_uncaused : (file : FileState) (n : ℕ) → field_cause file (data_of (u32s (n ∷ []))) ≡ None
+unfolding field_test data_of
+long_uncaused file n = by_kind file.kind (end_of file)
+
+-- extra samples that nothing refuses
+extra_parts : (file : FileState) (i : OpenImage) (extra : List ExtraSamples) → extra_samples_cause file i extra ≡ None
+    → (file.fault ≡ None) × (field_cause file (data_of (extras extra)) ≡ None)
+unfolding extra_samples_cause
+extra_parts file i extra c =
+    let field : Option TiffError = field_cause file (data_of (extras extra)) in
+    let many = nat_lt 65535 (length i.colour.bits + length extra) in
+    let rest : Option TiffError = cond many (Some IntSizeError) field in
+    let first = passed (is_begun i) (UsageError ReconfiguredAfterImageWrite) rest (unended file.fault _ c) in
+    (fresh_by file.fault _ c, (passed many IntSizeError field first.1).1)
+
+pub extra_short : (file : FileState) (i : OpenImage) (extra : List ExtraSamples) (e : TiffError) → extra_samples_cause file i extra ≡ None
+    → e ≡ OutOfMemory → Fails (one_tag tag.ExtraSamples (extras extra) i.directory file) e file file
+extra_short file i extra e c q =
+    let p = extra_parts file i extra c in one_short tag.ExtraSamples (extras extra) i.directory e file p.0 p.1 q
+
+-- the sides of a tile
+abbrev pub side_tags : ℕ → ℕ → List (Tag × Scalars)
+side_tags width length = (tag.TileWidth, u32s (width ∷ [])) ∷ (tag.TileLength, u32s (length ∷ [])) ∷ []
+
+tiles_fresh : (file : FileState) (i : OpenImage) (width length : ℕ) → tiles_cause file i width length ≡ None → file.fault ≡ None
+unfolding tiles_cause
+tiles_fresh file i width length c = fresh_by file.fault _ c
+
+pub tiles_short : (file : FileState) (i : OpenImage) (width length : ℕ) (e : TiffError) → tiles_cause file i width length ≡ None
+    → e ≡ OutOfMemory → Fails (write_tags i.directory (side_tags width length) file) e file file
+tiles_short file i width length e c q =
+    let first : Writing OpenDirectory = one_tag tag.TileWidth (u32s (width ∷ [])) i.directory in
+    let rest : OpenDirectory → Writing OpenDirectory = λ d. write_tags d ((tag.TileLength, u32s (length ∷ [])) ∷ []) in
+    bind_fails first rest e file file (one_adds tag.TileWidth (u32s (width ∷ [])) i.directory file)
+    (one_short tag.TileWidth (u32s (width ∷ [])) i.directory e file (tiles_fresh file i width length c) (long_uncaused file width) q)

@@ -1,0 +1,40 @@
+use Rattle.std.proofs.Common.{[], ◌∷◌, ap}
+use Rattle.tiff_base.specs.declared.tags.PlanarConfiguration.TheVariants.{Planar}
+use Rattle.tiff_base.specs.declared.tags.Tag.TheVariants as tag
+use Rattle.tiff_value.specs.Data.{Scalars, planars}
+use Rattle.tiff_encode.specs.Machine.{OpenDirectory, OpenImage}
+use Rattle.tiff_encode.specs.Causes.{planar_cause}
+use Rattle.tiff_encode.specs.Calls.{planar}
+use Rattle.tiff_encode.proofs.Settings.{set_refused, set_fails, set_so, one_tag, one_adds}
+use Rattle.tiff_encode.proofs.encoder.TiffEncoder.set_planar.Goals as goal
+
+-- what the tag is given
+abbrev value : Scalars
+value = planars (Planar ∷ [])
+
+-- the image with a directory
+abbrev set : OpenImage → OpenDirectory → OpenImage
+set i d = record i { directory = d; form = record i.form { planar = Planar } }
+
+pub returns-in-Err-clause-answer : goal.returns-in-Err-clause-answer
+unfolding planar
+returns-in-Err-clause-answer g c =
+    let i = c.args.image.now in
+    let old = c.args.self.now in
+    set_refused (planar_cause old i) (one_tag tag.PlanarConfiguration value) (set i) i.directory old c.in-Err.fault c.in-Err.ensures
+
+pub returns-in-Err-set_tag-clause-answer : goal.returns-in-Err-set_tag-clause-answer
+unfolding planar
+returns-in-Err-set_tag-clause-answer g c =
+    let i = c.args.image.now in
+    let old = c.args.self.now in
+    set_fails (planar_cause old i) (one_tag tag.PlanarConfiguration value) (set i) i.directory old c.in-Err-set_tag.fault c.image.inside.directory c.set_tag.new.self
+    c.in-Ok.ensures (ap (λ x. x.directory) c.image.view_is) (one_adds tag.PlanarConfiguration value i.directory old) c.in-Err-set_tag.ensures.answer
+
+pub returns-clause-answer : goal.returns-clause-answer
+unfolding planar
+returns-clause-answer g c =
+    let i = c.args.image.now in
+    let old = c.args.self.now in
+    set_so (planar_cause old i) (one_tag tag.PlanarConfiguration value) (set i) i.directory old c.image.inside.directory c.set_tag.new.fields _ c.set_tag.new.self
+    c.in-Ok.ensures (ap (λ x. x.directory) c.image.view_is) c.in-Ok-set_tag.ensures.answer (ap (λ x. set x c.set_tag.new.fields) c.image.view_is)

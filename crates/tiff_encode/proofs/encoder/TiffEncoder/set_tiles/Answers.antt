@@ -1,0 +1,54 @@
+use Rattle.std.proofs.Common.{ℕ, [], ◌∷◌, ap, refl, ◌∙◌}
+use Rattle.tiff_base.specs.declared.tags.Tag.TheVariants as tag
+use Rattle.tiff_value.specs.Data.{u32s}
+use Rattle.tiff_encode.specs.Machine.{OpenDirectory, OpenImage}
+use Rattle.tiff_encode.specs.Causes.{tiles_cause}
+use Rattle.tiff_encode.specs.Calls.{write_tags, without_field, tiles_of, tiles}
+use Rattle.tiff_encode.proofs.Settings.{set_refused, set_fails, set_so, several_adds, tags_fail, tags_so, side_tags, tiles_short}
+use Rattle.tiff_encode.proofs.encoder.TiffEncoder.set_tiles.Goals as goal
+
+-- the image with a directory
+abbrev set : OpenImage → ℕ → ℕ → OpenDirectory → OpenImage
+set i width length d = record i { directory = without_field d tag.RowsPerStrip; form = tiles_of width length i.form.planar }
+
+pub returns-in-Err-clause-answer : goal.returns-in-Err-clause-answer
+unfolding tiles
+returns-in-Err-clause-answer g c =
+    let i = c.args.image.now in
+    let old = c.args.self.now in
+    let tags = side_tags c.args.width c.args.length in
+    set_refused (tiles_cause old i c.args.width c.args.length) (λ d. write_tags d tags) (set i c.args.width c.args.length) i.directory old c.in-Err.fault c.in-Err.ensures
+
+pub returns-in-Err-copy-clause-answer : goal.returns-in-Err-copy-clause-answer
+unfolding tiles
+returns-in-Err-copy-clause-answer g c =
+    let i = c.args.image.now in
+    let old = c.args.self.now in
+    let tags = side_tags c.args.width c.args.length in
+    set_fails (tiles_cause old i c.args.width c.args.length) (λ d. write_tags d tags) (set i c.args.width c.args.length) i.directory old c.in-Err-copy.fault i.directory old
+    c.in-Ok.ensures.0 refl (several_adds tag.TileWidth (u32s (c.args.width ∷ [])) ((tag.TileLength, u32s (c.args.length ∷ [])) ∷ []) i.directory old)
+    (tiles_short old i c.args.width c.args.length c.in-Err-copy.fault c.in-Ok.ensures.0 c.in-Err-copy.ensures)
+
+pub returns-in-Err-set_tags-clause-answer : goal.returns-in-Err-set_tags-clause-answer
+unfolding tiles
+returns-in-Err-set_tags-clause-answer g c =
+    let i = c.args.image.now in
+    let old = c.args.self.now in
+    let d = c.in-Ok-copy.fields in
+    let tags = side_tags c.args.width c.args.length in
+    set_fails (tiles_cause old i c.args.width c.args.length) (λ d. write_tags d tags) (set i c.args.width c.args.length) i.directory old c.in-Err-set_tags.fault d c.set_tags.new.self
+    c.in-Ok.ensures.0 (c.in-Ok-copy.ensures ∙ ap (λ x. x.directory) c.image.view_is)
+    (several_adds tag.TileWidth (u32s (c.args.width ∷ [])) ((tag.TileLength, u32s (c.args.length ∷ [])) ∷ []) i.directory old)
+    (tags_fail _ tags (λ k. c.long.ensures k ∷ c.long-2.ensures k ∷ []) d c.in-Err-set_tags.fault old c.set_tags.new.self c.in-Err-set_tags.ensures.answer)
+
+pub returns-clause-answer : goal.returns-clause-answer
+unfolding tiles
+returns-clause-answer g c =
+    let i = c.args.image.now in
+    let old = c.args.self.now in
+    let d = c.in-Ok-copy.fields in
+    let tags = side_tags c.args.width c.args.length in
+    set_so (tiles_cause old i c.args.width c.args.length) (λ d. write_tags d tags) (set i c.args.width c.args.length) i.directory old d c.set_tags.new.fields _ c.set_tags.new.self
+    c.in-Ok.ensures.0 (c.in-Ok-copy.ensures ∙ ap (λ x. x.directory) c.image.view_is)
+    (tags_so _ tags (λ k. c.long.ensures k ∷ c.long-2.ensures k ∷ []) d c.set_tags.new.fields old c.set_tags.new.self c.in-Ok-set_tags.ensures.answer)
+    (λ k. record (c.image.view_is k) { directory = c.remove.ensures k; form = tiles_of c.args.width c.args.length (c.image.view_is k).form.planar })

@@ -1,0 +1,43 @@
+use Rattle.std.proofs.Common.{◌≡◌, ◌≤◌, ◌<◌, length, map, ap, sym, ◌∙◌, subst, arith}
+use Rattle.tiff_base.specs.Types.{type_size}
+use Rattle.tiff_value.specs.ColorType.{sample_number}
+use Rattle.tiff_encode.specs.Chunks.{chunks_left}
+use Rattle.tiff_encode.proofs.DataWritten.{none_written, more_written, stops_written, all_written, data_fresh, data_few, data_fits, data_whole}
+use Rattle.tiff_encode.proofs.encoder.TiffEncoder.write_chunks_left.Goals as goal
+
+pub chunks_left-written-end-requires : goal.chunks_left-written-end-requires
+chunks_left-written-end-requires g c = data_few c.args.self.now c.args.image.now (length c.args.samples.now) c.requires
+
+pub loop-written-init : goal.loop-written-init
+loop-written-init g c =
+    let numbers = map (sample_number (type_size g.C.Inner.TiffValue.value_type) g.C.Inner.Sample.bits) c.args.samples.now in
+    none_written c.args.image.now numbers c.args.self.now
+
+pub write_part-requires-clause-fits : goal.write_part-requires-clause-fits
+write_part-requires-clause-fits g c =
+    data_fits c.args.self.now c.args.image.now (length c.args.samples.now) c.requires c.loop-written.image c.loop-written.invariant.same
+
+pub write_part-requires-clause-whole : goal.write_part-requires-clause-whole
+write_part-requires-clause-whole g c =
+    data_whole c.args.self.now c.args.image.now (length c.args.samples.now) c.requires c.loop-written.image c.loop-written.invariant.same
+
+pub returns-in-Err : goal.returns-in-Err
+returns-in-Err g c =
+    let numbers = map (sample_number (type_size g.C.Inner.TiffValue.value_type) g.C.Inner.Sample.bits) c.args.samples.now in
+    let l : c.loop-written.written < chunks_left c.args.image.now = subst (λ n. c.loop-written.written < n) c.chunks_left-written-end.ensures c.loop-written-test.true in
+    stops_written c.args.image.now numbers c.loop-written.written c.args.self.now c.loop-written.self c.write_part.new.self c.loop-written.image c.write_part.new.image
+    l c.loop-written.invariant c.in-Err.fault (data_fresh c.args.self.now c.args.image.now (length c.args.samples.now) c.requires) c.in-Err.ensures
+
+pub loop-written-preserved : goal.loop-written-preserved
+loop-written-preserved g c =
+    let numbers = map (sample_number (type_size g.C.Inner.TiffValue.value_type) g.C.Inner.Sample.bits) c.args.samples.now in
+    let l : c.loop-written.written < chunks_left c.args.image.now = subst (λ n. c.loop-written.written < n) c.chunks_left-written-end.ensures c.loop-written-test.true in
+    more_written c.args.image.now numbers c.loop-written.written c.args.self.now c.loop-written.self c.write_part.new.self c.loop-written.image c.write_part.new.image
+    l c.loop-written.invariant c.in-Ok.ensures
+
+pub returns : goal.returns
+returns g c =
+    let numbers = map (sample_number (type_size g.C.Inner.TiffValue.value_type) g.C.Inner.Sample.bits) c.args.samples.now in
+    let n = c.chunks_left-written-end.ensures in
+    let l : c.loop-written.written ≡ chunks_left c.args.image.now = omega (arith, n, c.loop-written-test.false, c.loop-written.auto.written-end) in
+    all_written c.args.image.now numbers c.loop-written.written c.args.self.now c.loop-written.self c.loop-written.image l c.loop-written.invariant

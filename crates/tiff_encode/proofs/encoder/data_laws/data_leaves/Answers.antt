@@ -1,0 +1,5 @@
+use Rattle.tiff_encode.proofs.DataShows.{data_leaves}
+use Rattle.tiff_encode.proofs.encoder.data_laws.data_leaves.Goals as goal
+
+pub returns : goal.returns
+returns c = data_leaves

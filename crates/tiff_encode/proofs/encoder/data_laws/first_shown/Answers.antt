@@ -1,0 +1,5 @@
+use Rattle.tiff_encode.proofs.GrayShown.{first_shown}
+use Rattle.tiff_encode.proofs.encoder.data_laws.first_shown.Goals as goal
+
+pub returns : goal.returns
+returns c = first_shown

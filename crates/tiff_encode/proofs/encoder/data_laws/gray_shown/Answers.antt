@@ -1,0 +1,5 @@
+use Rattle.tiff_encode.proofs.GrayShown.{gray_shown}
+use Rattle.tiff_encode.proofs.encoder.data_laws.gray_shown.Goals as goal
+
+pub returns : goal.returns
+returns c = gray_shown

@@ -1,0 +1,6 @@
+use Rattle.tiff_encode.proofs.PartsShow.{parts_show}
+use Rattle.tiff_encode.proofs.DataImage.{image_leaves_by}
+use Rattle.tiff_encode.proofs.encoder.data_laws.image_leaves.Goals as goal
+
+pub returns : goal.returns
+returns c = image_leaves_by parts_show

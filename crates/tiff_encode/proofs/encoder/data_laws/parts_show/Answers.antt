@@ -1,0 +1,5 @@
+use Rattle.tiff_encode.proofs.PartsShow.{parts_show}
+use Rattle.tiff_encode.proofs.encoder.data_laws.parts_show.Goals as goal
+
+pub returns : goal.returns
+returns c = parts_show

@@ -1,0 +1,7 @@
+use Rattle.tiff_encode.proofs.PageTold.{page_told}
+use Rattle.tiff_encode.proofs.ImagesShow.{images_show_by}
+use Rattle.tiff_encode.proofs.OpenEnds.{ended_shown_by}
+use Rattle.tiff_encode.proofs.encoder.image_laws.ended_shown.Goals as goal
+
+pub returns : goal.returns
+returns c = ended_shown_by (images_show_by page_told)

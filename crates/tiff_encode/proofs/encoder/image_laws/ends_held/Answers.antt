@@ -1,0 +1,5 @@
+use Rattle.tiff_encode.proofs.OpenEnds.{ends_held}
+use Rattle.tiff_encode.proofs.encoder.image_laws.ends_held.Goals as goal
+
+pub returns : goal.returns
+returns c = ends_held

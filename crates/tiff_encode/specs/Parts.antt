@@ -1,0 +1,66 @@
+-- The steps by which the samples of a whole image are written.
+use Rattle.std.specs.Prelude.{◌≡◌, ℕ, ◌+◌, ◌*◌, ◌/◌, ◌%◌, ◌<◌, ◌≤◌, ◌&&◌, ◌⊎◌, List, length, take, drop, slice_index, nat_lt, Result, Ok, Err, if◌then◌else◌}
+use Rattle.tiff_base.specs.declared.error.TiffError.{TiffError}
+use Rattle.tiff_base.specs.declared.error.TiffError.TheVariants.{OutOfMemory}
+use Rattle.tiff_base.specs.declared.tags.PlanarConfiguration.TheVariants.{Planar}
+use Rattle.tiff_page.specs.Page.{PageRecord}
+use Rattle.tiff_page.specs.Pixels.{planar_or, stored_samples}
+use Rattle.tiff_page.specs.Rect.{RectRecord, rect}
+use Rattle.tiff_value.specs.Packed.{IsStored}
+use Rattle.tiff_encode.specs.declared.encoder.drawn_data.Patch.{Patch}
+use Rattle.tiff_encode.specs.Machine.{FileState, OpenImage}
+use Rattle.tiff_encode.specs.Chunks.{image_page, row_samples, chunk_samples, is_in_order, cut_out}
+use Rattle.tiff_encode.specs.Calls as calls
+use Rattle.tiff_encode.specs.Ends.{IsTold, IsCutOff}
+use Rattle.tiff_encode.specs.Stored.{AreStored, chunk_bytes}
+
+-- what is handed to the next chunk, where k were written of these samples: those that follow, or what is cut out
+abbrev pub next_slice : {A : Type 0} → OpenImage → List A → ℕ → List A
+next_slice i samples k =
+    let p = image_page i in take (chunk_samples p (length i.chunks)) (drop (k * (p.chunk_height * row_samples p)) samples)
+
+abbrev pub next_part : OpenImage → List ℕ → ℕ → List ℕ
+next_part i samples k =
+    if is_in_order i.form then next_slice i samples k else cut_out (image_page i) samples (length i.chunks)
+
+-- a part of an image is written as its next chunk; or it is refused, or the sink fails; or there was no memory, and
+-- nothing was done
+abbrev pub WritesPart : {A : Type 0} → OpenImage → List ℕ → Result A TiffError → FileState → FileState → OpenImage → Type 0
+WritesPart i part (Ok x) old new next =
+    (stored : List ℕ) × (IsStored i.method stored (chunk_bytes i part) × IsTold (calls.write_chunk i (length part) stored old) (Ok next) new)
+WritesPart i part (Err e) old new next =
+    ((e ≡ OutOfMemory) × (new ≡ old))
+    ⊎ ((stored : List ℕ) × (IsStored i.method stored (chunk_bytes i part)
+    × (IsTold (calls.write_chunk i (length part) stored old) (Err e) new
+    ⊎ IsCutOff (calls.write_chunk i (length part) stored old).deeds e old new)))
+
+-- the part of an image that a chunk has, as a rectangle
+abbrev pub rect_of : Patch → RectRecord
+rect_of p = record { plane = p.plane; x = p.x; y = p.y; width = p.width; height = p.height }
+
+-- It lies within the image, and is not wider than a chunk; its plane is one of the page's.
+pub record IsPatch (p : PageRecord) (r : RectRecord) : Type 0 where
+  pub columns : r.x + r.width ≤ p.width
+  pub rows : r.y + r.height ≤ p.height
+  pub narrow : r.width ≤ p.chunk_width
+  pub plane : p.planar ≡ Planar → r.plane < p.samples
+
+-- sample n of a row of a chunk, where it is in a rectangle of the image
+abbrev pub pixel_sample : PageRecord → List ℕ → RectRecord → ℕ → ℕ → ℕ
+pixel_sample p samples r row n =
+    slice_index samples
+    (((r.y + row) * p.width + (r.x + n / stored_samples p)) * p.samples + planar_or p.planar r.plane (n % stored_samples p))
+
+-- the same, and 0 beyond the rectangle
+abbrev pub row_sample : PageRecord → List ℕ → RectRecord → ℕ → ℕ → ℕ
+row_sample p samples r row n =
+    if nat_lt row r.height && nat_lt (n / stored_samples p) r.width then pixel_sample p samples r row n else 0
+
+-- So many of some parts were written as chunks, one after another: the image has them.
+pub record HasWritten (i : OpenImage) (parts : List (List ℕ)) (k : ℕ) (old new : FileState) (next : OpenImage) : Type 0 where
+  pub stored : List (List ℕ)
+  pub are : AreStored i parts stored
+  pub count : length stored ≡ k
+  pub told : IsTold (calls.write_chunks i parts stored old) (Ok next) new
+  pub same : next ≡ record i { chunks = next.chunks }
+  pub chunks : length next.chunks ≡ length i.chunks + k

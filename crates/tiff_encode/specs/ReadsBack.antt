@@ -1,0 +1,79 @@
+-- A page that shows an image is read as the samples that were handed in (this project's).
+use Rattle.std.specs.Prelude.{◌≡◌, ℕ, ◌*◌, ◌/◌, ◌%◌, ◌^◌, ◌<◌, ◌≤◌, true, List, length, slice_index, Ok}
+use Rattle.tiff_base.specs.declared.color.ColorType.{ColorType}
+use Rattle.tiff_base.specs.declared.tags.ByteOrder.TheVariants.{LittleEndian}
+use Rattle.tiff_base.specs.declared.tags.FileKind.{FileKind}
+use Rattle.tiff_ifd.specs.declared.limits.Limits.{Limits}
+use Rattle.tiff_page.specs.declared.layout.DecodingSampleType.{DecodingSampleType}
+use Rattle.tiff_page.specs.Page.{PageRecord}
+use Rattle.tiff_page.specs.Rect.{chunks_of_plane}
+use Rattle.tiff_page.specs.Layout.{shown, planes, row_bytes, whole_chroma, sample_type_of}
+use Rattle.tiff_page.specs.PixelFault.{is_plain, predictor_fault, method_fault, white_fault}
+use Rattle.tiff_page.specs.Pixels.{each_to}
+use Rattle.tiff_page.specs.Row.{IsSize}
+use Rattle.tiff_page.specs.Image.{Decoded, image_of}
+use Rattle.tiff_encode.specs.Machine.{OpenImage}
+use Rattle.tiff_encode.specs.Chunks.{all_samples, image_page}
+use Rattle.tiff_encode.specs.Held.{IsWholeImage}
+use Rattle.tiff_encode.specs.Shows.{Image, Shows}
+use Rattle.tiff_encode.specs.ImageData.{whole_image}
+
+-- the samples of an image in its order, as far as a plane shows them: pixel by pixel those of a colour, of a planar page
+-- those of the first plane
+abbrev pub samples_shown : Image → PageRecord → ColorType → List ℕ
+samples_shown i p colour =
+    let s = shown p.planar colour in
+    each_to (p.height * p.width * s) (λ n. i.sample_at (n / s % p.width) (n / s / p.width) (n % s))
+
+-- where a plane shows all samples of a pixel, those of an image that was handed in whole are in the order in which they
+-- were handed in
+abbrev pub ShownInOrder : Type 0
+ShownInOrder = (i : OpenImage) (samples : List ℕ) (p : PageRecord) (colour : ColorType) → p.width ≡ i.width → shown p.planar colour ≡ all_samples i
+    → length samples ≡ p.height * p.width * all_samples i → samples_shown (whole_image i samples) p colour ≡ samples
+
+-- Each sample of an image has so many bytes, and is a number of these.
+pub record HasSamplesOf (i : Image) (size : ℕ) : Type 0 where
+  pub is_size : IsSize size
+  pub depth : i.page.depth ≡ 8 * size
+  pub small : (x y sample : ℕ) → i.sample_at x y sample < 256 ^ size
+
+-- A page whose samples are of whole bytes is of a form that this version reads: its colour, its predictor, how it is
+-- packed, what it inverts, and its chroma.
+pub record IsReadable (p : PageRecord) (colour : ColorType) : Type 0 where
+  pub plain : is_plain colour ≡ true
+  pub predictor : predictor_fault p colour ≡ Ok tt
+  pub packed_by : method_fault p.method ≡ Ok tt
+  pub upright : white_fault p colour ≡ Ok tt
+  pub chroma : whole_chroma p colour ≡ Ok colour
+
+-- Limits let an image pass: the bytes of a chunk's rows across the image and those of all planes are fewer than 2^64, those
+-- of the image that is read are no more than the buffer for the image may have, and those of each of its chunks as it is
+-- stored no more than the buffer for a chunk may have.
+pub record LetsPass (limits : Limits) (p : PageRecord) (colour : ColorType) : Type 0 where
+  pub rows : row_bytes p colour p.width * p.chunk_height < 2 ^ 64
+  pub whole : row_bytes p colour p.width * p.height * planes p.planar colour < 2 ^ 64
+  pub image : row_bytes p colour p.width * p.height ≤ limits.decoding_buffer_size
+  pub chunks : (k : ℕ) → k < chunks_of_plane p → slice_index p.byte_counts k ≤ limits.intermediate_buffer_size
+
+-- whatever is read of a page that shows an image are its samples
+abbrev pub ReadsShown : Type 0
+ReadsShown = (kind : FileKind) (file : List ℕ) (place : ℕ) (i : Image) (size : ℕ) (limits : Limits) (d : Decoded) → (s : Shows kind file place i)
+    → HasSamplesOf i size → image_of file LittleEndian s.page limits ≡ Ok d
+    → (d.numbers ≡ samples_shown i s.page s.colour) × (sample_type_of s.page ≡ Ok d.sample_type)
+
+-- a page that shows an image is read, where it is of a form that is read and the limits let it pass, and its samples are
+-- the answer
+abbrev pub ReadsBack : Type 0
+ReadsBack = (kind : FileKind) (file : List ℕ) (place : ℕ) (i : Image) (size : ℕ) (limits : Limits) (type : DecodingSampleType) → (s : Shows kind file place i)
+    → HasSamplesOf i size → sample_type_of s.page ≡ Ok type → IsReadable s.page s.colour → LetsPass limits s.page s.colour
+    → image_of file LittleEndian s.page limits ≡ Ok (record { sample_type = type; numbers = samples_shown i s.page s.colour })
+
+-- so is each that an encoder made of an image and that shows these samples, of the bytes of its colour type, where the
+-- limits let it pass
+abbrev pub WrittenReadsBack : Type 0
+WrittenReadsBack = (kind : FileKind) (file : List ℕ) (place : ℕ) (i : OpenImage) (sample_at : ℕ → ℕ → ℕ → ℕ) (limits : Limits)
+    → IsWholeImage kind i → ((x y sample : ℕ) → sample_at x y sample < 256 ^ i.size)
+    → (s : Shows kind file place (record { page = image_page i; sample_at = sample_at })) → LetsPass limits s.page s.colour
+    → (type : DecodingSampleType) × ((sample_type_of s.page ≡ Ok type)
+    × (image_of file LittleEndian s.page limits
+    ≡ Ok (record { sample_type = type; numbers = samples_shown (record { page = image_page i; sample_at = sample_at }) s.page s.colour })))

@@ -1,0 +1,542 @@
+//! What an open image is, and how it is cut, is set.
+
+ghost use Rattle.std.specs.Prelude.{◌≡◌, ◌+◌, ◌^◌, ◌<◌, length, IfErr, MatchResult, OnErr, None, Some, nat_lt};
+ghost use Rattle.tiff_value.specs.Data.{data_of, extras};
+ghost use Rattle.tiff_encode.specs.Calls as calls;
+ghost use Rattle.tiff_encode.specs.Causes as causes;
+ghost use Rattle.tiff_encode.specs.Causes.{end_of, field_cause};
+ghost use Rattle.tiff_encode.specs.Ends.{Ends};
+ghost use Rattle.tiff_encode.specs.Leaves.{Leaves};
+ghost use Rattle.tiff_encode.specs.Model.{Model, Stands};
+ghost use Rattle.tiff_encode.specs.Placing.{Checks};
+ghost use Rattle.tiff_encode.specs.Tagging.{StopsResolving, fields_of};
+
+use crate::encoder::TiffEncoder;
+use crate::encoder::directory_encoder::DirectoryEncoder;
+use crate::encoder::drawing::{Drawing, Form};
+use crate::encoder::kind::TiffKind;
+use crate::encoder::limits::check_field;
+use crate::encoder::tagging::TagValue;
+use tiff_base::color::ChunkType;
+use tiff_base::error::{TiffError, TiffResult, UsageError};
+use tiff_base::io::{IoKind, Sink};
+use tiff_base::tags::{ExtraSamples, FileKind, PlanarConfiguration, ResolutionUnit, Tag};
+use tiff_value::encoder::colortype::ColorType;
+use tiff_value::encoder::tiff_value::{Rational, Slice, TiffValue};
+
+// ---- causes
+
+impl<W: Sink, K: TiffKind> TiffEncoder<W, K> {
+    // The field of some extra samples, at the file's end.
+    fn check_extras(&self, end: u64, extra: &[ExtraSamples]) -> TiffResult<()>
+        requires { end ≡ end_of self.now }
+        ensures { Checks (field_cause self.now (data_of (extras extra.now))) result }
+    {
+        let values = Slice(extra);
+        match check_field(self.file_kind(), end, values.count() as u64, values.bytes()) {
+            Ok(()) => return Ok(()),
+            Err(fault) => return Err(fault),
+        }
+    }
+
+    // `extra_samples`'s cause
+    #[tactic(auto, using(crate::proofs::Calling::fresh_cause, crate::proofs::Calling::stopped_cause), unfolding(crate::specs::Causes::extra_samples_cause))]
+    fn check_extra_samples<C: ColorType>(
+        &self,
+        image: &Drawing<C>,
+        extra: &[ExtraSamples],
+    ) -> TiffResult<()>
+        ensures { MatchResult result
+            (λ _. (causes.extra_samples_cause self.now image.now extra.now ≡ None) × (length C.described.bits + length extra.now < 2 ^ 16))
+            (λ e. causes.extra_samples_cause self.now image.now extra.now ≡ Some e) }
+    {
+        let _form = &image.form;
+        let end = match self.end() {
+            Ok(end) => end,
+            Err(fault) => return Err(fault),
+        };
+        if image.is_begun() {
+            return Err(TiffError::UsageError(UsageError::ReconfiguredAfterImageWrite));
+        }
+        if is_past_samples(C::bits_per_sample().len(), extra.len()) {
+            return Err(TiffError::IntSizeError);
+        }
+        match self.check_extras(end, extra) {
+            Ok(()) => return Ok(()),
+            Err(fault) => return Err(fault),
+        }
+    }
+
+    // `rows_per_strip`'s cause
+    #[tactic(auto, using(crate::proofs::Calling::fresh_cause, crate::proofs::Calling::stopped_cause), unfolding(crate::specs::Causes::rows_per_strip_cause))]
+    fn check_rows_per_strip<C: ColorType>(&self, image: &Drawing<C>, rows: u32) -> TiffResult<()>
+        ensures { MatchResult result
+            (λ _. (causes.rows_per_strip_cause self.now image.now rows ≡ None) × (0 < rows))
+            (λ e. causes.rows_per_strip_cause self.now image.now rows ≡ Some e) }
+    {
+        match self.end() {
+            Ok(_) => {}
+            Err(fault) => return Err(fault),
+        }
+        if rows == 0 || image.is_begun() || image.form.chunk_type == ChunkType::Tile {
+            return Err(TiffError::IoError(IoKind::InvalidInput));
+        }
+        Ok(())
+    }
+
+    // `tiles`'s cause
+    #[tactic(auto, using(crate::proofs::Calling::fresh_cause, crate::proofs::Calling::stopped_cause), unfolding(crate::specs::Causes::tiles_cause))]
+    fn check_tiles<C: ColorType>(
+        &self,
+        image: &Drawing<C>,
+        width: u32,
+        length: u32,
+    ) -> TiffResult<()>
+        ensures { MatchResult result
+            (λ _. (causes.tiles_cause self.now image.now width length ≡ None) × (0 < width) × (0 < length))
+            (λ e. causes.tiles_cause self.now image.now width length ≡ Some e) }
+    {
+        match self.end() {
+            Ok(_) => {}
+            Err(fault) => return Err(fault),
+        }
+        if image.is_begun() {
+            return Err(TiffError::UsageError(UsageError::ReconfiguredAfterImageWrite));
+        }
+        if is_no_side(width) || is_no_side(length) {
+            return Err(TiffError::IoError(IoKind::InvalidInput));
+        }
+        Ok(())
+    }
+
+    // `planar`'s cause
+    #[tactic(auto, using(crate::proofs::Calling::fresh_cause, crate::proofs::Calling::stopped_cause), unfolding(crate::specs::Causes::planar_cause))]
+    fn check_planar<C: ColorType>(&self, image: &Drawing<C>) -> TiffResult<()>
+        ensures { Checks (causes.planar_cause self.now image.now) result }
+    {
+        match self.end() {
+            Ok(_) => {}
+            Err(fault) => return Err(fault),
+        }
+        if image.is_begun() {
+            return Err(TiffError::UsageError(UsageError::ReconfiguredAfterImageWrite));
+        }
+        Ok(())
+    }
+
+    // `resolution`'s cause
+    #[tactic(auto, using(crate::proofs::Calling::fresh_cause, crate::proofs::Calling::stopped_cause), unfolding(crate::specs::Causes::resolution_cause))]
+    fn check_resolution(&self) -> TiffResult<()>
+        ensures { Checks (causes.resolution_cause self.now) result }
+    {
+        let end = match self.end() {
+            Ok(end) => end,
+            Err(fault) => return Err(fault),
+        };
+        if is_past_resolution(self.file_kind(), end) {
+            return Err(TiffError::IntSizeError);
+        }
+        Ok(())
+    }
+
+    // `x_resolution`'s cause, and `y_resolution`'s
+    #[tactic(auto, using(crate::proofs::Calling::fresh_cause, crate::proofs::Calling::stopped_cause, crate::proofs::Settings::rational_test), unfolding(crate::specs::Causes::one_resolution_cause))]
+    fn check_one_resolution(&self) -> TiffResult<()>
+        ensures { Checks (causes.one_resolution_cause self.now) result }
+    {
+        let end = match self.end() {
+            Ok(end) => end,
+            Err(fault) => return Err(fault),
+        };
+        match check_field(self.file_kind(), end, 1, 8) {
+            Ok(()) => return Ok(()),
+            Err(fault) => return Err(fault),
+        }
+    }
+
+    // `resolution_unit`'s cause
+    #[tactic(auto, using(crate::proofs::Calling::fresh_cause, crate::proofs::Calling::stopped_cause), unfolding(crate::specs::Causes::resolution_unit_cause))]
+    fn check_resolution_unit(&self) -> TiffResult<()>
+        ensures { Checks (causes.resolution_unit_cause self.now) result }
+    {
+        match self.end() {
+            Ok(_) => return Ok(()),
+            Err(fault) => return Err(fault),
+        }
+    }
+}
+
+// Whether a number isn't the side of a tile: a multiple of 16 that isn't 0.
+fn is_no_side(n: u32) -> bool
+    ensures { result ≡ causes.is_no_side n }
+{
+    n == 0 || n % 16 != 0
+}
+
+// Whether a pixel would have more samples than can be counted.
+fn is_past_samples(bits: usize, extra: usize) -> bool
+    ensures { result ≡ nat_lt 65535 (bits + extra) }
+{
+    bits.saturating_add(extra) > usize::from(u16::MAX)
+}
+
+// Whether the second of two resolutions would stand past what the kind can hold, where nothing is padded.
+fn is_past_resolution(kind: FileKind, end: u64) -> bool
+    ensures { result ≡ causes.is_past kind (end + 8) }
+{
+    match kind {
+        FileKind::Classic => end > u64::from(u32::MAX) - 8,
+        FileKind::Big => false,
+    }
+}
+
+// ---- settings
+
+impl<W: Sink, K: TiffKind> TiffEncoder<W, K> {
+    // `extra_samples`
+    fn set_extra_samples<C: ColorType>(
+        &mut self,
+        image: &mut Drawing<C>,
+        extra: &[ExtraSamples],
+    ) -> TiffResult<()>
+        ensures stays { OnErr result (image.new ≡ image.old) }
+        ensures answer { Ends (λ _. image.new) (calls.extra_samples image.old extra.now self.old) result self.old self.new }
+    {
+        match self.check_extra_samples(image, extra) {
+            Ok(()) => {}
+            Err(fault) => return Err(fault),
+        }
+        let Ok(samples) = Vec::from_slice(self.alloc, extra) else {
+            return Err(TiffError::OutOfMemory);
+        };
+        match self.set_tag(&mut image.directory, Tag::ExtraSamples, &Slice(extra)) {
+            Ok(()) => {}
+            Err(fault) => return Err(fault),
+        }
+        image.extra = samples;
+        Ok(())
+    }
+
+    // `rows_per_strip`
+    fn set_rows_per_strip<C: ColorType>(
+        &mut self,
+        image: &mut Drawing<C>,
+        rows: u32,
+    ) -> TiffResult<()>
+        ensures stays { OnErr result (image.new ≡ image.old) }
+        ensures answer { Ends (λ _. image.new) (calls.set_rows_per_strip image.old rows self.old) result self.old self.new }
+    {
+        match self.check_rows_per_strip(image, rows) {
+            Ok(()) => {}
+            Err(fault) => return Err(fault),
+        }
+        match self.set_tag(&mut image.directory, Tag::RowsPerStrip, &rows) {
+            Ok(()) => {}
+            Err(fault) => return Err(fault),
+        }
+        image.form = Form {
+            chunk_type: ChunkType::Strip,
+            chunk_width: image.width,
+            chunk_height: rows,
+            planar: image.form.planar,
+        };
+        Ok(())
+    }
+
+    // `tiles`; the fields are set in a copy, which takes their place
+    fn set_tiles<C: ColorType>(
+        &mut self,
+        image: &mut Drawing<C>,
+        width: u32,
+        length: u32,
+    ) -> TiffResult<()>
+        ensures stays { OnErr result (image.new ≡ image.old) }
+        ensures answer { Ends (λ _. image.new) (calls.tiles image.old width length self.old) result self.old self.new }
+    {
+        match self.check_tiles(image, width, length) {
+            Ok(()) => {}
+            Err(fault) => return Err(fault),
+        }
+        let mut fields = match image.directory.copy(self.alloc) {
+            Ok(fields) => fields,
+            Err(fault) => return Err(fault),
+        };
+        let sides = [
+            TagValue::long(Tag::TileWidth, width),
+            TagValue::long(Tag::TileLength, length),
+        ];
+        match self.set_tags(&mut fields, &sides) {
+            Ok(()) => {}
+            Err(fault) => return Err(fault),
+        }
+        fields.remove(Tag::RowsPerStrip);
+        image.directory = fields;
+        image.form = Form {
+            chunk_type: ChunkType::Tile,
+            chunk_width: width,
+            chunk_height: length,
+            planar: image.form.planar,
+        };
+        Ok(())
+    }
+
+    // `planar`
+    fn set_planar<C: ColorType>(&mut self, image: &mut Drawing<C>) -> TiffResult<()>
+        ensures stays { OnErr result (image.new ≡ image.old) }
+        ensures answer { Ends (λ _. image.new) (calls.planar image.old self.old) result self.old self.new }
+    {
+        match self.check_planar(image) {
+            Ok(()) => {}
+            Err(fault) => return Err(fault),
+        }
+        match self.set_tag(
+            &mut image.directory,
+            Tag::PlanarConfiguration,
+            &PlanarConfiguration::Planar,
+        ) {
+            Ok(()) => {}
+            Err(fault) => return Err(fault),
+        }
+        image.form.planar = PlanarConfiguration::Planar;
+        Ok(())
+    }
+
+    // `resolution`. After an error the first ones of its tags are set.
+    fn set_resolution<C: ColorType>(
+        &mut self,
+        image: &mut Drawing<C>,
+        unit: ResolutionUnit,
+        value: Rational,
+    ) -> TiffResult<()>
+        ensures part { IfErr result (λ e. StopsResolving image.old unit (value.n, value.d) e self.old self.new image.new) }
+        ensures answer { Ends (λ _. image.new) (calls.resolution image.old unit (value.n, value.d) self.old) result self.old self.new }
+    {
+        match self.check_resolution() {
+            Ok(()) => {}
+            Err(fault) => return Err(fault),
+        }
+        let values = resolution_values(unit, value);
+        match self.set_tags(&mut image.directory, &values) {
+            Ok(()) => return Ok(()),
+            Err(fault) => return Err(fault),
+        }
+    }
+
+    // `x_resolution`
+    fn set_x_resolution<C: ColorType>(
+        &mut self,
+        image: &mut Drawing<C>,
+        value: Rational,
+    ) -> TiffResult<()>
+        ensures stays { OnErr result (image.new ≡ image.old) }
+        ensures answer { Ends (λ _. image.new) (calls.x_resolution image.old (value.n, value.d) self.old) result self.old self.new }
+    {
+        match self.check_one_resolution() {
+            Ok(()) => {}
+            Err(fault) => return Err(fault),
+        }
+        match self.set_tag(&mut image.directory, Tag::XResolution, &value) {
+            Ok(()) => return Ok(()),
+            Err(fault) => return Err(fault),
+        }
+    }
+
+    // `y_resolution`
+    fn set_y_resolution<C: ColorType>(
+        &mut self,
+        image: &mut Drawing<C>,
+        value: Rational,
+    ) -> TiffResult<()>
+        ensures stays { OnErr result (image.new ≡ image.old) }
+        ensures answer { Ends (λ _. image.new) (calls.y_resolution image.old (value.n, value.d) self.old) result self.old self.new }
+    {
+        match self.check_one_resolution() {
+            Ok(()) => {}
+            Err(fault) => return Err(fault),
+        }
+        match self.set_tag(&mut image.directory, Tag::YResolution, &value) {
+            Ok(()) => return Ok(()),
+            Err(fault) => return Err(fault),
+        }
+    }
+
+    // `resolution_unit`
+    fn set_resolution_unit<C: ColorType>(
+        &mut self,
+        image: &mut Drawing<C>,
+        unit: ResolutionUnit,
+    ) -> TiffResult<()>
+        ensures stays { OnErr result (image.new ≡ image.old) }
+        ensures answer { Ends (λ _. image.new) (calls.resolution_unit image.old unit self.old) result self.old self.new }
+    {
+        match self.check_resolution_unit() {
+            Ok(()) => {}
+            Err(fault) => return Err(fault),
+        }
+        match self.set_tag(&mut image.directory, Tag::ResolutionUnit, &unit) {
+            Ok(()) => return Ok(()),
+            Err(fault) => return Err(fault),
+        }
+    }
+}
+
+// The tags of both resolutions and their unit, in their order.
+#[tactic(auto, unfolding(tiff_value::specs::Data::data_of))]
+fn resolution_values(unit: ResolutionUnit, value: Rational) -> [TagValue; 3]
+    ensures { result ≡ fields_of (calls.resolution_tags unit (value.n, value.d)) }
+{
+    [
+        TagValue::short(Tag::ResolutionUnit, unit.to_u16()),
+        TagValue::rational(Tag::XResolution, value.n, value.d),
+        TagValue::rational(Tag::YResolution, value.n, value.d),
+    ]
+}
+
+// ---- of an open image
+
+impl<'a, W: Sink, K: TiffKind, C: ColorType> DirectoryEncoder<'a, W, K, Drawing<C>> {
+    /// Sets what the samples of a pixel mean that follow those of the colour type, one for each, in place of those that were
+    /// set before. Each pixel that is written from then on has them too. The first cause that holds: an
+    /// earlier fault of the sink: `UsageError(WriterFailed)`; a chunk was written: `UsageError(ReconfiguredAfterImageWrite)`;
+    /// more than 65535 samples in all, or the list's place past 4 bytes in a classic file: `IntSizeError`. Then `OutOfMemory`,
+    /// or the sink's fault: `IoError(Device)` or `OutOfMemory`.
+    pub fn extra_samples(&mut self, extra: &[ExtraSamples]) -> TiffResult<()>
+        ensures same_reference { self.new.encoder.ghost_name ≡ self.old.encoder.ghost_name }
+        ensures stays { OnErr result (self.new.state ≡ self.old.state) }
+        ensures answer { Ends (λ _. self.new.state) (calls.extra_samples self.old.state extra.now self.old.encoder.now) result self.old.encoder.now self.new.encoder.now }
+
+        // What stood in the file stands.
+        ensures leaves { (m : Model) → Stands self.old.encoder.now.kind self.old.encoder.now.bytes m
+            → Leaves (calls.extra_samples self.old.state extra.now self.old.encoder.now) result self.old.encoder.now self.new.encoder.now m }
+    {
+        self.state.fits();
+        let answer = self.encoder.set_extra_samples(&mut self.state, extra);
+        self.encoder.fits();
+        answer
+    }
+
+    /// Sets how many rows a strip has, but for the last. By default a strip has one row where it is packed, and else as many
+    /// as make a million bytes. The first cause that holds: an earlier fault of the sink: `UsageError(WriterFailed)`; no row, a
+    /// chunk was written, or the image has tiles: `IoError(InvalidInput)`. Then `OutOfMemory`.
+    pub fn rows_per_strip(&mut self, value: u32) -> TiffResult<()>
+        ensures same_reference { self.new.encoder.ghost_name ≡ self.old.encoder.ghost_name }
+        ensures stays { OnErr result (self.new.state ≡ self.old.state) }
+        ensures answer { Ends (λ _. self.new.state) (calls.set_rows_per_strip self.old.state value self.old.encoder.now) result self.old.encoder.now self.new.encoder.now }
+
+        // What stood in the file stands.
+        ensures leaves { (m : Model) → Stands self.old.encoder.now.kind self.old.encoder.now.bytes m
+            → Leaves (calls.set_rows_per_strip self.old.state value self.old.encoder.now) result self.old.encoder.now self.new.encoder.now m }
+    {
+        self.state.fits();
+        let answer = self.encoder.set_rows_per_strip(&mut self.state, value);
+        self.encoder.fits();
+        answer
+    }
+
+    /// Cuts the image into tiles of these sides in place of strips, or of tiles of other sides. The first cause that holds: an
+    /// earlier fault of the sink: `UsageError(WriterFailed)`; a chunk was written: `UsageError(ReconfiguredAfterImageWrite)`; a
+    /// side that isn't a multiple of 16, or is 0: `IoError(InvalidInput)`. Then `OutOfMemory`.
+    pub fn tiles(&mut self, width: u32, length: u32) -> TiffResult<()>
+        ensures same_reference { self.new.encoder.ghost_name ≡ self.old.encoder.ghost_name }
+        ensures stays { OnErr result (self.new.state ≡ self.old.state) }
+        ensures answer { Ends (λ _. self.new.state) (calls.tiles self.old.state width length self.old.encoder.now) result self.old.encoder.now self.new.encoder.now }
+
+        // What stood in the file stands.
+        ensures leaves { (m : Model) → Stands self.old.encoder.now.kind self.old.encoder.now.bytes m
+            → Leaves (calls.tiles self.old.state width length self.old.encoder.now) result self.old.encoder.now self.new.encoder.now m }
+    {
+        self.state.fits();
+        let answer = self.encoder.set_tiles(&mut self.state, width, length);
+        self.encoder.fits();
+        answer
+    }
+
+    /// Has each chunk hold the samples of one plane, all chunks of a plane before those of the next. The first cause that holds:
+    /// an earlier fault of the sink: `UsageError(WriterFailed)`; a chunk was written: `UsageError(ReconfiguredAfterImageWrite)`.
+    /// Then `OutOfMemory`.
+    pub fn planar(&mut self) -> TiffResult<()>
+        ensures same_reference { self.new.encoder.ghost_name ≡ self.old.encoder.ghost_name }
+        ensures stays { OnErr result (self.new.state ≡ self.old.state) }
+        ensures answer { Ends (λ _. self.new.state) (calls.planar self.old.state self.old.encoder.now) result self.old.encoder.now self.new.encoder.now }
+
+        // What stood in the file stands.
+        ensures leaves { (m : Model) → Stands self.old.encoder.now.kind self.old.encoder.now.bytes m
+            → Leaves (calls.planar self.old.state self.old.encoder.now) result self.old.encoder.now self.new.encoder.now m }
+    {
+        self.state.fits();
+        let answer = self.encoder.set_planar(&mut self.state);
+        self.encoder.fits();
+        answer
+    }
+
+    /// Sets how many pixels there are to a unit, across and down, and the unit. The first cause that holds: an earlier fault of
+    /// the sink: `UsageError(WriterFailed)`; a place past 4 bytes in a classic file: `IntSizeError`. Then `OutOfMemory`, or the
+    /// sink's fault: `IoError(Device)` or `OutOfMemory`; after one of these the first ones of the three tags may be set, in the
+    /// order of the unit, across, down.
+    pub fn resolution(&mut self, unit: ResolutionUnit, value: Rational) -> TiffResult<()>
+        ensures same_reference { self.new.encoder.ghost_name ≡ self.old.encoder.ghost_name }
+        ensures part { IfErr result (λ e. StopsResolving self.old.state unit (value.n, value.d) e self.old.encoder.now self.new.encoder.now self.new.state) }
+        ensures answer { Ends (λ _. self.new.state) (calls.resolution self.old.state unit (value.n, value.d) self.old.encoder.now) result self.old.encoder.now self.new.encoder.now }
+
+        // What stood in the file stands.
+        ensures leaves { (m : Model) → Stands self.old.encoder.now.kind self.old.encoder.now.bytes m
+            → Leaves (calls.resolution self.old.state unit (value.n, value.d) self.old.encoder.now) result self.old.encoder.now self.new.encoder.now m }
+    {
+        self.state.fits();
+        let answer = self.encoder.set_resolution(&mut self.state, unit, value);
+        self.encoder.fits();
+        answer
+    }
+
+    /// Sets how many pixels there are to a unit, across. The first cause that holds: an earlier fault of the sink:
+    /// `UsageError(WriterFailed)`; a place past 4 bytes in a classic file: `IntSizeError`. Then `OutOfMemory`, or the sink's
+    /// fault: `IoError(Device)` or `OutOfMemory`.
+    pub fn x_resolution(&mut self, value: Rational) -> TiffResult<()>
+        ensures same_reference { self.new.encoder.ghost_name ≡ self.old.encoder.ghost_name }
+        ensures stays { OnErr result (self.new.state ≡ self.old.state) }
+        ensures answer { Ends (λ _. self.new.state) (calls.x_resolution self.old.state (value.n, value.d) self.old.encoder.now) result self.old.encoder.now self.new.encoder.now }
+
+        // What stood in the file stands.
+        ensures leaves { (m : Model) → Stands self.old.encoder.now.kind self.old.encoder.now.bytes m
+            → Leaves (calls.x_resolution self.old.state (value.n, value.d) self.old.encoder.now) result self.old.encoder.now self.new.encoder.now m }
+    {
+        self.state.fits();
+        let answer = self.encoder.set_x_resolution(&mut self.state, value);
+        self.encoder.fits();
+        answer
+    }
+
+    /// Sets how many pixels there are to a unit, down. The first cause that holds: an earlier fault of the sink:
+    /// `UsageError(WriterFailed)`; a place past 4 bytes in a classic file: `IntSizeError`. Then `OutOfMemory`, or the sink's
+    /// fault: `IoError(Device)` or `OutOfMemory`.
+    pub fn y_resolution(&mut self, value: Rational) -> TiffResult<()>
+        ensures same_reference { self.new.encoder.ghost_name ≡ self.old.encoder.ghost_name }
+        ensures stays { OnErr result (self.new.state ≡ self.old.state) }
+        ensures answer { Ends (λ _. self.new.state) (calls.y_resolution self.old.state (value.n, value.d) self.old.encoder.now) result self.old.encoder.now self.new.encoder.now }
+
+        // What stood in the file stands.
+        ensures leaves { (m : Model) → Stands self.old.encoder.now.kind self.old.encoder.now.bytes m
+            → Leaves (calls.y_resolution self.old.state (value.n, value.d) self.old.encoder.now) result self.old.encoder.now self.new.encoder.now m }
+    {
+        self.state.fits();
+        let answer = self.encoder.set_y_resolution(&mut self.state, value);
+        self.encoder.fits();
+        answer
+    }
+
+    /// Sets the unit of the resolutions. An earlier fault of the sink: `UsageError(WriterFailed)`; else `OutOfMemory`.
+    pub fn resolution_unit(&mut self, unit: ResolutionUnit) -> TiffResult<()>
+        ensures same_reference { self.new.encoder.ghost_name ≡ self.old.encoder.ghost_name }
+        ensures stays { OnErr result (self.new.state ≡ self.old.state) }
+        ensures answer { Ends (λ _. self.new.state) (calls.resolution_unit self.old.state unit self.old.encoder.now) result self.old.encoder.now self.new.encoder.now }
+
+        // What stood in the file stands.
+        ensures leaves { (m : Model) → Stands self.old.encoder.now.kind self.old.encoder.now.bytes m
+            → Leaves (calls.resolution_unit self.old.state unit self.old.encoder.now) result self.old.encoder.now self.new.encoder.now m }
+    {
+        self.state.fits();
+        let answer = self.encoder.set_resolution_unit(&mut self.state, unit);
+        self.encoder.fits();
+        answer
+    }
+}
