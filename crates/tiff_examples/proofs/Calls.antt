@@ -6,11 +6,12 @@ use Rattle.std.specs.FinMap.{len, entries}
 use Rattle.tiff_base.specs.declared.tags.FileKind.TheVariants.{Classic, Big}
 use Rattle.tiff_base.specs.Field.{Field}
 use Rattle.tiff_value.specs.Data.{data_of, text_data}
-use Rattle.tiff_encode.specs.Written.{directory_bytes, long_field}
+use Rattle.tiff_encode.specs.Written.{directory_bytes}
 use Rattle.tiff_encode.specs.Deeds.{Listed, bytes_after}
 use Rattle.tiff_encode.specs.Machine.{FileState, OpenDirectory, Told, by_cause}
 use Rattle.tiff_encode.specs.Causes.{begin_cause, end_of, finish_cause, offset_cause, write_buf_cause, write_data_buf_cause, write_data_cause, write_entry_bytes_cause, write_tag_cause}
 use Rattle.tiff_encode.specs.Calls.{Offsets, chain_after, extend_from, extra_directory, finish, image_directory, links_to, new_offset, offsets_of, opened, set_parent, write_data, write_data_buf, write_entry, write_entry_buf, write_entry_bytes, write_tag, write_tag_buf}
+use Rattle.tiff_examples.specs.OneValue.{long_field}
 use Rattle.tiff_examples.proofs.Maps.{entries_puts, len_puts}
 use Rattle.tiff_examples.proofs.Written.{bytes_by}
 use Rattle.tiff_examples.proofs.Causes.{finish_cause_by}

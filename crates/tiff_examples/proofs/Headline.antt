@@ -1,29 +1,15 @@
 -- The worked examples of Headline hold.
 use Rattle.std.specs.Prelude.{refl, take}
-use Rattle.std.specs.Ordering.{nat_cmp}
 use Rattle.std.proofs.lemmas.List.{length-take}
-use Rattle.std.proofs.Common.{◌≡◌, ℕ, ◌<◌, ◌^◌, true, false, List, [], ◌∷◌, ◌++◌, length, Option, Some, None, Result, Ok, Err, ap, sym, ◌∙◌, subst, inl, inr, arith, lit<, lit≤}
+use Rattle.std.proofs.Common.{◌≡◌, ℕ, ◌<◌, false, List, [], ◌∷◌, ◌++◌, length, Option, Some, None, Result, Ok, Err, ap, sym, ◌∙◌, subst, inl, inr, arith, lit<}
 use Rattle.std.specs.Global.{Vec}
-use Rattle.std.specs.FinMap.{from_entries}
-use Rattle.tiff_base.specs.declared.color.ColorType.TheVariants.{Gray}
 use Rattle.tiff_base.specs.declared.error.TiffError.{TiffError}
-use Rattle.tiff_base.specs.declared.error.TiffError.TheVariants.{IoError, OutOfMemory}
+use Rattle.tiff_base.specs.declared.error.TiffError.TheVariants.{IoError}
 use Rattle.tiff_base.specs.declared.io.IoKind.TheVariants.{Device}
 use Rattle.tiff_base.specs.declared.io.SinkFault.TheVariants as fault
 use Rattle.tiff_base.specs.declared.tags.FileKind.TheVariants.{Classic}
-use Rattle.tiff_base.specs.declared.tags.ByteOrder.TheVariants.{LittleEndian}
 use Rattle.tiff_base.specs.declared.tags.Predictor.TheVariants as predictor
-use Rattle.tiff_base.specs.Directory.{directory_at}
-use Rattle.tiff_base.specs.Field.{Field}
-use Rattle.tiff_base.specs.Number.{number, le}
-use Rattle.tiff_base.specs.Told as bytes
 use Rattle.tiff_value.specs.Data.{data_of}
-use Rattle.tiff_ifd.specs.FieldValue.{field_value}
-use Rattle.tiff_ifd.specs.Limits.{unlimited}
-use Rattle.tiff_ifd.specs.Look.{looked, look_in}
-use Rattle.tiff_page.specs.Checks.{page_of}
-use Rattle.tiff_page.specs.Layout.{colour_of, row_bits}
-use Rattle.tiff_page.specs.Pixels.{is_short, shown_sample}
 use Rattle.tiff_page.specs.Rect.{rect}
 use Rattle.tiff_encode.specs.declared.encoder.script.DirectoryJob.{DirectoryJob}
 use Rattle.tiff_encode.specs.declared.encoder.script.DirectoryEnd.{DirectoryEnd}
@@ -43,56 +29,37 @@ use Rattle.tiff_encode.specs.declared.encoder.script.StepReply.{StepReply}
 use Rattle.tiff_encode.specs.declared.encoder.script.EndReply.{EndReply}
 use Rattle.tiff_encode.specs.declared.encoder.script.EndReply.TheVariants as last
 use Rattle.tiff_encode.specs.declared.encoder.script.JobReply.{JobReply}
-use Rattle.tiff_encode.specs.Written.{directory_bytes, header_bytes, one_to_one, page_map, rows_per_strip}
-use Rattle.tiff_encode.specs.Model.{In, Model, Stands, header_model}
-use Rattle.tiff_encode.specs.Laws.{AreListable, DeedsFit, IsListable, handed_long, handed_short, page_model}
-use Rattle.tiff_encode.specs.Deeds.{Deed, Appended, Handed, Listed, Linked, bytes_after, model_after}
-use Rattle.tiff_encode.specs.Shows.{Image, Shows, page_at, strip_page}
+use Rattle.tiff_encode.specs.Written.{directory_bytes}
+use Rattle.tiff_encode.specs.Model.{Stands, Grows}
+use Rattle.tiff_encode.specs.Laws.{AreListable}
+use Rattle.tiff_encode.specs.Deeds.{Appended, Handed, Listed, model_after}
+use Rattle.tiff_encode.specs.Shows.{Image, Shows}
 use Rattle.tiff_encode.specs.Machine.{FileState, OpenDirectory}
 use Rattle.tiff_encode.specs.Chunks.{next_chunk_sample_count, parts_left, sample_in}
-use Rattle.tiff_encode.specs.Causes.{begin_cause, new_image_cause, image_cause, write_chunk_cause, write_image_data_cause, write_tag_cause}
-use Rattle.tiff_encode.specs.Calls.{Offsets, extra_directory, finish, finish_image, first_tags, image_directory, last_tags, new_image, opened, write_chunk, write_entry, write_image_data, write_tag}
+use Rattle.tiff_encode.specs.Causes.{begin_cause, write_chunk_cause, write_image_data_cause, write_tag_cause}
+use Rattle.tiff_encode.specs.Calls.{Offsets, extra_directory, finish, finish_image, last_tags, new_image, opened, write_chunk, write_entry, write_image_data, write_tag}
 use Rattle.tiff_encode.specs.Encoder.{HeaderFails}
 use Rattle.tiff_encode.specs.Jobs as jobs
-use Rattle.tiff_encode.specs.Jobs.{Standing, Drawn, Run, Finished, IsDone, LeavesJobs}
-use Rattle.tiff_encode.proofs.Deeds.{deeds_stand}
-use Rattle.tiff_encode.proofs.Fields.{fields_tell, page_told, values_read}
-use Rattle.tiff_encode.proofs.Header.{header_stands}
-use Rattle.tiff_encode.proofs.Kept.{kept_by_appending}
-use Rattle.tiff_encode.proofs.Pages.{page_stands}
-use Rattle.tiff_encode.proofs.Slices.{ok_bind, ok_inj}
+use Rattle.tiff_encode.specs.Jobs.{Standing, Drawn, Run, Finished, IsDone}
+use Rattle.tiff_encode.proofs.Deeds.{deeds_stand, deeds_grow}
+use Rattle.tiff_encode.proofs.Slices.{ok_inj}
 use Rattle.tiff_encode.proofs.Runs.{one_step}
-use Rattle.tiff_examples.specs.Calls.{header, with_fields}
-use Rattle.tiff_examples.specs.Causes.{new_file, gray}
+use Rattle.tiff_examples.specs.Calls.{header}
 use Rattle.tiff_examples.specs.Files.{gray_file}
 use Rattle.tiff_examples.specs.Headline as s
 use Rattle.tiff_examples.specs.Headline.{three_file}
-use Rattle.tiff_examples.specs.Images.{all_fields, new_pixel, resolutions}
+use Rattle.tiff_examples.specs.Images.{new_pixel, resolutions}
 use Rattle.tiff_examples.specs.Jobs.{first, run_begun}
 use Rattle.tiff_examples.specs.Tasks as tasks
 use Rattle.tiff_examples.proofs.Calls.{finish_told, finish_told_by}
 use Rattle.tiff_examples.proofs.Jobs.{device_other, ok_err, size_memory, sink_size, some_inj}
-use Rattle.tiff_examples.proofs.Maps.{puts, entries_puts, len_puts}
-use Rattle.tiff_examples.proofs.Models.{fits, unequal}
+use Rattle.tiff_examples.proofs.Maps.{entries_puts, len_puts}
+use Rattle.tiff_examples.proofs.Models.{unequal}
+use Rattle.tiff_examples.proofs.OnePixel.{handed_short, handed_long, image_deeds, image_file, finishes, listable, image_model, image_stands, pixel_shown, shown_alike}
 use Rattle.tiff_examples.proofs.Tasks.{begins_by, data_is_done, data_ran}
-use Rattle.tiff_examples.proofs.Written.{directory_by, gray_written}
+use Rattle.tiff_examples.proofs.Written.{directory_by}
 
 -- ---- what the image does
-
--- what it does behind its resolutions, and the file then
-abbrev image_deeds : List Deed
-image_deeds = Appended (7 ∷ []) ∷ Handed (handed_short 8) ∷ Handed (handed_short 1) ∷ Handed (handed_long 24) ∷ Handed (handed_long 1)
-    ∷ Listed (from_entries all_fields) ∷ Linked 4 25 ∷ []
-
-abbrev image_file : FileState
-image_file = record (new_file Classic) { bytes = gray_file; chain = 195 }
-
-abbrev behind_strip : FileState
-behind_strip = record (new_file Classic) { bytes = header ++ (resolutions ++ (7 ∷ [])) }
-
-finishes : finish (with_fields (opened (Some 4) true) all_fields) behind_strip
-    ≡ finish_told_by behind_strip (with_fields (opened (Some 4) true) all_fields) 14 (puts all_fields)
-finishes = finish_told behind_strip (with_fields (opened (Some 4) true) all_fields) 14 (puts all_fields) (len_puts all_fields) (entries_puts all_fields)
 
 deeds_are : tasks.wrote.deeds ≡ image_deeds
 unfolding write_image_data write_image_data_cause finish_image write_chunk write_chunk_cause next_chunk_sample_count parts_left rect last_tags write_tag write_entry write_tag_cause data_of
@@ -103,9 +70,6 @@ unfolding write_image_data write_image_data_cause finish_image write_chunk write
 next_is = ap (λ t. t.next) finishes
 
 -- where the run stands then
-abbrev image_model : Model
-image_model = model_after Classic (header ++ resolutions) tasks.after_begin.model image_deeds
-
 abbrev after_image : Standing
 after_image = record { file = image_file; model = image_model }
 
@@ -198,147 +162,9 @@ three_ran js rs a b =
 
 -- ---- what stands
 
--- fields that can be a directory, one by one
-abbrev EachListable : List (ℕ × Field) → Type 0
-EachListable [] = Unit {0}
-EachListable (e ∷ es) = IsListable Classic e.0 e.1 × EachListable es
-
-each_of : (es : List (ℕ × Field)) → EachListable es → (e : ℕ × Field) → In e es → IsListable Classic e.0 e.1
-each_of [] t e h = absurd h
-each_of (x ∷ es) t e (inl p) =
-    let P : ℕ × Field → Type 0 = λ y. IsListable Classic y.0 y.1 in
-    subst P (sym p) t.0
-each_of (x ∷ es) t e (inr h) = each_of es t.1 e h
-
-listable : (es : List (ℕ × Field)) → EachListable (puts es) → length (puts es) < 256 ^ 2 → AreListable Classic (from_entries es)
-listable es t l =
-    let P : List (ℕ × Field) → Type 0 = λ xs. (e : ℕ × Field) → In e xs → IsListable Classic e.0 e.1 in
-    record {
-      each = subst P (sym (entries_puts es)) (each_of (puts es) t);
-      few = subst (λ n. n < 256 ^ 2) (sym (len_puts es)) l;
-    }
-
--- the image's, and none
-all_listable : AreListable Classic (from_entries {R = nat_cmp} all_fields)
-all_listable =
-    let e256 : EachListable (puts all_fields) = (
-      record { tag_fits = lit< tt; count = lit< tt; whole = refl },
-      (
-        record { tag_fits = lit< tt; count = lit< tt; whole = refl },
-        (
-          record { tag_fits = lit< tt; count = lit< tt; whole = refl },
-          (
-            record { tag_fits = lit< tt; count = lit< tt; whole = refl },
-            (
-              record { tag_fits = lit< tt; count = lit< tt; whole = refl },
-              (
-                record { tag_fits = lit< tt; count = lit< tt; whole = refl },
-                (
-                  record { tag_fits = lit< tt; count = lit< tt; whole = refl },
-                  (
-                    record { tag_fits = lit< tt; count = lit< tt; whole = refl },
-                    (
-                      record { tag_fits = lit< tt; count = lit< tt; whole = refl },
-                      (
-                        record { tag_fits = lit< tt; count = lit< tt; whole = refl },
-                        (
-                          record { tag_fits = lit< tt; count = lit< tt; whole = refl },
-                          (
-                            record { tag_fits = lit< tt; count = lit< tt; whole = refl },
-                            (
-                              record { tag_fits = lit< tt; count = lit< tt; whole = refl },
-                              (record { tag_fits = lit< tt; count = lit< tt; whole = refl }, tt),
-                            ),
-                          ),
-                        ),
-                      ),
-                    ),
-                  ),
-                ),
-              ),
-            ),
-          ),
-        ),
-      ),
-    ) in listable all_fields e256 (lit< tt)
-
+-- no field
 none_listable : AreListable Classic no_fields.fields
 none_listable = listable [] tt (lit< tt)
-
--- behind the resolutions
-begun_fits : DeedsFit Classic header (header_model Classic) (new_image gray 1 1 1 (new_file Classic)).deeds
-unfolding new_image new_image_cause image_cause image_directory begin_cause first_tags write_tag write_entry write_tag_cause data_of number
-begun_fits = (
-  tt,
-  (
-    inl (record { short = lit≤ tt; bytes = refl }),
-    (
-      inl (record { short = lit≤ tt; bytes = refl }),
-      (
-        inl (record { short = lit≤ tt; bytes = refl }),
-        (
-          inl (record { short = lit≤ tt; bytes = refl }),
-          (
-            inl (record { short = lit≤ tt; bytes = refl }),
-            (
-              inl (record { short = lit≤ tt; bytes = refl }),
-              (
-                inl (record { short = lit≤ tt; bytes = refl }),
-                (
-                  tt,
-                  (
-                    inr (record { place = 8; bytes = one_to_one }, (inl refl, record { place = refl; whole = refl; long = lit< tt; short = lit< tt; bytes = refl })),
-                    (
-                      tt,
-                      (
-                        inr (record { place = 16; bytes = one_to_one }, (inl refl, record { place = refl; whole = refl; long = lit< tt; short = lit< tt; bytes = refl })),
-                        (
-                          inl (record { short = lit≤ tt; bytes = refl }),
-                          tt,
-                        ),
-                      ),
-                    ),
-                  ),
-                ),
-              ),
-            ),
-          ),
-        ),
-      ),
-    ),
-  ),
-)
-
-begun_stands : Stands Classic (header ++ resolutions) tasks.after_begin.model
-unfolding new_image new_image_cause image_cause image_directory begin_cause first_tags write_tag write_entry write_tag_cause data_of
-begun_stands = deeds_stand Classic header (header_model Classic) (new_image gray 1 1 1 (new_file Classic)).deeds (header_stands Classic) begun_fits
-
--- behind the image
-image_fits : DeedsFit Classic (header ++ resolutions) tasks.after_begin.model image_deeds
-image_fits = (
-  tt,
-  (
-    inl (record { short = lit≤ tt; bytes = refl }),
-    (
-      inl (record { short = lit≤ tt; bytes = refl }),
-      (
-        inl (record { short = lit≤ tt; bytes = refl }),
-        (
-          inl (record { short = lit≤ tt; bytes = refl }),
-          (all_listable, ((inl refl, lit< tt), tt)),
-        ),
-      ),
-    ),
-  ),
-)
-
-image_bytes : bytes_after Classic (header ++ resolutions) image_deeds ≡ gray_file
-image_bytes = ap (λ d. bytes.put ((header ++ resolutions) ++ (7 ∷ []) ++ d) 4 (le 4 25)) (directory_by Classic all_fields)
-
-image_stands : Stands Classic gray_file image_model
-image_stands =
-    subst (λ file. Stands Classic file image_model) image_bytes
-    (deeds_stand Classic (header ++ resolutions) tasks.after_begin.model image_deeds begun_stands image_fits)
 
 -- behind the directory
 pad_stands : Stands Classic padded.bytes after_pad.model
@@ -354,61 +180,19 @@ three_stands =
 
 -- ---- what is shown
 
--- the page at 25
-abbrev page_stood : Model
-page_stood = page_model (header_model Classic) 8 4 1 1 (7 ∷ [])
-
-stood : Stands Classic three_file page_stood
-stood =
-    kept_by_appending Classic page_stood gray_file ((0 ∷ []) ++ (0 ∷ 0 ∷ []) ++ (0 ∷ 0 ∷ 0 ∷ 0 ∷ []))
-    (subst (λ file. Stands Classic file page_stood) gray_written
-    (page_stands (header_model Classic) (header_bytes Classic) 4 1 1 (7 ∷ []) (inl refl) fits (header_stands Classic)))
-
-directory_is : (next : Option ℕ) × (directory_at Classic LittleEndian three_file 25 ≡ Ok (record { entries = page_map 8 1 1; next = next }))
-unfolding page_model
-directory_is = (_, stood.directories (record { place = 25; fields = page_map 8 1 1 }) (inl refl))
-
-page_is : page_at Classic three_file 25 unlimited ≡ Ok (strip_page 8 1 1)
-unfolding look_in
-page_is =
-    ok_bind (directory_at Classic LittleEndian three_file 25)
-    (λ d. page_of (looked (field_value Classic LittleEndian three_file unlimited) d.entries))
-    (record { entries = page_map 8 1 1; next = directory_is.0 }) (strip_page 8 1 1) directory_is.1
-    (page_told (looked (field_value Classic LittleEndian three_file unlimited) (page_map 8 1 1)) 1 1 (rows_per_strip 1) 24 1
-    (fields_tell (field_value Classic LittleEndian three_file unlimited) 8 1 1 (values_read three_file unlimited) (lit< tt) (lit< tt) (lit< tt) (lit< tt) (lit< tt))
-    (lit< tt) (lit< tt) (lit≤ tt))
-
--- its image
+-- the image at 25, in the model that has grown since
 abbrev seven : Image
 seven = jobs.image_of new_pixel ((7 ∷ []) ∷ [])
 
-is_seven : shown_sample three_file LittleEndian (strip_page 8 1 1) 0 0 0 ≡ seven.sample_at 0 0 0
-unfolding shown_sample sample_in number rect
+is_seven : seven.sample_at 0 0 0 ≡ 7
+unfolding sample_in
 is_seven = refl
 
-is_whole : is_short three_file LittleEndian (strip_page 8 1 1) (Gray 8) 0 ≡ false
-unfolding rect row_bits
-is_whole = refl
+three_grown : Grows image_model after_three.model
+three_grown = deeds_grow Classic gray_file image_model (Appended (0 ∷ []) ∷ Listed no_fields.fields ∷ [])
 
 one_pixel : Shows Classic three_file 25 seven
-unfolding colour_of
-one_pixel = record {
-  page = strip_page 8 1 1;
-  is_page = page_is;
-  is_image = refl;
-  colour = Gray 8;
-  is_colour = refl;
-  whole = λ chunk l.
-      let one : 0 ≡ chunk = omega arith in
-      subst (λ k. is_short three_file LittleEndian (strip_page 8 1 1) (Gray 8) k ≡ false) one is_whole;
-  shows = λ x y sample a b c.
-      let column : 0 ≡ x = omega arith in
-      let row : 0 ≡ y = omega arith in
-      let d : sample < 1 = c in
-      let one : 0 ≡ sample = omega arith in
-      let Q : ℕ → ℕ → ℕ → Type 0 = λ x y sample. shown_sample three_file LittleEndian (strip_page 8 1 1) x y sample ≡ seven.sample_at x y sample in
-      subst (λ x. Q x y sample) column (subst (λ y. Q 0 y sample) row (subst (λ n. Q 0 0 n) one is_seven));
-}
+one_pixel = shown_alike three_file (pixel_shown three_file after_three.model three_grown three_stands) seven refl is_seven
 
 three_shown : jobs.RunShows run_three
 three_shown f (inl e) = subst (λ (x : Finished). Shows Classic three_file x.place x.image) (sym e) one_pixel

@@ -10,13 +10,13 @@ use Rattle.tiff_base.specs.Field.{Field}
 use Rattle.tiff_value.specs.Data.{data_of}
 use Rattle.tiff_value.specs.Differences.{differences}
 use Rattle.tiff_encode.specs.Encoder.{is_too_far}
-use Rattle.tiff_encode.specs.Written.{short_field, long_field, rational_field}
 use Rattle.tiff_encode.specs.Machine.{by_cause}
 use Rattle.tiff_encode.specs.Causes.{begin_cause, extra_samples_cause, new_image_cause, image_cause, one_resolution_cause, resolution_cause, resolution_unit_cause, rows_per_strip_cause, write_image_data_cause, write_strip_cause, write_chunk_cause, write_tag_cause}
 use Rattle.tiff_encode.specs.Calls.{extra_samples, finish_image, first_tags, image_directory, last_tags, new_image, opened, resolution, resolution_tags, resolution_unit, set_rows_per_strip, with_tags, write_entry, write_image, write_image_data, write_strip, write_chunk, write_tag, x_resolution, y_resolution}
 use Rattle.tiff_page.specs.Rect.{rect}
 use Rattle.tiff_encode.specs.Chunks.{next_chunk_sample_count, parts_left}
 use Rattle.tiff_encode.specs.Stored.{chunk_bytes}
+use Rattle.tiff_examples.specs.OneValue.{short_field, long_field, rational_field}
 use Rattle.tiff_examples.proofs.Maps.{puts, entries_puts, len_puts}
 use Rattle.tiff_examples.proofs.Calls.{finish_told}
 use Rattle.tiff_examples.specs.Images as s

@@ -15,7 +15,6 @@ use Rattle.tiff_encode.specs.declared.encoder.settings.Compression.TheVariants.{
 use Rattle.tiff_encode.specs.declared.encoder.script.StepReply.{StepReply}
 use Rattle.tiff_encode.specs.declared.encoder.script.StepReply.TheVariants as reply
 use Rattle.tiff_base.specs.Field.{Field}
-use Rattle.tiff_encode.specs.Written.{long_field}
 use Rattle.tiff_encode.specs.Deeds.{Appended, Listed, model_after}
 use Rattle.tiff_encode.specs.Machine.{FileState, OpenDirectory, Told, gives}
 use Rattle.tiff_page.specs.Rect.{rect}
@@ -28,6 +27,7 @@ use Rattle.tiff_encode.specs.Jobs as jobs
 use Rattle.tiff_encode.specs.Jobs.{Standing, Finished, IsDone}
 use Rattle.tiff_encode.proofs.Header as its_header
 use Rattle.tiff_encode.proofs.Slices.{ok_inj}
+use Rattle.tiff_examples.specs.OneValue.{long_field}
 use Rattle.tiff_examples.proofs.Maps.{entries_puts, len_puts}
 use Rattle.tiff_examples.proofs.Calls.{finish_told, finish_told_by}
 use Rattle.tiff_encode.specs.declared.encoder.script.DirectoryStep.{DirectoryStep}

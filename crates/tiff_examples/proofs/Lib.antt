@@ -27,12 +27,14 @@ pub mod Lists
 pub mod ShortAnswers
 pub mod Images
 pub mod Views
+pub mod OnePixel
 pub mod Models
 pub mod Jobs
 pub mod Writes
 pub mod Words
 pub mod Leaves
 pub mod Tasks
+pub mod Wholes
 pub mod Headline
 pub mod Tiles
 pub mod Fits

@@ -1,38 +1,33 @@
 -- The worked examples of Models compute.
 use Rattle.std.specs.Prelude.{refl, if◌then◌else◌, ◌==◌}
-use Rattle.std.proofs.Common.{◌≡◌, ℕ, ◌+◌, ◌*◌, ◌^◌, ◌<◌, ◌≤◌, Bool, true, false, List, [], ◌∷◌, ◌++◌, None, Result, Ok, Err, zero, suc, ap, sym, ◌∙◌, subst, inl, inr, arith, lit<, lit≤}
+use Rattle.std.proofs.Common.{◌≡◌, ℕ, ◌+◌, ◌*◌, ◌^◌, ◌<◌, ◌≤◌, Bool, true, false, List, [], ◌∷◌, ◌++◌, None, Result, Ok, Err, ap, sym, ◌∙◌, subst, inl, inr, arith, lit<, lit≤}
 use Rattle.std.specs.Prelude.{map, slice_index}
 use Rattle.std.specs.FinMap.{FinMap, entries, from_entries}
 use Rattle.std.specs.List.{flat_map}
 use Rattle.std.specs.Ordering.{nat_cmp}
-use Rattle.tiff_base.specs.declared.color.ColorType.{ColorType}
-use Rattle.tiff_base.specs.declared.color.ColorType.TheVariants.{Gray}
 use Rattle.tiff_base.specs.declared.error.TiffError.{TiffError}
-use Rattle.tiff_base.specs.declared.tags.FileKind.TheVariants.{Classic}
+use Rattle.tiff_base.specs.declared.tags.FileKind.{FileKind}
+use Rattle.tiff_base.specs.declared.tags.FileKind.TheVariants.{Classic, Big}
 use Rattle.tiff_base.specs.declared.tags.ByteOrder.TheVariants.{LittleEndian}
-use Rattle.tiff_base.specs.Color.{num_samples}
 use Rattle.tiff_base.specs.Field.{Field, DirectoryRecord}
 use Rattle.tiff_base.specs.Number.{number, le}
+use Rattle.tiff_base.specs.Header.{Header, header_at}
 use Rattle.tiff_base.specs.Directory.{link_place, link, directory_at, entries_from, entry_of, last_of_each}
 use Rattle.tiff_base.specs.Tags.{type_of}
-use Rattle.tiff_ifd.specs.Limits.{unlimited}
-use Rattle.tiff_page.specs.Layout.{colour_of}
-use Rattle.tiff_page.specs.Counts.{all_chunks}
 use Rattle.tiff_page.specs.Page.{PageRecord}
-use Rattle.tiff_page.specs.Pixels.{is_short, shown_sample}
-use Rattle.tiff_encode.specs.Written.{header_bytes, entry_bytes, directory_bytes, long_field, one_to_one}
+use Rattle.tiff_encode.specs.Written.{entry_bytes, directory_bytes}
 use Rattle.tiff_encode.specs.Model.{In, FinishedDirectory, Model, own_link, whole_len, Stands, header_model, relinked, with_directory}
 use Rattle.tiff_encode.specs.Deeds.{Handed, Listed, standing_fields, model_after}
-use Rattle.tiff_encode.specs.Laws.{IsListable, AreListable, DeedFits, IsGrayPage}
-use Rattle.tiff_encode.specs.Shows.{Image, Shows, ShowsOnePage, page_at, gray_image, strip_page}
+use Rattle.tiff_encode.specs.Laws.{IsListable, AreListable, DeedFits}
+use Rattle.tiff_encode.specs.Shows.{Image, Shows, ShowsFirst, gray_image}
 use Rattle.tiff_encode.proofs.Header as its_header
-use Rattle.tiff_encode.proofs.Shows as its_shows
 use Rattle.tiff_encode.proofs.Slices.{ok_inj}
 use Rattle.tiff_encode.proofs.Standing.{standing_entry, entries_standing}
 use Rattle.tiff_encode.proofs.Deeds.{deeds_stand}
+use Rattle.tiff_examples.specs.OneValue.{long_field, one_to_one}
 use Rattle.tiff_examples.proofs.Maps.{puts, entries_puts, len_puts}
 use Rattle.tiff_examples.specs.Calls.{header}
-use Rattle.tiff_examples.proofs.Written.{gray_written}
+use Rattle.tiff_examples.proofs.OnePixel.{gray_shown, shown_alike, sample_alike, page_alike}
 use Rattle.tiff_examples.specs.Models as s
 use Rattle.tiff_examples.specs.Files.{gray_file}
 
@@ -134,68 +129,18 @@ too_early : DeedFits Classic (header_model Classic) (Handed s.handed_one) → �
 too_early (inl x) = let l : 8 ≤ 4 = x.short in omega arith
 too_early (inr y) = absurd y.1.0
 
--- the page of one pixel 7 fits behind a header
-pub fits : IsGrayPage 8 1 1 (7 ∷ [])
-fits = record {
-  wide = lit< tt;
-  high = lit< tt;
-  width_fits = lit< tt;
-  one_strip = lit≤ tt;
-  enough = lit≤ tt;
-  place_fits = lit< tt;
-}
+-- where the first page of the file of one gray pixel stands
+gray_header : header_at gray_file ≡ Ok (record { order = LittleEndian; kind = Classic; first = 25 })
+unfolding header_at number
+gray_header = refl
 
-shown : s.gray_shows
-shown =
-    subst (λ file. ShowsOnePage file 1 1 (7 ∷ [])) gray_written
-    (its_shows.page_shows (header_model Classic) (header_bytes Classic) 4 1 1 (7 ∷ []) (inl refl) fits (its_header.header_stands Classic))
+header_is : (kind : FileKind) (i : Image) (t : ShowsFirst kind gray_file i)
+    → (let told : Header = record { order = LittleEndian; kind = kind; first = t.place } in
+    let read : Header = record { order = LittleEndian; kind = Classic; first = 25 } in told ≡ read)
+header_is kind i t = ok_inj _ _ (sym t.first ∙ gray_header)
 
-pub octets : (k : ℕ) → slice_index (7 ∷ []) k < 256
-octets zero = lit< tt
-octets (suc k) = lit< tt
-
--- what page there is, and its colour and its first sample
-its_page : page_at Classic gray_file 25 unlimited ≡ Ok (strip_page 8 1 1)
-its_page =
-    subst (λ file. page_at Classic file 25 unlimited ≡ Ok (strip_page 8 1 1)) gray_written
-    (its_shows.page_reads (header_model Classic) (header_bytes Classic) 4 1 1 (7 ∷ []) unlimited (inl refl) fits octets (its_header.header_stands Classic) (lit≤ tt) (lit≤ tt)).is_page
-
-page_is : (i : Image) (t : Shows Classic gray_file 25 i) → strip_page 8 1 1 ≡ t.page
-page_is i t = ok_inj (strip_page 8 1 1) t.page (sym its_page ∙ t.is_page)
-
-colour_is : (i : Image) (t : Shows Classic gray_file 25 i) → Gray 8 ≡ t.colour
-unfolding colour_of
-colour_is i t = ok_inj (Gray 8) t.colour (ap colour_of (page_is i t) ∙ t.is_colour)
-
-sample_is : (i : Image) (t : Shows Classic gray_file 25 i) → shown_sample gray_file LittleEndian (strip_page 8 1 1) 0 0 0 ≡ i.sample_at 0 0 0
-sample_is i t =
-    ap (λ p. shown_sample gray_file LittleEndian p 0 0 0) (page_is i t)
-    ∙ t.shows 0 0 0 (subst (λ p. 0 < p.width) (page_is i t) (lit< tt)) (subst (λ p. 0 < p.height) (page_is i t) (lit< tt))
-    (subst (λ c. 0 < num_samples c) (colour_is i t) (lit< tt))
-
--- it shows each image of that page whose first sample is 7
-pub shows_seven : (i : Image) → strip_page 8 1 1 ≡ record i.page { offsets = 24 ∷ []; byte_counts = 1 ∷ [] } → i.sample_at 0 0 0 ≡ 7
-    → Shows Classic gray_file 25 i
-unfolding colour_of
-shows_seven i p q =
-    let t = shown in
-    let P : PageRecord → Type 0 = λ page. (k : ℕ) → k < all_chunks page → is_short gray_file LittleEndian page t.colour k ≡ false in
-    record {
-      page = strip_page 8 1 1;
-      is_page = its_page;
-      is_image = p;
-      colour = t.colour;
-      is_colour = ap colour_of (page_is (gray_image 1 1 (7 ∷ [])) t) ∙ t.is_colour;
-      whole = subst P (sym (page_is (gray_image 1 1 (7 ∷ [])) t)) t.whole;
-      shows = λ x y sample a b c.
-          let first : 0 ≡ x = omega arith in
-          let row : 0 ≡ y = omega arith in
-          let d : sample < 1 = subst (λ (k : ColorType). sample < num_samples k) (sym (colour_is (gray_image 1 1 (7 ∷ [])) t)) c in
-          let one : 0 ≡ sample = omega arith in
-          let Q : ℕ → ℕ → ℕ → Type 0 = λ x y sample. shown_sample gray_file LittleEndian (strip_page 8 1 1) x y sample ≡ i.sample_at x y sample in
-          subst (λ x. Q x y sample) first (subst (λ y. Q 0 y sample) row (subst (λ n. Q 0 0 n) one
-          (sample_is (gray_image 1 1 (7 ∷ [])) t ∙ sym q)));
-    }
+no_big : Big ≡ Classic → ⊥
+no_big e = cc
 
 pub is_in : s.is_in
 is_in = inr (inl refl)
@@ -277,13 +222,22 @@ pub shrinks : s.shrinks
 shrinks = λ g. g.regions s.one_region (inl refl)
 
 pub gray_shows : s.gray_shows
-gray_shows = shown
+gray_shows = record { place = 25; first = gray_header; shows = shown_alike gray_file gray_shown (gray_image 1 1 (7 ∷ [])) refl refl }
 
 pub other_sample : s.other_sample
-other_sample = λ t. unequal 7 8 (lit< tt) (sym (sample_is (gray_image 1 1 (7 ∷ [])) shown) ∙ sample_is (gray_image 1 1 (8 ∷ [])) t)
+other_sample = λ t.
+    let i : Image = gray_image 1 1 (8 ∷ []) in
+    let shows = subst (λ place. Shows Classic gray_file place i) (ap (λ (h : Header). h.first) (header_is Classic i t)) t.shows in
+    unequal 7 8 (lit< tt) (sym (sample_alike gray_file gray_shown i shows))
 
 pub other_width : s.other_width
-other_width = λ t. unequal 1 2 (lit< tt) (ap (λ p. p.width) (page_is (gray_image 2 1 (7 ∷ 7 ∷ [])) t) ∙ ap (λ (p : PageRecord). p.width) t.is_image)
+other_width = λ t. unequal 1 2 (lit< tt) (ap (λ (p : PageRecord). p.width) (page_alike gray_file gray_shown (gray_image 2 1 (7 ∷ 7 ∷ [])) t))
+
+pub other_kind : s.other_kind
+other_kind = λ i t. no_big (ap (λ (h : Header). h.kind) (header_is Big i t))
+
+pub other_place : s.other_place
+other_place = λ i t e. unequal 25 26 (lit< tt) (sym (ap (λ (h : Header). h.first) (header_is Classic i t)) ∙ e)
 
 pub begun_classic : s.begun_classic
 begun_classic = refl

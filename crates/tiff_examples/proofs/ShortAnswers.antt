@@ -112,6 +112,3 @@ wide_count = refl
 pub no_letters : s.no_letters
 unfolding field_value
 no_letters = refl
-
-pub refused : s.refused
-refused = refl

@@ -27,19 +27,19 @@ use Rattle.tiff_encode.specs.declared.encoder.script.EndReply.{EndReply}
 use Rattle.tiff_encode.specs.declared.encoder.script.EndReply.TheVariants as last
 use Rattle.tiff_encode.specs.Machine.{FileState, OpenImage, Told}
 use Rattle.tiff_page.specs.Rect.{rect}
-use Rattle.tiff_encode.specs.Chunks.{next_chunk_sample_count, parts_left, sample_in}
+use Rattle.tiff_encode.specs.Chunks.{next_chunk_sample_count, parts_left}
 use Rattle.tiff_encode.specs.Causes.{begin_cause, new_image_cause, image_cause, resolution_cause, write_chunk_cause, write_image_data_cause, write_strip_cause, write_tag_cause}
 use Rattle.tiff_encode.specs.Calls.{finish_image, first_tags, image_directory, last_tags, new_image, opened, resolution, write_entry, write_image_data, write_chunk, write_chunks, write_strip, resolution_tags, write_tag}
 use Rattle.tiff_base.specs.Told.{sink_error}
 use Rattle.tiff_encode.specs.Stored.{AreStored, chunk_bytes}
-use Rattle.tiff_encode.specs.Shows.{Image, Shows}
+use Rattle.tiff_encode.specs.Shows.{Shows}
 use Rattle.tiff_encode.specs.JobValues.{cut_to}
 use Rattle.tiff_encode.specs.Jobs as jobs
-use Rattle.tiff_encode.specs.Jobs.{Standing, Drawn, Run, Finished, IsDone}
+use Rattle.tiff_encode.specs.Jobs.{Standing, Run, Finished, IsDone}
 use Rattle.tiff_examples.proofs.Images as images
 use Rattle.tiff_examples.proofs.Jobs.{ok_err, size_memory, sink_size, some_none}
-use Rattle.tiff_examples.proofs.Models.{unequal, err_ok}
-use Rattle.tiff_examples.proofs.Models as models
+use Rattle.tiff_examples.proofs.Models.{unequal}
+use Rattle.tiff_examples.proofs.OnePixel.{pixel_image, gray_shown}
 use Rattle.tiff_examples.specs.Causes.{new_file, gray, pixel}
 use Rattle.tiff_examples.specs.Images.{new_pixel, pixel_in_file, resolutions, all_fields}
 use Rattle.tiff_examples.specs.Calls.{header, with_fields}
@@ -324,18 +324,11 @@ kind_stays =
     (puts all_fields) (len_puts all_fields) (entries_puts all_fields))
 
 -- the image of the pixel that was handed in
-abbrev seven : Image
-seven = jobs.image_of pixel_in_file ((7 ∷ []) ∷ [])
-
-is_seven : seven.sample_at 0 0 0 ≡ 7
-unfolding sample_in
-is_seven = refl
-
-shown : (f : Finished) → (record { place = 25; image = seven }) ≡ f → Shows after_end.file.kind after_end.file.bytes f.place f.image
+shown : (f : Finished) → (record { place = 25; image = pixel_image }) ≡ f → Shows after_end.file.kind after_end.file.bytes f.place f.image
 shown f h =
     subst (λ x. Shows after_end.file.kind after_end.file.bytes x.place x.image) h
-    (subst (λ kind. Shows kind after_end.file.bytes 25 seven) (sym kind_stays)
-    (subst (λ file. Shows Classic file 25 seven) (sym images.pixel_finished.1) (models.shows_seven seven refl is_seven)))
+    (subst (λ kind. Shows kind after_end.file.bytes 25 pixel_image) (sym kind_stays)
+    (subst (λ file. Shows Classic file 25 pixel_image) (sym images.pixel_finished.1) gray_shown))
 
 is_shown : s.page_shown
 is_shown f (inl e) = shown f (sym e)

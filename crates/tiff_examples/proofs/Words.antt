@@ -12,7 +12,7 @@ use Rattle.tiff_base.specs.declared.tags.PhotometricInterpretation.TheVariants a
 use Rattle.tiff_base.specs.declared.tags.SampleFormat.{SampleFormat}
 use Rattle.tiff_base.specs.declared.tags.SampleFormat.TheVariants as format
 use Rattle.tiff_base.specs.Told.{sink_error}
-use Rattle.std.proofs.lemmas.Bool.{true≢false, false≢true}
+use Rattle.std.proofs.lemmas.Bool.{false≢true}
 use Rattle.tiff_base.specs.Field.{Field, In, IsEntry}
 use Rattle.tiff_base.specs.Tags.{unit_of}
 use Rattle.tiff_value.specs.ColorLaws.{samples_alike}

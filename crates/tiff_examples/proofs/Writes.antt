@@ -1,29 +1,19 @@
 -- The worked examples of Writes hold.
 use Rattle.std.specs.Prelude.{refl}
-use Rattle.std.proofs.Common.{ℕ, ◌≡◌, ◌<◌, ◌≤◌, ◌^◌, [], ◌∷◌, ◌++◌, length, length-append, take, true, Option, Some, None, ap, sym, subst, inl, inr, arith, lit<, lit≤}
+use Rattle.std.proofs.Common.{ℕ, ◌≡◌, ◌<◌, ◌≤◌, ◌^◌, [], ◌∷◌, ◌++◌, length, length-append, take, Option, Some, None, ap, sym, inl, arith, lit<, lit≤}
 use Rattle.std.proofs.lemmas.List.{length-take-le}
 use Rattle.tiff_base.specs.declared.error.TiffError.{TiffError}
-use Rattle.tiff_base.specs.declared.error.TiffError.TheVariants.{FormatError, IntSizeError, IoError, OutOfMemory}
-use Rattle.tiff_base.specs.declared.error.TiffFormatError.TheVariants.{InvalidDimensions}
+use Rattle.tiff_base.specs.declared.error.TiffError.TheVariants.{IntSizeError, IoError, OutOfMemory}
 use Rattle.tiff_base.specs.declared.io.IoKind.TheVariants.{Device}
 use Rattle.tiff_base.specs.declared.io.SinkFault.{SinkFault}
 use Rattle.tiff_base.specs.declared.io.SinkFault.TheVariants as fault
 use Rattle.tiff_base.specs.declared.tags.FileKind.TheVariants.{Classic}
 use Rattle.tiff_base.specs.Told.{sink_error}
-use Rattle.tiff_ifd.specs.Limits.{unlimited}
-use Rattle.tiff_encode.specs.Written.{header_bytes}
-use Rattle.tiff_encode.specs.Model.{header_model}
 use Rattle.tiff_encode.specs.Machine.{FileState}
-use Rattle.tiff_encode.specs.Encoder.{page_refusal}
-use Rattle.tiff_encode.specs.Shows.{ReadsAs, LeavesPage, strip_page}
 use Rattle.tiff_encode.proofs.Header as its_header
-use Rattle.tiff_encode.proofs.Shows as its_shows
-use Rattle.tiff_encode.proofs.Pages as its_pages
-use Rattle.tiff_examples.proofs.Written.{gray_written, none_refused}
-use Rattle.tiff_examples.proofs.Jobs.{true_false, size_memory}
-use Rattle.tiff_examples.proofs.Models.{fits, octets}
+use Rattle.tiff_examples.proofs.Jobs.{true_false}
 use Rattle.tiff_examples.proofs.Models as models
-use Rattle.tiff_examples.specs.Written.{at_end, fresh}
+use Rattle.tiff_examples.specs.Written.{at_end}
 use Rattle.tiff_examples.specs.Calls.{header}
 use Rattle.tiff_examples.specs.Writes as s
 
@@ -48,29 +38,11 @@ too_far = refl
 pub not_too_far : s.not_too_far
 not_too_far = refl
 
-pub appended_page : s.appended_page
-appended_page = refl
-
-pub appended_refused : s.appended_refused
-appended_refused = refl
-
-pub writes : s.writes
-writes = record { fresh = refl; uncaused = none_refused; state = ap (λ b. record fresh { bytes = b; chain = 195 }) (sym gray_written) }
-
-pub writes_failed : s.writes_failed
-writes_failed = λ new w. none_some (sym w.fresh)
-
 pub stopped : s.stopped
 stopped = record { fault = refl; failed = refl; same = refl }
 
 pub not_stopped : s.not_stopped
 not_stopped = λ new t. true_false (sym t.failed)
-
-pub is_refused : s.is_refused
-is_refused = record { fresh = refl; reason = record { fault = IntSizeError; appended = 1 ∷ [] }; cause = refl; fault = refl; state = refl }
-
-pub is_not_refused : s.is_not_refused
-is_not_refused = λ new r. none_some r.cause
 
 pub no_size : (f : SinkFault) → let e : TiffError = IntSizeError in e ≡ sink_error f → ⊥
 no_size fault.Device h = cc
@@ -123,16 +95,6 @@ header_cut = record {
 pub header_not_cut : s.header_not_cut
 header_not_cut = λ h. no_size h.cause h.answer
 
-pub wanting : s.wanting
-wanting = record { fresh = refl; fault = refl; count = 2; within = lit≤ tt; state = refl }
-
-pub not_wanting : s.not_wanting
-not_wanting = λ new w. size_memory w.fault
-
-pub fails : s.fails
-unfolding page_refusal
-fails = inr (inl (record { fresh = refl; reason = record { fault = FormatError (InvalidDimensions 0 5); appended = [] }; cause = refl; fault = refl; state = refl }))
-
 pub placed : s.placed
 placed = record { at_end = λ h. refl; linked = lit≤ tt }
 
@@ -148,20 +110,8 @@ listable = record { tag_fits = lit< tt; count = lit< tt; whole = refl }
 pub not_listable : s.not_listable
 not_listable = λ w. not_below w.tag_fits
 
-pub gray_fits : s.gray_fits
-gray_fits = fits
-
-pub gray_few : s.gray_few
-gray_few = λ f. let l : 2 ≤ 1 = f.enough in omega arith
-
 pub leaves_header : s.leaves_header
 leaves_header = record { stands = its_header.header_stands Classic; link = inl refl }
 
 pub leaves_no_header : s.leaves_no_header
 leaves_no_header = λ l. models.no_link l.link
-
-pub leaves_page : s.leaves_page
-leaves_page = subst (λ file. LeavesPage (header_model Classic) header 4 1 1 (7 ∷ []) file 195) gray_written (record { stands = its_pages.page_stands (header_model Classic) (header_bytes Classic) 4 1 1 (7 ∷ []) (inl refl) fits (its_header.header_stands Classic); next = its_shows.page_links (header_model Classic) 8 4 1 1 (7 ∷ []); shows = its_shows.page_shows (header_model Classic) (header_bytes Classic) 4 1 1 (7 ∷ []) (inl refl) fits (its_header.header_stands Classic) })
-
-pub reads : s.reads
-reads = subst (λ file. ReadsAs Classic file 25 unlimited (strip_page 8 1 1) (7 ∷ [])) gray_written (its_shows.page_reads (header_model Classic) (header_bytes Classic) 4 1 1 (7 ∷ []) unlimited (inl refl) fits octets (its_header.header_stands Classic) (lit≤ tt) (lit≤ tt))

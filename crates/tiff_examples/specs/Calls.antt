@@ -14,12 +14,12 @@ use Rattle.tiff_base.specs.declared.tags.«Type».TheVariants.{ASCII, SHORT}
 use Rattle.tiff_base.specs.Field.{Field}
 use Rattle.tiff_value.specs.Data.{FieldData, u8s, u16s, u32s, data_of, text_data}
 use Rattle.tiff_encode.specs.declared.encoder.settings.Compression.TheVariants.{Packbits}
-use Rattle.tiff_encode.specs.Written.{short_field, long_field}
 use Rattle.tiff_encode.specs.Value.{places, data_in, buffer_data, is_long, filled, field_at}
 use Rattle.tiff_encode.specs.Deeds.{Appended, Handed, Listed, Linked}
 use Rattle.tiff_encode.specs.Machine.{FileState, OpenDirectory, Told, ◌>>=◌}
 use Rattle.tiff_encode.specs.Calls as calls
 use Rattle.tiff_encode.specs.Calls.{Offsets, opened}
+use Rattle.tiff_examples.specs.OneValue.{short_field, long_field}
 use Rattle.tiff_examples.specs.Causes.{new_file, failed_file, file_with, buffer, no_text}
 
 -- what a call answers and leaves

@@ -17,12 +17,13 @@ use Rattle.tiff_base.specs.Field.{Field}
 use Rattle.tiff_value.specs.ColorType.{ColorTypeRecord}
 use Rattle.tiff_value.specs.Data.{u16s, u32s, methods, predictors, interpretations, units, formats, rationals}
 use Rattle.tiff_encode.specs.declared.encoder.settings.Compression.TheVariants.{Packbits}
-use Rattle.tiff_encode.specs.Written.{short_field, long_field, rational_field, one_to_one, header_bytes}
+use Rattle.tiff_encode.specs.Written.{header_bytes}
 use Rattle.tiff_encode.specs.Machine.{FileState, OpenImage}
 use Rattle.tiff_encode.specs.Calls as calls
 use Rattle.tiff_encode.specs.Chunks.{parts_left}
 use Rattle.tiff_encode.specs.Calls.{Offsets, opened, image_in, with_chunk, strips_of}
 use Rattle.tiff_encode.specs.Stored.{chunk_bytes, AreStored}
+use Rattle.tiff_examples.specs.OneValue.{short_field, long_field, rational_field, one_to_one}
 use Rattle.tiff_examples.specs.Files.{gray_file}
 use Rattle.tiff_examples.specs.Causes.{new_file, failed_file, file_with, gray, rgb, pixel, written_pixel}
 use Rattle.tiff_examples.specs.Calls.{IsSeen, header, with_fields}

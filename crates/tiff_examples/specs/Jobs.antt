@@ -28,7 +28,7 @@ use Rattle.tiff_encode.specs.declared.encoder.script.EndReply.TheVariants as las
 use Rattle.tiff_encode.specs.declared.encoder.script.JobReply.{JobReply}
 use Rattle.tiff_base.specs.Field.{DirectoryRecord, Field}
 use Rattle.tiff_base.specs.Told.{put}
-use Rattle.tiff_encode.specs.Written.{long_field, directory_bytes}
+use Rattle.tiff_encode.specs.Written.{directory_bytes}
 use Rattle.tiff_encode.specs.Model.{FinishedDirectory, header_model, relinked, with_directory, with_region}
 use Rattle.tiff_encode.specs.Deeds.{Deed, Appended, Listed, Linked, standing_fields}
 use Rattle.tiff_encode.specs.Machine.{FileState, OpenDirectory, answers, gives, does}
@@ -40,6 +40,7 @@ use Rattle.tiff_value.specs.Data.{u16s, data_of}
 use Rattle.tiff_encode.specs.JobValues.{value_data, buffer_in, cut_to}
 use Rattle.tiff_encode.specs.Jobs as jobs
 use Rattle.tiff_encode.specs.Jobs.{Standing, Drawn, Run, Finished}
+use Rattle.tiff_examples.specs.OneValue.{long_field}
 use Rattle.tiff_examples.specs.Causes.{new_file, failed_file, file_with, gray, pixel, written_pixel}
 use Rattle.tiff_examples.specs.Calls.{header, with_fields}
 use Rattle.tiff_examples.specs.Models.{one_region}

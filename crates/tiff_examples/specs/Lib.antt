@@ -1,4 +1,5 @@
 pub mod Files
+pub mod OneValue
 pub mod Numbers
 pub mod Headers
 pub mod Enums
@@ -34,6 +35,7 @@ pub mod Writes
 pub mod Words
 pub mod Leaves
 pub mod Tasks
+pub mod Wholes
 pub mod Headline
 pub mod Tiles
 pub mod Fits

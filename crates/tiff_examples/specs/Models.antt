@@ -8,12 +8,12 @@ use Rattle.tiff_base.specs.declared.tags.ByteOrder.TheVariants.{LittleEndian}
 use Rattle.tiff_base.specs.declared.tags.«Type».TheVariants.{SHORT}
 use Rattle.tiff_base.specs.Field.{Field}
 use Rattle.tiff_base.specs.Directory.{directory_at}
-use Rattle.tiff_encode.specs.Written.{short_field, long_field, rational_field, one_to_one}
 use Rattle.tiff_encode.specs.Laws.{DeedFits, DeedsFit, AreAppending}
 use Rattle.tiff_encode.specs.Model.{AreApart, In, FinishedDirectory, HandedField, Region, Model, IsLink, IsClear, IsApart, own_link, whole_len, Stands, header_model, relinked, with_directory, with_region, with_handed, Grows}
-use Rattle.tiff_encode.specs.Shows.{Shows, ShowsOnePage, gray_image}
+use Rattle.tiff_encode.specs.Shows.{Image, Shows, ShowsFirst, ShowsGray, gray_image}
 use Rattle.tiff_encode.specs.Deeds.{Appended, Handed, Listed, Linked, after_deed, bytes_after, all_appended, standing_field, model_after}
 use Rattle.tiff_encode.specs.Machine.{begun, answers, gives, does, by_cause, ◌>>=◌}
+use Rattle.tiff_examples.specs.OneValue.{short_field, long_field, rational_field, one_to_one}
 use Rattle.tiff_examples.specs.Files.{gray_file}
 use Rattle.tiff_examples.specs.Causes.{new_file, file_with}
 use Rattle.tiff_examples.specs.Calls.{header}
@@ -124,13 +124,20 @@ shrinks = Grows (with_region (header_model Classic) one_region) (header_model Cl
 
 -- the file of one gray pixel shows it, and nothing else
 abbrev pub gray_shows : Type 0
-gray_shows = ShowsOnePage gray_file 1 1 (7 ∷ [])
+gray_shows = ShowsGray gray_file 1 1 (7 ∷ [])
 
 abbrev pub other_sample : Type 0
-other_sample = ShowsOnePage gray_file 1 1 (8 ∷ []) → ⊥
+other_sample = ShowsGray gray_file 1 1 (8 ∷ []) → ⊥
 
 abbrev pub other_width : Type 0
 other_width = Shows Classic gray_file 25 (gray_image 2 1 (7 ∷ 7 ∷ [])) → ⊥
+
+-- it is no file of the other kind, and its first page stands nowhere else
+abbrev pub other_kind : Type 0
+other_kind = (i : Image) → ShowsFirst Big gray_file i → ⊥
+
+abbrev pub other_place : Type 0
+other_place = (i : Image) (t : ShowsFirst Classic gray_file i) → t.place ≡ 26 → ⊥
 
 -- ---- what is done to a file
 

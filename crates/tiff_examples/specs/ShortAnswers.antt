@@ -1,7 +1,6 @@
 -- Worked answers of sources and sinks, and values looked up in a directory.
 use Rattle.std.specs.Prelude.{◌≡◌, ℕ, negsuc, List, [], ◌∷◌, Some, Ok, Err}
-use Rattle.tiff_base.specs.declared.error.TiffError.TheVariants.{IoError, LimitsExceeded, UnsupportedError}
-use Rattle.tiff_base.specs.declared.error.TiffUnsupportedError.TheVariants.{UnsupportedDataType}
+use Rattle.tiff_base.specs.declared.error.TiffError.TheVariants.{IoError, LimitsExceeded}
 use Rattle.tiff_base.specs.declared.io.IoKind.TheVariants.{UnexpectedEof}
 use Rattle.tiff_base.specs.declared.tags.ByteOrder.TheVariants.{LittleEndian, BigEndian}
 use Rattle.tiff_base.specs.declared.tags.FileKind.TheVariants.{Classic, Big}
@@ -16,7 +15,6 @@ use Rattle.tiff_ifd.specs.Limits.{unlimited}
 use Rattle.tiff_ifd.specs.Datum.{none, more, list, short, signed_byte}
 use Rattle.tiff_ifd.specs.FieldValue.{field_value}
 use Rattle.tiff_ifd.specs.Look.{look_in}
-use Rattle.tiff_encode.specs.Encoder.{stand_in}
 use Rattle.tiff_examples.specs.Fields.{of}
 
 -- BitsPerSample: one short in the entry, and three at the place 0
@@ -164,8 +162,3 @@ abbrev pub no_letters : Type 0
 no_letters =
     field_value Classic LittleEndian [] unlimited (of ASCII 0 (0x41 ∷ 0x00 ∷ 0x00 ∷ 0x00 ∷ 0x00 ∷ 0x00 ∷ 0x00 ∷ 0x00 ∷ []))
     ≡ Ok (list none)
-
--- the refusal that stands in
-abbrev pub refused : Type 0
-refused =
-    stand_in ≡ UnsupportedError UnsupportedDataType

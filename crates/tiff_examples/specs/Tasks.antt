@@ -15,7 +15,6 @@ use Rattle.tiff_encode.specs.declared.encoder.script.Job.TheVariants as job
 use Rattle.tiff_encode.specs.declared.encoder.script.StepReply.TheVariants as reply
 use Rattle.tiff_encode.specs.declared.encoder.script.EndReply.TheVariants as last
 use Rattle.tiff_encode.specs.declared.encoder.script.JobReply.{JobReply}
-use Rattle.tiff_encode.specs.Written.{short_field, rational_field}
 use Rattle.tiff_encode.specs.Model.{header_model}
 use Rattle.tiff_encode.specs.Deeds.{Appended, Handed, model_after}
 use Rattle.tiff_encode.specs.Machine.{OpenImage, Told}
@@ -23,6 +22,7 @@ use Rattle.tiff_encode.specs.Calls as calls
 use Rattle.tiff_encode.specs.Calls.{Offsets, opened}
 use Rattle.tiff_encode.specs.Jobs as jobs
 use Rattle.tiff_encode.specs.Jobs.{Standing, Drawn, Run, Finished}
+use Rattle.tiff_examples.specs.OneValue.{short_field, rational_field}
 use Rattle.tiff_examples.specs.Causes.{new_file, file_with, gray, pixel}
 use Rattle.tiff_examples.specs.Calls.{header, with_fields}
 use Rattle.tiff_examples.specs.Images.{new_pixel, pixel_in_file, resolutions, two_strips}

@@ -18,12 +18,12 @@ use Rattle.tiff_page.specs.Page.{PageRecord}
 use Rattle.tiff_page.specs.Counts.{all_chunks}
 use Rattle.tiff_page.specs.Layout.{colour_of}
 use Rattle.tiff_page.specs.Image.{image_of}
-use Rattle.tiff_encode.specs.Written.{short_field, long_field}
 use Rattle.tiff_encode.specs.Machine.{OpenImage}
 use Rattle.tiff_encode.specs.Chunks.{image_page, next_chunk_sample_count, parts_left, sample_in}
 use Rattle.tiff_encode.specs.Calls as calls
 use Rattle.tiff_encode.specs.Calls.{opened, image_in, with_chunk, strips_of, tiles_of}
 use Rattle.tiff_encode.specs.Stored.{chunk_bytes}
+use Rattle.tiff_examples.specs.OneValue.{short_field, long_field}
 use Rattle.tiff_examples.specs.Causes.{new_file, gray, rgb}
 use Rattle.tiff_examples.specs.Calls.{IsSeen, header, with_fields}
 

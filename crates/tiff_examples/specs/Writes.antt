@@ -1,24 +1,20 @@
--- Worked writes of a page: what each may leave.
-use Rattle.std.specs.Prelude.{◌≡◌, true, false, [], ◌∷◌, ◌++◌, Some, None}
+-- Worked writes: what each may leave.
+use Rattle.std.specs.Prelude.{◌≡◌, true, false, [], ◌∷◌, ◌++◌, Some}
 use Rattle.tiff_base.specs.declared.error.TiffError.{TiffError}
-use Rattle.tiff_base.specs.declared.error.TiffError.TheVariants.{FormatError, IoError, IntSizeError, UsageError, OutOfMemory}
-use Rattle.tiff_base.specs.declared.error.TiffFormatError.TheVariants.{InvalidDimensions}
+use Rattle.tiff_base.specs.declared.error.TiffError.TheVariants.{IoError, IntSizeError, UsageError, OutOfMemory}
 use Rattle.tiff_base.specs.declared.error.UsageError.TheVariants.{WriterFailed}
 use Rattle.tiff_base.specs.declared.io.IoKind.TheVariants.{Device}
 use Rattle.tiff_base.specs.declared.io.SinkFault.TheVariants as fault
 use Rattle.tiff_base.specs.declared.tags.FileKind.TheVariants.{Classic}
 use Rattle.tiff_value.specs.Written.{Written}
-use Rattle.tiff_ifd.specs.Limits.{unlimited}
-use Rattle.tiff_encode.specs.Written.{long_field}
-use Rattle.tiff_encode.specs.Model.{header_model}
-use Rattle.tiff_encode.specs.Laws.{IsListable, IsGrayPage}
+use Rattle.tiff_encode.specs.Laws.{IsListable}
 use Rattle.tiff_encode.specs.Machine.{FileState}
 use Rattle.tiff_encode.specs.Machine as machine
-use Rattle.tiff_encode.specs.Encoder.{refused, is_too_far, appended_by, WritesPage, HeaderFails, IsStopped, IsRefused, IsCut, IsTorn, IsWanting, PageFails}
+use Rattle.tiff_encode.specs.Encoder.{is_too_far, HeaderFails, IsStopped, IsCut, IsTorn}
 use Rattle.tiff_encode.specs.Steps.{IsPlaced, grown}
-use Rattle.tiff_encode.specs.Shows.{ReadsAs, LeavesHeader, LeavesPage, strip_page}
-use Rattle.tiff_examples.specs.Files.{gray_file}
-use Rattle.tiff_examples.specs.Written.{begun, full, fresh, at_end}
+use Rattle.tiff_encode.specs.Shows.{LeavesHeader}
+use Rattle.tiff_examples.specs.OneValue.{long_field}
+use Rattle.tiff_examples.specs.Written.{begun, fresh, at_end}
 use Rattle.tiff_examples.specs.Calls.{header}
 
 -- a new encoder, on an empty sink and on one of two bytes
@@ -42,33 +38,12 @@ too_far = is_too_far 4294967296 ≡ true
 abbrev pub not_too_far : Type 0
 not_too_far = is_too_far 4294967295 ≡ false
 
--- what stands before a refusal
-abbrev pub appended_page : Type 0
-appended_page = appended_by None (1 ∷ 2 ∷ []) ≡ (1 ∷ 2 ∷ [])
-
-abbrev pub appended_refused : Type 0
-appended_refused = appended_by (refused IntSizeError (1 ∷ [])) (1 ∷ 2 ∷ []) ≡ (1 ∷ [])
-
--- a page of one pixel is written; not by an encoder that failed
-abbrev pub writes : Type 0
-writes = WritesPage true 1 1 (7 ∷ []) fresh full
-
-abbrev pub writes_failed : Type 0
-writes_failed = (new : FileState) → WritesPage true 1 1 (7 ∷ []) failed new → ⊥
-
 -- after a failed write nothing is done
 abbrev pub stopped : Type 0
 stopped = IsStopped (UsageError WriterFailed) failed failed
 
 abbrev pub not_stopped : Type 0
 not_stopped = (new : FileState) → IsStopped (UsageError WriterFailed) fresh new → ⊥
-
--- a refusal, with what stands before it
-abbrev pub is_refused : Type 0
-is_refused = IsRefused (refused IntSizeError (1 ∷ [])) IntSizeError fresh (begun (header ++ (1 ∷ [])))
-
-abbrev pub is_not_refused : Type 0
-is_not_refused = (new : FileState) → IsRefused None IntSizeError fresh new → ⊥
 
 -- one byte of two went out
 abbrev pub cut_file : FileState
@@ -115,17 +90,6 @@ header_cut = HeaderIsCut (IoError Device)
 abbrev pub header_not_cut : Type 0
 header_not_cut = HeaderIsCut IntSizeError → ⊥
 
--- no memory: the encoder is as it was, but for what it appended
-abbrev pub wanting : Type 0
-wanting = IsWanting (1 ∷ 2 ∷ []) OutOfMemory fresh (begun (header ++ (1 ∷ 2 ∷ [])))
-
-abbrev pub not_wanting : Type 0
-not_wanting = (new : FileState) → IsWanting (1 ∷ 2 ∷ []) IntSizeError fresh new → ⊥
-
--- a page with no width fails for that
-abbrev pub fails : Type 0
-fails = PageFails true 0 5 [] (FormatError (InvalidDimensions 0 5)) fresh fresh
-
 -- a writer's encoder stands at the end, behind its last link
 abbrev pub placed : Type 0
 placed = IsPlaced Classic (record at_end { bytes = header; at = 8 }) 4
@@ -143,23 +107,9 @@ listable = IsListable Classic 256 (long_field 5)
 abbrev pub not_listable : Type 0
 not_listable = IsListable Classic 65536 (long_field 5) → ⊥
 
--- a page that is one strip, and one of which samples are missing
-abbrev pub gray_fits : Type 0
-gray_fits = IsGrayPage 8 1 1 (7 ∷ [])
-
-abbrev pub gray_few : Type 0
-gray_few = IsGrayPage 8 2 1 (7 ∷ []) → ⊥
-
--- what a header and a page leave
+-- what a header leaves
 abbrev pub leaves_header : Type 0
 leaves_header = LeavesHeader Classic header 4
 
 abbrev pub leaves_no_header : Type 0
 leaves_no_header = LeavesHeader Classic header 5 → ⊥
-
-abbrev pub leaves_page : Type 0
-leaves_page = LeavesPage (header_model Classic) header 4 1 1 (7 ∷ []) gray_file 195
-
--- the file of one gray pixel is read as 7
-abbrev pub reads : Type 0
-reads = ReadsAs Classic gray_file 25 unlimited (strip_page 8 1 1) (7 ∷ [])

@@ -40,6 +40,7 @@ pub mod undo;
 pub mod value;
 pub mod view;
 pub mod walk;
+pub mod whole;
 pub mod word;
 pub mod write;
 pub mod writer;

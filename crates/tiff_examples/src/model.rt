@@ -9,7 +9,7 @@ pub fn models()
 
 /// What is shown.
 pub fn shown()
-    ensures { s.gray_shows × s.other_sample × s.other_width }
+    ensures { s.gray_shows × s.other_sample × s.other_width × s.other_kind × s.other_place }
 {}
 
 /// Fields as they stand, and deeds that fit.

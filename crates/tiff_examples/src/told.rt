@@ -17,5 +17,5 @@ pub fn writes()
 /// Values of a directory's fields.
 pub fn look_ups()
     ensures { s.signed_byte_alone × s.look_big_endian × s.look_placed × s.look_limited × s.wide_place ×
-        s.wide_count × s.no_letters × s.refused }
+        s.wide_count × s.no_letters }
 {}

@@ -5,7 +5,7 @@ ghost use Rattle.std.specs.Prelude.{◌≡◌, ◌≤◌, IfOk, Ok};
 ghost use Rattle.tiff.specs.Answers.{Answers};
 ghost use Rattle.tiff.specs.Outcome.{begun};
 ghost use Rattle.tiff.specs.Result.{decoded_as};
-ghost use Rattle.tiff.specs.Shows.{ShowsOnePage};
+ghost use Rattle.tiff.specs.Shows.{ShowsGray};
 ghost use Rattle.tiff_uses.specs.GeoKeys.{geo_key, key_value, value_in};
 ghost use Rattle.tiff_uses.specs.Pages.{AreSides, FileAnswers, first_image, page_chunk};
 
@@ -94,7 +94,7 @@ pub fn geo_key<R: Source>(decoder: &mut Decoder<R>, id: u16) -> TiffResult<Optio
 
 /// A file of one gray page, which shows the samples.
 pub fn gray_file(alloc: Global, width: u32, height: u32, samples: &[u8]) -> TiffResult<Vec<u8>>
-    ensures { IfOk result (λ file. ShowsOnePage file.items width height samples.now) }
+    ensures { IfOk result (λ file. ShowsGray file.items width height samples.now) }
 {
     let mut encoder = TiffEncoder::new(alloc, MemorySink::new(Vec::new(alloc)))?;
     encoder.write_image::<Gray8>(width, height, samples)?;

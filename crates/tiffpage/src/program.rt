@@ -2,7 +2,7 @@
 
 ghost use Rattle.std.specs.Prelude.{◌≡◌, ◌≤◌, IfOk};
 ghost use Rattle.tiff.specs.Machine.{Follows, stays};
-ghost use Rattle.tiff.specs.Shows.{ShowsOnePage};
+ghost use Rattle.tiff.specs.Shows.{ShowsGray};
 ghost use Rattle.tiffpage.specs.Samples.{sample_bytes};
 
 use crate::command::{Command, parse};
@@ -83,7 +83,7 @@ fn write<'a, F: Files>(files: &mut F, name: &'a str, bytes: &[u8]) -> Result<(),
 
 // A file of one gray page, which shows the samples.
 fn gray_file(alloc: Global, width: u32, height: u32, samples: &[u8]) -> TiffResult<Vec<u8>>
-    ensures { IfOk result (λ file. ShowsOnePage file.items width height samples.now) }
+    ensures { IfOk result (λ file. ShowsGray file.items width height samples.now) }
 {
     let mut encoder = TiffEncoder::new(alloc, MemorySink::new(Vec::new(alloc)))?;
     encoder.write_image::<Gray8>(width, height, samples)?;

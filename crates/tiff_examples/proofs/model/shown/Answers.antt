@@ -7,4 +7,6 @@ returns c = (
   p.gray_shows,
   p.other_sample,
   p.other_width,
+  p.other_kind,
+  p.other_place,
 )

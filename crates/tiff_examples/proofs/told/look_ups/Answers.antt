@@ -11,5 +11,4 @@ returns c = (
   p.wide_place,
   p.wide_count,
   p.no_letters,
-  p.refused,
 )

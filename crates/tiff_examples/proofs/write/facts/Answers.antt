@@ -9,10 +9,6 @@ returns c = (
   p.grown_one,
   p.listable,
   p.not_listable,
-  p.gray_fits,
-  p.gray_few,
   p.leaves_header,
   p.leaves_no_header,
-  p.leaves_page,
-  p.reads,
 )

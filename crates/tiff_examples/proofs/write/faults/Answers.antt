@@ -13,7 +13,4 @@ returns c = (
   p.torn_swapped,
   p.header_cut,
   p.header_not_cut,
-  p.wanting,
-  p.not_wanting,
-  p.fails,
 )

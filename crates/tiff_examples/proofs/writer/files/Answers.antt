@@ -6,8 +6,4 @@ pub returns : goal.returns
 returns c = (
   p.two_fields,
   p.no_field,
-  p.gray_written,
-  p.second_length,
-  p.second_kept,
-  p.second_begins,
 )

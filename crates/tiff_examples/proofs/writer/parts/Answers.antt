@@ -14,7 +14,4 @@ returns c = (
   p.rows_3,
   p.rows_300,
   p.rows_long,
-  p.first_places,
-  p.second_places,
-  p.head_199,
 )
