@@ -1,9 +1,10 @@
-//! What tests expect of answers. These are their assertions: a test that calls them owns nothing at its exits, so it is
-//! cheap to prove.
+//! What tests expect of answers, and what they begin with. The first are their assertions: a test that calls them owns
+//! nothing at its exits, so it is cheap to prove.
 
 use std::alloc::Global;
 use std::process::Abort;
 use tiff_base::error::TiffResult;
+use tiff_base::io::MemorySink;
 
 /// Stops unless a text is answered, and is the one that is wanted in this row.
 pub fn expect_text(rt: &impl Abort, row: u64, told: TiffResult<String>, wanted: &str) {
@@ -60,4 +61,34 @@ pub fn told_with(
 /// A list of these bytes.
 pub fn copy_of(alloc: Global, bytes: &[u8]) -> TiffResult<Vec<u8>> {
     Ok(Vec::from_slice(alloc, bytes)?)
+}
+
+/// What an answer without a value is.
+pub fn told(alloc: Global, answer: TiffResult<()>) -> TiffResult<String> {
+    Ok(format!(in alloc; "{answer:?}")?)
+}
+
+// Adds a text, behind a blank where it isn't the first.
+fn add_text(notes: &mut String, note: &str) -> TiffResult<()> {
+    if !notes.is_empty() {
+        notes.push(' ')?;
+    }
+    Ok(notes.push_str(note)?)
+}
+
+/// Adds an answer, behind a blank where it isn't the first.
+pub fn add(notes: &mut String, answer: TiffResult<()>) -> TiffResult<()> {
+    let note = told(*notes.allocator(), answer)?;
+    add_text(notes, &note)
+}
+
+/// Adds a number, behind a blank where it isn't the first.
+pub fn add_number(notes: &mut String, n: u64) -> TiffResult<()> {
+    let note = format!(in *notes.allocator(); "{n}")?;
+    add_text(notes, &note)
+}
+
+/// A sink in memory without bytes.
+pub fn empty_sink(alloc: Global) -> MemorySink {
+    MemorySink::new(Vec::new(alloc))
 }

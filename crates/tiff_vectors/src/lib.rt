@@ -6,9 +6,19 @@
 mod chain;
 #[cfg(test)]
 mod directories;
+#[cfg(test)]
+mod directory_values;
 pub mod doubles;
 #[cfg(test)]
 mod expect;
+#[cfg(test)]
+mod image_bytes;
+#[cfg(test)]
+mod image_calls;
+#[cfg(test)]
+mod image_forms;
+#[cfg(test)]
+mod images;
 #[cfg(test)]
 mod lent;
 #[cfg(test)]

@@ -1,7 +1,7 @@
 //! Files that are written.
 
 use crate::doubles::FailingSink;
-use crate::expect::{copy_of, expect_bytes, expect_same, expect_text, told_with};
+use crate::expect::{copy_of, empty_sink, expect_bytes, expect_same, expect_text, told_with};
 use std::alloc::Global;
 use tiff_base::error::TiffResult;
 use tiff_base::io::{MemorySink, Sink};
@@ -32,10 +32,6 @@ const FURTHER: [u8; 196] = [
     0, 0, 40, 1, 3, 0, 1, 0, 0, 0, 1, 0, 0, 0, 61, 1, 3, 0, 1, 0, 0, 0, 1, 0, 0, 0, 83, 1, 3, 0, 1,
     0, 0, 0, 1, 0, 0, 0, 0, 0, 0, 0,
 ];
-
-fn empty_sink(alloc: Global) -> MemorySink {
-    MemorySink::new(Vec::new(alloc))
-}
 
 // The file of a page of 3 by 2 samples.
 fn page_written(alloc: Global) -> TiffResult<Vec<u8>> {
