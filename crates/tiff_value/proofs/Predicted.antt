@@ -7,14 +7,14 @@ use Rattle.tiff_base.specs.declared.tags.Predictor.TheVariants.{Horizontal}
 use Rattle.tiff_value.specs.Differences.{kept, differences, predicted_row}
 use Rattle.tiff_value.specs.Predicted.{IsAppended}
 use Rattle.tiff_value.proofs.Differences.{first_kept, later_kept, predicted}
-use Rattle.std.specs.Int.{Width, cast_unsigned, int_wrapping_sub}
+use Rattle.std.specs.Int.{Width, cast_unsigned, cast_signed, int_wrapping_sub}
 use Rattle.std.specs.Int.RustNames.{FitsSigned}
 use Rattle.std.proofs.lemmas.Int.{of_z-to_z}
 use mir.Val.{bits}
 use mir.ValLaws as laws
 use lib.IntN.{ℤ}
 use lib.Pow.{pow_pos}
-use Rattle.std.proofs.Math.Nat.{mod-lt}
+use Rattle.std.proofs.Math.Nat.{mod-lt, mod-mod}
 
 -- signed numbers, less one another modulo
 pub signed_less : (w : Width) (x y : ℤ) → FitsSigned w y → cast_unsigned w (int_wrapping_sub w x y) ≡ (cast_unsigned w x + 2 ^ bits w - cast_unsigned w y) % 2 ^ bits w
@@ -23,6 +23,11 @@ signed_less w x y f =
     let e : cast_unsigned w x + (2 ^ bits w - cast_unsigned w y) ≡ cast_unsigned w x + 2 ^ bits w - cast_unsigned w y = omega (arith, small) in
     of_z-to_z w ((cast_unsigned w x + (2 ^ bits w - cast_unsigned w y)) % 2 ^ bits w) (mod-lt (cast_unsigned w x + (2 ^ bits w - cast_unsigned w y)) (pow_pos (bits w)))
     ∙ ap (λ (q : ℕ). q % 2 ^ bits w) e
+
+-- the bits of a number cut to them, as a signed one
+pub signed_cut : (w : Width) (n : ℕ) → cast_unsigned w (cast_signed w (n % 2 ^ bits w)) % 2 ^ bits w ≡ n % 2 ^ bits w
+signed_cut w n =
+    ap (λ (q : ℕ). q % 2 ^ bits w) (of_z-to_z w (n % 2 ^ bits w) (mod-lt n (pow_pos (bits w)))) ∙ mod-mod n (2 ^ bits w)
 
 -- the bits of a signed number
 pub signed_below : (w : Width) (x : ℤ) → FitsSigned w x → cast_unsigned w x < 2 ^ bits w

@@ -15,10 +15,11 @@ use tiff_base::tags::{Bits32, Bits64};
 
 /// A number that a sample is in memory (this project's).
 pub trait Sample: TiffScalar + Copy {
-    ghost use Rattle.std.specs.Prelude.{◌≡◌, ◌++◌, ◌^◌, ℕ, map, MatchResult};
+    ghost use Rattle.std.specs.Prelude.{◌≡◌, ◌++◌, ◌^◌, ◌%◌, ℕ, map, MatchResult};
     ghost use Rattle.std.specs.List.{flat_map};
     ghost use Rattle.tiff_base.specs.Number.{le};
     ghost use Rattle.tiff_base.specs.Types.{type_size};
+    ghost use Rattle.tiff_value.specs.ColorType.{sample_number};
     ghost use Rattle.tiff_value.specs.Differences.{predicted_row};
     ghost use Rattle.tiff_value.specs.Predicted.{row_of_type};
 
@@ -28,6 +29,10 @@ pub trait Sample: TiffScalar + Copy {
     /// The sample of zeros.
     fn zero() -> Self
         ensures { bits result ≡ 0 };
+
+    /// The sample of the lowest bits of a number, as many as it has.
+    fn cut(number: u64) -> Self
+        ensures { sample_number (type_size Self.value_type) bits result ≡ number % 256 ^ type_size Self.value_type };
 
     /// Appends a row's first `stride` samples, then each less, modulo its width, the one `stride` before it. Nothing is
     /// appended for a stride of 0, or a row shorter than it. Floating numbers: `UsageError(PredictorIncompatible)`.
@@ -124,6 +129,10 @@ impl Sample for u8 {
         0
     }
 
+    fn cut(number: u64) -> u8 {
+        (number % 256) as u8
+    }
+
     fn predict_row(row: &[u8], stride: usize, out: &mut Vec<u8>) -> TiffResult<()> {
         push_differences(row, stride, out)
     }
@@ -161,6 +170,11 @@ impl Sample for i8 {
         0
     }
 
+    #[tactic(auto, using(crate::proofs::Predicted::signed_cut))]
+    fn cut(number: u64) -> i8 {
+        ((number % 256) as u8).cast_signed()
+    }
+
     fn predict_row(row: &[i8], stride: usize, out: &mut Vec<i8>) -> TiffResult<()> {
         push_differences(row, stride, out)
     }
@@ -195,6 +209,10 @@ impl Sample for u16 {
 
     fn zero() -> u16 {
         0
+    }
+
+    fn cut(number: u64) -> u16 {
+        (number % 65_536) as u16
     }
 
     fn predict_row(row: &[u16], stride: usize, out: &mut Vec<u16>) -> TiffResult<()> {
@@ -234,6 +252,11 @@ impl Sample for i16 {
         0
     }
 
+    #[tactic(auto, using(crate::proofs::Predicted::signed_cut))]
+    fn cut(number: u64) -> i16 {
+        ((number % 65_536) as u16).cast_signed()
+    }
+
     fn predict_row(row: &[i16], stride: usize, out: &mut Vec<i16>) -> TiffResult<()> {
         push_differences(row, stride, out)
     }
@@ -268,6 +291,10 @@ impl Sample for u32 {
 
     fn zero() -> u32 {
         0
+    }
+
+    fn cut(number: u64) -> u32 {
+        (number % 4_294_967_296) as u32
     }
 
     fn predict_row(row: &[u32], stride: usize, out: &mut Vec<u32>) -> TiffResult<()> {
@@ -307,6 +334,11 @@ impl Sample for i32 {
         0
     }
 
+    #[tactic(auto, using(crate::proofs::Predicted::signed_cut))]
+    fn cut(number: u64) -> i32 {
+        ((number % 4_294_967_296) as u32).cast_signed()
+    }
+
     fn predict_row(row: &[i32], stride: usize, out: &mut Vec<i32>) -> TiffResult<()> {
         push_differences(row, stride, out)
     }
@@ -341,6 +373,10 @@ impl Sample for u64 {
 
     fn zero() -> u64 {
         0
+    }
+
+    fn cut(number: u64) -> u64 {
+        number
     }
 
     fn predict_row(row: &[u64], stride: usize, out: &mut Vec<u64>) -> TiffResult<()> {
@@ -380,6 +416,11 @@ impl Sample for i64 {
         0
     }
 
+    #[tactic(auto, using(crate::proofs::Predicted::signed_cut))]
+    fn cut(number: u64) -> i64 {
+        number.cast_signed()
+    }
+
     fn predict_row(row: &[i64], stride: usize, out: &mut Vec<i64>) -> TiffResult<()> {
         push_differences(row, stride, out)
     }
@@ -416,6 +457,10 @@ impl Sample for Bits32 {
         Bits32(0)
     }
 
+    fn cut(number: u64) -> Bits32 {
+        Bits32((number % 4_294_967_296) as u32)
+    }
+
     fn predict_row(row: &[Bits32], stride: usize, out: &mut Vec<Bits32>) -> TiffResult<()> {
         Err(TiffError::UsageError(UsageError::PredictorIncompatible))
     }
@@ -450,6 +495,10 @@ impl Sample for Bits64 {
 
     fn zero() -> Bits64 {
         Bits64(0)
+    }
+
+    fn cut(number: u64) -> Bits64 {
+        Bits64(number)
     }
 
     fn predict_row(row: &[Bits64], stride: usize, out: &mut Vec<Bits64>) -> TiffResult<()> {
