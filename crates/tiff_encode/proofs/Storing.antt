@@ -119,10 +119,10 @@ module _ (old : FileState) (i : OpenImage) (samples : List ℕ) (n count : ℕ) 
       let same : write_chunk i count stored old ≡ told = ap (λ k. write_chunk i k stored old) counted in
       let ends : StoresChunk write_chunk i samples r old new next = (
         h.0,
-        elim h.1 as (λ _. ((e ≡ OutOfMemory) × (new ≡ old)) ⊎ ((xs : List ℕ) × (IsStored i.method xs (chunk_bytes i samples) × Fails (write_chunk i (length samples) xs old) e old new))) [
+        elim h.1 as (λ _. ((e ≡ OutOfMemory) × (new ≡ old)) ⊎ ((xs : List ℕ) × (IsStored i.method xs (chunk_bytes i samples) × (IsTold (write_chunk i (length samples) xs old) (Err e) new ⊎ IsCutOff (write_chunk i (length samples) xs old).deeds e old new)))) [
           | inl t ↦ inr (stored, (is_stored, inl (subst (λ t. IsTold t (Err e) new) same t)))
           | inr h ↦ elim h [
-            | inl c ↦ inr (stored, (is_stored, inr (inl (subst (λ (t : Told OpenImage). IsCutOff t.deeds e old new) same c))))
+            | inl c ↦ inr (stored, (is_stored, inr (subst (λ (t : Told OpenImage). IsCutOff t.deeds e old new) same c)))
             | inr w ↦ inl w
           ]
         ],

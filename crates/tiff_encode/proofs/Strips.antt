@@ -11,7 +11,7 @@ use Rattle.tiff_encode.specs.Machine.{FileState, OpenImage, Told, Writing, by_ca
 use Rattle.tiff_encode.specs.Chunks.{is_tile}
 use Rattle.tiff_encode.specs.Causes.{unless_failed, end_of, chunk_cause, write_chunk_cause, write_strip_cause}
 use Rattle.tiff_encode.specs.Calls.{appends, appends_chunk, with_chunk, write_chunk, write_strip}
-use Rattle.tiff_encode.specs.Ends.{IsTold, Fails, Ends}
+use Rattle.tiff_encode.specs.Ends.{IsTold, IsCutOff, Fails, Ends}
 use Rattle.tiff_encode.specs.CallLaws.{CallFits}
 use Rattle.tiff_encode.specs.ImageData.{LeavesChunk}
 use Rattle.tiff_encode.specs.Storing.{WritesChunk}
@@ -32,7 +32,10 @@ module _ {A : Type 0} (call other : OpenImage → ℕ → List ℕ → Writing O
     h.0,
     elim h.1 [
       | inl z ↦ inl z
-      | inr s ↦ inr (s.0, (s.1.0, subst (λ t. Fails t e old new) (same s.0) s.1.1))
+      | inr s ↦ inr (s.0, (s.1.0, elim s.1.1 [
+        | inl t ↦ inl (subst (λ t. IsTold t (Err e) new) (same s.0) t)
+        | inr c ↦ inr (subst (λ (t : Told OpenImage). IsCutOff t.deeds e old new) (same s.0) c)
+      ]))
     ],
   )
 
@@ -108,7 +111,11 @@ module _ (call : OpenImage → ℕ → List ℕ → Writing OpenImage) (i : Open
         | inl z ↦ subst (λ f. Stands old.kind f.bytes m) (sym z.1) s
         | inr w ↦ (let view : OpenImage → OpenImage = λ j. j in
             let r : Result OpenImage TiffError = Err e in
-            left_so view (call i (length samples) w.0 old) r old new m (adds w.0) (λ x q. absurd cc) s w.1.1)
+            let told : Told OpenImage = call i (length samples) w.0 old in
+            left_so view told r old new m (adds w.0) (λ x q. absurd cc) s (elim w.1.1 as (λ _. Fails told e old new) [
+              | inl t ↦ inl t
+              | inr c ↦ inr (inl c)
+            ]))
       ]
 
 -- of a chunk, and of a strip

@@ -35,8 +35,8 @@ use Rattle.tiff_encode.specs.Shows.{Image, Shows}
 use Rattle.tiff_encode.specs.Encoder.{HeaderFails}
 use Rattle.tiff_encode.specs.Deeds.{model_after}
 use Rattle.tiff_encode.specs.Machine.{FileState, OpenDirectory, OpenImage, Told, Writing, begun}
-use Rattle.tiff_encode.specs.Chunks.{is_left, next_strip_sample_count, parts_left}
-use Rattle.tiff_encode.specs.Causes.{resolution_cause, write_strip_cause, write_image_data_cause}
+use Rattle.tiff_encode.specs.Chunks.{is_left, next_chunk_sample_count, next_strip_sample_count, parts_left}
+use Rattle.tiff_encode.specs.Causes.{resolution_cause, write_chunk_cause, write_strip_cause, write_image_data_cause}
 use Rattle.tiff_encode.specs.Calls as calls
 use Rattle.tiff_encode.specs.Calls.{Offsets}
 use Rattle.tiff_encode.specs.Ends.{IsTold, IsCutOff, IsTornOff, IsShortOfMemory}
@@ -70,10 +70,14 @@ IsCutShort told e old new = (new.model ≡ old.model) × IsCutOff told.deeds e o
 abbrev pub IsWithoutMemory : {A : Type 0} → Told A → TiffError → Standing → Standing → Type 0
 IsWithoutMemory told e old new = (new.model ≡ old.model) × IsShortOfMemory told e old.file new.file
 
+-- The call is refused, as it is told: what stood stands.
+abbrev pub IsRefused : {A : Type 0} → Told A → TiffError → Standing → Standing → Type 0
+IsRefused told e old new = (new.model ≡ old.model) × IsTold told (Err e) new.file
+
 -- The call answers a fault: its cause; or the sink's, or want of memory.
 abbrev pub Refuses : {A : Type 0} → Told A → TiffError → Standing → Standing → Type 0
 Refuses told e old new =
-    IsDone told (Err e) old new
+    IsRefused told e old new
     ⊎ (IsTornAway told e old new ⊎ (IsCutShort told e old new ⊎ IsWithoutMemory told e old new))
 
 -- What is open stays as it was: so it does in each call that is lent it and refused.
@@ -136,38 +140,49 @@ Resolves i u value (Ok r) old new t = Changes (calls.resolution i u value) i (Ok
 Resolves i u value (Err e) old new t =
     Changes (calls.resolution i u value) i (Err e) old new t ⊎ ResolvesInPart i (calls.resolution_tags u value) e old new t
 
--- A chunk that may be written is: it is stored as some bytes that it may be stored as, or the sink fails; or there is no
--- memory for them, and nothing is done.
-abbrev pub Stores : OpenImage → List ℕ → Result StepReply TiffError → Standing → Standing → OpenImage → Type 0
-Stores i samples (Ok reply.Nothing) old new t =
-    (stored : List ℕ) × (IsStored i.method stored (chunk_bytes i samples)
-    × IsDone (calls.write_strip i (length samples) stored old.file) (Ok t) old new)
-Stores i samples (Ok _) old new t = ⊥
-Stores i samples (Err e) old new t =
-    Stays i t × (IsNotCalled e old new
-    ⊎ ((stored : List ℕ) × (IsStored i.method stored (chunk_bytes i samples)
-    × (IsDone (calls.write_strip i (length samples) stored old.file) (Err e) old new
-    ⊎ IsCutShort (calls.write_strip i (length samples) stored old.file) e old new))))
+-- `write_strip` or `write_chunk`, of so many samples that are stored as some bytes
+module _ (call : OpenImage → ℕ → List ℕ → Writing OpenImage) where
+  -- A chunk that may be written is: it is stored as some bytes that it may be stored as, or the sink fails; or there is no
+  -- memory for them, and nothing is done.
+  abbrev pub Stores : OpenImage → List ℕ → Result StepReply TiffError → Standing → Standing → OpenImage → Type 0
+  Stores i samples (Ok reply.Nothing) old new t =
+      (stored : List ℕ) × (IsStored i.method stored (chunk_bytes i samples)
+      × IsDone (call i (length samples) stored old.file) (Ok t) old new)
+  Stores i samples (Ok _) old new t = ⊥
+  Stores i samples (Err e) old new t =
+      Stays i t × (IsNotCalled e old new
+      ⊎ ((stored : List ℕ) × (IsStored i.method stored (chunk_bytes i samples)
+      × (IsRefused (call i (length samples) stored old.file) e old new
+      ⊎ IsCutShort (call i (length samples) stored old.file) e old new))))
 
--- a strip: it is refused for a cause that no packing changes, or stored
-abbrev pub StripsBy : Option TiffError → OpenImage → List ℕ → Result StepReply TiffError → Standing → Standing → OpenImage → Type 0
-StripsBy (Some cause) i samples r old new t = (r ≡ Err cause) × (Stays i t × (new ≡ old))
-StripsBy None i samples r old new t = Stores i samples r old new t
+  -- it is refused for a cause that no packing changes, or stored
+  abbrev pub StoresBy : Option TiffError → OpenImage → List ℕ → Result StepReply TiffError → Standing → Standing → OpenImage → Type 0
+  StoresBy (Some cause) i samples r old new t = (r ≡ Err cause) × (Stays i t × (new ≡ old))
+  StoresBy None i samples r old new t = Stores i samples r old new t
 
 abbrev pub Strips : OpenImage → List ℕ → Result StepReply TiffError → Standing → Standing → OpenImage → Type 0
-Strips i samples r old new t = StripsBy (write_strip_cause old.file i (length samples) 0) i samples r old new t
+Strips i samples r old new t = StoresBy calls.write_strip (write_strip_cause old.file i (length samples) 0) i samples r old new t
 
--- the samples of a strip that was written are kept in mind
+abbrev pub Chunks : OpenImage → List ℕ → Result StepReply TiffError → Standing → Standing → OpenImage → Type 0
+Chunks i samples r old new t = StoresBy calls.write_chunk (write_chunk_cause old.file i (length samples) 0) i samples r old new t
+
+-- the samples of a chunk that was written are kept in mind
 abbrev pub samples_after : Result StepReply TiffError → Drawn → List ℕ → List (List ℕ)
 samples_after (Ok r) i samples = i.samples ++ samples ∷ []
 samples_after (Err e) i samples = i.samples
 
--- the same, where memory for the samples is found
+-- there was no memory for the samples, and the chunk isn't written
+abbrev pub IsUnfound : Result StepReply TiffError → OpenImage → Standing → Standing → OpenImage → Type 0
+IsUnfound r i old new t = (r ≡ Err OutOfMemory) × (Stays i t × (new ≡ old))
+
+-- a strip or a chunk, where memory for its samples is found
 abbrev pub StripsIfFound : Drawn → List ℕ → Result StepReply TiffError → Standing → Standing → Drawn → Type 0
 StripsIfFound i samples r old new t =
-    (t.samples ≡ samples_after r i samples)
-    × (Strips i.image samples r old new t.image
-    ⊎ ((r ≡ Err OutOfMemory) × (Stays i.image t.image × (new ≡ old))))
+    (t.samples ≡ samples_after r i samples) × (Strips i.image samples r old new t.image ⊎ IsUnfound r i.image old new t.image)
+
+abbrev pub ChunksIfFound : Drawn → List ℕ → Result StepReply TiffError → Standing → Standing → Drawn → Type 0
+ChunksIfFound i samples r old new t =
+    (t.samples ≡ samples_after r i samples) × (Chunks i.image samples r old new t.image ⊎ IsUnfound r i.image old new t.image)
 
 -- a step of an image's directory
 abbrev pub Directs : OpenImage → DirectoryStep → Result StepReply TiffError → Standing → Standing → OpenImage → Type 0
@@ -177,8 +192,12 @@ Directs i s r old new t = (d : OpenDirectory) × ((t ≡ calls.with_directory_of
 abbrev pub ImageStepped : Standing → Drawn → ImageStep → Result StepReply TiffError → Standing → Drawn → Type 0
 ImageStepped old i (istep.Directory s) r new t = (t.samples ≡ i.samples) × Directs i.image s r old new t.image
 ImageStepped old i (istep.ExtraSamples extra) r new t = Draws (λ image. calls.extra_samples image extra.items) i r old new t
+ImageStepped old i (istep.Tiles width length) r new t = Draws (λ image. calls.tiles image width length) i r old new t
+ImageStepped old i istep.Planar r new t = Draws calls.planar i r old new t
 ImageStepped old i istep.NextStripSampleCount r new t = (r ≡ Ok (reply.Number (next_strip_sample_count i.image))) × ((new ≡ old) × Stays i t)
+ImageStepped old i istep.NextChunkSampleCount r new t = (r ≡ Ok (reply.Number (next_chunk_sample_count i.image))) × ((new ≡ old) × Stays i t)
 ImageStepped old i (istep.WriteStrip samples) r new t = StripsIfFound i (cut_to i.image.size samples.items) r old new t
+ImageStepped old i (istep.WriteChunk samples) r new t = ChunksIfFound i (cut_to i.image.size samples.items) r old new t
 ImageStepped old i (istep.Resolution u value) r new t = (t.samples ≡ i.samples) × Resolves i.image u (value.n, value.d) r old new t.image
 ImageStepped old i (istep.ResolutionUnit u) r new t = Draws (λ image. calls.resolution_unit image u) i r old new t
 ImageStepped old i (istep.XResolution value) r new t = Draws (λ image. calls.x_resolution image (value.n, value.d)) i r old new t
@@ -225,7 +244,7 @@ EndsWithin i samples (Ok r) old new = ⊥
 EndsWithin i samples (Err e) old new =
     (stored : List (List ℕ)) × (AreStored i (parts_left i samples) stored
     × (let told = calls.write_chunks i (parts_left i samples) stored old.file in
-    (IsDone told (Err e) old new
+    (IsRefused told e old new
     ⊎ (IsCutShort told e old new ⊎ ((length stored < length (parts_left i samples)) × IsWithoutMemory told e old new)))))
 
 -- `write_data`: it is refused for its own cause, or its chunks are written

@@ -8,7 +8,7 @@ use Rattle.tiff_value.specs.Packed.{IsStored}
 use Rattle.tiff_encode.specs.Machine.{FileState, OpenImage, Told, Writing}
 use Rattle.tiff_encode.specs.Chunks.{is_left, next_chunk_sample_count}
 use Rattle.tiff_encode.specs.Causes.{is_past, is_past_chunks}
-use Rattle.tiff_encode.specs.Ends.{IsTold, IsCutOff, Fails}
+use Rattle.tiff_encode.specs.Ends.{IsTold, IsCutOff}
 use Rattle.tiff_encode.specs.Stored.{chunk_bytes}
 
 -- the causes of a chunk that no packing changes, at the end of a file of this length
@@ -29,14 +29,15 @@ AppendsChunk told i (Err e) old new next =
 
 -- `write_strip` or `write_chunk`, of so many samples that are stored as some bytes
 module _ {A : Type 0} (call : OpenImage → ℕ → List ℕ → Writing OpenImage) where
-  -- A chunk of samples is stored as some bytes that may stand for them; or the call fails with such bytes; or there was
-  -- no memory, and nothing was done. After an error the image is as it was.
+  -- A chunk of samples is stored as some bytes that may stand for them; or the call is refused with such bytes, or the
+  -- sink fails; or there was no memory, and nothing was done. After an error the image is as it was.
   abbrev pub StoresChunk : OpenImage → List ℕ → Result A TiffError → FileState → FileState → OpenImage → Type 0
   StoresChunk i samples (Ok x) old new next =
       (stored : List ℕ) × (IsStored i.method stored (chunk_bytes i samples) × IsTold (call i (length samples) stored old) (Ok next) new)
   StoresChunk i samples (Err e) old new next =
       (next ≡ i) × (((e ≡ OutOfMemory) × (new ≡ old))
-      ⊎ ((stored : List ℕ) × (IsStored i.method stored (chunk_bytes i samples) × Fails (call i (length samples) stored old) e old new)))
+      ⊎ ((stored : List ℕ) × (IsStored i.method stored (chunk_bytes i samples)
+      × (IsTold (call i (length samples) stored old) (Err e) new ⊎ IsCutOff (call i (length samples) stored old).deeds e old new))))
 
   -- a chunk is refused for a cause that no packing changes, and nothing is done; or it is stored
   abbrev pub WritesChunk : Option TiffError → OpenImage → List ℕ → Result A TiffError → FileState → FileState → OpenImage → Type 0

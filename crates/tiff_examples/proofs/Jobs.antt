@@ -88,11 +88,11 @@ abbrev lost_told : Told Offsets
 lost_told = record { answer = Err (UsageError ParentNotWritten); deeds = []; next = new_file Classic }
 
 lost : finish (opened (Some 1000) true) (new_file Classic) ≡ lost_told
-    → IsDone (finish (opened (Some 1000) true) (new_file Classic)) (Err (UsageError ParentNotWritten)) first first
-lost h = record { ended = record { answer = ap (λ t. t.answer) h; state = sym (ap (λ t. t.next) h) }; model = ap (λ t. model_after Classic (new_file Classic).bytes first.model t.deeds) (sym h) }
+    → jobs.IsRefused (finish (opened (Some 1000) true) (new_file Classic)) (UsageError ParentNotWritten) first first
+lost h = (refl, record { answer = ap (λ t. t.answer) h; state = sym (ap (λ t. t.next) h) })
 
 not_refused : (old new : Standing) → jobs.Refuses {A = OpenDirectory} (gives (opened None true) old.file) IntSizeError old new → ⊥
-not_refused old new (inl d) = ok_err d.ended.answer
+not_refused old new (inl d) = ok_err d.1.answer
 not_refused old new (inr (inl t)) = sink_size t.torn.fault t.torn.answer
 not_refused old new (inr (inr (inl c))) = sink_size c.1.fault c.1.answer
 not_refused old new (inr (inr (inr w))) = size_memory w.1.fault
@@ -315,7 +315,7 @@ counted_other = λ h. err_ok h.0
 
 pub rows_refused : s.rows_refused
 unfolding set_rows_per_strip rows_per_strip_cause
-rows_refused = (refl, (refl, inl (record { ended = record { answer = refl; state = refl }; model = refl })))
+rows_refused = (refl, (refl, inl (refl, record { answer = refl; state = refl })))
 
 pub no_steps : s.no_steps
 no_steps = (refl, refl)

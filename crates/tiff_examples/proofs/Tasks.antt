@@ -54,7 +54,7 @@ refusal = FormatError (InvalidDimensions 0 5)
 
 -- a call that answers is not refused
 not_refused : {A : Type 0} (told : Told A) (x : A) (old new : Standing) → told.answer ≡ Ok x → jobs.Refuses told IntSizeError old new → ⊥
-not_refused told x old new h (inl d) = ok_err (sym h ∙ d.ended.answer)
+not_refused told x old new h (inl d) = ok_err (sym h ∙ d.1.answer)
 not_refused told x old new h (inr (inl t)) = sink_size t.torn.fault t.torn.answer
 not_refused told x old new h (inr (inr (inl c))) = sink_size c.1.fault c.1.answer
 not_refused told x old new h (inr (inr (inr w))) = size_memory w.1.fault
@@ -142,7 +142,7 @@ data_sink fault.Device h = cc
 data_sink fault.OutOfMemory h = cc
 
 not_data : {A : Type 0} (told : Told A) (x : A) (old new : Standing) → told.answer ≡ Ok x → jobs.Refuses told (IoError InvalidData) old new → ⊥
-not_data told x old new h (inl d) = ok_err (sym h ∙ d.ended.answer)
+not_data told x old new h (inl d) = ok_err (sym h ∙ d.1.answer)
 not_data told x old new h (inr (inl t)) = data_sink t.torn.fault t.torn.answer
 not_data told x old new h (inr (inr (inl c))) = data_sink c.1.fault c.1.answer
 not_data told x old new h (inr (inr (inr w))) = data_memory w.1.fault
@@ -159,16 +159,16 @@ whole_cases new (s ∷ t ∷ u) a l r = absurd a.1
 abbrev Within : Standing → List (List ℕ) → Type 0
 Within new stored =
     let told = write_chunks new_pixel ((7 ∷ []) ∷ []) stored after_begin.file in
-    IsDone told (Err (IoError InvalidData)) after_begin new
+    jobs.IsRefused told (IoError InvalidData) after_begin new
     ⊎ (jobs.IsCutShort told (IoError InvalidData) after_begin new ⊎ ((length stored < 1) × jobs.IsWithoutMemory told (IoError InvalidData) after_begin new))
 
 within_cases : (new : Standing) (stored : List (List ℕ)) → AreStored new_pixel ((7 ∷ []) ∷ []) stored → Within new stored → ⊥
 unfolding chunk_bytes differences write_chunk write_chunk_cause next_chunk_sample_count rect
 within_cases new stored a (inr (inl c)) = data_sink c.1.fault c.1.answer
 within_cases new stored a (inr (inr w)) = data_memory w.1.1.fault
-within_cases new [] a (inl d) = ok_err d.ended.answer
+within_cases new [] a (inl d) = ok_err d.1.answer
 within_cases new (s ∷ []) a (inl d) =
-    ok_err (subst (λ x. (write_chunks new_pixel ((7 ∷ []) ∷ []) (x ∷ []) after_begin.file).answer ≡ Err (IoError InvalidData)) a.0 d.ended.answer)
+    ok_err (subst (λ x. (write_chunks new_pixel ((7 ∷ []) ∷ []) (x ∷ []) after_begin.file).answer ≡ Err (IoError InvalidData)) a.0 d.1.answer)
 within_cases new (s ∷ t ∷ u) a (inl d) = absurd a.1
 
 no_strip : s.data_no_strip
@@ -193,11 +193,11 @@ no_offsets new place (inl h) = h.1.1.1
 no_offsets new place (inr h) = h.0
 
 -- a strip that there is no memory for is not written
-answered : (stored : List ℕ) → stored ≡ 7 ∷ [] → IsDone (write_strip new_pixel 1 stored after_begin.file) (Err OutOfMemory) after_begin after_strip → ⊥
+answered : (stored : List ℕ) → stored ≡ 7 ∷ [] → jobs.IsRefused (write_strip new_pixel 1 stored after_begin.file) OutOfMemory after_begin after_strip → ⊥
 unfolding write_strip write_strip_cause next_chunk_sample_count rect
-answered stored p d = ok_err (subst (λ x. (write_strip new_pixel 1 x after_begin.file).answer ≡ Err OutOfMemory) p d.ended.answer)
+answered stored p d = ok_err (subst (λ x. (write_strip new_pixel 1 x after_begin.file).answer ≡ Err OutOfMemory) p d.1.answer)
 
-half_cases : jobs.Stores new_pixel (7 ∷ []) (Err OutOfMemory) after_begin after_strip new_pixel → ⊥
+half_cases : jobs.Stores write_strip new_pixel (7 ∷ []) (Err OutOfMemory) after_begin after_strip new_pixel → ⊥
 unfolding chunk_bytes differences
 half_cases (st, inl n) = unequal 24 25 (lit< tt) (sym (ap (λ (x : Standing). length x.file.bytes) n.1))
 half_cases (st, inr (stored, (p, inl d))) = answered stored p d
@@ -314,7 +314,7 @@ no_side j r w h q l =
     let new = jobs.ran run_begun first (Err refusal) [] in
     let P : ℕ → ℕ → Type 0 = λ x y. jobs.IsNotBegun (T x y) run_begun r new ⊎ jobs.ImageRuns (T x y) j r run_begun new in
     subst (λ x. P x j.height) (sym w) (subst (λ y. P 0 y) (sym h)
-    (inl (refusal, (first, ((q, l), (inl (record { ended = record { answer = refl; state = refl }; model = refl }), ap (λ x. jobs.ran run_begun first x []) (sym l)))))))
+    (inl (refusal, (first, ((q, l), (inl (refl, record { answer = refl; state = refl }), ap (λ x. jobs.ran run_begun first x []) (sym l)))))))
 
 kind_stays : after_end.file.kind ≡ Classic
 unfolding finish_image last_tags write_tag write_entry write_tag_cause data_of

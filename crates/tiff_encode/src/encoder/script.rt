@@ -64,8 +64,12 @@ pub enum ImageStep {
     /// A call of its directory.
     Directory(DirectoryStep),
     ExtraSamples(Vec<ExtraSamples>),
+    Tiles(u32, u32),
+    Planar,
     NextStripSampleCount,
+    NextChunkSampleCount,
     WriteStrip(Vec<u64>),
+    WriteChunk(Vec<u64>),
     Resolution(ResolutionUnit, Rational),
     ResolutionUnit(ResolutionUnit),
     XResolution(Rational),
