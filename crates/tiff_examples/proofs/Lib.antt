@@ -35,6 +35,9 @@ pub mod Words
 pub mod Leaves
 pub mod Tasks
 pub mod Wholes
+pub mod Drawings
+pub mod DrawnWholes
+pub mod Resolved
 pub mod Headline
 pub mod Tiles
 pub mod Fits

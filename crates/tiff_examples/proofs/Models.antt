@@ -139,6 +139,9 @@ header_is : (kind : FileKind) (i : Image) (t : ShowsFirst kind gray_file i)
     let read : Header = record { order = LittleEndian; kind = Classic; first = 25 } in told ≡ read)
 header_is kind i t = ok_inj _ _ (sym t.first ∙ gray_header)
 
+pub shown_at_25 : (i : Image) → ShowsFirst Classic gray_file i → Shows Classic gray_file 25 i
+shown_at_25 i t = subst (λ place. Shows Classic gray_file place i) (ap (λ (h : Header). h.first) (header_is Classic i t)) t.shows
+
 no_big : Big ≡ Classic → ⊥
 no_big e = cc
 
@@ -227,8 +230,7 @@ gray_shows = record { place = 25; first = gray_header; shows = shown_alike gray_
 pub other_sample : s.other_sample
 other_sample = λ t.
     let i : Image = gray_image 1 1 (8 ∷ []) in
-    let shows = subst (λ place. Shows Classic gray_file place i) (ap (λ (h : Header). h.first) (header_is Classic i t)) t.shows in
-    unequal 7 8 (lit< tt) (sym (sample_alike gray_file gray_shown i shows))
+    unequal 7 8 (lit< tt) (sym (sample_alike gray_file gray_shown i (shown_at_25 i t)))
 
 pub other_width : s.other_width
 other_width = λ t. unequal 1 2 (lit< tt) (ap (λ (p : PageRecord). p.width) (page_alike gray_file gray_shown (gray_image 2 1 (7 ∷ 7 ∷ [])) t))

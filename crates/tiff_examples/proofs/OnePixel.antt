@@ -187,7 +187,7 @@ begun_fits = (
   ),
 )
 
-begun_stands : Stands Classic (header ++ resolutions) tasks.after_begin.model
+pub begun_stands : Stands Classic (header ++ resolutions) tasks.after_begin.model
 unfolding new_image new_image_cause image_cause image_directory begin_cause first_tags write_tag write_entry write_tag_cause data_of
 begun_stands = deeds_stand Classic header (header_model Classic) (new_image gray 1 1 1 (new_file Classic)).deeds (header_stands Classic) begun_fits
 
@@ -229,7 +229,7 @@ octets zero = lit< tt
 octets (suc k) = lit< tt
 
 -- behind its resolutions
-begin_held : HoldsOpen Classic tasks.after_begin.model new_pixel []
+pub begin_held : HoldsOpen Classic tasks.after_begin.model new_pixel []
 unfolding colour_type inner_type
 begin_held = begins_open (new_file Classic) (header_model Classic) name.Gray8 1 1 new_pixel (lit< tt) (lit< tt) (inl refl) images.gray_begun.0
 

@@ -1,0 +1,13 @@
+-- Each example is proved in proofs/Drawings.antt.
+use Rattle.tiff_examples.proofs.Drawings as p
+use Rattle.tiff_examples.proofs.drawing.one.Goals as goal
+
+pub returns : goal.returns
+returns c = (
+  p.chunk_left,
+  p.chunk_other,
+  p.chunk_uncounted,
+  p.chunk_counted,
+  p.chunk_refused,
+  p.chunk_changed,
+)

@@ -1,0 +1,16 @@
+-- Each example is proved in proofs/Drawings.antt.
+use Rattle.tiff_examples.proofs.Drawings as p
+use Rattle.tiff_examples.proofs.drawing.several.Goals as goal
+
+pub returns : goal.returns
+returns c = (
+  p.both_written,
+  p.only_counted,
+  p.not_counted,
+  p.refused_counted,
+  p.second_refused,
+  p.refused_stands,
+  p.second_cut,
+  p.second_wanting,
+  p.both_wanting,
+)

@@ -1,0 +1,12 @@
+-- Each example is proved in proofs/Resolved.antt.
+use Rattle.tiff_examples.proofs.Resolved as p
+use Rattle.tiff_examples.proofs.resolve.of_image.Goals as goal
+
+pub returns : goal.returns
+returns c = (
+  p.resolving_unit,
+  p.resolving_failed,
+  p.resolving_refused,
+  p.resolving_all,
+  p.resolving_chunk,
+)
