@@ -12,13 +12,14 @@ use Rattle.tiff_base.specs.Number.{number}
 use Rattle.tiff_base.specs.Told.{sink_error}
 use Rattle.tiff_value.specs.Differences.{differences}
 use Rattle.tiff_page.specs.Rect.{rect}
-use Rattle.tiff_encode.specs.Model.{header_model}
+use Rattle.tiff_encode.specs.Model.{Stands, header_model, relinked}
 use Rattle.tiff_encode.specs.Deeds.{Appended}
 use Rattle.tiff_encode.specs.Machine.{FileState, OpenImage}
 use Rattle.tiff_encode.specs.Chunks.{next_chunk_sample_count}
 use Rattle.tiff_encode.specs.Causes.{write_chunk_cause}
 use Rattle.tiff_encode.specs.Calls.{write_chunk, write_chunks, with_chunk}
 use Rattle.tiff_encode.specs.Ends.{IsTold, IsShortOfMemory}
+use Rattle.tiff_encode.specs.Open.{model_by}
 use Rattle.tiff_encode.specs.Stored.{AreStored, chunk_bytes}
 use Rattle.tiff_encode.proofs.Deeds.{deeds_stand}
 use Rattle.tiff_encode.proofs.Header as its_header
@@ -63,6 +64,23 @@ not_first t = unequal 10 11 (lit< tt) (ap (λ (f : FileState). length f.bytes) t
 
 pub only_counted : s.only_counted
 only_counted = λ h. not_first (whole_two h.0 both_counted first_file h.1.0 h.1.1.0 h.1.1.1)
+
+not_alone : Two two_parts first_counted first_file → ⊥
+unfolding write_chunk write_chunk_cause next_chunk_sample_count rect
+not_alone t = unequal 10 11 (lit< tt) (ap (λ (f : FileState). length f.bytes) t.state)
+
+pub first_alone : s.first_alone
+first_alone = λ h. not_alone (whole_two h.0 first_counted first_file h.1.0 h.1.1.0 h.1.1.1)
+
+abbrev other_file : FileState
+other_file = record (new_file Classic) { bytes = header ++ (1 ∷ 2 ∷ 4 ∷ []) }
+
+not_four : Two two_parts both_counted other_file → ⊥
+unfolding write_chunk write_chunk_cause next_chunk_sample_count rect
+not_four t = unequal 3 4 (lit< tt) (sym (ap (λ (f : FileState). get_or f.bytes 10 0) t.state))
+
+pub other_bytes : s.other_bytes
+other_bytes = λ h. not_four (whole_two h.0 both_counted other_file h.1.0 h.1.1.0 h.1.1.1)
 
 not_one : Two two_parts first_counted both_file → ⊥
 unfolding write_chunk write_chunk_cause next_chunk_sample_count rect
@@ -222,6 +240,18 @@ not_uncounted t = unequal 0 1 (lit< tt) (sym (ap (λ (i : OpenImage). length i.c
 pub chunk_uncounted : s.chunk_uncounted
 unfolding chunk_bytes differences
 chunk_uncounted = λ h. not_uncounted (subst (λ v. One (7 ∷ []) v pixel (record (new_file Classic) { bytes = header ++ (7 ∷ []) })) h.1.0 h.1.1.0)
+
+-- its deeds, behind such a header
+abbrev After : List ℕ → Type 0
+After stored = Stands Classic (header ++ (7 ∷ [])) (model_by (new_file Classic) (relinked Classic (header_model Classic) 4 9) (write_chunk pixel 1 stored (new_file Classic)))
+
+not_linked : After (7 ∷ []) → ⊥
+unfolding number write_chunk write_chunk_cause next_chunk_sample_count rect
+not_linked t = unequal 0 9 (lit< tt) (ok_inj 0 9 t.first)
+
+pub chunk_link : s.chunk_link
+unfolding chunk_bytes differences
+chunk_link = λ h. not_linked (subst After h.1.0 h.1.1.1)
 
 not_two : (next : OpenImage) (new : FileState) → One (7 ∷ 8 ∷ []) (7 ∷ 8 ∷ []) next new → ⊥
 unfolding write_chunk write_chunk_cause next_chunk_sample_count rect

@@ -4,7 +4,7 @@ use Rattle.tiff_base.specs.declared.error.TiffError.TheVariants.{IoError, OutOfM
 use Rattle.tiff_base.specs.declared.io.IoKind.TheVariants.{InvalidData, Device}
 use Rattle.tiff_base.specs.declared.io.SinkFault.TheVariants as fault
 use Rattle.tiff_base.specs.declared.tags.FileKind.TheVariants.{Classic}
-use Rattle.tiff_encode.specs.Model.{Model, header_model}
+use Rattle.tiff_encode.specs.Model.{Model, header_model, relinked}
 use Rattle.tiff_encode.specs.Machine.{FileState, OpenImage}
 use Rattle.tiff_encode.specs.Calls as calls
 use Rattle.tiff_encode.specs.Calls.{with_chunk}
@@ -43,6 +43,13 @@ more_file = file_with Classic (header ++ (1 ∷ 2 ∷ 3 ∷ 4 ∷ []))
 -- both are written
 abbrev pub both_written : Type 0
 both_written = WritesChunks {A = ℕ} two_strips two_parts (Ok 0) (new_file Classic) both_file both_counted
+
+-- not the first alone, nor other bytes
+abbrev pub first_alone : Type 0
+first_alone = WritesChunks {A = ℕ} two_strips two_parts (Ok 0) (new_file Classic) first_file first_counted → ⊥
+
+abbrev pub other_bytes : Type 0
+other_bytes = WritesChunks {A = ℕ} two_strips two_parts (Ok 0) (new_file Classic) (file_with Classic (header ++ (1 ∷ 2 ∷ 4 ∷ []))) both_counted → ⊥
 
 -- none is counted that isn't written, and none is written that isn't counted
 abbrev pub only_counted : Type 0
@@ -87,6 +94,13 @@ chunk_other =
 
 abbrev pub chunk_uncounted : Type 0
 chunk_uncounted = LeavesChunk {A = ℕ} calls.write_chunk pixel (7 ∷ []) (Ok 0) (new_file Classic) (file_with Classic (header ++ (7 ∷ []))) pixel (header_model Classic) → ⊥
+
+-- not behind a header with another link
+abbrev pub chunk_link : Type 0
+chunk_link =
+    LeavesChunk {A = ℕ} calls.write_chunk pixel (7 ∷ []) (Ok 0) (new_file Classic) (file_with Classic (header ++ (7 ∷ []))) (with_chunk pixel 8 1)
+    (relinked Classic (header_model Classic) 4 9)
+    → ⊥
 
 -- one of two samples is refused, and isn't counted
 abbrev pub chunk_counted : Type 0

@@ -7,6 +7,7 @@ returns c = (
   p.chunk_left,
   p.chunk_other,
   p.chunk_uncounted,
+  p.chunk_link,
   p.chunk_counted,
   p.chunk_refused,
   p.chunk_changed,

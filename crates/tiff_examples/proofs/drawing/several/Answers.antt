@@ -5,6 +5,8 @@ use Rattle.tiff_examples.proofs.drawing.several.Goals as goal
 pub returns : goal.returns
 returns c = (
   p.both_written,
+  p.first_alone,
+  p.other_bytes,
   p.only_counted,
   p.not_counted,
   p.refused_counted,
