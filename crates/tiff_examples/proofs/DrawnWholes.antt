@@ -12,7 +12,7 @@ use Rattle.tiff_encode.specs.Model.{IsLink, Stands, header_model}
 use Rattle.tiff_encode.specs.Machine.{FileState, OpenImage}
 use Rattle.tiff_encode.specs.Chunks.{parts_left, sample_in}
 use Rattle.tiff_encode.specs.Causes.{begin_cause, image_cause, new_image_cause, write_image_data_cause, write_tag_cause}
-use Rattle.tiff_encode.specs.Calls.{Offsets, finish_image, first_tags, image_directory, new_image, write_entry, write_tag}
+use Rattle.tiff_encode.specs.Calls.{Offsets, finish_image, first_tags, image_directory, last_tags, new_image, write_entry, write_tag}
 use Rattle.tiff_encode.specs.Held.{image_of}
 use Rattle.tiff_encode.specs.Shows.{Shows, ShowsGray, gray_image}
 use Rattle.tiff_encode.specs.ImageData.{AreNumbers, IsShort, WritesImageData, WritesImage, LeavesImage}
@@ -34,7 +34,7 @@ use Rattle.tiff_examples.proofs.Images as images
 use Rattle.tiff_examples.proofs.Jobs.{some_none}
 use Rattle.tiff_examples.proofs.Models as models
 use Rattle.tiff_examples.proofs.Models.{err_ok, unequal}
-use Rattle.tiff_examples.proofs.OnePixel.{begin_held, begun_stands, gray_shown, sample_alike}
+use Rattle.tiff_examples.proofs.OnePixel.{begin_held, begun_stands, finishes, gray_shown, sample_alike}
 
 -- ---- samples of an image that was begun
 
@@ -111,9 +111,13 @@ end_other = λ h.
     let placed = subst (λ place. Shows Classic after_end.file.bytes place i) (end_place h.0 h.1.0.answer) h.1.1 in
     unequal 7 8 (lit< tt) (sym (sample_alike gray_file gray_shown i (subst (λ file. Shows Classic file 25 i) end_bytes placed)))
 
-pub end_nowhere : s.end_nowhere
-end_nowhere = λ h.
-    unequal 8 199 (lit< tt) (ap (λ (f : FileState). length f.bytes) h.1.0.state ∙ ap (λ xs. length xs) end_bytes)
+-- the page's own link is the chain's last
+end_chain : after_end.file.chain ≡ 195
+unfolding finish_image last_tags write_tag write_entry write_tag_cause data_of
+end_chain = ap (λ t. t.next.chain) finishes
+
+pub end_unchained : s.end_unchained
+end_unchained = λ h. unequal 4 195 (lit< tt) (ap (λ (f : FileState). f.chain) h.1.0.state ∙ end_chain)
 
 -- ---- whole images
 

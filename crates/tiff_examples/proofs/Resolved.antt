@@ -16,6 +16,7 @@ use Rattle.tiff_examples.specs.Calls.{with_fields}
 use Rattle.tiff_examples.specs.Causes.{new_file}
 use Rattle.tiff_examples.specs.Resolved as s
 use Rattle.tiff_examples.specs.Resolved.{three_fields, none_set, unit_set, x_set, all_set}
+use Rattle.tiff_examples.proofs.Causes.{resolutions_far}
 use Rattle.tiff_examples.proofs.Jobs.{some_none}
 use Rattle.tiff_examples.proofs.Maps.{entries_puts, len_puts}
 use Rattle.tiff_examples.proofs.Models.{unequal}
@@ -125,6 +126,14 @@ not_refused e new (inr h) = some_none h.0
 
 pub resolving_refused : s.resolving_refused
 resolving_refused = not_refused
+
+not_far : s.resolving_far
+not_far bytes e new l (inl h) =
+    unequal 0 1 (lit< tt) (sym none_count ∙ (sym (ap (λ (i : OpenImage). count_of i.directory) h.0) ∙ unit_count))
+not_far bytes e new l (inr h) = some_none (sym (resolutions_far bytes l) ∙ h.0)
+
+pub resolving_far : s.resolving_far
+resolving_far = not_far
 
 not_resolved : s.resolving_all
 not_resolved e new (inl h) =

@@ -42,12 +42,12 @@ data_changed = (e : TiffError) → LeavesData {A = ℕ} new_pixel [] (Err e) (ne
 abbrev pub end_shown : Type 0
 end_shown = ShowsFinished {A = ℕ} pixel_in_file ((7 ∷ []) ∷ []) (Ok 0) after_strip.file after_end.file
 
--- no other sample is shown, and nothing is in a file that has no page
+-- no other sample is shown, and the chain's last link doesn't stay the header's
 abbrev pub end_other : Type 0
 end_other = ShowsFinished {A = ℕ} pixel_in_file ((8 ∷ []) ∷ []) (Ok 0) after_strip.file after_end.file → ⊥
 
-abbrev pub end_nowhere : Type 0
-end_nowhere = ShowsFinished {A = ℕ} pixel_in_file ((7 ∷ []) ∷ []) (Ok 0) after_strip.file (new_file Classic) → ⊥
+abbrev pub end_unchained : Type 0
+end_unchained = ShowsFinished {A = ℕ} pixel_in_file ((7 ∷ []) ∷ []) (Ok 0) after_strip.file (record page_file { chain = 4 }) → ⊥
 
 -- ---- whole images
 

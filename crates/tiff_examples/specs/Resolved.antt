@@ -1,5 +1,5 @@
 -- Worked fields that are written in part: those of both resolutions and their unit.
-use Rattle.std.specs.Prelude.{◌≡◌, true, List, [], ◌∷◌, length, Some}
+use Rattle.std.specs.Prelude.{◌≡◌, ℕ, true, List, [], ◌∷◌, length, Some}
 use Rattle.tiff_base.specs.declared.error.TiffError.{TiffError}
 use Rattle.tiff_base.specs.declared.error.TiffError.TheVariants.{UsageError, OutOfMemory}
 use Rattle.tiff_base.specs.declared.error.UsageError.TheVariants.{WriterFailed}
@@ -13,7 +13,7 @@ use Rattle.tiff_encode.specs.Calls.{opened}
 use Rattle.tiff_encode.specs.Tagging.{fields_of, StopsInPart, StopsResolving}
 use Rattle.tiff_examples.specs.OneValue.{short_field, rational_field}
 use Rattle.tiff_examples.specs.Calls.{with_fields}
-use Rattle.tiff_examples.specs.Causes.{new_file, failed_file, pixel}
+use Rattle.tiff_examples.specs.Causes.{new_file, failed_file, file_with, pixel}
 use Rattle.tiff_examples.specs.Tasks.{unit_pixel, resolved_pixel}
 
 -- the unit, and both resolutions
@@ -59,9 +59,13 @@ resolving_unit = StopsResolving pixel unit.Inch (300, 1) OutOfMemory (new_file C
 abbrev pub resolving_failed : Type 0
 resolving_failed = StopsResolving pixel unit.Inch (300, 1) (UsageError WriterFailed) failed_file failed_file pixel
 
--- not the unit then; nor ever all of them
+-- not the unit then, nor where the second resolution has no place; nor ever all of them
 abbrev pub resolving_refused : Type 0
 resolving_refused = (e : TiffError) (new : FileState) → StopsResolving pixel unit.Inch (300, 1) e failed_file new unit_pixel → ⊥
+
+abbrev pub resolving_far : Type 0
+resolving_far = (bytes : List ℕ) (e : TiffError) (new : FileState) → length bytes ≡ 4294967288
+    → StopsResolving pixel unit.Inch (300, 1) e (file_with Classic bytes) new unit_pixel → ⊥
 
 abbrev pub resolving_all : Type 0
 resolving_all = (e : TiffError) (new : FileState) → StopsResolving pixel unit.Inch (300, 1) e (new_file Classic) new resolved_pixel → ⊥

@@ -9,7 +9,7 @@ pub fn data()
 
 /// The end of one with its chunk.
 pub fn finished()
-    ensures { s.end_shown × s.end_other × s.end_nowhere }
+    ensures { s.end_shown × s.end_other × s.end_unchained }
 {}
 
 /// Whole images.

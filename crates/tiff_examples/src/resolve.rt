@@ -9,5 +9,5 @@ pub fn in_part()
 
 /// An image's.
 pub fn of_image()
-    ensures { s.resolving_unit × s.resolving_failed × s.resolving_refused × s.resolving_all × s.resolving_chunk }
+    ensures { s.resolving_unit × s.resolving_failed × s.resolving_refused × s.resolving_far × s.resolving_all × s.resolving_chunk }
 {}

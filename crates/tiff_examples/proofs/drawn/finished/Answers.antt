@@ -6,5 +6,5 @@ pub returns : goal.returns
 returns c = (
   p.end_shown,
   p.end_other,
-  p.end_nowhere,
+  p.end_unchained,
 )

@@ -7,6 +7,7 @@ returns c = (
   p.resolving_unit,
   p.resolving_failed,
   p.resolving_refused,
+  p.resolving_far,
   p.resolving_all,
   p.resolving_chunk,
 )
