@@ -120,7 +120,7 @@ Stopped i samples e old new =
     StillStands old new ⊎ ((stored : List (List ℕ)) × IsTornOff (write_image_data i samples stored old).deeds e old new)
 
 -- within the chunks
-within_stands : (i : OpenImage) (parts : List (List ℕ)) (e : TiffError) (old new : FileState) → StopsWithin i parts e old new → StillStands old new
+pub within_stands : (i : OpenImage) (parts : List (List ℕ)) (e : TiffError) (old new : FileState) → StopsWithin i parts e old new → StillStands old new
 within_stands i parts e old new h =
     let stored : List (List ℕ) = h.0 in
     let told : Told OpenImage = write_chunks i parts stored old in

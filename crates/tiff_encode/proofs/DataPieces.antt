@@ -1,5 +1,5 @@
 -- The samples that a chunk is handed, and the bytes that stand for them.
-use Rattle.std.proofs.Common.{◌≡◌, ℕ, ◌-◌, ◌*◌, ◌^◌, ◌<◌, ◌≤◌, min, Bool, true, false, cond, List, length, map, take, drop, Result, Ok, Err, MatchResult, refl, ap, sym, ◌∙◌, subst, arith}
+use Rattle.std.proofs.Common.{◌≡◌, ℕ, ◌-◌, ◌*◌, ◌^◌, ◌<◌, min, true, false, cond, List, length, map, take, drop, Result, Ok, Err, MatchResult, ap, sym, ◌∙◌, subst, arith}
 use Rattle.std.proofs.lemmas.List.{length-map, take-map, drop-map}
 use Rattle.std.proofs.lemmas.List.FromFn.{length-map-range_with_len}
 use Rattle.tiff_base.specs.declared.error.TiffError.{TiffError}

@@ -1,9 +1,7 @@
 -- Where the samples of a chunk are among those of its image.
-use Rattle.std.proofs.Common.{◌≡◌, ℕ, ◌+◌, ◌-◌, ◌*◌, ◌/◌, ◌%◌, ◌^◌, ◌<◌, ◌≤◌, min, Bool, true, false, cond, List, length, take, drop, Fits, w64, refl, ap, sym, ◌∙◌, subst, arith}
+use Rattle.std.proofs.Common.{◌≡◌, ℕ, ◌+◌, ◌-◌, ◌*◌, ◌%◌, ◌^◌, ◌<◌, ◌≤◌, min, true, cond, List, length, take, drop, refl, ap, sym, ◌∙◌, subst, arith}
 use Rattle.std.proofs.lemmas.Bool.{ltb-true}
-use Rattle.std.proofs.lemmas.List.{length-drop, length-take-le}
-use Rattle.std.proofs.Math.Nat.{mul_comm, mul_assoc, mul-le-mul_right, mod-eq_of_lt, div-mul-le_self, min-eq_left}
-use Rattle.std.proofs.Math.Seq.{take-length}
+use Rattle.std.proofs.Math.Nat.{mul_comm, mul_assoc, mul-le-mul_right, mod-eq_of_lt, div-mul-le_self}
 use Rattle.std.specs.Prelude.{◌&&◌, not}
 use Rattle.tiff_base.specs.declared.color.ChunkType.{ChunkType}
 use Rattle.tiff_base.specs.declared.color.ChunkType.TheVariants.{Strip, Tile}
@@ -11,8 +9,8 @@ use Rattle.tiff_base.specs.declared.tags.PlanarConfiguration.{PlanarConfiguratio
 use Rattle.tiff_base.specs.declared.tags.PlanarConfiguration.TheVariants.{Chunky, Planar}
 use Rattle.tiff_page.specs.Counts.{parts, planes_of, all_chunks}
 use Rattle.tiff_page.specs.Page.{PageRecord}
-use Rattle.tiff_page.specs.Pixels.{planar_or, stored_samples}
-use Rattle.tiff_page.specs.Rect.{across, chunks_of_plane, rect}
+use Rattle.tiff_page.specs.Pixels.{planar_or}
+use Rattle.tiff_page.specs.Rect.{across, chunks_of_plane}
 use Rattle.tiff_encode.specs.Causes.{image_samples}
 use Rattle.tiff_encode.specs.Chunks.{all_samples, image_page, is_tile, is_planar, is_in_order, is_left, chunk_rows, row_samples, chunk_samples, next_chunk_sample_count}
 use Rattle.tiff_encode.specs.Drawn.{IsDrawn}

@@ -24,7 +24,7 @@ use Rattle.tiff_encode.proofs.DataOpen.{rechunked, chunks_last, chunks_held}
 use Rattle.tiff_encode.proofs.DataLeaves.{IsWritten, data_stopped, data_torn, data_written, data_stands}
 
 -- what is shown of an image is shown of it with other chunks
-shown_as : (kind : FileKind) (file : List ℕ) (place : ℕ) (i : OpenImage) (chunks : List Chunk) (samples : List (List ℕ))
+pub shown_as : (kind : FileKind) (file : List ℕ) (place : ℕ) (i : OpenImage) (chunks : List Chunk) (samples : List (List ℕ))
     → Shows kind file place (image_of (rechunked i chunks) samples) → Shows kind file place (image_of i samples)
 unfolding sample_in
 shown_as kind file place i chunks samples s = record {
@@ -71,7 +71,7 @@ module _ (i : OpenImage) (samples : List ℕ) (old new : FileState) (w : IsWritt
       omega (arith, longer, same, short)
 
   -- no chunk is left
-  none_left : is_left last ≡ false
+  pub none_left : is_left last ≡ false
   none_left =
       let l = chunks_last i (parts_left i samples) w.stored last old w.all data_ended.1.0 in
       let same : all_chunks (image_page last) ≡ all_chunks (image_page i) = ap (λ j. all_chunks (image_page j)) l.same in
@@ -84,7 +84,7 @@ module _ (i : OpenImage) (samples : List ℕ) (old new : FileState) (w : IsWritt
     abbrev between : Model
     between = model_by old m (chunks old)
 
-    last_held : (before : List (List ℕ)) → AreNumbers i.size samples → HoldsOpen old.kind m i before
+    pub last_held : (before : List (List ℕ)) → AreNumbers i.size samples → HoldsOpen old.kind m i before
         → HoldsOpen mid.kind between last (before ++ parts_left i samples)
     last_held before small h =
         let done = chunks_done i (parts_left i samples) w.stored old in

@@ -1,10 +1,10 @@
 -- The samples of a whole image are written.
-use Rattle.std.proofs.Common.{◌≡◌, ℕ, zero, suc, ◌+◌, ◌-◌, ◌*◌, ◌^◌, ◌<◌, ◌≤◌, Bool, true, false, cond, List, [], ◌∷◌, ◌++◌, length, take, drop, get_or, Option, Some, None, Result, Ok, Err, refl, ap, sym, ◌∙◌, subst, inl, inr, arith, append-nil, append_assoc}
-use Rattle.std.proofs.Math.Seq.{take-length, take-append-add}
-use Rattle.std.proofs.lemmas.Bool.{leb-false, ltb-false, lt-ltb}
+use Rattle.std.proofs.Common.{◌≡◌, ℕ, ◌+◌, ◌*◌, ◌^◌, ◌<◌, ◌≤◌, Bool, true, false, cond, List, [], ◌∷◌, ◌++◌, length, take, drop, get_or, Option, Some, None, Result, Ok, Err, refl, ap, sym, ◌∙◌, subst, inl, inr, arith, append-nil}
+use Rattle.std.proofs.Math.Seq.{take-length}
+use Rattle.std.proofs.lemmas.Bool.{leb-false, ltb-false}
 use Rattle.std.proofs.lemmas.List.{length-append, drop_more}
 use Rattle.std.proofs.lemmas.List.FromFn.{length-map-range_with_len, get_or-map-range_with_len}
-use Rattle.std.specs.Prelude.{◌⊎◌, ◌&&◌, ◌||◌, not, nat_le, nat_lt}
+use Rattle.std.specs.Prelude.{◌&&◌, ◌||◌, not, nat_le, nat_lt}
 use Rattle.tiff_base.specs.declared.error.TiffError.{TiffError}
 use Rattle.tiff_base.specs.declared.error.TiffError.TheVariants.{IoError, IntSizeError, OutOfMemory}
 use Rattle.tiff_base.specs.declared.io.IoKind.TheVariants.{InvalidData, InvalidInput}
@@ -17,7 +17,7 @@ use Rattle.tiff_encode.specs.Chunks.{image_page, row_samples, chunk_samples, is_
 use Rattle.tiff_encode.specs.Deeds.{Deed, all_appended}
 use Rattle.tiff_encode.specs.Ends.{IsTold, IsCutOff, IsShortOfMemory, HasBegun, Fails, Ends}
 use Rattle.tiff_encode.specs.ImageData.{StopsWithin, WritesChunks, WritesDataBy, WritesImageData}
-use Rattle.tiff_encode.specs.Machine.{FileState, Chunk, OpenImage, Told, Writing, gives, answers, behind, by_cause, going_on, ◌>>=◌}
+use Rattle.tiff_encode.specs.Machine.{FileState, Chunk, OpenImage, Told, Writing, gives, answers, by_cause, going_on, ◌>>=◌}
 use Rattle.tiff_encode.specs.Parts.{next_part, WritesPart, HasWritten}
 use Rattle.tiff_encode.specs.Steps.{grown}
 use Rattle.tiff_encode.specs.Stored.{AreStored, chunk_bytes}

@@ -3,18 +3,16 @@ use Rattle.std.proofs.Common.{◌≡◌, ℕ, zero, suc, ◌-◌, ◌<◌, Bool,
 use Rattle.std.proofs.lemmas.Bool.{le-leb}
 use Rattle.std.proofs.Math.Dec.{eqb-suc-zero}
 use Rattle.std.proofs.lemmas.List.{take-append-drop}
-use Rattle.std.specs.Prelude.{◌==◌, nat_le}
+use Rattle.std.specs.Prelude.{nat_le}
 use Rattle.std.specs.Int.{w16, w32, w64}
 use Rattle.tiff_base.specs.declared.error.TiffError.{TiffError}
-use Rattle.tiff_base.specs.declared.tags.ByteOrder.{ByteOrder}
 use Rattle.tiff_base.specs.declared.tags.ByteOrder.TheVariants.{LittleEndian}
 use Rattle.tiff_base.specs.declared.tags.FileKind.{FileKind}
 use Rattle.tiff_base.specs.declared.tags.FileKind.TheVariants.{Classic, Big}
-use Rattle.tiff_base.specs.Header.{Header, order_at, version_at, classic_at, big_at, header_of, header_at}
+use Rattle.tiff_base.specs.Header.{order_at, header_of, header_at}
 use Rattle.tiff_base.specs.Number.{number, number_at}
 use Rattle.tiff_base.specs.Told.{exactly_at, bytes_at}
 use Rattle.tiff_encode.specs.Written.{header_mark}
-use Rattle.tiff_encode.specs.Model.{Model, Stands, header_link}
 use Rattle.tiff_encode.specs.Laws.{FirstTold}
 use Rattle.tiff_encode.proofs.Slices.{ok_bind}
 

@@ -1,9 +1,7 @@
 -- The first page of a file that an image was written into.
-use Rattle.std.proofs.Common.{◌≡◌, ℕ, suc, ◌+◌, ◌*◌, ◌%◌, ◌<◌, List, [], ◌∷◌, map, get_or, Fits, w8, Result, Ok, refl, ap, sym, ◌∙◌, subst, arith}
-use Rattle.std.specs.Prelude.{slice_index}
+use Rattle.std.proofs.Common.{◌≡◌, ℕ, suc, ◌%◌, ◌<◌, List, [], ◌∷◌, map, get_or, Fits, w8, Ok, refl, ap, sym, ◌∙◌, subst, arith}
 use Rattle.tiff_base.specs.declared.color.ColorType.{ColorType}
 use Rattle.tiff_base.specs.declared.color.ColorType.TheVariants.{Gray}
-use Rattle.tiff_base.specs.declared.error.TiffError.{TiffError}
 use Rattle.tiff_base.specs.declared.tags.CompressionMethod.TheVariants as method
 use Rattle.tiff_base.specs.declared.tags.FileKind.{FileKind}
 use Rattle.tiff_base.specs.declared.tags.FileKind.TheVariants.{Classic}
@@ -21,9 +19,8 @@ use Rattle.tiff_value.specs.ColorTypes.{colour_type, inner_size, inner_type}
 use Rattle.tiff_encode.specs.Causes.{end_of}
 use Rattle.tiff_encode.specs.Model.{Model, IsLink, header_link, header_model}
 use Rattle.tiff_encode.specs.Machine.{FileState, OpenDirectory, OpenImage}
-use Rattle.tiff_encode.specs.Chunks.{image_page}
 use Rattle.tiff_encode.specs.Calls.{image_in}
-use Rattle.tiff_encode.specs.Shows.{Image, Shows, ShowsFirst, ShowsGray, gray_page, gray_image}
+use Rattle.tiff_encode.specs.Shows.{Shows, ShowsGray, gray_page, gray_image}
 use Rattle.tiff_encode.specs.ImageData.{whole_image, LeavesImage, FirstShown, GrayShown}
 use Rattle.tiff_encode.proofs.Slices.{ok_inj}
 use Rattle.tiff_encode.proofs.Header.{only_link}

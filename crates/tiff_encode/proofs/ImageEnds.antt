@@ -1,11 +1,11 @@
 -- What the end of an open image leaves, and shows.
-use Rattle.std.proofs.Common.{◌≡◌, ℕ, ◌^◌, ◌<◌, ◌⊎◌, false, List, Some, Result, Ok, Err, refl, sym, ap, inl, inr, subst}
+use Rattle.std.proofs.Common.{◌≡◌, ℕ, ◌⊎◌, false, List, Some, Result, Ok, Err, sym, inl, inr, subst}
 use Rattle.tiff_base.specs.declared.error.TiffError.{TiffError}
 use Rattle.tiff_base.specs.Field.{AreEntries}
 use Rattle.tiff_encode.specs.Model.{Model, IsLink, Stands}
-use Rattle.tiff_encode.specs.Machine.{FileState, OpenImage, Told}
+use Rattle.tiff_encode.specs.Machine.{FileState, OpenImage}
 use Rattle.tiff_encode.specs.Chunks.{is_left}
-use Rattle.tiff_encode.specs.Calls.{Offsets, finish_image}
+use Rattle.tiff_encode.specs.Calls.{finish_image}
 use Rattle.tiff_encode.specs.Ends.{IsTold, EndsSilently}
 use Rattle.tiff_encode.specs.ImageData.{IsShort, ShowsFinished}
 use Rattle.tiff_encode.specs.Leaves.{LeavesTorn, LeavesLinked}

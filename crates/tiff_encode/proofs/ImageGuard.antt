@@ -1,14 +1,13 @@
 -- How an image begins that is lent with its encoder.
-use Rattle.std.proofs.Common.{◌≡◌, ℕ, ◌^◌, ◌<◌, Option, None, Result, Ok, Err, refl, ap, sym, ◌∙◌, subst}
+use Rattle.std.proofs.Common.{◌≡◌, ℕ, ◌^◌, ◌<◌, None, Result, Ok, Err, ap, ◌∙◌, subst}
 use Rattle.tiff_base.specs.declared.error.TiffError.{TiffError}
 use Rattle.tiff_value.specs.ColorType.{ColorTypeRecord}
 use Rattle.tiff_encode.specs.Model.{Model, Stands}
-use Rattle.tiff_encode.specs.Deeds.{model_after}
 use Rattle.tiff_encode.specs.Laws.{DeedsFit}
-use Rattle.tiff_encode.specs.Machine.{FileState, OpenDirectory, OpenImage, Writing, gives, by_cause, ◌>>=◌}
+use Rattle.tiff_encode.specs.Machine.{FileState, OpenDirectory, OpenImage, Writing, gives, ◌>>=◌}
 use Rattle.tiff_encode.specs.Causes.{end_of, new_image_cause}
 use Rattle.tiff_encode.specs.Calls.{image_directory, write_tags, first_tags, image_in, new_image}
-use Rattle.tiff_encode.specs.Ends.{IsTold, Fails, Ends}
+use Rattle.tiff_encode.specs.Ends.{Fails, Ends}
 use Rattle.tiff_encode.specs.Leaves.{Leaves}
 use Rattle.tiff_encode.proofs.Guarding.{fresh_by, uncaused_by}
 use Rattle.tiff_encode.proofs.ImageFits.{new_image_fits}

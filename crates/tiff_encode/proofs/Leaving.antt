@@ -143,7 +143,7 @@ begun_leaves deeds count old bytes m h s =
     subst (λ b. Stands old.kind b m) (sym h) (deeds_begun old.kind old.bytes m deeds count s)
 
 -- a link that broke off leaves some number in its field
-torn_leaves : {Y : Type 0} (told : Told Y) (e : TiffError) (old new : FileState) (m : Model) → IsPlain 1 told old
+pub torn_leaves : {Y : Type 0} (told : Told Y) (e : TiffError) (old new : FileState) (m : Model) → IsPlain 1 told old
     → DeedsFit old.kind old.bytes m told.deeds → Stands old.kind old.bytes m → IsTornOff told.deeds e old new
     → LeavesTorn told e old new m
 torn_leaves told e old new m p f s t =

@@ -123,7 +123,7 @@ fields_keep_open kind m i samples fields h q =
 -- ---- resolutions
 
 -- some tags more, none of which a page is read by
-with_tags_kept : (values : List (Tag × Scalars)) (cause : Option TiffError) (file : FileState) (m : Model) (i next : OpenImage)
+pub with_tags_kept : (values : List (Tag × Scalars)) (cause : Option TiffError) (file : FileState) (m : Model) (i next : OpenImage)
     (samples : List (List ℕ)) → list_any (λ v. is_page_tag (tag_number v.0)) values ≡ false → HoldsOpen file.kind m i samples
     → (by_cause cause (with_tags i values) file).answer ≡ Ok next
     → HoldsOpen file.kind (model_by file m (by_cause cause (with_tags i values) file)) next samples

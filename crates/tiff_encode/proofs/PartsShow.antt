@@ -22,8 +22,7 @@ use Rattle.tiff_page.proofs.Placing.{has_pixel, column_is, row_is}
 use Rattle.tiff_value.specs.declared.encoder.colortype.ColorTypeName.TheVariants.{Gray8}
 use Rattle.tiff_value.specs.ColorTypes.{colour_type, inner_type, inner_size}
 use Rattle.tiff_encode.specs.Written.{rows_per_strip}
-use Rattle.tiff_encode.specs.Machine.{FileState, OpenDirectory, OpenImage}
-use Rattle.tiff_encode.specs.Drawn.{IsDrawn}
+use Rattle.tiff_encode.specs.Machine.{FileState, OpenDirectory}
 use Rattle.tiff_encode.specs.Chunks.{all_samples, image_page, is_tile, is_planar, row_samples, chunk_samples, cut_out, chunks_left, part, parts_left, sample_in}
 use Rattle.tiff_encode.specs.Calls.{default_rows, image_in}
 use Rattle.tiff_encode.specs.Shows.{gray_page}

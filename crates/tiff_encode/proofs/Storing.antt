@@ -13,7 +13,7 @@ use Rattle.tiff_encode.specs.Chunks.{image_page, row_samples, chunk_rows, is_lef
 use Rattle.tiff_encode.specs.Causes.{is_past, is_past_chunks, unless_ended, end_of, write_chunk_cause}
 use Rattle.tiff_encode.specs.Calls.{with_chunk, appends_chunk, write_chunk}
 use Rattle.tiff_encode.specs.Encoder.{IsStopped, IsCut}
-use Rattle.tiff_encode.specs.Ends.{IsTold, IsCutOff, Fails}
+use Rattle.tiff_encode.specs.Ends.{IsTold, IsCutOff}
 use Rattle.tiff_encode.specs.Steps.{grown}
 use Rattle.tiff_encode.specs.Stored.{chunk_bytes}
 use Rattle.tiff_encode.specs.Storing.{AppendsChunk, StoresChunk, WritesChunk}

@@ -1,17 +1,16 @@
 -- How strips and chunks are written that an open image has, and what that leaves.
-use Rattle.std.proofs.Common.{◌≡◌, ℕ, ◌+◌, ◌^◌, ◌<◌, ◌⊎◌, List, length, Option, None, Some, IsSome, Result, Ok, Err, cond, refl, ap, sym, ◌∙◌, inl, inr, subst}
-use Rattle.tiff_base.specs.declared.color.ChunkType.{ChunkType}
+use Rattle.std.proofs.Common.{◌≡◌, ℕ, ◌^◌, ◌<◌, List, length, Option, None, Some, IsSome, Result, Ok, Err, cond, refl, ap, sym, ◌∙◌, inl, inr, subst}
 use Rattle.tiff_base.specs.declared.color.ChunkType.TheVariants.{Strip, Tile}
 use Rattle.tiff_base.specs.declared.error.TiffError.{TiffError}
 use Rattle.tiff_base.specs.declared.error.TiffError.TheVariants.{UsageError}
 use Rattle.tiff_base.specs.declared.error.UsageError.TheVariants.{InvalidChunkType, WriterFailed}
 use Rattle.tiff_base.specs.Field.{AreEntries}
 use Rattle.tiff_encode.specs.Model.{Model, Stands}
-use Rattle.tiff_encode.specs.Machine.{FileState, OpenImage, Told, Writing, by_cause, gives, ◌>>=◌}
+use Rattle.tiff_encode.specs.Machine.{FileState, OpenImage, Told, Writing, by_cause, gives}
 use Rattle.tiff_encode.specs.Chunks.{is_tile}
 use Rattle.tiff_encode.specs.Causes.{unless_failed, end_of, chunk_cause, write_chunk_cause, write_strip_cause}
 use Rattle.tiff_encode.specs.Calls.{appends, appends_chunk, with_chunk, write_chunk, write_strip}
-use Rattle.tiff_encode.specs.Ends.{IsTold, IsCutOff, Fails, Ends}
+use Rattle.tiff_encode.specs.Ends.{IsTold, IsCutOff, Fails}
 use Rattle.tiff_encode.specs.CallLaws.{CallFits}
 use Rattle.tiff_encode.specs.ImageData.{LeavesChunk}
 use Rattle.tiff_encode.specs.Storing.{WritesChunk}
@@ -32,10 +31,16 @@ module _ {A : Type 0} (call other : OpenImage → ℕ → List ℕ → Writing O
     h.0,
     elim h.1 [
       | inl z ↦ inl z
-      | inr s ↦ inr (s.0, (s.1.0, elim s.1.1 [
-        | inl t ↦ inl (subst (λ t. IsTold t (Err e) new) (same s.0) t)
-        | inr c ↦ inr (subst (λ (t : Told OpenImage). IsCutOff t.deeds e old new) (same s.0) c)
-      ]))
+      | inr s ↦ inr (
+        s.0,
+        (
+          s.1.0,
+          elim s.1.1 [
+            | inl t ↦ inl (subst (λ t. IsTold t (Err e) new) (same s.0) t)
+            | inr c ↦ inr (subst (λ (t : Told OpenImage). IsCutOff t.deeds e old new) (same s.0) c)
+          ],
+        ),
+      )
     ],
   )
 

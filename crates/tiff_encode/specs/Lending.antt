@@ -8,7 +8,7 @@ use Rattle.tiff_encode.specs.declared.encoder.kind.TiffKind as kind
 use Rattle.tiff_encode.specs.declared.encoder.open.Fields.{Fields}
 use Rattle.tiff_encode.specs.declared.encoder.directory_encoder.DirectoryEncoder.{DirectoryEncoder}
 use Rattle.tiff_encode.specs.contracts.encoder.TiffEncoder as encoder
-use Rattle.tiff_encode.specs.Machine.{FileState, OpenDirectory, Told}
+use Rattle.tiff_encode.specs.Machine.{FileState, Told}
 use Rattle.tiff_encode.specs.Calls as calls
 use Rattle.tiff_encode.specs.Ends.{EndsRefused}
 use Rattle.tiff_encode.specs.Leaves.{LeavesRefused}

@@ -30,3 +30,7 @@ pub mod LastTags
 pub mod ImageData
 pub mod ReadsBack
 pub mod Parts
+pub mod Stepping
+pub mod ImageStepping
+pub mod JobEnding
+pub mod Running

@@ -5,7 +5,7 @@ use Rattle.tiff_base.specs.declared.error.TiffError.TheVariants.{OutOfMemory}
 use Rattle.tiff_base.specs.declared.tags.PlanarConfiguration.TheVariants.{Planar}
 use Rattle.tiff_page.specs.Page.{PageRecord}
 use Rattle.tiff_page.specs.Pixels.{planar_or, stored_samples}
-use Rattle.tiff_page.specs.Rect.{RectRecord, rect}
+use Rattle.tiff_page.specs.Rect.{RectRecord}
 use Rattle.tiff_value.specs.Packed.{IsStored}
 use Rattle.tiff_encode.specs.declared.encoder.drawn_data.Patch.{Patch}
 use Rattle.tiff_encode.specs.Machine.{FileState, OpenImage}

@@ -1,10 +1,10 @@
 //! Images are written.
 
-ghost use Rattle.std.specs.Prelude.{◌≡◌, ℕ, List, length, map, IfOk, OnErr, Ok, Some, false};
+ghost use Rattle.std.specs.Prelude.{◌≡◌, ℕ, ◌^◌, ◌<◌, List, length, map, IfOk, OnErr, Ok, Some, false};
 ghost use Rattle.tiff_base.specs.Types.{type_size};
 ghost use Rattle.tiff_value.specs.ColorType.{sample_number};
 ghost use Rattle.tiff_encode.specs.Calls as calls;
-ghost use Rattle.tiff_encode.specs.Causes.{write_chunk_cause, write_strip_cause};
+ghost use Rattle.tiff_encode.specs.Causes.{end_of, write_chunk_cause, write_strip_cause};
 ghost use Rattle.tiff_encode.specs.Chunks as chunks;
 ghost use Rattle.tiff_encode.specs.Ends.{EndsSilently, IsTold};
 ghost use Rattle.tiff_encode.specs.ImageData.{LeavesChunk, LeavesData, LeavesNewImage, ShowsFinished, WritesImage, WritesImageData};
@@ -176,6 +176,9 @@ impl<'a, W: Sink, K: TiffKind, C: ColorType> DirectoryEncoder<'a, W, K, Drawing<
             → ((place : ℕ) → self.entry.state.directory.parent ≡ Some place → IsLink self.entry.encoder.now.kind m place)
             → HoldsOpen self.entry.encoder.now.kind m self.entry.state samples → chunks.is_left self.entry.state ≡ false
             → ShowsFinished self.entry.state samples result self.entry.encoder.now self.exit.0.now }
+
+        // The file is as short as each is.
+        ensures short { end_of self.exit.0.now < 2 ^ 64 }
     {
         let DirectoryEncoder { encoder, mut state } = self;
         state.fits();
@@ -207,6 +210,9 @@ impl<'a, W: Sink, K: TiffKind, C: ColorType> DirectoryEncoder<'a, W, K, Drawing<
             → ((place : ℕ) → self.entry.state.directory.parent ≡ Some place → IsLink self.entry.encoder.now.kind m place)
             → HoldsOpen self.entry.encoder.now.kind m self.entry.state samples → chunks.is_left self.entry.state ≡ false
             → ShowsFinished self.entry.state samples result self.entry.encoder.now self.exit.0.now }
+
+        // The file is as short as each is.
+        ensures short { end_of self.exit.0.now < 2 ^ 64 }
     {
         let DirectoryEncoder { encoder, mut state } = self;
         state.fits();
@@ -237,6 +243,9 @@ impl<'a, W: Sink, K: TiffKind, C: ColorType> DirectoryEncoder<'a, W, K, Drawing<
         ensures leaves { (m : Model) → Stands self.entry.encoder.now.kind self.entry.encoder.now.bytes m
             → ((place : ℕ) → self.entry.state.directory.parent ≡ Some place → IsLink self.entry.encoder.now.kind m place)
             → LeavesData self.entry.state (map (sample_number (type_size C.Inner.value_type) C.Inner.bits) samples.now) result self.entry.encoder.now self.exit.0.now m }
+
+        // The file is as short as each is.
+        ensures short { end_of self.exit.0.now < 2 ^ 64 }
     {
         let DirectoryEncoder { encoder, mut state } = self;
         state.fits();

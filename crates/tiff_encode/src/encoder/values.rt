@@ -1,6 +1,7 @@
 //! Values are handed in: for a field, or alone.
 
 ghost use Rattle.std.specs.Prelude.{◌≡◌, ℕ, ◌^◌, ◌<◌, length, IsSome, OnOk, MatchResult, None};
+ghost use Rattle.tiff_base.specs.declared.tags.«Type».{«Type»};
 ghost use Rattle.tiff_encode.specs.Calls as calls;
 ghost use Rattle.tiff_encode.specs.Causes.{end_of, field_cause, order_cause};
 ghost use Rattle.tiff_encode.specs.Ends.{Ends};
@@ -110,22 +111,34 @@ impl<W: Sink, K: TiffKind> TiffEncoder<W, K> {
         }
     }
 
-    // `write_entry_buf`
-    pub(crate) fn place_buffer(&mut self, buffer: &ValueBuffer) -> TiffResult<Entry>
-        ensures { Ends (λ e. e) (calls.write_entry_buf buffer.now self.old) result self.old self.new }
+    // `write_entry_buf`, of values of a type as bytes in an order
+    pub(crate) fn place_ordered(
+        &mut self,
+        order: ByteOrder,
+        field_type: Type,
+        bytes: &[u8],
+    ) -> TiffResult<Entry>
+        ensures { Ends (λ e. e) (calls.write_entry_buf (record { order = order; data_type = field_type; bytes = bytes.now }) self.old) result self.old self.new }
     {
         let end = match self.end() {
             Ok(end) => end,
             Err(fault) => return Err(fault),
         };
-        match check_order(buffer.byte_order()) {
+        match check_order(order) {
             Ok(()) => {}
             Err(fault) => return Err(fault),
         }
-        match self.place_data(end, buffer.data_type(), buffer.as_bytes()) {
+        match self.place_data(end, field_type, bytes) {
             Ok(entry) => return Ok(entry),
             Err(fault) => return Err(fault),
         }
+    }
+
+    // The same of a buffer.
+    pub(crate) fn place_buffer(&mut self, buffer: &ValueBuffer) -> TiffResult<Entry>
+        ensures { Ends (λ e. e) (calls.write_entry_buf buffer.now self.old) result self.old self.new }
+    {
+        self.place_ordered(buffer.byte_order(), buffer.data_type(), buffer.as_bytes())
     }
 
     // `write_entry_bytes`
@@ -171,21 +184,28 @@ impl<W: Sink, K: TiffKind> TiffEncoder<W, K> {
         }
     }
 
-    // `write_data_buf`
-    pub(crate) fn append_buffer(&mut self, buffer: &ValueBuffer) -> TiffResult<u64>
-        ensures { Ends (λ n. n) (calls.write_data_buf buffer.now self.old) result self.old self.new }
+    // `write_data_buf`, of bytes in an order: they are written as they are, whatever their type
+    pub(crate) fn append_ordered(&mut self, order: ByteOrder, bytes: &[u8]) -> TiffResult<u64>
+        ensures { (data_type : «Type») → Ends (λ n. n) (calls.write_data_buf (record { order = order; data_type = data_type; bytes = bytes.now }) self.old) result self.old self.new }
     {
         let end = match self.end() {
             Ok(end) => end,
             Err(fault) => return Err(fault),
         };
-        match check_order(buffer.byte_order()) {
+        match check_order(order) {
             Ok(()) => {}
             Err(fault) => return Err(fault),
         }
-        match self.append(buffer.as_bytes()) {
+        match self.append(bytes) {
             Ok(()) => return Ok(end),
             Err(fault) => return Err(fault),
         }
+    }
+
+    // The same of a buffer.
+    pub(crate) fn append_buffer(&mut self, buffer: &ValueBuffer) -> TiffResult<u64>
+        ensures { Ends (λ n. n) (calls.write_data_buf buffer.now self.old) result self.old self.new }
+    {
+        self.append_ordered(buffer.byte_order(), buffer.as_bytes())
     }
 }

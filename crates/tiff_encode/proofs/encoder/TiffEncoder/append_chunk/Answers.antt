@@ -1,4 +1,4 @@
-use Rattle.std.proofs.Common.{ap, ◌∙◌, ◌++◌, ◌∷◌, [], length, refl, sym}
+use Rattle.std.proofs.Common.{ap, ◌∙◌, ◌++◌, ◌∷◌, [], length, refl}
 use Rattle.tiff_encode.proofs.Storing.{append_refused, append_wanting, append_cut, append_done}
 use Rattle.tiff_encode.proofs.encoder.TiffEncoder.append_chunk.Goals as goal
 

@@ -1,4 +1,4 @@
-use Rattle.std.proofs.Common.{Ok, Err, refl}
+use Rattle.std.proofs.Common.{Ok, refl}
 use Rattle.tiff_base.specs.Types.{type_size}
 use Rattle.tiff_encode.proofs.ImageGuard.{new_left, new_left_err}
 use Rattle.tiff_encode.proofs.encoder.TiffEncoder.new_image.Goals as goal

@@ -1,4 +1,4 @@
-use Rattle.std.proofs.Common.{Ok, Err, length, map, ap, ◌∙◌, sym}
+use Rattle.std.proofs.Common.{length, map, ap, ◌∙◌, sym}
 use Rattle.tiff_base.specs.Types.{type_size}
 use Rattle.tiff_value.specs.ColorType.{sample_number}
 use Rattle.tiff_encode.proofs.Strips.{strip_written, strip_stopped, strip_of_tiles}

@@ -1,8 +1,7 @@
-use Rattle.std.proofs.Common.{◌≡◌, ℕ, ◌*◌, ◌<◌, ◌≤◌, List, map, ap, sym, ◌∙◌, subst, arith}
+use Rattle.std.proofs.Common.{◌≡◌, ◌*◌, ◌≤◌, map, ap, sym, ◌∙◌, subst, arith}
 use Rattle.tiff_base.specs.Types.{type_size}
 use Rattle.tiff_page.specs.Laws.{HasSides}
 use Rattle.tiff_page.specs.Pixels.{each_to}
-use Rattle.tiff_page.specs.Rect.{rect}
 use Rattle.tiff_value.specs.ColorType.{sample_number}
 use Rattle.tiff_encode.specs.Chunks.{chunk_rows, image_page, row_samples}
 use Rattle.tiff_encode.specs.Parts.{rect_of, IsPatch}

@@ -1,7 +1,7 @@
-use Rattle.std.proofs.Common.{◌≡◌, ◌≤◌, ◌+◌, ◌*◌, ◌^◌, ◌<◌, length, ap, sym, ◌∙◌, subst, arith, Fits, w64}
+use Rattle.std.proofs.Common.{◌≡◌, ◌≤◌, ◌*◌, ◌^◌, ◌<◌, length, ap, sym, ◌∙◌, subst, arith}
 use Rattle.std.proofs.Math.Nat.{mul_assoc}
 use Rattle.tiff_encode.specs.Causes.{image_samples}
-use Rattle.tiff_encode.specs.Chunks.{image_page, row_samples, chunk_samples, next_chunk_sample_count}
+use Rattle.tiff_encode.specs.Chunks.{image_page, row_samples}
 use Rattle.tiff_encode.specs.Drawn.{IsDrawn}
 use Rattle.tiff_encode.proofs.DataPlaces.{above, within, count_is, slice_is}
 use Rattle.tiff_encode.proofs.encoder.drawing.Drawing.slice_out.Goals as goal

@@ -1,7 +1,6 @@
-use Rattle.std.proofs.Common.{◌≡◌, ◌≤◌, ◌<◌, ◌-◌, ◌^◌, length, map, ap, sym, ◌∙◌, subst, arith}
+use Rattle.std.proofs.Common.{◌≡◌, ◌<◌, ◌-◌, ◌^◌, length, map, ap, sym, ◌∙◌, arith}
 use Rattle.tiff_base.specs.Types.{type_size}
 use Rattle.tiff_value.specs.ColorType.{sample_number}
-use Rattle.tiff_encode.specs.Chunks.{image_page, is_in_order, cut_out, next_chunk_sample_count}
 use Rattle.tiff_encode.specs.Parts.{next_part}
 use Rattle.tiff_encode.proofs.DataPieces.{slice_part, cut_part, cut_count, part_stored}
 use Rattle.tiff_encode.proofs.encoder.drawing.Drawing.stored_part.Goals as goal

@@ -1,0 +1,210 @@
+-- A step of a directory leads from a standing of the file that it finds to one of the file that it leaves.
+use Rattle.std.proofs.Common.{◌≡◌, ℕ, List, [], ◌∷◌, take, Result, Ok, Err, refl, ap, sym, ◌∙◌, subst, append-nil}
+use Rattle.std.specs.FinMap.{entries}
+use Rattle.tiff_base.specs.declared.error.TiffError.{TiffError}
+use Rattle.tiff_base.specs.declared.tags.Tag.{Tag}
+use Rattle.tiff_base.specs.Field.{Field}
+use Rattle.tiff_value.specs.Buffer.{BufferRecord}
+use Rattle.tiff_value.specs.Data.{FieldData}
+use Rattle.tiff_encode.specs.declared.encoder.script.DirectoryStep.{DirectoryStep}
+use Rattle.tiff_encode.specs.declared.encoder.script.DirectoryStep.TheVariants as step
+use Rattle.tiff_encode.specs.declared.encoder.script.StepReply.{StepReply}
+use Rattle.tiff_encode.specs.declared.encoder.script.StepReply.TheVariants as reply
+use Rattle.tiff_encode.specs.Model.{Model, Stands}
+use Rattle.tiff_encode.specs.Deeds.{Deed, model_after}
+use Rattle.tiff_encode.specs.Machine.{FileState, OpenDirectory, Told, Writing, answers, gives, going_on, ◌>>=◌}
+use Rattle.tiff_encode.specs.Causes.{write_buf_cause, write_data_cause, write_data_buf_cause}
+use Rattle.tiff_encode.specs.Calls.{with_field, placed, appends, write_entry, write_entry_buf, write_tag, write_tag_buf, write_data, write_data_buf, write_entry_bytes, extend_from}
+use Rattle.tiff_encode.specs.Value.{buffer_data}
+use Rattle.tiff_encode.specs.Ends.{IsTold, Fails}
+use Rattle.tiff_encode.specs.JobValues.{buffer_in, value_data}
+use Rattle.tiff_encode.specs.Jobs.{Standing, Changes, Replies, Extends, DirectoryStepped, AllStepped}
+use Rattle.tiff_encode.specs.Stepping.{Moves}
+use Rattle.tiff_encode.proofs.Joining.{Adds, adding, bind_adds, answers_adding, refusal_adds, caused_adds, appends_adds, placed_adds}
+use Rattle.tiff_encode.proofs.Leaving.{ok_err}
+use Rattle.tiff_encode.proofs.Slices.{ok_inj}
+use Rattle.tiff_encode.proofs.Moving.{Seen, moves_so}
+
+-- ---- which calls append
+
+-- `write_entry_buf`
+pub entry_buf_adds : (b : BufferRecord) (file : FileState) → Adds (write_entry_buf b file) file
+unfolding write_entry_buf
+entry_buf_adds b file = caused_adds (write_buf_cause file b) (placed (buffer_data b)) file (placed_adds (buffer_data b) file)
+
+-- `write_tag_buf`
+pub tag_buf_adds : (d : OpenDirectory) (t : Tag) (b : BufferRecord) (file : FileState) → Adds (write_tag_buf d t b file) file
+unfolding write_tag_buf
+tag_buf_adds d t b file =
+    bind_adds (write_entry_buf b) (λ field. gives (with_field d t field)) file (entry_buf_adds b file)
+    (λ field _. answers_adding (Ok (with_field d t field)) (write_entry_buf b file).next)
+
+-- `write_data`
+pub data_adds : (value : Result FieldData TiffError) (file : FileState) → Adds (write_data value file) file
+unfolding write_data
+data_adds (Ok value) file =
+    caused_adds (write_data_cause file (Ok value)) (answers (Ok value) >>= (λ (known : FieldData). appends known.bytes)) file
+    (appends_adds value.bytes file)
+data_adds (Err e) file =
+    caused_adds (write_data_cause file (Err e)) (answers (Err e) >>= (λ (known : FieldData). appends known.bytes)) file
+    (refusal_adds e file)
+
+-- `write_data_buf`
+pub data_buf_adds : (b : BufferRecord) (file : FileState) → Adds (write_data_buf b file) file
+unfolding write_data_buf
+data_buf_adds b file = caused_adds (write_data_buf_cause file b) (appends b.bytes) file (appends_adds b.bytes file)
+
+-- ---- a tag that has the field which was handed in
+
+module _ (d : OpenDirectory) (t : Tag) (field : Field) (old new : FileState) (m : Model) where
+  -- what was done for the field stands
+  given_kept : (r : Result Field TiffError) (deeds : List Deed) (next : FileState) → r ≡ Ok field
+      → Stands old.kind new.bytes (model_after old.kind old.bytes m deeds)
+      → Stands old.kind new.bytes (model_after old.kind old.bytes m (going_on r deeds next (λ f. gives (with_field d t f))).deeds)
+  given_kept r deeds next h s =
+      let P : Result Field TiffError → Type 0 = λ q.
+      Stands old.kind new.bytes (model_after old.kind old.bytes m (going_on q deeds next (λ f. gives (with_field d t f))).deeds) in
+      let Q : List Deed → Type 0 = λ ds. Stands old.kind new.bytes (model_after old.kind old.bytes m ds) in
+      subst P (sym h) (subst Q (sym (append-nil deeds)) s)
+
+  -- `write_tag`
+  pub tag_kept : (value : Result FieldData TiffError) → IsTold (write_entry value old) (Ok field) new
+      → Stands old.kind new.bytes (model_after old.kind old.bytes m (write_entry value old).deeds)
+      → Stands old.kind new.bytes (model_after old.kind old.bytes m (write_tag d t value old).deeds)
+  unfolding write_tag
+  tag_kept value h s =
+      let told : Told Field = write_entry value old in given_kept told.answer told.deeds told.next h.answer s
+
+  -- `write_tag_buf`
+  pub tag_buf_kept : (b : BufferRecord) → IsTold (write_entry_buf b old) (Ok field) new
+      → Stands old.kind new.bytes (model_after old.kind old.bytes m (write_entry_buf b old).deeds)
+      → Stands old.kind new.bytes (model_after old.kind old.bytes m (write_tag_buf d t b old).deeds)
+  unfolding write_tag_buf
+  tag_buf_kept b h s =
+      let told : Told Field = write_entry_buf b old in given_kept told.answer told.deeds told.next h.answer s
+
+-- ---- what a step makes of its call
+
+moves_as : (P Q : Standing → Standing → Type 0) (old new : FileState) → ((s t : Standing) → P s t → Q s t) → Moves P old new
+    → Moves Q old new
+moves_as P Q old new f g known s q k = let x = g known s q k in (x.0, (x.1.0, (f s x.0 x.1.1.0, x.1.1.1)))
+
+-- what a call that was done leaves
+abbrev Kept : {A : Type 0} → Told A → FileState → FileState → Type 0
+Kept told old new = (m : Model) → Stands old.kind old.bytes m → Stands old.kind new.bytes (model_after old.kind old.bytes m told.deeds)
+
+-- and one that was not
+abbrev Stood : FileState → FileState → Type 0
+Stood old new = (m : Model) → Stands old.kind old.bytes m → Stands old.kind new.bytes m
+
+module _ (d e : OpenDirectory) (old new : FileState) where
+  -- the step that was handed in
+  pub stepped_by : (r : Result StepReply TiffError) (x y : DirectoryStep) → x ≡ y
+      → Moves (λ s t. DirectoryStepped s d y r t e) old new → Moves (λ s t. DirectoryStepped s d x r t e) old new
+  stepped_by r x y q h =
+      let P : DirectoryStep → Type 0 = λ z. Moves (λ s t. DirectoryStepped s d z r t e) old new in subst P (sym q) h
+
+  -- the directory is another then
+  pub changed : (call : Writing OpenDirectory) → Adds (call old) old → IsTold (call old) (Ok e) new → Kept (call old) old new
+      → Moves (λ s t. Changes call d (Ok reply.Nothing) s t e) old new
+  changed call a h l =
+      let view : OpenDirectory → OpenDirectory = λ x. x in moves_so view call (Ok e) old new (adding (call old) old a) h l
+
+  pub unchanged : (call : Writing OpenDirectory) (fault : TiffError) → Adds (call old) old → Fails (call old) fault old new
+      → Stood old new → e ≡ d → Moves (λ s t. Changes call d (Err fault) s t e) old new
+  unchanged call fault a h l q =
+      let view : OpenDirectory → OpenDirectory = λ x. x in
+      let P : Standing → Standing → Type 0 = λ s t. Seen view (call s.file) (Err fault) s t in
+      let Q : Standing → Standing → Type 0 = λ s t. Changes call d (Err fault) s t e in
+      moves_as P Q old new (λ s t p. (q, p)) (moves_so view call (Err fault) old new (adding (call old) old a) h l)
+
+  -- it stays, and something is answered
+  pub replied : {A : Type 0} (view : A → StepReply) (call : Writing A) (x : A) → Adds (call old) old → IsTold (call old) (Ok x) new
+      → Kept (call old) old new → e ≡ d → Moves (λ s t. Replies view call d (Ok (view x)) s t e) old new
+  replied {A = A} view call x a h l q =
+      let same : A → A = λ y. y in
+      let P : Standing → Standing → Type 0 = λ s t. Seen same (call s.file) (Ok x) s t in
+      let Q : Standing → Standing → Type 0 = λ s t. Replies view call d (Ok (view x)) s t e in
+      moves_as P Q old new (λ s t p. (q, (x, (refl, p)))) (moves_so same call (Ok x) old new (adding (call old) old a) h l)
+
+  pub unreplied : {A : Type 0} (view : A → StepReply) (call : Writing A) (fault : TiffError) → Adds (call old) old
+      → Fails (call old) fault old new → Stood old new → e ≡ d → Moves (λ s t. Replies view call d (Err fault) s t e) old new
+  unreplied {A = A} view call fault a h l q =
+      let same : A → A = λ y. y in
+      let P : Standing → Standing → Type 0 = λ s t. Seen same (call s.file) (Err fault) s t in
+      let Q : Standing → Standing → Type 0 = λ s t. Replies view call d (Err fault) s t e in
+      moves_as P Q old new (λ s t p. (q, p)) (moves_so same call (Err fault) old new (adding (call old) old a) h l)
+
+-- ---- what no step changes
+
+-- the link that is to point to it, and whether it is in the chain
+abbrev pub Keeps : OpenDirectory → OpenDirectory → Type 0
+Keeps d e = (e.parent ≡ d.parent) × (e.chained ≡ d.chained)
+
+same_keeps : (d e : OpenDirectory) → e ≡ d → Keeps d e
+same_keeps d e q = (ap (λ x. x.parent) q, ap (λ x. x.chained) q)
+
+keeps_on : (c d e : OpenDirectory) → Keeps c d → Keeps d e → Keeps c e
+keeps_on c d e f g = (g.0 ∙ f.0, g.1 ∙ f.1)
+
+-- a directory that was given a field
+given_keeps : (d e : OpenDirectory) (t : Tag) (r : Result Field TiffError) (deeds : List Deed) (next : FileState)
+    → (going_on r deeds next (λ f. gives (with_field d t f))).answer ≡ Ok e → Keeps d e
+given_keeps d e t (Ok field) deeds next h =
+    let q : with_field d t field ≡ e = ok_inj (with_field d t field) e h in (sym (ap (λ x. x.parent) q), sym (ap (λ x. x.chained) q))
+given_keeps d e t (Err fault) deeds next h = absurd (ok_err (sym h))
+
+tag_keeps : (d e : OpenDirectory) (t : Tag) (value : Result FieldData TiffError) (file : FileState)
+    → (write_tag d t value file).answer ≡ Ok e → Keeps d e
+unfolding write_tag
+tag_keeps d e t value file h = let told : Told Field = write_entry value file in given_keeps d e t told.answer told.deeds told.next h
+
+tag_buf_keeps : (d e : OpenDirectory) (t : Tag) (b : BufferRecord) (file : FileState)
+    → (write_tag_buf d t b file).answer ≡ Ok e → Keeps d e
+unfolding write_tag_buf
+tag_buf_keeps d e t b file h = let told : Told Field = write_entry_buf b file in given_keeps d e t told.answer told.deeds told.next h
+
+extends_keep : (d e : OpenDirectory) (fields : List (ℕ × Field)) → e ≡ extend_from d fields → Keeps d e
+unfolding extend_from
+extends_keep d e fields q = (ap (λ x. x.parent) q, ap (λ x. x.chained) q)
+
+module _ (old new : Standing) (d e : OpenDirectory) where
+  changes_keep : (call : Writing OpenDirectory) (r : Result StepReply TiffError) → ((call old.file).answer ≡ Ok e → Keeps d e)
+      → Changes call d r old new e → Keeps d e
+  changes_keep call (Ok reply.Nothing) f h = f h.ended.answer
+  changes_keep call (Ok (reply.Number n)) f h = absurd h
+  changes_keep call (Ok (reply.Written x)) f h = absurd h
+  changes_keep call (Err fault) f h = same_keeps d e h.0
+
+  replies_keep : {A : Type 0} (view : A → StepReply) (call : Writing A) (r : Result StepReply TiffError)
+      → Replies view call d r old new e → Keeps d e
+  replies_keep view call (Ok r) h = same_keeps d e h.0
+  replies_keep view call (Err fault) h = same_keeps d e h.0
+
+  taken_keep : (fields : List (ℕ × Field)) (r : Result StepReply TiffError) → Extends fields d r old new e → Keeps d e
+  taken_keep fields (Ok reply.Nothing) h = extends_keep d e fields h.0
+  taken_keep fields (Ok (reply.Number n)) h = absurd h
+  taken_keep fields (Ok (reply.Written x)) h = absurd h
+  taken_keep fields (Err fault) h = extends_keep d e (take h.1.0 fields) h.1.1.0
+
+  -- one step
+  pub step_keeps : (step : DirectoryStep) (r : Result StepReply TiffError) → DirectoryStepped old d step r new e → Keeps d e
+  step_keeps (step.WriteTag t value) r h =
+      changes_keep (write_tag d t (value_data value)) r (tag_keeps d e t (value_data value) old.file) h
+  step_keeps (step.WriteTagBuf t b) r h =
+      changes_keep (write_tag_buf d t (buffer_in b)) r (tag_buf_keeps d e t (buffer_in b) old.file) h
+  step_keeps (step.WriteData value) r h = replies_keep reply.Number (write_data (value_data value)) r h
+  step_keeps (step.WriteDataBuf b) r h = replies_keep reply.Number (write_data_buf (buffer_in b)) r h
+  step_keeps (step.WriteEntry value) r h = replies_keep reply.Written (write_entry (value_data value)) r h
+  step_keeps (step.WriteEntryBuf b) r h = replies_keep reply.Written (write_entry_buf (buffer_in b)) r h
+  step_keeps (step.WriteEntryBytes type bytes) r h = replies_keep reply.Written (write_entry_bytes type bytes.items) r h
+  step_keeps (step.ExtendFrom given) r h = taken_keep (entries given.entries) r h
+
+-- all of them
+pub steps_keep : (old new : Standing) (d e : OpenDirectory) (steps : List DirectoryStep) (rs : List (Result StepReply TiffError))
+    → AllStepped DirectoryStepped old d steps rs new e → (e.parent ≡ d.parent) × (e.chained ≡ d.chained)
+steps_keep old new d e [] [] h = same_keeps d e h.1
+steps_keep old new d e [] (r ∷ rs) h = absurd h
+steps_keep old new d e (step ∷ steps) [] h = absurd h
+steps_keep old new d e (step ∷ steps) (r ∷ rs) h =
+    keeps_on d h.1.0 e (step_keeps old h.0 d h.1.0 step r h.1.1.0) (steps_keep h.0 new h.1.0 e steps rs h.1.1.1)

@@ -1,0 +1,83 @@
+-- A call leads from a standing of the file that it finds to one of the file that it leaves.
+use Rattle.std.proofs.Common.{◌≡◌, Bool, Result, Ok, Err, refl, ap, sym, ◌∙◌, inl, inr, subst}
+use Rattle.tiff_base.specs.declared.error.TiffError.{TiffError}
+use Rattle.tiff_encode.specs.Model.{Model, Stands, Grows}
+use Rattle.tiff_encode.specs.Deeds.{model_after}
+use Rattle.tiff_encode.specs.Laws.{AreAppending}
+use Rattle.tiff_encode.specs.Machine.{FileState, Told, Writing}
+use Rattle.tiff_encode.specs.Ends.{Ends}
+use Rattle.tiff_encode.specs.Leaves.{Leaves}
+use Rattle.tiff_encode.specs.Jobs.{Standing, IsDone, Refuses}
+use Rattle.tiff_encode.specs.Stepping.{Known, Moves}
+use Rattle.tiff_encode.proofs.Deeds.{deeds_grow}
+use Rattle.tiff_encode.proofs.Joining.{IsAdding, ends_torn}
+
+-- all that a model has it has
+pub grows_here : (m : Model) → Grows m m
+grows_here m = record { directories = λ d i. i; handed = λ h i. i; regions = λ r i. i }
+
+pub grows_on : (m n o : Model) → Grows m n → Grows n o → Grows m o
+grows_on m n o g h = record {
+  directories = λ d i. h.directories d (g.directories d i);
+  handed = λ x i. h.handed x (g.handed x i);
+  regions = λ r i. h.regions r (g.regions r i);
+}
+
+-- what is told of a call is done, or it fails
+abbrev pub Seen : {X Y : Type 0} → (X → Y) → Told Y → Result X TiffError → Standing → Standing → Type 0
+Seen view told (Ok x) s t = IsDone told (Ok (view x)) s t
+Seen view told (Err e) s t = Refuses told e s t
+
+-- a standing of a file that such a call left
+abbrev pub Led : (Standing → Type 0) → Bool → Standing → FileState → Type 0
+Led P known s new = (t : Standing) × ((t.file ≡ new) × (P t × (Known known t × Grows s.model t.model)))
+
+module _ {X Y : Type 0} (view : X → Y) (told : Told Y) (s : Standing) (new : FileState) (known : Bool) (k : Known known s)
+    (a : IsAdding told s.file) where
+  abbrev here : Standing
+  here = record { file = new; model = s.model }
+
+  -- where what stood stands still, in a file of its kind
+  stays_known : (P : Standing → Type 0) → new.kind ≡ s.file.kind
+      → ((m : Model) → Stands s.file.kind s.file.bytes m → Stands s.file.kind new.bytes m) → P here → Led P known s new
+  stays_known P same l p =
+      (here, (refl, (p, ((λ q. subst (λ kind. Stands kind new.bytes s.model) (sym same) (l s.model (k q))), grows_here s.model))))
+
+  -- A call that only appends: what is told of it is done, or it fails.
+  pub seen : (r : Result X TiffError) → Ends view told r s.file new
+      → ((m : Model) → Stands s.file.kind s.file.bytes m → Leaves told r s.file new m) → Led (Seen view told r s) known s new
+  seen (Ok x) e l =
+      let m : Model = model_after s.file.kind s.file.bytes s.model told.deeds in
+      let same : new.kind ≡ s.file.kind = ap (λ f. f.kind) (e.state ∙ a.next) in (
+        record { file = new; model = m },
+        (
+          refl,
+          (
+            record { ended = e; model = refl },
+            ((λ q. subst (λ kind. Stands kind new.bytes m) (sym same) (l s.model (k q))), deeds_grow s.file.kind s.file.bytes s.model told.deeds),
+          ),
+        ),
+      )
+  seen (Err fault) e l =
+      let r : Result X TiffError = Err fault in
+      let P : Standing → Type 0 = Seen view told r s in
+      elim e as (λ _. Led P known s new) [
+        | inl t ↦ stays_known P (ap (λ f. f.kind) (t.state ∙ a.next)) l (inl (refl, t))
+        | inr e ↦ elim e [
+          | inl c ↦ stays_known P (ap (λ f. f.kind) c.state) l (inr (inr (inl (refl, c))))
+          | inr e ↦ elim e [
+            | inl t ↦ absurd (ends_torn t.before t.place t.target (subst (λ ds. AreAppending ds) t.last a.appending))
+            | inr c ↦ stays_known P (ap (λ f. f.kind) c.state) l (inr (inr (inr (refl, c))))
+          ]
+        ]
+      ]
+
+-- the same from each standing of the file
+pub moves_so : {X Y : Type 0} (view : X → Y) (call : Writing Y) (r : Result X TiffError) (old new : FileState)
+    → IsAdding (call old) old → Ends view (call old) r old new
+    → ((m : Model) → Stands old.kind old.bytes m → Leaves (call old) r old new m)
+    → Moves (λ s t. Seen view (call s.file) r s t) old new
+moves_so {X = X} {Y = Y} view call r old new a e l known s q k =
+    let Q : FileState → Type 0 = λ old. IsAdding (call old) old → Ends view (call old) r old new
+    → ((m : Model) → Stands old.kind old.bytes m → Leaves (call old) r old new m) → Led (λ t. Seen view (call s.file) r s t) known s new in
+    subst Q q (λ a e l. seen view (call s.file) s new known k a r e l) a e l

@@ -1,0 +1,24 @@
+use Rattle.std.proofs.Common.{rules, false, refl}
+use Rattle.tiff_encode.specs.Calls.{extra_directory}
+use Rattle.tiff_encode.proofs.Running.{begun_chained, not_begun_chained, not_begun_as, directory_runs, directory_refused}
+use Rattle.tiff_encode.proofs.encoder.jobs.run_extra.Goals as goal
+
+pub returns-in-Ok : goal.returns-in-Ok
+returns-in-Ok g c = λ kind known run parent q s named l.
+    let j = c.args.job.now in
+    let old = c.args.encoder.now in
+    let d = c.in-Ok.directory.state in
+    let mid = c.in-Ok.directory.encoder.now in
+    directory_runs c.args.parent j c.lead_directory.result old mid c.lead_directory.new.encoder _ d c.link_from.new.self known run parent
+    (begun_chained j.chained false old d mid c.requires.chained (record { told = c.in-Ok.ensures.begun; leaves = c.in-Ok.ensures.leaves }))
+    c.link_from.ensures c.lead_directory.ensures (search rules) kind q s named l
+
+pub returns-in-Err : goal.returns-in-Err
+returns-in-Err g c = λ kind known run parent q s named l.
+    let j = c.args.job.now in
+    let old = c.args.encoder.now in
+    let new = c.extra_directory.follows.lender-at-none in
+    directory_refused j _ c.in-Err.fault old new known run parent
+    (not_begun_chained j.chained false old c.in-Err.fault new c.requires.chained
+    (not_begun_as extra_directory c.extra_directory.result c.in-Err.fault old new c.in-Err.is c.extra_directory.follows.holds-at-none))
+    (c.requires.none, refl) q s

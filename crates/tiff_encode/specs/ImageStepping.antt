@@ -1,0 +1,42 @@
+-- What steps of an image reply, family by family (this project's).
+use Rattle.std.specs.Prelude.{◌≡◌, ℕ, ◌⊎◌, true, List, Option, Result, Ok, Err}
+use Rattle.tiff_base.specs.declared.error.TiffError.{TiffError}
+use Rattle.tiff_base.specs.declared.tags.ResolutionUnit.{ResolutionUnit}
+use Rattle.tiff_encode.specs.declared.encoder.script.StepReply.{StepReply}
+use Rattle.tiff_encode.specs.declared.encoder.script.StepReply.TheVariants as reply
+use Rattle.tiff_encode.specs.Machine.{FileState, OpenImage, Writing}
+use Rattle.tiff_encode.specs.JobValues.{cut_to}
+use Rattle.tiff_encode.specs.Jobs as jobs
+use Rattle.tiff_encode.specs.Stepping.{Draws}
+
+-- what a call that answers nothing replies
+abbrev pub reply_to : Result (Unit {0}) TiffError → Result StepReply TiffError
+reply_to (Ok x) = Ok reply.Nothing
+reply_to (Err e) = Err e
+
+-- `write_strip` and `write_chunk` of the lowest bits of numbers
+abbrev pub StripDraws : OpenImage → List ℕ → Result StepReply TiffError → FileState → FileState → OpenImage → Type 0
+StripDraws i numbers r =
+    Draws i (λ s before t after. jobs.StripsIfFound before (cut_to before.image.size numbers) r s t after) true
+
+abbrev pub ChunkDraws : OpenImage → List ℕ → Result StepReply TiffError → FileState → FileState → OpenImage → Type 0
+ChunkDraws i numbers r =
+    Draws i (λ s before t after. jobs.ChunksIfFound before (cut_to before.image.size numbers) r s t after) true
+
+-- either of them, where memory for its samples is found
+abbrev pub StoresIfFound : (OpenImage → ℕ → List ℕ → Writing OpenImage) → Option TiffError → jobs.Drawn → List ℕ → Result StepReply TiffError
+    → jobs.Standing → jobs.Standing → jobs.Drawn → Type 0
+StoresIfFound call cause i samples r old new t =
+    (t.samples ≡ jobs.samples_after r i samples)
+    × (jobs.StoresBy call cause i.image samples r old new t.image ⊎ jobs.IsUnfound r i.image old new t.image)
+
+-- a call that gives what is open then
+abbrev pub CallDraws : (OpenImage → Writing OpenImage) → OpenImage → Result StepReply TiffError → FileState → FileState → OpenImage → Type 0
+CallDraws call i r = Draws i (λ s before t after. jobs.Draws call before r s t after) true
+
+-- `resolution`
+abbrev pub ResolutionDraws : OpenImage → ResolutionUnit → ℕ × ℕ → Result StepReply TiffError → FileState → FileState → OpenImage → Type 0
+ResolutionDraws i u value r =
+    Draws i
+    (λ s before t after. (after.samples ≡ before.samples) × jobs.Resolves before.image u value r s t after.image)
+    true

@@ -1,0 +1,119 @@
+-- How a job is run: from the call that begins it to its end (this project's).
+use Rattle.std.specs.Prelude.{◌≡◌, ℕ, ◌+◌, ◌-◌, ◌≤◌, Bool, List, [], ◌∷◌, ◌++◌, length, slice_get, vec_capacity, Option, Some, None, Result, Ok, Err}
+use Rattle.std.specs.declared.vec.Vec.{Vec}
+use Rattle.std.specs.declared.alloc.Global.{Global}
+use Rattle.tiff_base.specs.declared.error.TiffError.{TiffError}
+use Rattle.tiff_encode.specs.declared.encoder.script.DirectoryJob.{DirectoryJob}
+use Rattle.tiff_encode.specs.declared.encoder.script.ImageJob.{ImageJob}
+use Rattle.tiff_encode.specs.declared.encoder.script.Job.{Job}
+use Rattle.tiff_encode.specs.declared.encoder.script.Job.TheVariants as job
+use Rattle.tiff_encode.specs.declared.encoder.script.JobReply.{JobReply}
+use Rattle.tiff_encode.specs.Model.{In, IsLink, Grows}
+use Rattle.tiff_encode.specs.Machine.{FileState, OpenDirectory, OpenImage}
+use Rattle.tiff_encode.specs.Calls.{Offsets}
+use Rattle.tiff_encode.specs.Open.{HoldsOpen}
+use Rattle.tiff_encode.specs.Jobs.{Standing, Drawn, Run, Finished, DirectoryStepped, ImageStepped, AllStepped, DirectoryEnds, ImageEnds, DirectoryRan, ImageRan, Jobs, named_parent, job_images, offsets_in}
+use Rattle.tiff_encode.specs.Stepping.{Known, HasLink, IsHeld, IsSound, answered}
+
+-- how many steps a job has
+abbrev pub step_count : Job → ℕ
+step_count (job.Directory j) = length j.steps.items
+step_count (job.Image j) = length j.steps.items
+step_count _ = 0
+
+-- ---- parents
+
+-- the link of a parent, if one was named
+abbrev pub link_in : Option Offsets → Option ℕ
+link_in None = None
+link_in (Some offsets) = Some offsets.link
+
+-- a directory with it
+abbrev pub linked_from : Option ℕ → OpenDirectory → OpenDirectory
+linked_from None d = d
+linked_from (Some link) d = record d { parent = Some link }
+
+-- the link of the directory of an earlier job
+abbrev pub NamesLink : List (Option Offsets) → Option ℕ → Result (Option ℕ) TiffError → Type 0
+NamesLink offsets parent (Ok link) = (o : Option Offsets) × ((named_parent offsets parent ≡ Ok o) × (link ≡ link_in o))
+NamesLink offsets parent (Err e) = named_parent offsets parent ≡ Err e
+
+-- ---- what is open
+
+-- A directory that is open is led through its steps to its end.
+pub record DirectoryGoes (first : OpenDirectory) (j : DirectoryJob) (r : JobReply) (known : Bool) (s : Standing) (new : FileState) : Type 0 where
+  pub final : OpenDirectory
+  pub after_steps : Standing
+  pub steps : AllStepped DirectoryStepped s first j.steps.items r.steps.items after_steps final
+  pub place : Option Offsets
+  pub after_end : Standing
+  pub ends : DirectoryEnds after_steps final j.end r.last after_end place
+  pub file : after_end.file ≡ new
+  pub stands : Known known after_end
+  pub grows : Grows s.model after_end.model
+  pub own : (o : Offsets) → place ≡ Some o → IsLink after_end.file.kind after_end.model o.link
+  pub chain : IsLink s.file.kind s.model s.file.chain → IsLink after_end.file.kind after_end.model after_end.file.chain
+
+-- so it is from each standing in which its parent's link is one
+abbrev pub DirectoryGoesOn : OpenDirectory → DirectoryJob → JobReply → FileState → FileState → Type 0
+DirectoryGoesOn first j r old new =
+    (known : Bool) (s : Standing) → s.file ≡ old → Known known s → HasLink known s first.parent → DirectoryGoes first j r known s new
+
+-- An image that is open is led through its steps to its end; where it is finished with every chunk, it is held.
+pub record ImageGoes (first : OpenImage) (j : ImageJob) (r : JobReply) (known : Bool) (s : Standing) (new : FileState) : Type 0 where
+  pub final : Drawn
+  pub after_steps : Standing
+  pub steps : AllStepped ImageStepped s (record { image = first; samples = [] }) j.steps.items r.steps.items after_steps final
+  pub place : Option Offsets
+  pub after_end : Standing
+  pub ends : ImageEnds after_steps final.image j.end r.last after_end place
+  pub file : after_end.file ≡ new
+  pub stands : Known known after_end
+  pub grows : Grows s.model after_end.model
+  pub chain : IsLink s.file.kind s.model s.file.chain → IsLink after_end.file.kind after_end.model after_end.file.chain
+  pub held : HoldsOpen s.file.kind s.model first []
+      → (f : Finished) → In f (job_images j.steps.items r.steps.items j.end final place) → IsHeld after_end f
+
+abbrev pub ImageGoesOn : OpenImage → ImageJob → JobReply → FileState → FileState → Type 0
+ImageGoesOn first j r old new =
+    (known : Bool) (s : Standing) → s.file ≡ old → Known known s → HasLink known s first.directory.parent → ImageGoes first j r known s new
+
+-- ---- jobs
+
+-- From each run so far that is sound, a job leads to one that is, with the offsets that it answers; the file is of one kind.
+abbrev pub RunsOn : (Run → Run → Type 0) → JobReply → FileState → FileState → Type 0
+RunsOn Ran r old new =
+    new.kind ≡ old.kind → (known : Bool) (run : Run) → run.standing.file ≡ old → IsSound known run
+    → (after : Run) × ((after.standing.file ≡ new) × (Ran run after
+    × (IsSound known after × (after.offsets ≡ run.offsets ++ offsets_in r.last ∷ []))))
+
+abbrev pub ImageRunsOn : ImageJob → JobReply → FileState → FileState → Type 0
+ImageRunsOn j r = RunsOn (λ run after. ImageRan run j r after) r
+
+-- the same of a directory, whose parent's link is one
+abbrev pub DirectoryRunsOn : Option ℕ → DirectoryJob → JobReply → FileState → FileState → Type 0
+DirectoryRunsOn link j r old new =
+    new.kind ≡ old.kind → (known : Bool) (run : Run) (parent : Option Offsets) → run.standing.file ≡ old → IsSound known run
+    → link ≡ link_in parent → HasLink known run.standing link
+    → (after : Run) × ((after.standing.file ≡ new) × (DirectoryRan run parent j r after
+    × (IsSound known after × (after.offsets ≡ run.offsets ++ offsets_in r.last ∷ []))))
+
+-- ---- lists of jobs
+
+-- Jobs one after another, whose replies are put behind those that were there.
+abbrev pub JobsMove : List Job → List JobReply → List JobReply → FileState → FileState → Type 0
+JobsMove jobs earlier all old new =
+    (replies : List JobReply) × ((all ≡ earlier ++ replies)
+    × ((known : Bool) (run : Run) → run.standing.file ≡ old → run.offsets ≡ [] → IsSound known run
+    → (after : Run) × ((after.standing.file ≡ new) × (Jobs run jobs replies after
+    × (IsSound known after × (after.offsets ≡ answered replies))))))
+
+-- an empty list with room for so many items
+abbrev pub HasRoom : {A : Type 0} → ℕ → Vec A Global → Type 0
+HasRoom count list = (list.items ≡ []) × (count ≤ vec_capacity list)
+
+-- such lists for the replies of the steps of jobs, that of the last job first
+abbrev pub AreRooms : {A : Type 0} → List Job → List (Vec A Global) → Type 0
+AreRooms {A = A} jobs rooms =
+    (k : ℕ) (j : Job) (room : Vec A Global) → slice_get rooms k ≡ Some room → slice_get jobs (length jobs - (k + 1)) ≡ Some j
+    → HasRoom (step_count j) room

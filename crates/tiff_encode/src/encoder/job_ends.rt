@@ -1,0 +1,134 @@
+//! The ends of jobs.
+
+ghost use Rattle.std.specs.Prelude.{◌≡◌, map};
+ghost use Rattle.tiff_base.specs.Types.{type_size};
+ghost use Rattle.tiff_value.specs.ColorType.{sample_number};
+ghost use Rattle.tiff_encode.specs.Calls as calls;
+ghost use Rattle.tiff_encode.specs.JobEnding.{DataHeld};
+ghost use Rattle.tiff_encode.specs.JobValues.{cut_to};
+ghost use Rattle.tiff_encode.specs.Jobs.{DirectoryEnds, FinishesSilently, FinishesWith, ImageEnds, WritesData, WritesDataIfFound};
+ghost use Rattle.tiff_encode.specs.Stepping.{EndMoves, ImageHeld};
+
+use crate::encoder::directory_encoder::DirectoryEncoder;
+use crate::encoder::drawing::Drawing;
+use crate::encoder::job_values::cut_samples;
+use crate::encoder::kind::TiffKind;
+use crate::encoder::open::Fields;
+use crate::encoder::script::{DirectoryEnd, EndReply, ImageEnd};
+use tiff_base::error::TiffResult;
+use tiff_base::io::Sink;
+use tiff_value::encoder::colortype::ColorType;
+use tiff_value::encoder::tiff_value::TiffScalar;
+
+impl<'a, W: Sink, K: TiffKind> DirectoryEncoder<'a, W, K, Fields> {
+    // `finish_with_offsets`
+    fn end_with_offsets(self) -> TiffResult<EndReply>
+        ensures { EndMoves (λ s t place. FinishesWith (calls.finish self.entry.state s.file) result s t place) self.entry.state.parent self.entry.encoder.now self.exit.0.now (λ s t place. Unit {0}) }
+    {
+        self.encoder.fits();
+        self.state.fits();
+        match self.finish_with_offsets() {
+            Ok(offsets) => {
+                return Ok(EndReply::Offsets {
+                    pointer: offsets.pointer.0,
+                    link: offsets.link(),
+                });
+            }
+            Err(fault) => return Err(fault),
+        }
+    }
+
+    // `discard`
+    fn end_silently(self) -> TiffResult<EndReply>
+        ensures { EndMoves (λ s t place. FinishesSilently (calls.finish self.entry.state s.file) result s t place) self.entry.state.parent self.entry.encoder.now self.exit.0.now (λ s t place. Unit {0}) }
+    {
+        self.encoder.fits();
+        self.state.fits();
+        match self.discard() {
+            Ok(()) => return Ok(EndReply::Nothing),
+            Err(fault) => return Err(fault),
+        }
+    }
+
+    /// Ends a directory.
+    pub(crate) fn end(self, end: DirectoryEnd) -> TiffResult<EndReply>
+        ensures { EndMoves (λ s t place. DirectoryEnds s self.entry.state end result t place) self.entry.state.parent self.entry.encoder.now self.exit.0.now (λ s t place. Unit {0}) }
+    {
+        match end {
+            DirectoryEnd::Finish => return self.end_with_offsets(),
+            DirectoryEnd::Discard => return self.end_silently(),
+        }
+    }
+}
+
+impl<'a, W: Sink, K: TiffKind, C: ColorType> DirectoryEncoder<'a, W, K, Drawing<C>> {
+    // An image ends without a directory.
+    fn abandon(self)
+        ensures { self.exit.0.now ≡ self.entry.encoder.now }
+    {
+        let DirectoryEncoder {
+            encoder: _,
+            state: _,
+        } = self;
+    }
+
+    // `write_data`
+    fn write_samples(self, samples: &[C::Inner]) -> TiffResult<EndReply>
+        ensures { EndMoves (λ s t place. WritesData self.entry.state (map (sample_number (type_size C.Inner.value_type) C.Inner.bits) samples.now) result s t place) self.entry.state.directory.parent self.entry.encoder.now self.exit.0.now (DataHeld self.entry.state (map (sample_number (type_size C.Inner.value_type) C.Inner.bits) samples.now)) }
+    {
+        self.state.fits();
+        self.state.is_of_type();
+        match self.write_data(samples) {
+            Ok(()) => return Ok(EndReply::Nothing),
+            Err(fault) => return Err(fault),
+        }
+    }
+
+    // The same of samples that are cut, where there is memory for them.
+    fn write_numbers(self, numbers: &[u64]) -> TiffResult<EndReply>
+        ensures { EndMoves (λ s t place. WritesDataIfFound self.entry.state (cut_to self.entry.state.size numbers.now) result s t place) self.entry.state.directory.parent self.entry.encoder.now self.exit.0.now (DataHeld self.entry.state (cut_to self.entry.state.size numbers.now)) }
+    {
+        self.state.is_of_type();
+        let samples = match cut_samples::<C::Inner>(self.encoder.alloc(), numbers) {
+            Ok(samples) => samples,
+            Err(fault) => {
+                self.abandon();
+                return Err(fault);
+            }
+        };
+        self.write_samples(&samples)
+    }
+
+    // `finish`
+    fn finish_drawn(self) -> TiffResult<EndReply>
+        ensures { EndMoves (λ s t place. ImageEnds s self.entry.state ImageEnd.Finish result t place) self.entry.state.directory.parent self.entry.encoder.now self.exit.0.now (ImageHeld self.entry.state ImageEnd.Finish) }
+    {
+        self.state.fits();
+        match self.finish() {
+            Ok(()) => return Ok(EndReply::Nothing),
+            Err(fault) => return Err(fault),
+        }
+    }
+
+    // `discard`
+    fn discard_drawn(self) -> TiffResult<EndReply>
+        ensures { EndMoves (λ s t place. ImageEnds s self.entry.state ImageEnd.Discard result t place) self.entry.state.directory.parent self.entry.encoder.now self.exit.0.now (ImageHeld self.entry.state ImageEnd.Discard) }
+    {
+        self.state.fits();
+        match self.discard() {
+            Ok(()) => return Ok(EndReply::Nothing),
+            Err(fault) => return Err(fault),
+        }
+    }
+
+    /// Ends an image. Where there is no memory for its samples, it has no directory.
+    pub(crate) fn end_image(self, end: &ImageEnd) -> TiffResult<EndReply>
+        ensures { EndMoves (λ s t place. ImageEnds s self.entry.state end.now result t place) self.entry.state.directory.parent self.entry.encoder.now self.exit.0.now (ImageHeld self.entry.state end.now) }
+    {
+        match end {
+            ImageEnd::WriteData(numbers) => return self.write_numbers(numbers),
+            ImageEnd::Finish => return self.finish_drawn(),
+            ImageEnd::Discard => return self.discard_drawn(),
+        }
+    }
+}

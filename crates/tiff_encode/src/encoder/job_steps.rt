@@ -1,0 +1,133 @@
+//! The steps of jobs in a directory.
+
+ghost use Rattle.std.specs.Prelude.{◌≡◌, ◌+◌, ◌++◌, ◌∷◌, [], ◌<◌, ◌≤◌, length, vec_len, vec_capacity, OnErr};
+ghost use Rattle.tiff_encode.specs.Calls as calls;
+ghost use Rattle.tiff_encode.specs.Ends.{Ends};
+ghost use Rattle.tiff_encode.specs.JobValues.{buffer_in, value_data};
+ghost use Rattle.tiff_encode.specs.Jobs.{AllStepped, DirectoryStepped};
+ghost use Rattle.tiff_encode.specs.Leaves.{Leaves};
+ghost use Rattle.tiff_encode.specs.Model.{Model, Stands};
+ghost use Rattle.tiff_encode.specs.Stepping.{Moves};
+
+use crate::encoder::directory_encoder::DirectoryEncoder;
+use crate::encoder::kind::TiffKind;
+use crate::encoder::open::{Fields, State};
+use crate::encoder::script::{DirectoryStep, JobBuffer, JobValue, StepReply};
+use tiff_base::error::TiffResult;
+use tiff_base::io::Sink;
+use tiff_base::tags::Tag;
+
+// Behind the items of a list that has room.
+pub(crate) fn put<T: Drop>(items: &mut Vec<T>, item: T)
+    requires { vec_len items.old < vec_capacity items.old }
+    ensures items { items.new.items ≡ items.old.items ++ item ∷ [] }
+    ensures len { vec_len items.new ≡ vec_len items.old + 1 }
+    ensures capacity { vec_capacity items.old ≤ vec_capacity items.new }
+{
+    if items.push(item).is_err() {
+        unreachable!();
+    }
+}
+
+impl<'a, W: Sink, K: TiffKind, D: State> DirectoryEncoder<'a, W, K, D> {
+    // `write_tag` of a value of a job.
+    fn write_job_tag(&mut self, tag: Tag, value: &JobValue) -> TiffResult<()>
+        ensures same_reference { self.new.encoder.ghost_name ≡ self.old.encoder.ghost_name }
+        ensures stays { OnErr result (self.new.state ≡ self.old.state) }
+        ensures rest { self.new.state ≡ D.with_directory self.old.state (D.open_directory self.new.state) }
+        ensures answer { Ends (λ _. D.open_directory self.new.state) (calls.write_tag (D.open_directory self.old.state) tag (value_data value.now) self.old.encoder.now) result self.old.encoder.now self.new.encoder.now }
+        ensures leaves { (m : Model) → Stands self.old.encoder.now.kind self.old.encoder.now.bytes m
+            → Leaves (calls.write_tag (D.open_directory self.old.state) tag (value_data value.now) self.old.encoder.now) result self.old.encoder.now self.new.encoder.now m }
+    {
+        let entry = match self.encoder.place_job_value(value) {
+            Ok(entry) => entry,
+            Err(fault) => return Err(fault),
+        };
+        match self.state.set(tag, entry) {
+            Ok(()) => return Ok(()),
+            Err(fault) => return Err(fault),
+        }
+    }
+
+    // `write_tag_buf` of a buffer of a job.
+    fn write_job_tag_buf(&mut self, tag: Tag, buffer: &JobBuffer) -> TiffResult<()>
+        ensures same_reference { self.new.encoder.ghost_name ≡ self.old.encoder.ghost_name }
+        ensures stays { OnErr result (self.new.state ≡ self.old.state) }
+        ensures rest { self.new.state ≡ D.with_directory self.old.state (D.open_directory self.new.state) }
+        ensures answer { Ends (λ _. D.open_directory self.new.state) (calls.write_tag_buf (D.open_directory self.old.state) tag (buffer_in buffer.now) self.old.encoder.now) result self.old.encoder.now self.new.encoder.now }
+        ensures leaves { (m : Model) → Stands self.old.encoder.now.kind self.old.encoder.now.bytes m
+            → Leaves (calls.write_tag_buf (D.open_directory self.old.state) tag (buffer_in buffer.now) self.old.encoder.now) result self.old.encoder.now self.new.encoder.now m }
+    {
+        let entry = match self.encoder.place_job_buffer(buffer) {
+            Ok(entry) => entry,
+            Err(fault) => return Err(fault),
+        };
+        match self.state.set(tag, entry) {
+            Ok(()) => return Ok(()),
+            Err(fault) => return Err(fault),
+        }
+    }
+
+    /// A step of its directory.
+    pub(crate) fn step(&mut self, step: &DirectoryStep) -> TiffResult<StepReply>
+        ensures same_reference { self.new.encoder.ghost_name ≡ self.old.encoder.ghost_name }
+        ensures rest { self.new.state ≡ D.with_directory self.old.state (D.open_directory self.new.state) }
+        ensures moves { Moves (λ s t. DirectoryStepped s (D.open_directory self.old.state) step.now result t (D.open_directory self.new.state)) self.old.encoder.now self.new.encoder.now }
+    {
+        match step {
+            DirectoryStep::WriteTag(tag, value) => match self.write_job_tag(*tag, value) {
+                Ok(()) => Ok(StepReply::Nothing),
+                Err(fault) => Err(fault),
+            },
+            DirectoryStep::WriteTagBuf(tag, buffer) => match self.write_job_tag_buf(*tag, buffer) {
+                Ok(()) => Ok(StepReply::Nothing),
+                Err(fault) => Err(fault),
+            },
+            DirectoryStep::WriteData(value) => match self.encoder.append_job_value(value) {
+                Ok(place) => Ok(StepReply::Number(place)),
+                Err(fault) => Err(fault),
+            },
+            DirectoryStep::WriteDataBuf(buffer) => match self.encoder.append_job_buffer(buffer) {
+                Ok(place) => Ok(StepReply::Number(place)),
+                Err(fault) => Err(fault),
+            },
+            DirectoryStep::WriteEntry(value) => match self.encoder.place_job_value(value) {
+                Ok(entry) => Ok(StepReply::Written(entry)),
+                Err(fault) => Err(fault),
+            },
+            DirectoryStep::WriteEntryBuf(buffer) => match self.encoder.place_job_buffer(buffer) {
+                Ok(entry) => Ok(StepReply::Written(entry)),
+                Err(fault) => Err(fault),
+            },
+            DirectoryStep::WriteEntryBytes(field_type, bytes) => {
+                match self.write_entry_bytes(*field_type, bytes) {
+                    Ok(entry) => Ok(StepReply::Written(entry)),
+                    Err(fault) => Err(fault),
+                }
+            }
+            DirectoryStep::ExtendFrom(directory) => match self.extend_from(directory) {
+                Ok(()) => Ok(StepReply::Nothing),
+                Err(fault) => Err(fault),
+            },
+        }
+    }
+}
+
+impl<'a, W: Sink, K: TiffKind> DirectoryEncoder<'a, W, K, Fields> {
+    /// Steps one after another, and their replies; there is room for them.
+    pub(crate) fn steps(
+        &mut self,
+        steps: &[DirectoryStep],
+        replies: &mut Vec<TiffResult<StepReply>>,
+    )
+        requires room { length steps.now ≤ vec_capacity replies.old }
+        requires none { replies.old.items ≡ [] }
+        ensures same_reference { self.new.encoder.ghost_name ≡ self.old.encoder.ghost_name }
+        ensures moves { Moves (λ s t. AllStepped DirectoryStepped s self.old.state steps.now replies.new.items t self.new.state) self.old.encoder.now self.new.encoder.now }
+    {
+        for step in steps {
+            let reply = self.step(step);
+            put(replies, reply);
+        }
+    }
+}
