@@ -2,11 +2,11 @@
 
 ghost use Rattle.std.specs.Prelude.{◌≤◌, IfOk, IfSome};
 
-use crate::digits::bytes_of;
 use crate::source::{Failure, ScriptedSource};
 use std::alloc::{AllocError, Global};
 use std::fs;
 use std::rt::Files;
+use tiff_lists::digits::bytes_of;
 
 // A file as the words tell of it.
 #[derive(Drop)]

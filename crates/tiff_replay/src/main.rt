@@ -1,8 +1,6 @@
 //! Makes the calls of decoders that standard input lists, and prints each line with its reply.
 #![tactic(auto)]
 
-mod call;
-mod digits;
 mod file_line;
 mod session;
 mod source;

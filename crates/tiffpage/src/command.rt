@@ -21,6 +21,10 @@ pub enum Command<'a> {
         input: &'a str,
         page: u32,
     },
+    /// The replies to the calls of a decoder that standard input lists.
+    Calls {
+        input: &'a str,
+    },
 }
 
 impl<'a> Command<'a> {
@@ -29,7 +33,7 @@ impl<'a> Command<'a> {
         let (output, input) = match *self {
             Command::Gray { output, input, .. } => (output, input),
             Command::Raw { output, input, .. } => (output, input),
-            Command::Tags { .. } => return None,
+            Command::Tags { .. } | Command::Calls { .. } => return None,
         };
         if output == input { Some(output) } else { None }
     }
@@ -53,6 +57,9 @@ pub fn parse(words: &[String]) -> Option<Command<'_>> {
         ("tags", [input, page]) => Some(Command::Tags {
             input: input.as_str(),
             page: page.as_str().parse::<u32>().ok()?,
+        }),
+        ("calls", [input]) => Some(Command::Calls {
+            input: input.as_str(),
         }),
         _ => None,
     }

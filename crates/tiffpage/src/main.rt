@@ -1,6 +1,8 @@
-//! Writes the bytes of a file as a gray TIFF page, and the samples of a page into a file, and lists the entries of a page.
+//! Writes the bytes of a file as a gray TIFF page, and the samples of a page into a file, lists the entries of a page, and makes
+//! the calls of a list.
 #![tactic(auto)]
 
+mod calls;
 mod command;
 mod files;
 mod listing;

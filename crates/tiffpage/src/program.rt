@@ -5,6 +5,7 @@ ghost use Rattle.tiff.specs.Machine.{Follows, stays};
 ghost use Rattle.tiff.specs.Shows.{ShowsGray};
 ghost use Rattle.tiffpage.specs.Samples.{sample_bytes};
 
+use crate::calls::replies_to;
 use crate::command::{Command, parse};
 use crate::files::{FileFault, Files};
 use crate::listing::list_entries;
@@ -12,10 +13,12 @@ use std::alloc::Global;
 use std::fmt;
 use std::io::Write;
 use tiff::decoder::Decoder;
+use tiff::decoder::script::Call;
 use tiff::encoder::TiffEncoder;
 use tiff::encoder::colortype::Gray8;
 use tiff::io::{IoKind, MemorySink, MemorySource, Source};
 use tiff::{TiffError, TiffResult};
+use tiff_lists::call::calls_of;
 
 /// Why a command was not done.
 #[derive(Drop)]
@@ -23,6 +26,9 @@ enum Failure<'a> {
     Read(&'a str, FileFault),
     Write(&'a str),
     Tiff(TiffError),
+
+    /// The line of this number tells of no call.
+    NoCall(usize),
 
     /// The input has fewer bytes than there are samples.
     TooShort {
@@ -42,6 +48,7 @@ impl fmt::Display for Failure<'_> {
             },
             Failure::Write(name) => write!(f, "cannot write {name}"),
             Failure::Tiff(fault) => write!(f, "{fault}"),
+            Failure::NoCall(number) => write!(f, "line {number} is no call"),
             Failure::TooShort {
                 fault,
                 input,
@@ -65,6 +72,18 @@ impl<'a> From<TiffError> for Failure<'a> {
     }
 }
 
+impl Failure<'_> {
+    // The status that it ends with.
+    fn status(&self) -> u8
+        ensures { result ≤ 2 }
+    {
+        match self {
+            Failure::NoCall(_) => 2,
+            _ => 1,
+        }
+    }
+}
+
 fn read<'a, F: Files>(files: &mut F, name: &'a str) -> Result<Vec<u8>, Failure<'a>> {
     match files.read(name) {
         Ok(bytes) => Ok(bytes),
@@ -78,6 +97,19 @@ fn write<'a, F: Files>(files: &mut F, name: &'a str, bytes: &[u8]) -> Result<(),
         Ok(()) => Ok(()),
         Err(FileFault::OutOfMemory) => Err(Failure::Tiff(TiffError::OutOfMemory)),
         Err(_) => Err(Failure::Write(name)),
+    }
+}
+
+// The calls that standard input lists.
+fn listed_calls<'a, F: Files>(alloc: Global, files: &mut F) -> Result<Vec<Call>, Failure<'a>> {
+    let text = match files.read_input() {
+        Ok(text) => text,
+        Err(FileFault::OutOfMemory) => return Err(Failure::Tiff(TiffError::OutOfMemory)),
+        Err(fault) => return Err(Failure::Read("standard input", fault)),
+    };
+    match calls_of(alloc, text.as_str()) {
+        Ok(calls) => calls.map_err(|number| Failure::NoCall(number)),
+        Err(_) => Err(Failure::Tiff(TiffError::OutOfMemory)),
     }
 }
 
@@ -138,6 +170,17 @@ fn page_tags(alloc: Global, file: Vec<u8>, page: u32) -> TiffResult<String> {
     list_entries(alloc, &mut decoder)
 }
 
+// The replies to the calls that standard input lists, a line for each.
+fn call_replies<'a, F: Files>(
+    alloc: Global,
+    input: &'a str,
+    files: &mut F,
+) -> Result<String, Failure<'a>> {
+    let file = read(files, input)?;
+    let calls = listed_calls(alloc, files)?;
+    Ok(replies_to(alloc, file, &calls)?)
+}
+
 // Does what a command asks for, and answers what is to be printed.
 fn execute<'a, F: Files>(
     alloc: Global,
@@ -174,18 +217,20 @@ fn execute<'a, F: Files>(
             let file = read(files, input)?;
             Ok(page_tags(alloc, file, page)?)
         }
+        Command::Calls { input } => call_replies(alloc, input, files),
     }
 }
 
-const USAGE: &str = "usage: tiffpage gray|raw|tags ..";
+const USAGE: &str = "usage: tiffpage gray|raw|tags|calls ..";
 
-const FORMS: &str = "  gray OUT W H IN\n  raw FILE PAGE OUT\n  tags FILE PAGE";
+const FORMS: &str = "  gray OUT W H IN\n  raw FILE PAGE OUT\n  tags FILE PAGE\n  calls FILE < LIST";
 
 /// Does what the words ask for, and answers the status: 0; 1 for a fault, with a line `error: ..` on `err`, and where a
 /// write to `out` or `err` fails; 2 for a wrong command line, with the usage and a line for each command on `err`, and
-/// for an output that is an input too, with a line that says so, before anything is read. No words give the usage on
+/// for an output that is an input too, with a line that says so, before anything is read; 2 for a line of standard input that
+/// is no call, with a line `error: ..` that has its number, before any call is made. No words give the usage on
 /// `out`, and the lines of the commands on `err`. Faults are found in this order: the command line, reading the input,
-/// the decoder's or the encoder's, writing the output. On a fault nothing is written to `out`.
+/// reading standard input, its lines, the decoder's or the encoder's, writing the output. On a fault nothing is written to `out`.
 pub fn run<F: Files, O: Write, E: Write>(
     alloc: Global,
     words: &[String],
@@ -214,7 +259,7 @@ pub fn run<F: Files, O: Write, E: Write>(
         },
         Err(failure) => {
             let _ = writeln!(err, "error: {failure}");
-            1
+            failure.status()
         }
     }
 }

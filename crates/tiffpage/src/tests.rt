@@ -12,11 +12,12 @@ struct File {
     bytes: Vec<u8>,
 }
 
-// Files in memory. One name can't be written, and some can't be read.
+// Files in memory, and what standard input has. One name can't be written, and some can't be read.
 #[derive(Drop)]
 struct MemoryFiles {
     alloc: Global,
     files: Vec<File>,
+    input: &'static str,
 }
 
 const UNWRITABLE: &str = "FULL";
@@ -45,6 +46,7 @@ impl MemoryFiles {
         let mut files = MemoryFiles {
             alloc,
             files: Vec::new(alloc),
+            input: "",
         };
         files.write(name, bytes)?;
         Ok(files)
@@ -75,6 +77,10 @@ impl Files for MemoryFiles {
         self.files.insert(0, File { name, bytes })?;
         Ok(())
     }
+
+    fn read_input(&mut self) -> Result<String, FileFault> {
+        Ok(String::from_str(self.alloc, self.input)?)
+    }
 }
 
 // What a run answers: its status, and what it writes.
@@ -96,14 +102,15 @@ fn run_words(alloc: Global, files: &mut MemoryFiles, words: &[&str]) -> Result<R
     Ok(Run { status, out, err })
 }
 
-const USAGE: &[u8] = b"usage: tiffpage gray|raw|tags ..
+const USAGE: &[u8] = b"usage: tiffpage gray|raw|tags|calls ..
   gray OUT W H IN
   raw FILE PAGE OUT
   tags FILE PAGE
+  calls FILE < LIST
 ";
 
 // How many bytes of the usage go to standard output.
-const FIRST_LINE: usize = 33;
+const FIRST_LINE: usize = 39;
 
 /// The file of one gray sample 7, byte by byte.
 const ONE: [u8; 199] = [
@@ -177,8 +184,9 @@ fn samples_of_two_bytes_are_written_lowest_first(rt: HostRuntime) -> Result<(), 
     Ok(())
 }
 
-// A command line, its status and its lines on the error stream; IN has three bytes, ONE the file of one sample.
-const FAULTS: [(&[&str], u8, &[u8]); 29] = [
+// A command line, its status and its lines on the error stream; IN has three bytes, ONE the file of one sample, and
+// standard input NO_CALL.
+const FAULTS: [(&[&str], u8, &[u8]); 33] = [
     (
         &["gray", "OUT", "0", "5", "IN"],
         1,
@@ -284,13 +292,24 @@ const FAULTS: [(&[&str], u8, &[u8]); 29] = [
         b"tiffpage: NONE is an input too\n",
     ),
     (&["gray", "IN", "1", "x", "IN"], 2, USAGE),
+    (&["calls"], 2, USAGE),
+    (&["calls", "ONE", "0"], 2, USAGE),
+    (
+        &["calls", "NONE"],
+        1,
+        b"error: cannot read NONE: not found\n",
+    ),
+    (&["calls", "IN"], 2, b"error: line 3 is no call\n"),
 ];
+
+const NO_CALL: &str = "dimensions\n\nread_images\nread_image 0\n";
 
 #[test]
 fn faults_are_told_in_their_order(rt: HostRuntime) -> Result<(), Fail> {
     let mut files = MemoryFiles::with(rt.alloc(), "IN", &[1, 2, 3])?;
     files.write("ONE", ONE.as_slice())?;
     files.write("CUT", &ONE.as_slice()[..198])?;
+    files.input = NO_CALL;
     for (words, status, line) in FAULTS {
         let run = run_words(rt.alloc(), &mut files, words)?;
         assert_eq!(rt; run.status, status, "{line:?}");
@@ -383,5 +402,37 @@ fn no_words_give_the_usage(rt: HostRuntime) -> Result<(), Fail> {
     assert_eq!(rt; run.status, 0);
     assert_eq!(rt; run.out.as_slice(), &USAGE[..FIRST_LINE]);
     assert_eq!(rt; run.err.as_slice(), &USAGE[FIRST_LINE..]);
+    Ok(())
+}
+
+const CALLS: &str = "# A refused call is a reply too.
+dimensions
+next_image
+
+find_tag_bytes 256 2 0
+read_image";
+
+const REPLIES: &[u8] = b"(1, 1)
+refused: format error: image file directory not found (FormatError(ImageFileDirectoryNotFound))
+Some(2), [1, 0]
+U8([7])
+";
+
+#[test]
+fn listed_calls_are_made(rt: HostRuntime) -> Result<(), Fail> {
+    let mut files = MemoryFiles::with(rt.alloc(), "ONE", ONE.as_slice())?;
+    files.write("CUT", &ONE.as_slice()[..198])?;
+    files.input = CALLS;
+    let made = run_words(rt.alloc(), &mut files, &["calls", "ONE"])?;
+    assert_eq!(rt; made.status, 0);
+    assert_eq!(rt; made.out.as_slice(), REPLIES);
+    assert_eq!(rt; made.err.len(), 0);
+    let cut = run_words(rt.alloc(), &mut files, &["calls", "CUT"])?;
+    assert_eq!(rt; cut.status, 1);
+    assert_eq!(rt; cut.out.len(), 0);
+    assert_eq!(rt;
+        cut.err.as_slice(),
+        b"error: unexpected end of file\n".as_slice()
+    );
     Ok(())
 }

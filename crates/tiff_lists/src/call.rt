@@ -1,4 +1,4 @@
-//! The words of a call: its name, and its numbers.
+//! Calls of a decoder as words, each its name and its numbers, and lists of them as lines of text.
 
 use std::alloc::{AllocError, Global};
 use tiff_base::tags::{IfdPointer, Tag};
@@ -182,4 +182,21 @@ pub fn call_of(alloc: Global, words: &str) -> Result<Option<Call>, AllocError> {
         Some(numbers) => Ok(numbers_call(name, &numbers)),
         None => Ok(None),
     }
+}
+
+/// The calls that the lines of a text tell of, or the number, from 1, of the first line that is none. Empty lines and those that
+/// begin with `#` tell of nothing.
+pub fn calls_of(alloc: Global, text: &str) -> Result<Result<Vec<Call>, usize>, AllocError> {
+    let mut calls = Vec::new(alloc);
+    let mut number = 1usize;
+    for line in text.lines() {
+        if !line.is_empty() && !line.starts_with('#') {
+            let Some(call) = call_of(alloc, line)? else {
+                return Ok(Err(number));
+            };
+            calls.push(call)?;
+        }
+        number = number.saturating_add(1);
+    }
+    Ok(Ok(calls))
 }

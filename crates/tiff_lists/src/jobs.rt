@@ -1,0 +1,233 @@
+//! Lists of jobs as lines of text.
+
+use crate::steps::{directory_step_of, image_step_of};
+use crate::words::{Unread, first_word, read, samples_of};
+use std::alloc::{AllocError, Global};
+use std::mem;
+use tiff_encode::encoder::script::{
+    DirectoryEnd, DirectoryJob, DirectoryStep, ImageEnd, ImageJob, ImageStep, Job,
+};
+use tiff_value::encoder::colortype::ColorTypeName;
+
+// A job that has begun.
+#[derive(Clone, Copy)]
+enum Begun {
+    Directory {
+        chained: bool,
+        parent: Option<usize>,
+    },
+    Image {
+        colour: ColorTypeName,
+        width: u32,
+        height: u32,
+    },
+}
+
+// What the lines up to one tell of.
+#[derive(Drop)]
+struct JobList {
+    alloc: Global,
+    jobs: Vec<Job>,
+    begun: Option<Begun>,
+    directory_steps: Vec<DirectoryStep>,
+    image_steps: Vec<ImageStep>,
+}
+
+// The beginning of a directory, whose parent may stand behind its name.
+fn directory_begun(chained: bool, words: &str) -> Result<Begun, Unread> {
+    let parent = match words {
+        "" => None,
+        _ => Some(read(words)?),
+    };
+    Ok(Begun::Directory { chained, parent })
+}
+
+// The beginning of an image: its colour type and its sides.
+fn image_begun(words: &str) -> Result<Begun, Unread> {
+    let (colour, words) = first_word(words);
+    let (width, height) = first_word(words);
+    Ok(Begun::Image {
+        colour: read(colour)?,
+        width: read(width)?,
+        height: read(height)?,
+    })
+}
+
+// Puts an item behind the others.
+fn put<T: Drop>(items: &mut Vec<T>, item: T) -> Result<(), Unread> {
+    items.push(item)?;
+    Ok(())
+}
+
+// Takes all items out.
+fn taken<T: Drop>(alloc: Global, items: &mut Vec<T>) -> Vec<T> {
+    mem::replace(items, Vec::new(alloc))
+}
+
+impl JobList {
+    // No job.
+    fn new(alloc: Global) -> Self {
+        JobList {
+            alloc,
+            jobs: Vec::new(alloc),
+            begun: None,
+            directory_steps: Vec::new(alloc),
+            image_steps: Vec::new(alloc),
+        }
+    }
+
+    // A line outside of jobs.
+    fn begin(&mut self, name: &str, words: &str) -> Result<(), Unread> {
+        match name {
+            "predictor" => put(&mut self.jobs, Job::Predictor(read(words)?)),
+            "compression" => put(&mut self.jobs, Job::Compression(read(words)?)),
+            "directory" => {
+                self.begun = Some(directory_begun(true, words)?);
+                Ok(())
+            }
+            "extra_directory" => {
+                self.begun = Some(directory_begun(false, words)?);
+                Ok(())
+            }
+            "image" => {
+                self.begun = Some(image_begun(words)?);
+                Ok(())
+            }
+            _ => Err(Unread::Form),
+        }
+    }
+
+    // The end of a directory.
+    fn end_directory(
+        &mut self,
+        chained: bool,
+        parent: Option<usize>,
+        end: DirectoryEnd,
+    ) -> Result<(), Unread> {
+        self.begun = None;
+        let job = DirectoryJob {
+            chained,
+            parent,
+            steps: taken(self.alloc, &mut self.directory_steps),
+            end,
+        };
+        put(&mut self.jobs, Job::Directory(job))
+    }
+
+    // A line of a directory.
+    fn go_on_directory(
+        &mut self,
+        chained: bool,
+        parent: Option<usize>,
+        line: &str,
+    ) -> Result<(), Unread> {
+        match line {
+            "finish" => self.end_directory(chained, parent, DirectoryEnd::Finish),
+            "discard" => self.end_directory(chained, parent, DirectoryEnd::Discard),
+            _ => {
+                let (name, words) = first_word(line);
+                let step = directory_step_of(self.alloc, name, words)?;
+                put(&mut self.directory_steps, step)
+            }
+        }
+    }
+
+    // The end of an image.
+    fn end_image(
+        &mut self,
+        colour: ColorTypeName,
+        width: u32,
+        height: u32,
+        end: ImageEnd,
+    ) -> Result<(), Unread> {
+        self.begun = None;
+        let job = ImageJob {
+            colour,
+            width,
+            height,
+            steps: taken(self.alloc, &mut self.image_steps),
+            end,
+        };
+        put(&mut self.jobs, Job::Image(job))
+    }
+
+    // A step of an image.
+    fn add_image_step(&mut self, name: &str, words: &str) -> Result<(), Unread> {
+        let step = image_step_of(self.alloc, name, words)?;
+        put(&mut self.image_steps, step)
+    }
+
+    // The end of an image that a line tells of, if it is one.
+    fn image_end(&self, line: &str) -> Result<Option<ImageEnd>, Unread> {
+        let (name, words) = first_word(line);
+        match (name, words) {
+            ("finish", "") => Ok(Some(ImageEnd::Finish)),
+            ("discard", "") => Ok(Some(ImageEnd::Discard)),
+            ("write_data", _) => Ok(Some(ImageEnd::WriteData(samples_of(self.alloc, words)?))),
+            _ => Ok(None),
+        }
+    }
+
+    // A line of an image.
+    fn go_on_image(
+        &mut self,
+        colour: ColorTypeName,
+        width: u32,
+        height: u32,
+        line: &str,
+    ) -> Result<(), Unread> {
+        match self.image_end(line)? {
+            Some(end) => self.end_image(colour, width, height, end),
+            None => {
+                let (name, words) = first_word(line);
+                self.add_image_step(name, words)
+            }
+        }
+    }
+
+    // The next line.
+    fn take(&mut self, line: &str) -> Result<(), Unread> {
+        if line.is_empty() || line.starts_with('#') {
+            return Ok(());
+        }
+        match self.begun {
+            None => {
+                let (name, words) = first_word(line);
+                self.begin(name, words)
+            }
+            Some(Begun::Directory { chained, parent }) => {
+                self.go_on_directory(chained, parent, line)
+            }
+            Some(
+                Begun::Image {
+                    colour,
+                    width,
+                    height,
+                },
+            ) => self.go_on_image(colour, width, height, line),
+        }
+    }
+
+    // All jobs, if none is left open.
+    fn all(self) -> Option<Vec<Job>> {
+        match self.begun {
+            None => Some(self.jobs),
+            Some(_) => None,
+        }
+    }
+}
+
+/// The jobs that the lines of a text tell of, or the number, from 1, of the first line that is none. A text that ends within
+/// a job is refused at the line after its last. Empty lines and those that begin with `#` tell of nothing.
+pub fn jobs_of(alloc: Global, text: &str) -> Result<Result<Vec<Job>, usize>, AllocError> {
+    let mut list = JobList::new(alloc);
+    let mut number = 1usize;
+    for line in text.lines() {
+        match list.take(line) {
+            Ok(()) => number = number.saturating_add(1),
+            Err(Unread::Form) => return Ok(Err(number)),
+            Err(Unread::OutOfMemory) => return Err(AllocError),
+        }
+    }
+    Ok(list.all().ok_or(number))
+}

@@ -1,0 +1,117 @@
+//! The values that are written, and fields of directories, as words.
+
+use crate::words::{Unread, digits_of, first_word, list_of, read};
+use std::alloc::Global;
+use tiff_base::directory::{Directory, Entry};
+use tiff_base::tags::{Tag, Type};
+use tiff_encode::encoder::script::{JobBuffer, JobValue};
+
+// A value of places or fractions.
+fn place_value(alloc: Global, name: &str, words: &str) -> Result<JobValue, Unread> {
+    match name {
+        "ifd" => Ok(JobValue::Ifd(list_of(alloc, words)?)),
+        "ifd8" => Ok(JobValue::Ifd8(list_of(alloc, words)?)),
+        "rational" => Ok(JobValue::Rational(list_of(alloc, words)?)),
+        "srational" => Ok(JobValue::SRational(list_of(alloc, words)?)),
+        _ => Err(Unread::Form),
+    }
+}
+
+// A value of what numbers stand for.
+fn named_value(alloc: Global, name: &str, words: &str) -> Result<JobValue, Unread> {
+    match name {
+        "method" => Ok(JobValue::CompressionMethod(list_of(alloc, words)?)),
+        "interpretation" => Ok(JobValue::PhotometricInterpretation(list_of(alloc, words)?)),
+        "planar" => Ok(JobValue::PlanarConfiguration(list_of(alloc, words)?)),
+        "predictor" => Ok(JobValue::Predictor(list_of(alloc, words)?)),
+        "unit" => Ok(JobValue::ResolutionUnit(list_of(alloc, words)?)),
+        "format" => Ok(JobValue::SampleFormat(list_of(alloc, words)?)),
+        "extra" => Ok(JobValue::ExtraSamples(list_of(alloc, words)?)),
+        _ => place_value(alloc, name, words),
+    }
+}
+
+// A value of wide numbers.
+fn wide_value(alloc: Global, name: &str, words: &str) -> Result<JobValue, Unread> {
+    match name {
+        "u32" => Ok(JobValue::U32(list_of(alloc, words)?)),
+        "i32" => Ok(JobValue::I32(list_of(alloc, words)?)),
+        "u64" => Ok(JobValue::U64(list_of(alloc, words)?)),
+        "i64" => Ok(JobValue::I64(list_of(alloc, words)?)),
+        "f32" => Ok(JobValue::Bits32(list_of(alloc, words)?)),
+        "f64" => Ok(JobValue::Bits64(list_of(alloc, words)?)),
+        _ => named_value(alloc, name, words),
+    }
+}
+
+/// The value that words tell of: the name of a type, and a word for each number; or `text`, and the text.
+pub fn value_of(alloc: Global, words: &str) -> Result<JobValue, Unread> {
+    let (name, words) = first_word(words);
+    match name {
+        "text" => Ok(JobValue::Text(String::from_str(alloc, words)?)),
+        "u8" => Ok(JobValue::U8(list_of(alloc, words)?)),
+        "i8" => Ok(JobValue::I8(list_of(alloc, words)?)),
+        "u16" => Ok(JobValue::U16(list_of(alloc, words)?)),
+        "i16" => Ok(JobValue::I16(list_of(alloc, words)?)),
+        _ => wide_value(alloc, name, words),
+    }
+}
+
+/// The bytes that words tell of: the number of a type, their order, and their digits.
+pub fn buffer_of(alloc: Global, words: &str) -> Result<JobBuffer, Unread> {
+    let (data_type, words) = first_word(words);
+    let (order, digits) = first_word(words);
+    Ok(JobBuffer {
+        data_type: read(data_type)?,
+        order: read(order)?,
+        bytes: digits_of(alloc, digits)?,
+    })
+}
+
+// The eight bytes of sixteen digits.
+fn field_bytes(digits: &str) -> Option<[u8; 8]> {
+    if digits.len() != 16 {
+        return None;
+    }
+    Some(u64::from_str_radix(digits, 16).ok()?.to_be_bytes())
+}
+
+// The parts of `a:b`.
+fn parted(word: &str) -> Result<(&str, &str), Unread> {
+    word.split_once(':').ok_or(Unread::Form)
+}
+
+// Sets the field that a word tells of: the numbers of its tag and its type, how many values it has, and its bytes.
+fn set_field(directory: &mut Directory, word: &str) -> Result<(), Unread> {
+    let (tag, word) = parted(word)?;
+    let (data_type, word) = parted(word)?;
+    let (count, digits) = parted(word)?;
+    let value = field_bytes(digits).ok_or(Unread::Form)?;
+    let entry = Entry::new_u64(read::<Type>(data_type)?, read::<u64>(count)?, value);
+    directory.insert(read::<u16>(tag)?, entry)?;
+    Ok(())
+}
+
+/// The directory of the fields that words tell of.
+pub fn directory_of(alloc: Global, words: &str) -> Result<Directory, Unread> {
+    let mut directory = Directory::empty(alloc);
+    if words.is_empty() {
+        return Ok(directory);
+    }
+    for word in words.split(' ') {
+        set_field(&mut directory, word)?;
+    }
+    Ok(directory)
+}
+
+/// The tag of the first word, and the words behind it.
+pub fn tagged(words: &str) -> Result<(Tag, &str), Unread> {
+    let (tag, words) = first_word(words);
+    Ok((read(tag)?, words))
+}
+
+/// The type of the first word, and the bytes of the second.
+pub fn typed_bytes(alloc: Global, words: &str) -> Result<(Type, Vec<u8>), Unread> {
+    let (data_type, digits) = first_word(words);
+    Ok((read(data_type)?, digits_of(alloc, digits)?))
+}

@@ -1,0 +1,328 @@
+//! Single words of a line: numbers, and what numbers and names stand for.
+
+use crate::digits::bytes_of;
+use std::alloc::{AllocError, AllocFailed, Global};
+use tiff_base::tags::{
+    Bits32, Bits64, ByteOrder, CompressionMethod, ExtraSamples, PhotometricInterpretation,
+    PlanarConfiguration, Predictor, ResolutionUnit, SampleFormat, Tag, Type,
+};
+use tiff_encode::encoder::Compression;
+use tiff_value::encoder::colortype::ColorTypeName;
+use tiff_value::encoder::tiff_value::{Ifd, Ifd8, Rational, SRational};
+
+/// Why words tell of nothing.
+#[derive(Clone, Copy, Debug, Drop)]
+pub enum Unread {
+    /// They are not of the form.
+    Form,
+    OutOfMemory,
+}
+
+impl From<AllocError> for Unread {
+    fn from(_fault: AllocError) -> Unread {
+        Unread::OutOfMemory
+    }
+}
+
+impl<T: Drop> From<AllocFailed<T>> for Unread {
+    fn from(_fault: AllocFailed<T>) -> Unread {
+        Unread::OutOfMemory
+    }
+}
+
+/// What one word tells of.
+pub trait FromWord: Sized {
+    /// What the word tells of, if it does.
+    fn from_word(word: &str) -> Option<Self>;
+}
+
+impl FromWord for u8 {
+    fn from_word(word: &str) -> Option<u8> {
+        word.parse::<u8>().ok()
+    }
+}
+
+impl FromWord for i8 {
+    fn from_word(word: &str) -> Option<i8> {
+        word.parse::<i8>().ok()
+    }
+}
+
+impl FromWord for u16 {
+    fn from_word(word: &str) -> Option<u16> {
+        word.parse::<u16>().ok()
+    }
+}
+
+impl FromWord for i16 {
+    fn from_word(word: &str) -> Option<i16> {
+        word.parse::<i16>().ok()
+    }
+}
+
+impl FromWord for u32 {
+    fn from_word(word: &str) -> Option<u32> {
+        word.parse::<u32>().ok()
+    }
+}
+
+impl FromWord for i32 {
+    fn from_word(word: &str) -> Option<i32> {
+        word.parse::<i32>().ok()
+    }
+}
+
+impl FromWord for u64 {
+    fn from_word(word: &str) -> Option<u64> {
+        word.parse::<u64>().ok()
+    }
+}
+
+impl FromWord for i64 {
+    fn from_word(word: &str) -> Option<i64> {
+        word.parse::<i64>().ok()
+    }
+}
+
+impl FromWord for usize {
+    fn from_word(word: &str) -> Option<usize> {
+        word.parse::<usize>().ok()
+    }
+}
+
+impl FromWord for Bits32 {
+    fn from_word(word: &str) -> Option<Bits32> {
+        Some(Bits32(u32::from_str_radix(word, 16).ok()?))
+    }
+}
+
+impl FromWord for Bits64 {
+    fn from_word(word: &str) -> Option<Bits64> {
+        Some(Bits64(u64::from_str_radix(word, 16).ok()?))
+    }
+}
+
+impl FromWord for Tag {
+    fn from_word(word: &str) -> Option<Tag> {
+        Some(Tag::from_u16_exhaustive(u16::from_word(word)?))
+    }
+}
+
+impl FromWord for Type {
+    fn from_word(word: &str) -> Option<Type> {
+        Type::from_u16(u16::from_word(word)?)
+    }
+}
+
+impl FromWord for CompressionMethod {
+    fn from_word(word: &str) -> Option<CompressionMethod> {
+        Some(CompressionMethod::from_u16_exhaustive(u16::from_word(word)?))
+    }
+}
+
+impl FromWord for PhotometricInterpretation {
+    fn from_word(word: &str) -> Option<PhotometricInterpretation> {
+        PhotometricInterpretation::from_u16(u16::from_word(word)?)
+    }
+}
+
+impl FromWord for PlanarConfiguration {
+    fn from_word(word: &str) -> Option<PlanarConfiguration> {
+        PlanarConfiguration::from_u16(u16::from_word(word)?)
+    }
+}
+
+impl FromWord for Predictor {
+    fn from_word(word: &str) -> Option<Predictor> {
+        Predictor::from_u16(u16::from_word(word)?)
+    }
+}
+
+impl FromWord for ResolutionUnit {
+    fn from_word(word: &str) -> Option<ResolutionUnit> {
+        ResolutionUnit::from_u16(u16::from_word(word)?)
+    }
+}
+
+impl FromWord for SampleFormat {
+    fn from_word(word: &str) -> Option<SampleFormat> {
+        Some(SampleFormat::from_u16_exhaustive(u16::from_word(word)?))
+    }
+}
+
+impl FromWord for ExtraSamples {
+    fn from_word(word: &str) -> Option<ExtraSamples> {
+        ExtraSamples::from_u16(u16::from_word(word)?)
+    }
+}
+
+impl FromWord for Ifd {
+    fn from_word(word: &str) -> Option<Ifd> {
+        Some(Ifd(u32::from_word(word)?))
+    }
+}
+
+impl FromWord for Ifd8 {
+    fn from_word(word: &str) -> Option<Ifd8> {
+        Some(Ifd8(u64::from_word(word)?))
+    }
+}
+
+impl FromWord for Rational {
+    fn from_word(word: &str) -> Option<Rational> {
+        let (n, d) = word.split_once('/')?;
+        Some(Rational {
+            n: u32::from_word(n)?,
+            d: u32::from_word(d)?,
+        })
+    }
+}
+
+impl FromWord for SRational {
+    fn from_word(word: &str) -> Option<SRational> {
+        let (n, d) = word.split_once('/')?;
+        Some(SRational {
+            n: i32::from_word(n)?,
+            d: i32::from_word(d)?,
+        })
+    }
+}
+
+impl FromWord for ByteOrder {
+    fn from_word(word: &str) -> Option<ByteOrder> {
+        match word {
+            "little" => Some(ByteOrder::LittleEndian),
+            "big" => Some(ByteOrder::BigEndian),
+            _ => None,
+        }
+    }
+}
+
+impl FromWord for Compression {
+    fn from_word(word: &str) -> Option<Compression> {
+        match word {
+            "uncompressed" => Some(Compression::Uncompressed),
+            "packbits" => Some(Compression::Packbits),
+            _ => None,
+        }
+    }
+}
+
+// A colour type of one sample.
+fn gray_name(word: &str) -> Option<ColorTypeName> {
+    match word {
+        "Gray8" => Some(ColorTypeName::Gray8),
+        "Gray16" => Some(ColorTypeName::Gray16),
+        "Gray32" => Some(ColorTypeName::Gray32),
+        "Gray64" => Some(ColorTypeName::Gray64),
+        "GrayI8" => Some(ColorTypeName::GrayI8),
+        "GrayI16" => Some(ColorTypeName::GrayI16),
+        "GrayI32" => Some(ColorTypeName::GrayI32),
+        "GrayI64" => Some(ColorTypeName::GrayI64),
+        "Gray32Float" => Some(ColorTypeName::Gray32Float),
+        "Gray64Float" => Some(ColorTypeName::Gray64Float),
+        _ => None,
+    }
+}
+
+// A colour type of red, green and blue.
+fn rgb_name(word: &str) -> Option<ColorTypeName> {
+    match word {
+        "RGB8" => Some(ColorTypeName::RGB8),
+        "RGB16" => Some(ColorTypeName::RGB16),
+        "RGB32" => Some(ColorTypeName::RGB32),
+        "RGB64" => Some(ColorTypeName::RGB64),
+        "RGB32Float" => Some(ColorTypeName::RGB32Float),
+        "RGB64Float" => Some(ColorTypeName::RGB64Float),
+        "RGBA8" => Some(ColorTypeName::RGBA8),
+        "RGBA16" => Some(ColorTypeName::RGBA16),
+        "RGBA32" => Some(ColorTypeName::RGBA32),
+        "RGBA64" => Some(ColorTypeName::RGBA64),
+        "RGBA32Float" => Some(ColorTypeName::RGBA32Float),
+        "RGBA64Float" => Some(ColorTypeName::RGBA64Float),
+        _ => None,
+    }
+}
+
+// A colour type of inks or of luminance.
+fn print_name(word: &str) -> Option<ColorTypeName> {
+    match word {
+        "CMYK8" => Some(ColorTypeName::CMYK8),
+        "CMYK16" => Some(ColorTypeName::CMYK16),
+        "CMYK32" => Some(ColorTypeName::CMYK32),
+        "CMYK64" => Some(ColorTypeName::CMYK64),
+        "CMYK32Float" => Some(ColorTypeName::CMYK32Float),
+        "CMYK64Float" => Some(ColorTypeName::CMYK64Float),
+        "YCbCr8" => Some(ColorTypeName::YCbCr8),
+        "CMYKA8" => Some(ColorTypeName::CMYKA8),
+        _ => None,
+    }
+}
+
+impl FromWord for ColorTypeName {
+    fn from_word(word: &str) -> Option<ColorTypeName> {
+        if let Some(name) = gray_name(word) {
+            return Some(name);
+        }
+        if let Some(name) = rgb_name(word) {
+            return Some(name);
+        }
+        print_name(word)
+    }
+}
+
+/// What a word tells of.
+pub fn read<T: FromWord>(word: &str) -> Result<T, Unread> {
+    T::from_word(word).ok_or(Unread::Form)
+}
+
+/// The first word, and those behind it.
+pub fn first_word(words: &str) -> (&str, &str) {
+    words.split_once(' ').unwrap_or((words, ""))
+}
+
+/// What two words tell of.
+pub fn pair_of<A: FromWord + Drop, B: FromWord>(words: &str) -> Result<(A, B), Unread> {
+    let (first, second) = first_word(words);
+    let first = read::<A>(first)?;
+    Ok((first, read::<B>(second)?))
+}
+
+/// What each of some words tells of, or of none.
+pub fn list_of<T: FromWord + Drop>(alloc: Global, words: &str) -> Result<Vec<T>, Unread> {
+    let mut list = Vec::new(alloc);
+    if words.is_empty() {
+        return Ok(list);
+    }
+    for word in words.split(' ') {
+        list.push(read::<T>(word)?)?;
+    }
+    Ok(list)
+}
+
+/// The bytes of digits.
+pub fn digits_of(alloc: Global, word: &str) -> Result<Vec<u8>, Unread> {
+    bytes_of(alloc, word)?.ok_or(Unread::Form)
+}
+
+// Adds a sample, or one several times over: `7` or `7*20`.
+fn push_samples(samples: &mut Vec<u64>, word: &str) -> Result<(), Unread> {
+    let (digits, count) = word.split_once('*').unwrap_or((word, "1"));
+    let sample = read::<Bits64>(digits)?;
+    let count = read::<usize>(count)?;
+    let len = samples.len().checked_add(count).ok_or(Unread::OutOfMemory)?;
+    samples.resize(len, sample.0)?;
+    Ok(())
+}
+
+/// The samples of words: hexadecimal numbers, each once or a decimal number of times.
+pub fn samples_of(alloc: Global, words: &str) -> Result<Vec<u64>, Unread> {
+    let mut samples = Vec::new(alloc);
+    if words.is_empty() {
+        return Ok(samples);
+    }
+    for word in words.split(' ') {
+        push_samples(&mut samples, word)?;
+    }
+    Ok(samples)
+}
