@@ -1,10 +1,10 @@
 //! Jobs, one after another.
 
-ghost use Rattle.std.specs.Prelude.{◌≡◌, [], ◌⊎◌, ◌≤◌, length, vec_capacity, true, false};
+ghost use Rattle.std.specs.Prelude.{◌≡◌, ◌⊎◌, length, true, false};
 ghost use Rattle.tiff_base.specs.declared.tags.CompressionMethod.TheVariants as method;
 ghost use Rattle.tiff_encode.specs.Calls as calls;
 ghost use Rattle.tiff_encode.specs.Jobs.{offsets_in};
-ghost use Rattle.tiff_encode.specs.Running.{DirectoryGoesOn, DirectoryRunsOn, ImageGoesOn, ImageRunsOn, NamesLink, link_in, linked_from, step_count};
+ghost use Rattle.tiff_encode.specs.Running.{DirectoryGoesOn, DirectoryRunsOn, HasRoom, ImageGoesOn, ImageRunsOn, NamesLink, link_in, linked_from, step_count};
 ghost use Rattle.tiff_encode.specs.Stepping.{JobMoves, answered};
 
 use crate::encoder::TiffEncoder;
@@ -70,8 +70,7 @@ fn lead_directory<W: Sink, K: TiffKind>(
     job: &DirectoryJob,
     mut steps: Vec<TiffResult<StepReply>>,
 ) -> JobReply
-    requires none { steps.items ≡ [] }
-    requires room { length job.now.steps.items ≤ vec_capacity steps }
+    requires { HasRoom (length job.now.steps.items) steps }
     ensures { DirectoryGoesOn state job.now result encoder.old encoder.new }
 {
     let mut directory = DirectoryEncoder { encoder, state };
@@ -88,8 +87,7 @@ fn run_chained<W: Sink, K: TiffKind>(
     steps: Vec<TiffResult<StepReply>>,
 ) -> JobReply
     requires chained { job.now.chained ≡ true }
-    requires none { steps.items ≡ [] }
-    requires room { length job.now.steps.items ≤ vec_capacity steps }
+    requires room { HasRoom (length job.now.steps.items) steps }
     ensures { DirectoryRunsOn parent job.now result encoder.old encoder.new }
 {
     match encoder.image_directory() {
@@ -115,8 +113,7 @@ fn run_extra<W: Sink, K: TiffKind>(
     steps: Vec<TiffResult<StepReply>>,
 ) -> JobReply
     requires chained { job.now.chained ≡ false }
-    requires none { steps.items ≡ [] }
-    requires room { length job.now.steps.items ≤ vec_capacity steps }
+    requires room { HasRoom (length job.now.steps.items) steps }
     ensures { DirectoryRunsOn parent job.now result encoder.old encoder.new }
 {
     match encoder.extra_directory() {
@@ -167,8 +164,7 @@ fn run_directory<W: Sink, K: TiffKind>(
     parent: Option<u64>,
     steps: Vec<TiffResult<StepReply>>,
 ) -> JobReply
-    requires none { steps.items ≡ [] }
-    requires room { length job.now.steps.items ≤ vec_capacity steps }
+    requires { HasRoom (length job.now.steps.items) steps }
     ensures { DirectoryRunsOn parent job.now result encoder.old encoder.new }
 {
     if job.chained {
@@ -186,8 +182,7 @@ fn lead_image<W: Sink, K: TiffKind, C: ColorType>(
     job: &ImageJob,
     mut steps: Vec<TiffResult<StepReply>>,
 ) -> JobReply
-    requires none { steps.items ≡ [] }
-    requires room { length job.now.steps.items ≤ vec_capacity steps }
+    requires { HasRoom (length job.now.steps.items) steps }
     ensures { ImageGoesOn state job.now result encoder.old encoder.new }
 {
     let mut image = DirectoryEncoder { encoder, state };
@@ -203,8 +198,7 @@ fn run_image<W: Sink, K: TiffKind, C: NamedColorType>(
     steps: Vec<TiffResult<StepReply>>,
 ) -> JobReply
     requires named { job.now.colour ≡ C.name }
-    requires none { steps.items ≡ [] }
-    requires room { length job.now.steps.items ≤ vec_capacity steps }
+    requires room { HasRoom (length job.now.steps.items) steps }
     ensures { ImageRunsOn job.now result encoder.old encoder.new }
 {
     encoder.packs();
@@ -229,8 +223,7 @@ fn run_named<W: Sink, K: TiffKind>(
     job: &ImageJob,
     steps: Vec<TiffResult<StepReply>>,
 ) -> JobReply
-    requires none { steps.items ≡ [] }
-    requires room { length job.now.steps.items ≤ vec_capacity steps }
+    requires { HasRoom (length job.now.steps.items) steps }
     ensures { ImageRunsOn job.now result encoder.old encoder.new }
 {
     match job.colour {
@@ -276,8 +269,7 @@ fn run_by_kind<W: Sink, K: TiffKind>(
     earlier: &[JobReply],
     steps: Vec<TiffResult<StepReply>>,
 ) -> JobReply
-    requires none { steps.items ≡ [] }
-    requires room { step_count job.now ≤ vec_capacity steps }
+    requires { HasRoom (step_count job.now) steps }
     ensures { encoder.new.kind ≡ encoder.old.kind → JobMoves job.now earlier.now result encoder.old encoder.new }
 {
     match job {
@@ -315,8 +307,7 @@ pub(crate) fn run_job<W: Sink, K: TiffKind>(
     earlier: &[JobReply],
     steps: Vec<TiffResult<StepReply>>,
 ) -> JobReply
-    requires none { steps.items ≡ [] }
-    requires room { step_count job.now ≤ vec_capacity steps }
+    requires { HasRoom (step_count job.now) steps }
     ensures { JobMoves job.now earlier.now result encoder.old encoder.new }
 {
     encoder.is_of_kind();

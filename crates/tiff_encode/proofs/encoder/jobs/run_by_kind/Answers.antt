@@ -7,7 +7,7 @@ pub returns-in-Predictor : goal.returns-in-Predictor
 returns-in-Predictor g c = λ kind.
     let earlier = c.args.earlier.now in
     moves_as c.args.job.now (job.Predictor c.in-Predictor.predictor) earlier _ c.args.encoder.now c.set_predictor.new.self c.in-Predictor.is
-    (predictor_moves c.in-Predictor.predictor earlier _ c.args.encoder.now c.set_predictor.new.self c.set_predictor.ensures c.requires.none refl)
+    (predictor_moves c.in-Predictor.predictor earlier _ c.args.encoder.now c.set_predictor.new.self c.set_predictor.ensures c.requires.0 refl)
 
 pub returns-in-Compression : goal.returns-in-Compression
 returns-in-Compression g c = λ kind.
@@ -15,7 +15,7 @@ returns-in-Compression g c = λ kind.
     moves_as c.args.job.now (job.Compression c.in-Compression.compression) earlier _ c.args.encoder.now c.set_compression.new.self
     c.in-Compression.is
     (compression_moves c.in-Compression.compression earlier _ c.args.encoder.now c.set_compression.new.self c.set_compression.ensures
-    c.requires.none refl)
+    c.requires.0 refl)
 
 pub returns-in-Ok : goal.returns-in-Ok
 returns-in-Ok g c = λ kind.
@@ -29,7 +29,7 @@ pub returns-in-Err : goal.returns-in-Err
 returns-in-Err g c = λ kind.
     let earlier = c.args.earlier.now in
     moves_as c.args.job.now (job.Directory c.in-Directory.job) earlier _ c.args.encoder.now c.args.encoder.now c.in-Directory.is
-    (unnamed_moves c.in-Directory.job earlier _ c.in-Err.fault c.args.encoder.now c.in-Err.ensures c.requires.none refl)
+    (unnamed_moves c.in-Directory.job earlier _ c.in-Err.fault c.args.encoder.now c.in-Err.ensures c.requires.0 refl)
 
 pub returns-in-Image : goal.returns-in-Image
 returns-in-Image g c = λ kind.

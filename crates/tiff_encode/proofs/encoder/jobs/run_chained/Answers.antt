@@ -21,4 +21,4 @@ returns-in-Err g c = λ kind known run parent q s named l.
     directory_refused j _ c.in-Err.fault old new known run parent
     (not_begun_chained j.chained true old c.in-Err.fault new c.requires.chained
     (not_begun_as image_directory c.image_directory.result c.in-Err.fault old new c.in-Err.is c.image_directory.follows.holds-at-none))
-    (c.requires.none, refl) q s
+    (c.requires.room.0, refl) q s

@@ -31,4 +31,4 @@ returns-in-Err g c = λ kind known run q s.
     (ap type_size (g.met.C.NamedColorType.in_memory ∙ ap inner_type (sym c.requires.named))) old c.in-Err.fault new
     (not_begun_as (new_image colour size j.width j.height) c.new_image.result c.in-Err.fault old new c.in-Err.is
     c.new_image.follows.holds-at-none))
-    (c.requires.none, refl) q s
+    (c.requires.room.0, refl) q s

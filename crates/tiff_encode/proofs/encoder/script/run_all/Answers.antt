@@ -20,23 +20,14 @@ take_last-room-requires g c = omega (arith, c.loop-job.invariant.count, c.loop-j
 pub slice_bounds-run_job-count : goal.slice_bounds-run_job-count
 slice_bounds-run_job-count g c = omega (arith, c.loop-job.invariant.behind, c.len-start.ensures, c.deref.ensures.len)
 
-pub run_job-reply-requires-clause-none : goal.run_job-reply-requires-clause-none
-run_job-reply-requires-clause-none g c =
+pub run_job-reply-requires : goal.run_job-reply-requires
+run_job-reply-requires g c =
     let i = c.loop-job.invariant in
     let jobs = c.args.jobs.now in
     let n = c.loop-job.job-index in
     let count : length c.loop-job.rooms.items + n ≡ length jobs = omega (arith, i.count, c.loop-job.rooms.ok) in
-    (room_taken jobs c.loop-job.rooms.items c.take_last-room.new.items.items c.take_last-room.result c.take_last-room.ensures.items n
-    c.job-item.result c.loop-job-test.true c.job-item.is count i.rooms).0
-
-pub run_job-reply-requires-clause-room : goal.run_job-reply-requires-clause-room
-run_job-reply-requires-clause-room g c =
-    let i = c.loop-job.invariant in
-    let jobs = c.args.jobs.now in
-    let n = c.loop-job.job-index in
-    let count : length c.loop-job.rooms.items + n ≡ length jobs = omega (arith, i.count, c.loop-job.rooms.ok) in
-    (room_taken jobs c.loop-job.rooms.items c.take_last-room.new.items.items c.take_last-room.result c.take_last-room.ensures.items n
-    c.job-item.result c.loop-job-test.true c.job-item.is count i.rooms).1
+    room_taken jobs c.loop-job.rooms.items c.take_last-room.new.items.items c.take_last-room.result c.take_last-room.ensures.items n
+    c.job-item.result c.loop-job-test.true c.job-item.is count i.rooms
 
 pub put-requires : goal.put-requires
 put-requires g c = omega (arith, c.loop-job.invariant.room, c.loop-job-test.true)
