@@ -3,6 +3,7 @@
 ghost use Rattle.std.specs.Prelude.{◌<◌, IfSome};
 
 use std::alloc::{AllocError, Global};
+use std::fmt::Write;
 
 // The number of a digit.
 fn digit(byte: u8) -> Option<u8>
@@ -36,4 +37,22 @@ pub fn bytes_of(alloc: Global, digits: &str) -> Result<Option<Vec<u8>>, AllocErr
         bytes.push(byte)?;
     }
     Ok(Some(bytes))
+}
+
+/// Appends the digits of bytes, two for each.
+pub fn push_digits(text: &mut String, bytes: &[u8]) -> Result<(), AllocError> {
+    for byte in bytes {
+        write!(text, "{byte:02x}")?;
+    }
+    Ok(())
+}
+
+/// The digits of bytes, two for each; `-` for none.
+pub fn digits_text(alloc: Global, bytes: &[u8]) -> Result<String, AllocError> {
+    let mut text = String::new(alloc);
+    match bytes {
+        [] => text.push_str("-")?,
+        _ => push_digits(&mut text, bytes)?,
+    }
+    Ok(text)
 }

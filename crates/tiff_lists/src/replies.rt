@@ -1,20 +1,24 @@
 //! The text of what jobs are answered.
 
+ghost use Rattle.std.specs.Prelude.{List, [], Ok, IfOk};
+ghost use Rattle.tiff_encode.specs.declared.encoder.script.JobReply.{JobReply};
+ghost use Rattle.tiff_encode.specs.Jobs.{RunsJobs};
+
+use crate::digits::push_digits;
 use std::alloc::{AllocError, Global};
-use std::fmt::Write;
 use tiff_base::directory::Entry;
 use tiff_base::error::TiffResult;
+use tiff_base::io::Sink;
 use tiff_decode::reply::refusal_text;
-use tiff_encode::encoder::script::{EndReply, JobReply, StepReply};
+use tiff_encode::encoder::TiffKind;
+use tiff_encode::encoder::script::{EndReply, Job, JobReply, StepReply, run_jobs};
 
 // The number of an entry's type, how many values it has, and its bytes as digits.
 fn entry_text(alloc: Global, entry: &Entry) -> Result<String, AllocError> {
     let field_type = entry.field_type().to_u16();
     let count = entry.count();
     let mut text = format!(in alloc; "{field_type} {count} ")?;
-    for byte in &entry.value() {
-        write!(text, "{byte:02x}")?;
-    }
+    push_digits(&mut text, &entry.value())?;
     Ok(text)
 }
 
@@ -49,4 +53,31 @@ pub fn job_lines(alloc: Global, reply: &JobReply) -> Result<String, AllocError> 
     lines.push_str(&end_text(alloc, &reply.last)?)?;
     lines.push_str("\n")?;
     Ok(lines)
+}
+
+/// What jobs are answered, one after another.
+pub fn all_lines(alloc: Global, replies: &[JobReply]) -> Result<String, AllocError> {
+    let mut lines = String::new(alloc);
+    for reply in replies {
+        lines.push_str(&job_lines(alloc, reply)?)?;
+    }
+    Ok(lines)
+}
+
+// Lets a value go. A list of replies is let go here: where a function isn't generic, that is long to prove.
+fn let_go<T: Drop>(_value: T) {}
+
+/// Runs jobs over a sink, as `run_jobs` does, and answers the sink with the lines of what the jobs were answered.
+pub fn run_told<W: Sink + Drop, K: TiffKind>(
+    alloc: Global,
+    sink: W,
+    jobs: &[Job],
+) -> TiffResult<(W, String)>
+    ensures { IfOk result (λ told. (replies : List JobReply) × RunsJobs W.told W.failures W.fault K.kind jobs.now sink [] replies (Ok told.0)) }
+{
+    let mut replies = Vec::new(alloc);
+    let answered = run_jobs::<W, K>(alloc, sink, jobs, &mut replies);
+    let lines = all_lines(alloc, &replies);
+    let_go(replies);
+    Ok((answered?, lines?))
 }

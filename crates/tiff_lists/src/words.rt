@@ -288,6 +288,21 @@ pub fn pair_of<A: FromWord + Drop, B: FromWord>(words: &str) -> Result<(A, B), U
     Ok((first, read::<B>(second)?))
 }
 
+// A word, and how often it stands: `7`, or `7*20`.
+fn repeated(word: &str) -> Result<(&str, usize), Unread> {
+    let (word, count) = word.split_once('*').unwrap_or((word, "1"));
+    Ok((word, read(count)?))
+}
+
+// Adds what a word tells of, once or several times over.
+fn push_items<T: FromWord + Drop>(list: &mut Vec<T>, word: &str) -> Result<(), Unread> {
+    let (word, count) = repeated(word)?;
+    for _ in 0..count {
+        list.push(read::<T>(word)?)?;
+    }
+    Ok(())
+}
+
 /// What each of some words tells of, or of none.
 pub fn list_of<T: FromWord + Drop>(alloc: Global, words: &str) -> Result<Vec<T>, Unread> {
     let mut list = Vec::new(alloc);
@@ -295,7 +310,7 @@ pub fn list_of<T: FromWord + Drop>(alloc: Global, words: &str) -> Result<Vec<T>,
         return Ok(list);
     }
     for word in words.split(' ') {
-        list.push(read::<T>(word)?)?;
+        push_items(&mut list, word)?;
     }
     Ok(list)
 }
@@ -305,17 +320,26 @@ pub fn digits_of(alloc: Global, word: &str) -> Result<Vec<u8>, Unread> {
     bytes_of(alloc, word)?.ok_or(Unread::Form)
 }
 
-// Adds a sample, or one several times over: `7` or `7*20`.
-fn push_samples(samples: &mut Vec<u64>, word: &str) -> Result<(), Unread> {
-    let (digits, count) = word.split_once('*').unwrap_or((word, "1"));
-    let sample = read::<Bits64>(digits)?;
-    let count = read::<usize>(count)?;
-    let len = samples.len().checked_add(count).ok_or(Unread::OutOfMemory)?;
-    samples.resize(len, sample.0)?;
+// Adds the samples from one to another: of `0..ff` 256, of `7` one.
+fn push_range(samples: &mut Vec<u64>, word: &str) -> Result<(), Unread> {
+    let (first, last) = word.split_once("..").unwrap_or((word, word));
+    let (first, last) = (read::<Bits64>(first)?, read::<Bits64>(last)?);
+    for sample in first.0..=last.0 {
+        samples.push(sample)?;
+    }
     Ok(())
 }
 
-/// The samples of words: hexadecimal numbers, each once or a decimal number of times.
+// Adds the samples of a word, once or several times over.
+fn push_samples(samples: &mut Vec<u64>, word: &str) -> Result<(), Unread> {
+    let (word, count) = repeated(word)?;
+    for _ in 0..count {
+        push_range(samples, word)?;
+    }
+    Ok(())
+}
+
+/// The samples of words: hexadecimal numbers, or from one to another, each once or a decimal number of times.
 pub fn samples_of(alloc: Global, words: &str) -> Result<Vec<u64>, Unread> {
     let mut samples = Vec::new(alloc);
     if words.is_empty() {

@@ -2,7 +2,8 @@
 
 ghost use Rattle.std.specs.Prelude.{◌≤◌, IfOk, IfSome};
 
-use crate::source::{Failure, ScriptedSource};
+use crate::failure::Failure;
+use crate::source::ScriptedSource;
 use std::alloc::{AllocError, Global};
 use std::fs;
 use std::rt::Files;
@@ -17,11 +18,15 @@ struct File {
     failure: Failure,
 }
 
-// The bytes of the file of a name, or those that digits give.
+// The bytes of the file of a name, those that were written, or those that digits give.
 fn bytes_named(
     rt: &(impl Files + AllocGlobal),
+    written: &[u8],
     source: &str,
 ) -> Result<Option<Vec<u8>>, AllocError> {
+    if source == "written" {
+        return Ok(Some(written.to_vec(rt.alloc())?));
+    }
     if source.ends_with(".tif") {
         return Ok(fs::read(rt, source).ok());
     }
@@ -109,16 +114,17 @@ impl File {
     }
 }
 
-/// The source that the words of a file line tell of, if they do.
+/// The source that the words of a file line tell of, if they do. These bytes were written last.
 pub fn source_of(
     rt: &(impl Files + AllocGlobal),
+    written: &[u8],
     line: &str,
 ) -> Result<Option<ScriptedSource>, AllocError> {
     let words: Vec<&str> = line.split(' ').collect(rt.alloc())?;
     let [source, rest @ ..] = words.as_slice() else {
         return Ok(None);
     };
-    let Some(bytes) = bytes_named(rt, source)? else {
+    let Some(bytes) = bytes_named(rt, written, source)? else {
         return Ok(None);
     };
     let mut file = File {

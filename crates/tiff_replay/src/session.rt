@@ -2,6 +2,7 @@
 
 use crate::file_line::source_of;
 use crate::source::ScriptedSource;
+use crate::writer::Writer;
 use std::alloc::{AllocError, Global};
 use std::boxed::Box;
 use std::rt::Files;
@@ -10,13 +11,14 @@ use tiff_decode::decoder::Decoder;
 use tiff_decode::reply::{refusal_text, reply_text};
 use tiff_decode::script::Call;
 use tiff_lists::call::call_of;
-use tiff_lists::jobs::jobs_of;
 
-/// The decoder of the file that was opened last, if it was not refused, and the lines of a list of jobs that has begun.
+/// The decoder of the file that was opened last, if it was not refused, and the writer of lists of jobs.
 #[derive(Drop)]
 pub struct Session {
     decoder: Option<Box<Decoder<ScriptedSource>>>,
-    list: Option<String>,
+    writer: Writer,
+    // Whether a list of jobs has begun.
+    listing: bool,
 }
 
 // A decoder of a source.
@@ -25,20 +27,13 @@ fn decoder_of(alloc: Global, source: ScriptedSource) -> TiffResult<Box<Decoder<S
     Ok(Box::new(alloc, decoder)?)
 }
 
-// How many jobs a list has, or the number of the line that is none.
-fn jobs_told(alloc: Global, list: &str) -> Result<String, AllocError> {
-    match jobs_of(alloc, list)? {
-        Ok(jobs) => format!(in alloc; "{} jobs", jobs.len()),
-        Err(number) => format!(in alloc; "line {number} is no job"),
-    }
-}
-
 impl Session {
     /// No file yet, and no list.
-    pub fn new() -> Self {
+    pub fn new(alloc: Global) -> Self {
         Session {
             decoder: None,
-            list: None,
+            writer: Writer::new(alloc),
+            listing: false,
         }
     }
 
@@ -60,7 +55,7 @@ impl Session {
         words: &str,
     ) -> Result<String, AllocError> {
         self.decoder = None;
-        match source_of(rt, words)? {
+        match source_of(rt, self.writer.bytes(), words)? {
             Some(source) => self.open(rt.alloc(), source),
             None => String::from_str(rt.alloc(), "no such file"),
         }
@@ -82,42 +77,67 @@ impl Session {
         }
     }
 
-    // A line of the list of jobs: it is kept, or it ends the list.
-    fn list_on(
-        &mut self,
-        alloc: Global,
-        mut list: String,
-        line: &str,
-    ) -> Result<Option<String>, AllocError> {
-        if line == "done" {
-            return Ok(Some(jobs_told(alloc, &list)?));
+    // A line of a list of jobs: it is kept, or it ends the list, which is run.
+    fn list_on(&mut self, line: &str) -> Result<Option<String>, AllocError> {
+        match line.strip_prefix("done") {
+            Some(words) => {
+                self.listing = false;
+                Ok(Some(self.writer.run(words)?))
+            }
+            None => {
+                self.writer.add(line)?;
+                Ok(None)
+            }
         }
-        list.push_str(line)?;
-        list.push_str("\n")?;
-        self.list = Some(list);
+    }
+
+    // A line on the list of jobs that was run last, if it is one.
+    fn written_line(&mut self, line: &str) -> Result<Option<String>, AllocError> {
+        if let Some(words) = line.strip_prefix("again") {
+            return Ok(Some(self.writer.run_again(words)?));
+        }
+        if let Some(words) = line.strip_prefix("written") {
+            return Ok(Some(self.writer.written(words)?));
+        }
+        if line == "changed" {
+            return Ok(Some(self.writer.changed()?));
+        }
         Ok(None)
     }
 
-    /// The reply to a line: a file is opened, a call is made, or a list of jobs has ended. A comment has no reply, nor has a line
-    /// of such a list.
+    // A line of a file, of what was written, or of a call.
+    fn call_line(
+        &mut self,
+        rt: &(impl Files + AllocGlobal),
+        line: &str,
+    ) -> Result<String, AllocError> {
+        if let Some(words) = line.strip_prefix("file ") {
+            return self.open_words(rt, words);
+        }
+        match self.written_line(line)? {
+            Some(reply) => Ok(reply),
+            None => self.make_words(rt.alloc(), line),
+        }
+    }
+
+    /// The reply to a line: a file is opened, a call is made, or a list of jobs has ended and is run. A comment has no reply,
+    /// nor has a line of such a list.
     pub fn reply(
         &mut self,
         rt: &(impl Files + AllocGlobal),
         line: &str,
     ) -> Result<Option<String>, AllocError> {
-        if let Some(list) = self.list.take() {
-            return self.list_on(rt.alloc(), list, line);
+        if self.listing {
+            return self.list_on(line);
         }
         if line.is_empty() || line.starts_with('#') {
             return Ok(None);
         }
-        if line == "jobs" {
-            self.list = Some(String::new(rt.alloc()));
+        if line == "jobs" || line == "jobs big" {
+            self.listing = true;
+            self.writer.begin(line == "jobs big");
             return Ok(None);
         }
-        match line.strip_prefix("file ") {
-            Some(words) => Ok(Some(self.open_words(rt, words)?)),
-            None => Ok(Some(self.make_words(rt.alloc(), line)?)),
-        }
+        Ok(Some(self.call_line(rt, line)?))
     }
 }

@@ -2,18 +2,8 @@
 
 ghost use Rattle.tiff_replay.specs.Failed.{failed};
 
+use crate::failure::Failure;
 use tiff_base::io::{DeviceFault, MemorySource, Source};
-
-/// When a source fails.
-#[derive(Drop)]
-pub enum Failure {
-    /// At no read.
-    Never,
-    /// At the read behind so many others.
-    Behind(u64),
-    /// It has failed, and does not again.
-    Past,
-}
 
 /// A source in memory that may give one byte at a time, and may fail once.
 #[derive(Drop)]
@@ -44,13 +34,8 @@ impl Source for ScriptedSource {
     ghost octets = { λ s. s.inner.octets };
 
     fn read_at(&mut self, at: u64, buf: &mut [u8]) -> Result<usize, DeviceFault> {
-        match self.failure {
-            Failure::Behind(0) => {
-                self.failure = Failure::Past;
-                return Err(DeviceFault);
-            }
-            Failure::Behind(reads) => self.failure = Failure::Behind(reads - 1),
-            Failure::Never | Failure::Past => {}
+        if self.failure.next() {
+            return Err(DeviceFault);
         }
         if !self.bytewise {
             return self.inner.read_at(at, buf);
