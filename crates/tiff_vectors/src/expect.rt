@@ -63,31 +63,6 @@ pub fn copy_of(alloc: Global, bytes: &[u8]) -> TiffResult<Vec<u8>> {
     Ok(Vec::from_slice(alloc, bytes)?)
 }
 
-/// What an answer without a value is.
-pub fn told(alloc: Global, answer: TiffResult<()>) -> TiffResult<String> {
-    Ok(format!(in alloc; "{answer:?}")?)
-}
-
-// Adds a text, behind a blank where it isn't the first.
-fn add_text(notes: &mut String, note: &str) -> TiffResult<()> {
-    if !notes.is_empty() {
-        notes.push(' ')?;
-    }
-    Ok(notes.push_str(note)?)
-}
-
-/// Adds an answer, behind a blank where it isn't the first.
-pub fn add(notes: &mut String, answer: TiffResult<()>) -> TiffResult<()> {
-    let note = told(*notes.allocator(), answer)?;
-    add_text(notes, &note)
-}
-
-/// Adds a number, behind a blank where it isn't the first.
-pub fn add_number(notes: &mut String, n: u64) -> TiffResult<()> {
-    let note = format!(in *notes.allocator(); "{n}")?;
-    add_text(notes, &note)
-}
-
 /// A sink in memory without bytes.
 pub fn empty_sink(alloc: Global) -> MemorySink {
     MemorySink::new(Vec::new(alloc))

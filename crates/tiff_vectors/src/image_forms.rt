@@ -1,8 +1,8 @@
 //! Images of every colour type, cut, packed and predicted in every way, are read back.
 
 use crate::expect::{empty_sink, expect_text};
-use crate::images::{opened, planes};
 use std::alloc::Global;
+use std::boxed::Box;
 use std::process::Abort;
 use tiff_base::error::TiffResult;
 use tiff_base::io::{MemorySink, MemorySource, Sink};
@@ -259,6 +259,20 @@ fn made_bytes<C: ColorType>(alloc: Global, shape: Shape) -> TiffResult<Vec<u8>> 
     } else {
         bytes_of_pixels(alloc, shape.pixels().saturating_mul(samples), size)
     }
+}
+
+// A decoder of a file.
+fn opened(alloc: Global, file: TiffResult<Vec<u8>>) -> TiffResult<Box<Decoder<MemorySource>>> {
+    let decoder = Decoder::new(alloc, MemorySource::new(file?))?;
+    Ok(Box::new(alloc, decoder)?)
+}
+
+// The bytes of all planes of a page.
+fn planes(alloc: Global, decoder: &mut Decoder<MemorySource>) -> TiffResult<Vec<u8>> {
+    let len = decoder.image_buffer_layout()?.complete_len;
+    let mut bytes = vec![in alloc; 0u8; len]?;
+    decoder.read_image_bytes(&mut bytes)?;
+    Ok(bytes)
 }
 
 // The colour of a page, and whether its samples are the ones that are wanted.

@@ -1,24 +1,16 @@
-//! Sources and sinks that answer in pieces or fail, and tests that cross the crates: those that no list of calls of a
-//! decoder can say.
+//! Sources and sinks that answer in pieces or fail, and tests that cross the crates: those that no list of calls or of jobs
+//! can say.
 #![tactic(auto)]
 
 #[cfg(test)]
 mod chain;
 #[cfg(test)]
 mod directories;
-#[cfg(test)]
-mod directory_values;
 pub mod doubles;
 #[cfg(test)]
 mod expect;
 #[cfg(test)]
-mod image_bytes;
-#[cfg(test)]
-mod image_calls;
-#[cfg(test)]
 mod image_forms;
-#[cfg(test)]
-mod images;
 #[cfg(test)]
 mod lent;
 #[cfg(test)]
