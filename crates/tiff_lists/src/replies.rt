@@ -1,6 +1,8 @@
-//! The text of what jobs are answered.
+//! The text of what calls and jobs are answered.
 
 ghost use Rattle.std.specs.Prelude.{List, [], Ok, IfOk};
+ghost use Rattle.tiff_decode.specs.declared.script.Reply.{Reply};
+ghost use Rattle.tiff_decode.specs.Steps.{Ran};
 ghost use Rattle.tiff_encode.specs.declared.encoder.script.JobReply.{JobReply};
 ghost use Rattle.tiff_encode.specs.Jobs.{RunsJobs};
 
@@ -8,8 +10,10 @@ use crate::digits::push_digits;
 use std::alloc::{AllocError, Global};
 use tiff_base::directory::Entry;
 use tiff_base::error::TiffResult;
-use tiff_base::io::Sink;
-use tiff_decode::reply::refusal_text;
+use tiff_base::io::{Sink, Source};
+use tiff_decode::decoder::Decoder;
+use tiff_decode::reply::{refusal_text, text_of};
+use tiff_decode::script::{Call, Reply, run_calls};
 use tiff_encode::encoder::TiffKind;
 use tiff_encode::encoder::script::{EndReply, Job, JobReply, StepReply, run_jobs};
 
@@ -66,6 +70,32 @@ pub fn all_lines(alloc: Global, replies: &[JobReply]) -> Result<String, AllocErr
 
 // Lets a value go. A list of replies is let go here: where a function isn't generic, that is long to prove.
 fn let_go<T: Drop>(_value: T) {}
+
+// What calls are answered, a line for each.
+fn reply_lines(alloc: Global, replies: &[Reply]) -> Result<String, AllocError> {
+    let mut lines = String::new(alloc);
+    for reply in replies {
+        lines.push_str(&text_of(alloc, reply)?)?;
+        lines.push_str("\n")?;
+    }
+    Ok(lines)
+}
+
+/// Makes calls of a decoder, as `run_calls` does, and answers what each is answered, a refusal too, a line for each.
+pub fn lines_of_calls<R: Source>(
+    alloc: Global,
+    decoder: &mut Decoder<R>,
+    calls: &[Call],
+) -> TiffResult<String>
+    ensures { IfOk result (λ _. (replies : List Reply) × Ran decoder.old calls.now [] replies decoder.new) }
+{
+    let mut replies = Vec::new(alloc);
+    let made = run_calls(decoder, calls, &mut replies);
+    let lines = reply_lines(alloc, &replies);
+    let_go(replies);
+    made?;
+    Ok(lines?)
+}
 
 /// Runs jobs over a sink, as `run_jobs` does, and answers the sink with the lines of what the jobs were answered.
 pub fn run_told<W: Sink + Drop, K: TiffKind>(

@@ -1,2 +1,4 @@
+pub mod Gray
 pub mod Listing
 pub mod Samples
+pub mod Wrote

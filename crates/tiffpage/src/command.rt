@@ -1,5 +1,7 @@
 //! The command line.
 
+use tiff::tags::FileKind;
+
 /// What the words of a command line ask for.
 #[derive(Clone, Copy, Debug)]
 pub enum Command<'a> {
@@ -25,6 +27,11 @@ pub enum Command<'a> {
     Calls {
         input: &'a str,
     },
+    /// The file that the jobs write that standard input lists.
+    Jobs {
+        output: &'a str,
+        kind: FileKind,
+    },
 }
 
 impl<'a> Command<'a> {
@@ -33,7 +40,7 @@ impl<'a> Command<'a> {
         let (output, input) = match *self {
             Command::Gray { output, input, .. } => (output, input),
             Command::Raw { output, input, .. } => (output, input),
-            Command::Tags { .. } | Command::Calls { .. } => return None,
+            Command::Tags { .. } | Command::Calls { .. } | Command::Jobs { .. } => return None,
         };
         if output == input { Some(output) } else { None }
     }
@@ -60,6 +67,14 @@ pub fn parse(words: &[String]) -> Option<Command<'_>> {
         }),
         ("calls", [input]) => Some(Command::Calls {
             input: input.as_str(),
+        }),
+        ("jobs", [output]) => Some(Command::Jobs {
+            output: output.as_str(),
+            kind: FileKind::Classic,
+        }),
+        ("jobs", [output, kind]) if kind.as_str() == "big" => Some(Command::Jobs {
+            output: output.as_str(),
+            kind: FileKind::Big,
         }),
         _ => None,
     }

@@ -1,10 +1,12 @@
-//! Writes the bytes of a file as a gray TIFF page, and the samples of a page into a file, lists the entries of a page, and makes
-//! the calls of a list.
+//! Writes the bytes of a file as a gray TIFF page, and the samples of a page into a file, lists the entries of a page, makes
+//! the calls of a list, and writes a file by the jobs of one.
 #![tactic(auto)]
 
 mod calls;
 mod command;
 mod files;
+mod gray;
+mod jobs;
 mod listing;
 mod program;
 #[cfg(test)]

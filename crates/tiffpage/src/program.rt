@@ -1,24 +1,26 @@
 //! What the program does.
 
-ghost use Rattle.std.specs.Prelude.{◌≡◌, ◌≤◌, IfOk};
+ghost use Rattle.std.specs.Prelude.{◌≡◌, ◌≤◌};
 ghost use Rattle.tiff.specs.Machine.{Follows, stays};
-ghost use Rattle.tiff.specs.Shows.{ShowsGray};
 ghost use Rattle.tiffpage.specs.Samples.{sample_bytes};
 
 use crate::calls::replies_to;
 use crate::command::{Command, parse};
 use crate::files::{FileFault, Files};
+use crate::gray::gray_file;
+use crate::jobs::{Written, write_by};
 use crate::listing::list_entries;
 use std::alloc::Global;
 use std::fmt;
 use std::io::Write;
 use tiff::decoder::Decoder;
 use tiff::decoder::script::Call;
-use tiff::encoder::TiffEncoder;
-use tiff::encoder::colortype::Gray8;
-use tiff::io::{IoKind, MemorySink, MemorySource, Source};
+use tiff::encoder::script::Job;
+use tiff::io::{IoKind, MemorySource, Source};
+use tiff::tags::FileKind;
 use tiff::{TiffError, TiffResult};
 use tiff_lists::call::calls_of;
+use tiff_lists::jobs::jobs_of;
 
 /// Why a command was not done.
 #[derive(Drop)]
@@ -29,6 +31,9 @@ enum Failure<'a> {
 
     /// The line of this number tells of no call.
     NoCall(usize),
+
+    /// The line of this number tells of no job.
+    NoJob(usize),
 
     /// The input has fewer bytes than there are samples.
     TooShort {
@@ -49,6 +54,7 @@ impl fmt::Display for Failure<'_> {
             Failure::Write(name) => write!(f, "cannot write {name}"),
             Failure::Tiff(fault) => write!(f, "{fault}"),
             Failure::NoCall(number) => write!(f, "line {number} is no call"),
+            Failure::NoJob(number) => write!(f, "line {number} is no job"),
             Failure::TooShort {
                 fault,
                 input,
@@ -78,7 +84,7 @@ impl Failure<'_> {
         ensures { result ≤ 2 }
     {
         match self {
-            Failure::NoCall(_) => 2,
+            Failure::NoCall(_) | Failure::NoJob(_) => 2,
             _ => 1,
         }
     }
@@ -100,26 +106,30 @@ fn write<'a, F: Files>(files: &mut F, name: &'a str, bytes: &[u8]) -> Result<(),
     }
 }
 
+fn read_input<'a, F: Files>(files: &mut F) -> Result<String, Failure<'a>> {
+    match files.read_input() {
+        Ok(text) => Ok(text),
+        Err(FileFault::OutOfMemory) => Err(Failure::Tiff(TiffError::OutOfMemory)),
+        Err(fault) => Err(Failure::Read("standard input", fault)),
+    }
+}
+
 // The calls that standard input lists.
 fn listed_calls<'a, F: Files>(alloc: Global, files: &mut F) -> Result<Vec<Call>, Failure<'a>> {
-    let text = match files.read_input() {
-        Ok(text) => text,
-        Err(FileFault::OutOfMemory) => return Err(Failure::Tiff(TiffError::OutOfMemory)),
-        Err(fault) => return Err(Failure::Read("standard input", fault)),
-    };
+    let text = read_input(files)?;
     match calls_of(alloc, text.as_str()) {
         Ok(calls) => calls.map_err(|number| Failure::NoCall(number)),
         Err(_) => Err(Failure::Tiff(TiffError::OutOfMemory)),
     }
 }
 
-// A file of one gray page, which shows the samples.
-fn gray_file(alloc: Global, width: u32, height: u32, samples: &[u8]) -> TiffResult<Vec<u8>>
-    ensures { IfOk result (λ file. ShowsGray file.items width height samples.now) }
-{
-    let mut encoder = TiffEncoder::new(alloc, MemorySink::new(Vec::new(alloc)))?;
-    encoder.write_image::<Gray8>(width, height, samples)?;
-    Ok(encoder.into_inner().into_vec())
+// The jobs that standard input lists.
+fn listed_jobs<'a, F: Files>(alloc: Global, files: &mut F) -> Result<Vec<Job>, Failure<'a>> {
+    let text = read_input(files)?;
+    match jobs_of(alloc, text.as_str()) {
+        Ok(jobs) => jobs.map_err(|number| Failure::NoJob(number)),
+        Err(_) => Err(Failure::Tiff(TiffError::OutOfMemory)),
+    }
 }
 
 // Why an input is no page of these sides.
@@ -181,6 +191,19 @@ fn call_replies<'a, F: Files>(
     Ok(replies_to(alloc, file, &calls)?)
 }
 
+// Writes the file that the jobs write that standard input lists, and answers their replies, a line for each.
+fn job_replies<'a, F: Files>(
+    alloc: Global,
+    output: &'a str,
+    kind: FileKind,
+    files: &mut F,
+) -> Result<String, Failure<'a>> {
+    let jobs = listed_jobs(alloc, files)?;
+    let Written { file, lines } = write_by(alloc, kind, &jobs)?;
+    write(files, output, &file)?;
+    Ok(lines)
+}
+
 // Does what a command asks for, and answers what is to be printed.
 fn execute<'a, F: Files>(
     alloc: Global,
@@ -218,17 +241,19 @@ fn execute<'a, F: Files>(
             Ok(page_tags(alloc, file, page)?)
         }
         Command::Calls { input } => call_replies(alloc, input, files),
+        Command::Jobs { output, kind } => job_replies(alloc, output, kind, files),
     }
 }
 
-const USAGE: &str = "usage: tiffpage gray|raw|tags|calls ..";
+const USAGE: &str = "usage: tiffpage gray|raw|tags|calls|jobs ..";
 
-const FORMS: &str = "  gray OUT W H IN\n  raw FILE PAGE OUT\n  tags FILE PAGE\n  calls FILE < LIST";
+const FORMS: &str =
+    "  gray OUT W H IN\n  raw FILE PAGE OUT\n  tags FILE PAGE\n  calls FILE < LIST\n  jobs OUT [big] < LIST";
 
 /// Does what the words ask for, and answers the status: 0; 1 for a fault, with a line `error: ..` on `err`, and where a
 /// write to `out` or `err` fails; 2 for a wrong command line, with the usage and a line for each command on `err`, and
 /// for an output that is an input too, with a line that says so, before anything is read; 2 for a line of standard input that
-/// is no call, with a line `error: ..` that has its number, before any call is made. No words give the usage on
+/// is no call or no job, with a line `error: ..` that has its number, before any is called. No words give the usage on
 /// `out`, and the lines of the commands on `err`. Faults are found in this order: the command line, reading the input,
 /// reading standard input, its lines, the decoder's or the encoder's, writing the output. On a fault nothing is written to `out`.
 pub fn run<F: Files, O: Write, E: Write>(

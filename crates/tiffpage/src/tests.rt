@@ -102,15 +102,16 @@ fn run_words(alloc: Global, files: &mut MemoryFiles, words: &[&str]) -> Result<R
     Ok(Run { status, out, err })
 }
 
-const USAGE: &[u8] = b"usage: tiffpage gray|raw|tags|calls ..
+const USAGE: &[u8] = b"usage: tiffpage gray|raw|tags|calls|jobs ..
   gray OUT W H IN
   raw FILE PAGE OUT
   tags FILE PAGE
   calls FILE < LIST
+  jobs OUT [big] < LIST
 ";
 
 // How many bytes of the usage go to standard output.
-const FIRST_LINE: usize = 39;
+const FIRST_LINE: usize = 44;
 
 /// The file of one gray sample 7, byte by byte.
 const ONE: [u8; 199] = [
@@ -186,7 +187,7 @@ fn samples_of_two_bytes_are_written_lowest_first(rt: HostRuntime) -> Result<(), 
 
 // A command line, its status and its lines on the error stream; IN has three bytes, ONE the file of one sample, and
 // standard input NO_CALL.
-const FAULTS: [(&[&str], u8, &[u8]); 33] = [
+const FAULTS: [(&[&str], u8, &[u8]); 37] = [
     (
         &["gray", "OUT", "0", "5", "IN"],
         1,
@@ -300,6 +301,10 @@ const FAULTS: [(&[&str], u8, &[u8]); 33] = [
         b"error: cannot read NONE: not found\n",
     ),
     (&["calls", "IN"], 2, b"error: line 3 is no call\n"),
+    (&["jobs"], 2, USAGE),
+    (&["jobs", "OUT", "small"], 2, USAGE),
+    (&["jobs", "OUT", "big", "x"], 2, USAGE),
+    (&["jobs", "FULL"], 2, b"error: line 1 is no job\n"),
 ];
 
 const NO_CALL: &str = "dimensions\n\nread_images\nread_image 0\n";
@@ -434,5 +439,57 @@ fn listed_calls_are_made(rt: HostRuntime) -> Result<(), Fail> {
         cut.err.as_slice(),
         b"error: unexpected end of file\n".as_slice()
     );
+    Ok(())
+}
+
+// The page of ONE, behind a refused image; a directory is left open in UNENDED.
+const JOBS: &str = "# A refused job is a reply too.
+image Gray8 0 5
+finish
+
+image Gray8 1 1
+next_strip_sample_count
+write_data 7";
+
+const JOB_REPLIES: &[u8] =
+    b"refused: format error: invalid dimensions: 0x5 (FormatError(InvalidDimensions(0, 5)))
+1
+nothing
+";
+
+const UNENDED: &str = "directory
+write_tag 65000 u8 1
+";
+
+#[test]
+fn listed_jobs_are_written(rt: HostRuntime) -> Result<(), Fail> {
+    let mut files = MemoryFiles::with(rt.alloc(), "ONE", ONE.as_slice())?;
+    files.input = JOBS;
+    let done = run_words(rt.alloc(), &mut files, &["jobs", "OUT"])?;
+    assert_eq!(rt; done.status, 0);
+    assert_eq!(rt; done.out.as_slice(), JOB_REPLIES);
+    assert_eq!(rt; done.err.len(), 0);
+    assert_eq!(rt; files.read("OUT")?.as_slice(), ONE.as_slice());
+    let full = run_words(rt.alloc(), &mut files, &["jobs", "FULL"])?;
+    assert_eq!(rt; full.status, 1);
+    assert_eq!(rt; full.out.len(), 0);
+    assert_eq!(rt;
+        full.err.as_slice(),
+        b"error: cannot write FULL\n".as_slice()
+    );
+    let big = run_words(rt.alloc(), &mut files, &["jobs", "BIG", "big"])?;
+    assert_eq!(rt; big.status, 0);
+    assert!(rt; files.read("BIG")?.as_slice().starts_with(b"II+\x00"));
+    Ok(())
+}
+
+#[test]
+fn jobs_that_end_within_one_are_not_run(rt: HostRuntime) -> Result<(), Fail> {
+    let mut files = MemoryFiles::with(rt.alloc(), "ONE", ONE.as_slice())?;
+    files.input = UNENDED;
+    let run = run_words(rt.alloc(), &mut files, &["jobs", "OUT"])?;
+    assert_eq!(rt; run.status, 2);
+    assert_eq!(rt; run.err.as_slice(), b"error: line 3 is no job\n".as_slice());
+    assert!(rt; files.read("OUT").is_err());
     Ok(())
 }
