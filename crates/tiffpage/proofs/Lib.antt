@@ -1,3 +1,7 @@
 mod Digits
+mod Found
 mod GrayJob
 mod Lines
+mod Replied
+mod Turns
+mod Visits

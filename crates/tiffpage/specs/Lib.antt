@@ -1,4 +1,6 @@
+pub mod AtPage
 pub mod Gray
 pub mod Listing
+pub mod Replied
 pub mod Samples
 pub mod Wrote

@@ -3,12 +3,15 @@ use Rattle.std.specs.Prelude.{ℕ, List, [], ◌∷◌, ◌++◌, ◌/◌, ◌%�
 use Rattle.std.specs.FinMap.{entries}
 use Rattle.std.specs.Fmt.{decimal, digit_glyph}
 use Rattle.tiff_base.specs.declared.error.TiffError.{TiffError}
+use Rattle.tiff_base.specs.declared.tags.IfdPointer.{IfdPointer}
+use Rattle.tiff_decode.specs.declared.script.Call.{Call}
+use Rattle.tiff_decode.specs.declared.script.Call.TheVariants as call
 use Rattle.tiff.specs.Answers.{◌>>=◌}
 use Rattle.tiff.specs.Field.{Field}
 use Rattle.tiff.specs.Tags.{tag_of, type_number}
 use Rattle.tiff.specs.Ask.{buffer_of}
 use Rattle.tiff.specs.Machine.{Decoding}
-use Rattle.tiff.specs.Outcome.{find_entry}
+use Rattle.tiff.specs.Outcome.{find_entry, ifd_pointer, read_directory}
 
 -- a byte as two hexadecimal digits, of small letters
 abbrev pub two_digits : ℕ → List ℕ
@@ -46,6 +49,27 @@ lines d (tag ∷ tags) = do
   first ← field_line d tag
   after first (lines d tags)
 
--- a line for each entry of the page's directory, in ascending tag number
+-- the calls that find the fields of tag numbers
+abbrev pub finds : List ℕ → List Call
+finds numbers = map (λ n. call.FindTagBuf (tag_of n)) numbers
+
+-- the tag numbers of the directory at a pointer, in ascending order
+abbrev pub numbers_at : Decoding → IfdPointer → Result (List ℕ) TiffError
+numbers_at d pointer = do
+  directory ← (read_directory d pointer).answer
+  Ok (map (λ e. e.0) (entries directory.entries))
+
+-- a line for each entry of the directory at a pointer, in ascending tag number; none where there is no pointer
+abbrev pub listing_at : Decoding → Option IfdPointer → Result (List ℕ) TiffError
+listing_at d None = Ok []
+listing_at d (Some pointer) = do
+  numbers ← numbers_at d pointer
+  lines d numbers
+
+-- the pointer of the directory that was entered last
+abbrev pub page_pointer : Decoding → Result (Option IfdPointer) TiffError
+page_pointer d = Ok (ifd_pointer d)
+
+-- a line for each entry of the directory that was entered last
 abbrev pub listing : Decoding → Result (List ℕ) TiffError
-listing d = lines d (map (λ e. e.0) (entries d.state.directory.entries))
+listing d = listing_at d (ifd_pointer d)

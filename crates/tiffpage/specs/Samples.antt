@@ -2,12 +2,16 @@
 use Rattle.std.specs.Prelude.{ℕ, List, Result, Ok}
 use Rattle.tiff_base.specs.declared.error.TiffError.{TiffError}
 use Rattle.tiff.specs.Answers.{◌>>=◌}
-use Rattle.tiff.specs.Image.{image_of}
+use Rattle.tiff.specs.Image.{Decoded, image_of}
 use Rattle.tiff.specs.Machine.{Decoding}
 use Rattle.tiff.specs.Result.{bytes_of}
+
+-- a page's image, or its first fault
+abbrev pub page_image : Decoding → Result Decoded TiffError
+page_image d = image_of d.bytes d.order d.state.page d.state.limits
 
 -- the little-endian bytes of the samples of a page's image, or its first fault
 abbrev pub sample_bytes : Decoding → Result (List ℕ) TiffError
 sample_bytes d = do
-  samples ← image_of d.bytes d.order d.state.page d.state.limits
+  samples ← page_image d
   Ok (bytes_of samples)

@@ -1,9 +1,10 @@
 //! Gray pages, each written by a job.
 
-ghost use Rattle.std.specs.Prelude.{◌≡◌, ◌∷◌, [], length, IfOk};
+ghost use Rattle.std.specs.Prelude.{◌≡◌, IfOk};
 ghost use Rattle.tiff.specs.Shows.{ShowsGray};
 ghost use Rattle.tiffpage.specs.Gray.{EndsAs, IsGrayJob};
 
+use crate::calls::{let_go, only};
 use std::alloc::{AllocError, Global};
 use tiff::TiffResult;
 use tiff::encoder::TiffKindStandard;
@@ -36,9 +37,6 @@ fn gray_job(alloc: Global, width: u32, height: u32, samples: &[u8]) -> Result<Jo
     }))
 }
 
-// Lets a value go. A list of replies is let go here: where a function isn't generic, that is long to prove.
-fn let_go<T: Drop>(_value: T) {}
-
 // How a job ended.
 fn end_of(reply: JobReply) -> TiffResult<()>
     ensures { EndsAs reply result }
@@ -49,18 +47,6 @@ fn end_of(reply: JobReply) -> TiffResult<()>
         Ok(_) => Ok(()),
         Err(fault) => Err(fault),
     }
-}
-
-// The one reply of a list.
-fn only(mut replies: Vec<JobReply>) -> JobReply
-    requires { length replies.items ≡ 1 }
-    ensures { replies.items ≡ result ∷ [] }
-{
-    let Some(reply) = replies.pop() else {
-        unreachable!();
-    };
-    let_go(replies);
-    reply
 }
 
 /// A file of one gray page, which shows the samples.

@@ -1,19 +1,26 @@
 //! The entries of a page as lines.
 
-ghost use Rattle.std.specs.Prelude.{◌≡◌, ◌≤◌, ◌++◌, IfOk, Ok, OnOk, flat_map, map, option_map, string_bytes};
+ghost use Rattle.std.specs.Prelude.{◌≡◌, ◌≤◌, ◌++◌, IfOk, MatchResult, OnOk, flat_map, map, string_bytes};
 ghost use Rattle.std.specs.FinMap.{entries};
-ghost use Rattle.tiff.specs.Tags.{type_number};
+ghost use Rattle.tiff_decode.specs.Step.{Step};
+ghost use Rattle.tiff_decode.specs.Steps.{Steps};
 ghost use Rattle.tiff.specs.Answers.{Answers};
-ghost use Rattle.tiff.specs.Reader.{IsHeld, reading};
-ghost use Rattle.tiffpage.specs.Listing.{after, field_line, line, lines, listing, shown_bytes, two_digits};
+ghost use Rattle.tiff.specs.Machine.{Decoding};
+ghost use Rattle.tiff.specs.Outcome.{read_directory};
+ghost use Rattle.tiff.specs.Tags.{tag_of};
+ghost use Rattle.tiffpage.specs.AtPage.{VisitsPage};
+ghost use Rattle.tiffpage.specs.Listing.{after, field_line, finds, line, lines, listing, listing_at, numbers_at, page_pointer, shown_bytes, two_digits};
 
+use crate::calls::{let_go, next_of, replies_to_both, replies_to_calls, reply_to_one};
+use crate::replies::{directory_read, field_found, pointer_told, sought};
 use std::alloc::{AllocError, Global};
 use std::fmt::Write;
+use tiff::decoder::Decoder;
 use tiff::decoder::ifd::Entry;
-use tiff::decoder::{Decoder, IfdDecoder};
+use tiff::decoder::script::{Call, Reply};
 use tiff::io::Source;
-use tiff::tags::{Tag, Type, ValueBuffer};
-use tiff::{Directory, TiffResult};
+use tiff::tags::{IfdPointer, Tag, ValueBuffer};
+use tiff::{Directory, TiffError, TiffResult};
 
 // Appends a byte as two hexadecimal digits.
 #[tactic(auto, using(std::proofs::lemmas::Fmt::hex_byte))]
@@ -55,43 +62,75 @@ fn push_line(text: &mut String, tag: u16, entry: &Entry, bytes: &[u8]) -> Result
     text.push_str("\n")
 }
 
-// Appends the line of the field of a tag number.
+// Appends the line of a field that was found, or nothing where there is none.
 #[tactic(auto, unfolding(tiff_decode::specs::Outcome::find_tag_buf))]
-fn push_entry<R: Source>(
+fn push_found(
     text: &mut String,
-    tags: &mut IfdDecoder<'_, R>,
     number: u16,
-    values: &mut ValueBuffer,
+    found: TiffResult<Option<Entry>>,
+    values: &ValueBuffer,
 ) -> TiffResult<()>
-    ensures held { IsHeld tags.old.decoder tags.new.decoder }
-    ensures other { tags.new.other ≡ tags.old.other }
-    ensures answer { Answers (λ _. string_bytes text.new) result (after (string_bytes text.old) (field_line (reading tags.old.decoder.now (option_map (λ d. d.now) tags.old.other)) number)) tags.old.decoder.now.failures tags.new.decoder.now.failures }
+    ensures { (old new : Decoding) → Step old (Call.FindTagBuf (tag_of number)) (Reply.FindTagBuf found values.now) new
+        → Answers (λ _. string_bytes text.new) result (after (string_bytes text.old) (field_line old number)) old.failures new.failures }
 {
-    let tag = Tag::from_u16_exhaustive(number);
-    if let Some(entry) = tags.find_tag_buf(tag, values)? {
+    if let Some(entry) = found? {
         push_line(text, number, &entry, values.as_bytes())?;
     }
     Ok(())
 }
 
+// The calls that find the fields of tag numbers.
+fn calls_to_find(alloc: Global, numbers: &[u16]) -> Result<Vec<Call>, AllocError>
+    ensures { IfOk result (λ calls. calls.items ≡ finds numbers.now) }
+{
+    let mut calls = Vec::new(alloc);
+    for number in numbers {
+        calls.push(Call::FindTagBuf(Tag::from_u16_exhaustive(*number)))?;
+    }
+    Ok(calls)
+}
+
+// What is answered of the fields of tag numbers.
+fn find_all<R: Source>(
+    alloc: Global,
+    decoder: &mut Decoder<R>,
+    numbers: &[u16],
+) -> TiffResult<Vec<Reply>>
+    ensures { MatchResult result (λ replies. Steps decoder.old (finds numbers.now) replies.items decoder.new) (λ e. (e ≡ TiffError.OutOfMemory) × (decoder.new ≡ decoder.old)) }
+{
+    match calls_to_find(alloc, numbers) {
+        Ok(calls) => replies_to_calls(alloc, decoder, &calls),
+        Err(_) => Err(TiffError::OutOfMemory),
+    }
+}
+
 // A line for the field of each tag number.
-#[tactic(auto, using(crate::proofs::Lines::lines_none, crate::proofs::Lines::lines_more, crate::proofs::Lines::lines_all, crate::proofs::Lines::lines_cut))]
+#[tactic(auto, using(crate::proofs::Lines::lines_all))]
 fn list_tags<R: Source>(
     alloc: Global,
-    tags: &mut IfdDecoder<'_, R>,
+    decoder: &mut Decoder<R>,
     numbers: &[u16],
 ) -> TiffResult<String>
-    ensures held { IsHeld tags.old.decoder tags.new.decoder }
-    ensures answer { Answers string_bytes result (lines (reading tags.old.decoder.now (option_map (λ d. d.now) tags.old.other)) numbers.now) tags.old.decoder.now.failures tags.new.decoder.now.failures }
+    ensures answer { Answers string_bytes result (lines decoder.old numbers.now) decoder.old.failures decoder.new.failures }
+    ensures kept { decoder.new ≡ record decoder.old { failures = decoder.new.failures } }
+    ensures failures { decoder.old.failures ≤ decoder.new.failures }
 {
-    let mut values = ValueBuffer::empty(alloc, Type::BYTE);
+    let mut replies = match find_all(alloc, decoder, numbers) {
+        Ok(replies) => replies.into_iter(),
+        Err(fault) => return Err(fault),
+    };
     let mut text = String::new(alloc);
     for number in numbers {
-        match push_entry(&mut text, tags, *number, &mut values) {
+        let (found, values) = field_found(next_of(&mut replies));
+        match push_found(&mut text, *number, found, &values) {
             Ok(()) => {}
-            Err(fault) => return Err(fault),
+            Err(fault) => {
+                let_go(replies);
+                return Err(fault);
+            }
         }
     }
+    let_go(replies);
     Ok(text)
 }
 
@@ -106,15 +145,77 @@ fn tag_numbers(alloc: Global, directory: &Directory) -> Result<Vec<u16>, AllocEr
     Ok(numbers)
 }
 
-/// A line for each entry of the page, in ascending tag number: the numbers of its tag and its type, how many values it
-/// has, and their bytes in the file's order. More bytes than `decoding_buffer_size`: `LimitsExceeded`; bytes past the end of
-/// the source: `IoError(UnexpectedEof)`. The decoder stays where it is.
-pub fn list_entries<R: Source>(alloc: Global, decoder: &mut Decoder<R>) -> TiffResult<String>
-    ensures answer { Answers string_bytes result (listing decoder.old) decoder.old.failures decoder.new.failures }
-    ensures state { decoder.new ≡ record decoder.old { failures = decoder.new.failures } }
-    ensures count { decoder.old.failures ≤ decoder.new.failures }
+// The directory at a pointer.
+fn read_directory<R: Source>(
+    alloc: Global,
+    decoder: &mut Decoder<R>,
+    pointer: IfdPointer,
+) -> TiffResult<Directory>
+    ensures answer { Answers (λ d. d) result (read_directory decoder.old pointer).answer decoder.old.failures decoder.new.failures }
+    ensures kept { decoder.new ≡ record decoder.old { failures = decoder.new.failures } }
+    ensures failures { decoder.old.failures ≤ decoder.new.failures }
 {
-    let mut tags = decoder.image_ifd();
-    let numbers = tag_numbers(alloc, tags.directory())?;
-    list_tags(alloc, &mut tags, &numbers)
+    match reply_to_one(alloc, decoder, Call::ReadDirectory(pointer)) {
+        Ok(reply) => directory_read(reply),
+        Err(fault) => Err(fault),
+    }
+}
+
+// The tag numbers of the directory at a pointer, in ascending order.
+fn numbers_at<R: Source>(
+    alloc: Global,
+    decoder: &mut Decoder<R>,
+    pointer: IfdPointer,
+) -> TiffResult<Vec<u16>>
+    ensures answer { Answers (λ v. v.items) result (numbers_at decoder.old pointer) decoder.old.failures decoder.new.failures }
+    ensures kept { decoder.new ≡ record decoder.old { failures = decoder.new.failures } }
+    ensures failures { decoder.old.failures ≤ decoder.new.failures }
+{
+    let directory = read_directory(alloc, decoder, pointer)?;
+    Ok(tag_numbers(alloc, &directory)?)
+}
+
+// A line for each entry of the directory at a pointer; none where there is no pointer.
+fn list_directory<R: Source>(
+    alloc: Global,
+    decoder: &mut Decoder<R>,
+    pointer: Option<IfdPointer>,
+) -> TiffResult<String>
+    ensures answer { Answers string_bytes result (listing_at decoder.old pointer) decoder.old.failures decoder.new.failures }
+    ensures kept { decoder.new ≡ record decoder.old { failures = decoder.new.failures } }
+    ensures failures { decoder.old.failures ≤ decoder.new.failures }
+{
+    let Some(pointer) = pointer else {
+        return Ok(String::new(alloc));
+    };
+    let numbers = numbers_at(alloc, decoder, pointer)?;
+    list_tags(alloc, decoder, &numbers)
+}
+
+// The pointer of a page's directory.
+fn page_pointer<R: Source>(
+    alloc: Global,
+    decoder: &mut Decoder<R>,
+    page: usize,
+) -> TiffResult<Option<IfdPointer>>
+    ensures { VisitsPage (λ p. p) page_pointer result page decoder.old decoder.new }
+{
+    match replies_to_both(alloc, decoder, Call::SeekToImage(page), Call::IfdPointer) {
+        Ok((seek, pointer)) => sought(seek).and(Ok(pointer_told(pointer))),
+        Err(fault) => Err(fault),
+    }
+}
+
+/// A line for each entry of a page's directory, in ascending tag number: the numbers of its tag and its type, how many values it
+/// has, and their bytes in the file's order; or the fault of the seek to the page. More bytes than `decoding_buffer_size`:
+/// `LimitsExceeded`; bytes past the end of the source: `IoError(UnexpectedEof)`.
+pub fn list_entries<R: Source>(
+    alloc: Global,
+    decoder: &mut Decoder<R>,
+    page: usize,
+) -> TiffResult<String>
+    ensures { VisitsPage string_bytes listing result page decoder.old decoder.new }
+{
+    let pointer = page_pointer(alloc, decoder, page)?;
+    list_directory(alloc, decoder, pointer)
 }

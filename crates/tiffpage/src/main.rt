@@ -9,6 +9,8 @@ mod gray;
 mod jobs;
 mod listing;
 mod program;
+mod replies;
+mod samples;
 #[cfg(test)]
 mod tests;
 

@@ -1,7 +1,8 @@
 //! What the program does.
 
-ghost use Rattle.std.specs.Prelude.{◌≡◌, ◌≤◌};
-ghost use Rattle.tiff.specs.Machine.{Follows, stays};
+ghost use Rattle.std.specs.Prelude.{◌≡◌, ◌≤◌, string_bytes};
+ghost use Rattle.tiffpage.specs.AtPage.{AnswersIn};
+ghost use Rattle.tiffpage.specs.Listing.{listing};
 ghost use Rattle.tiffpage.specs.Samples.{sample_bytes};
 
 use crate::calls::replies_to;
@@ -10,13 +11,14 @@ use crate::files::{FileFault, Files};
 use crate::gray::gray_file;
 use crate::jobs::{Written, write_by};
 use crate::listing::list_entries;
+use crate::samples::image_bytes;
 use std::alloc::Global;
 use std::fmt;
 use std::io::Write;
 use tiff::decoder::Decoder;
 use tiff::decoder::script::Call;
 use tiff::encoder::script::Job;
-use tiff::io::{IoKind, MemorySource, Source};
+use tiff::io::{IoKind, MemorySource};
 use tiff::tags::FileKind;
 use tiff::{TiffError, TiffResult};
 use tiff_lists::call::calls_of;
@@ -152,32 +154,20 @@ fn gray_failure<'a>(
     }
 }
 
-// A file at a page.
-fn open_page(alloc: Global, file: Vec<u8>, page: u32) -> TiffResult<Decoder<MemorySource>> {
-    let mut decoder = Decoder::new(alloc, MemorySource::new(file))?;
-    decoder.seek_to_image(page as usize)?;
-    Ok(decoder)
-}
-
-// The samples of the image of a decoder's page as bytes, the lowest of each first.
-#[tactic(auto, unfolding(tiff_decode::specs::Outcome::read_image))]
-fn image_bytes<R: Source>(alloc: Global, decoder: &mut Decoder<R>) -> TiffResult<Vec<u8>>
-    ensures { Follows (λ v. v.items) (stays decoder.old (sample_bytes decoder.old)) result decoder.old decoder.new }
-{
-    let mut samples = decoder.read_image()?;
-    samples.as_buffer(0).as_bytes(alloc)
-}
-
 // The samples of a page as bytes.
-fn page_samples(alloc: Global, file: Vec<u8>, page: u32) -> TiffResult<Vec<u8>> {
-    let mut decoder = open_page(alloc, file, page)?;
-    image_bytes(alloc, &mut decoder)
+fn page_samples(alloc: Global, file: Vec<u8>, page: u32) -> TiffResult<Vec<u8>>
+    ensures { AnswersIn (λ v. v.items) sample_bytes result file.items page }
+{
+    let mut decoder = Decoder::new(alloc, MemorySource::new(file))?;
+    image_bytes(alloc, &mut decoder, page as usize)
 }
 
 // The entries of a page, a line for each.
-fn page_tags(alloc: Global, file: Vec<u8>, page: u32) -> TiffResult<String> {
-    let mut decoder = open_page(alloc, file, page)?;
-    list_entries(alloc, &mut decoder)
+fn page_tags(alloc: Global, file: Vec<u8>, page: u32) -> TiffResult<String>
+    ensures { AnswersIn string_bytes listing result file.items page }
+{
+    let mut decoder = Decoder::new(alloc, MemorySource::new(file))?;
+    list_entries(alloc, &mut decoder, page as usize)
 }
 
 // The replies to the calls that standard input lists, a line for each.
@@ -204,6 +194,45 @@ fn job_replies<'a, F: Files>(
     Ok(lines)
 }
 
+// Writes the file of a gray page, whose samples are the bytes of the input.
+fn write_gray<'a, F: Files>(
+    alloc: Global,
+    output: &'a str,
+    (width, height): (u32, u32),
+    input: &'a str,
+    files: &mut F,
+) -> Result<(), Failure<'a>> {
+    let samples = read(files, input)?;
+    match gray_file(alloc, width, height, &samples) {
+        Ok(file) => write(files, output, &file),
+        Err(fault) => Err(gray_failure(fault, input, samples.len(), width, height)),
+    }
+}
+
+// Writes the samples of a page.
+fn write_samples<'a, F: Files>(
+    alloc: Global,
+    input: &'a str,
+    page: u32,
+    output: &'a str,
+    files: &mut F,
+) -> Result<(), Failure<'a>> {
+    let file = read(files, input)?;
+    let samples = page_samples(alloc, file, page)?;
+    write(files, output, &samples)
+}
+
+// The entries of a page of a file, a line for each.
+fn list_page<'a, F: Files>(
+    alloc: Global,
+    input: &'a str,
+    page: u32,
+    files: &mut F,
+) -> Result<String, Failure<'a>> {
+    let file = read(files, input)?;
+    Ok(page_tags(alloc, file, page)?)
+}
+
 // Does what a command asks for, and answers what is to be printed.
 fn execute<'a, F: Files>(
     alloc: Global,
@@ -217,13 +246,7 @@ fn execute<'a, F: Files>(
             height,
             input,
         } => {
-            let samples = read(files, input)?;
-            match gray_file(alloc, width, height, samples.as_slice()) {
-                Ok(file) => write(files, output, file.as_slice())?,
-                Err(fault) => {
-                    return Err(gray_failure(fault, input, samples.len(), width, height));
-                }
-            }
+            write_gray(alloc, output, (width, height), input, files)?;
             Ok(String::new(alloc))
         }
         Command::Raw {
@@ -231,15 +254,10 @@ fn execute<'a, F: Files>(
             page,
             output,
         } => {
-            let file = read(files, input)?;
-            let samples = page_samples(alloc, file, page)?;
-            write(files, output, samples.as_slice())?;
+            write_samples(alloc, input, page, output, files)?;
             Ok(String::new(alloc))
         }
-        Command::Tags { input, page } => {
-            let file = read(files, input)?;
-            Ok(page_tags(alloc, file, page)?)
-        }
+        Command::Tags { input, page } => list_page(alloc, input, page, files),
         Command::Calls { input } => call_replies(alloc, input, files),
         Command::Jobs { output, kind } => job_replies(alloc, output, kind, files),
     }
