@@ -91,11 +91,16 @@ struct Run {
     err: Vec<u8>,
 }
 
-fn run_words(alloc: Global, files: &mut MemoryFiles, words: &[&str]) -> Result<Run, FileFault> {
+fn all_words(alloc: Global, words: &[&str]) -> Result<Vec<String>, FileFault> {
     let mut all = Vec::new(alloc);
     for word in words {
         all.push(String::from_str(alloc, word)?)?;
     }
+    Ok(all)
+}
+
+fn run_words(alloc: Global, files: &mut MemoryFiles, words: &[&str]) -> Result<Run, FileFault> {
+    let all = all_words(alloc, words)?;
     let mut out = Vec::new(alloc);
     let mut err = Vec::new(alloc);
     let status = run(alloc, all.as_slice(), files, &mut out, &mut err);
@@ -491,5 +496,55 @@ fn jobs_that_end_within_one_are_not_run(rt: HostRuntime) -> Result<(), Fail> {
     assert_eq!(rt; run.status, 2);
     assert_eq!(rt; run.err.as_slice(), b"error: line 3 is no job\n".as_slice());
     assert!(rt; files.read("OUT").is_err());
+    Ok(())
+}
+
+// Two pages of one gray sample each.
+const TWO: &str = "image Gray8 1 1
+write_data 7
+image Gray8 1 1
+write_data 8";
+
+const SECOND_LISTING: &[u8] = b"256 4 1 01000000
+257 4 1 01000000
+258 3 1 0800
+259 3 1 0100
+262 3 1 0100
+273 4 1 d8000000
+";
+
+#[test]
+fn a_second_page_is_taken(rt: HostRuntime) -> Result<(), Fail> {
+    let mut files = MemoryFiles::with(rt.alloc(), "ONE", ONE.as_slice())?;
+    files.input = TWO;
+    let written = run_words(rt.alloc(), &mut files, &["jobs", "OUT"])?;
+    assert_eq!(rt; written.status, 0);
+    let raw = run_words(rt.alloc(), &mut files, &["raw", "OUT", "1", "BACK"])?;
+    assert_eq!(rt; raw.status, 0);
+    assert_eq!(rt; files.read("BACK")?.as_slice(), [8].as_slice());
+    let tags = run_words(rt.alloc(), &mut files, &["tags", "OUT", "1"])?;
+    assert_eq!(rt; tags.status, 0);
+    assert!(rt; tags.out.as_slice().starts_with(SECOND_LISTING));
+    Ok(())
+}
+
+// A command line, and its status where standard output and the error stream take five bytes each.
+const CUT: [(&[&str], u8); 4] = [
+    (&[], 1),
+    (&["tags", "ONE", "0"], 1),
+    (&["tags", "ONE"], 1),
+    (&["tags", "NONE", "0"], 1),
+];
+
+#[test]
+fn streams_that_are_full_are_a_fault(rt: HostRuntime) -> Result<(), Fail> {
+    let mut files = MemoryFiles::with(rt.alloc(), "ONE", ONE.as_slice())?;
+    for (words, wanted) in CUT {
+        let all = all_words(rt.alloc(), words)?;
+        let (mut out_room, mut err_room) = ([0u8; 5], [0u8; 5]);
+        let (mut out, mut err) = (out_room.as_mut_slice(), err_room.as_mut_slice());
+        let status = run(rt.alloc(), all.as_slice(), &mut files, &mut out, &mut err);
+        assert_eq!(rt; status, wanted);
+    }
     Ok(())
 }
