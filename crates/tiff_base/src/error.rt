@@ -90,7 +90,7 @@ pub enum TiffUnsupportedError {
     /// Kept for the Rust crate's name; never answered.
     #[error("unsupported planar configuration “{0:?}”")]
     UnsupportedPlanarConfig(Option<PlanarConfiguration>),
-    /// What this version doesn't read or write yet.
+    /// Kept for the Rust crate's name; never answered.
     #[error("unsupported data type")]
     UnsupportedDataType,
     /// Kept for the Rust crate's name; never answered.
