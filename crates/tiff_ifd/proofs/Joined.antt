@@ -1,8 +1,9 @@
 -- Lists that are joined.
-use Rattle.std.proofs.Common.{◌≡◌, List, [], ◌∷◌, ◌++◌, map, Vec, Result, Ok, Err, refl, ap, ◌∙◌, append_assoc}
+use Rattle.std.proofs.Common.{◌≡◌, List, [], ◌∷◌, ◌++◌, length, take, map, Vec, Result, Ok, Err, refl, ap, ◌∙◌, arith, append_assoc}
 use Rattle.std.specs.declared.alloc.Global.{Global}
 use Rattle.tiff_base.specs.declared.error.TiffError.{TiffError}
-use Rattle.std.proofs.lemmas.List.{map-append}
+use Rattle.std.proofs.Math.Seq.{take-append_seam}
+use Rattle.std.proofs.lemmas.List.{map-append, take_all}
 use Rattle.tiff_base.specs.Answers.{AnswersHere}
 
 pub two_more : {A : Type 0} (xs ys zs : List A) (x y : A) → ys ≡ xs ++ x ∷ [] → zs ≡ ys ++ y ∷ [] → zs ≡ xs ++ x ∷ y ∷ []
@@ -20,3 +21,10 @@ pub as_they_are : {A : Type 0} (r : Result (Vec A Global) TiffError) (given : Re
     → AnswersHere (λ v. map (λ (x : A). x) v.items) r given → AnswersHere (λ v. v.items) r given
 as_they_are (Ok v) given h = h ∙ ap (λ xs. Ok xs) (map_same v.items)
 as_they_are (Err e) given h = h
+
+-- what is appended to a list leaves its front
+pub front_appended : {A : Type 0} (new old xs : List A) → new ≡ old ++ xs → take (length old) new ≡ old
+front_appended new old xs e = ap (take (length old)) e ∙ take-append_seam old xs
+
+pub front_same : {A : Type 0} (new old : List A) → new ≡ old → take (length old) new ≡ old
+front_same new old e = ap (take (length old)) e ∙ take_all (length old) old (omega arith)

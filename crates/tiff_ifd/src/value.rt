@@ -1,6 +1,6 @@
 //! The values of fields.
 
-ghost use Rattle.std.specs.Prelude.{◌≡◌, ◌^◌, Ok, map, [], ◌∷◌, ◌++◌, IfOk, length, string_bytes};
+ghost use Rattle.std.specs.Prelude.{◌≡◌, ◌^◌, Ok, map, [], ◌∷◌, ◌++◌, IfOk, length, take, string_bytes};
 ghost use Rattle.tiff_ifd.specs.Datum.{data_of};
 ghost use Rattle.tiff_ifd.specs.Into as spec;
 ghost use Rattle.tiff_ifd.specs.Same as equal;
@@ -659,20 +659,23 @@ impl FromValue for IfdPointer {
 
 /// The numbers that a single value gives, one or two.
 pub trait AppendValue: Sized {
-    ghost use Rattle.std.specs.Prelude.{Result, List};
+    ghost use Rattle.std.specs.Prelude.{◌≡◌, Result, List, length, take};
     ghost use Rattle.tiff_base.specs.declared.error.TiffError.{TiffError};
     ghost use Rattle.tiff_ifd.specs.Datum.{Datum};
 
     // What each value gives.
     ghost numbers: { Datum → Result (List Self) TiffError };
 
+    // After an error too, `out` begins with what it held.
     fn append_value(value: Value, out: &mut Vec<Self>) -> TiffResult<()>
-        ensures { AnswersHere (λ _. out.new.items) result (spec.appended out.old.items (numbers (datum value))) };
+        ensures answer { AnswersHere (λ _. out.new.items) result (spec.appended out.old.items (numbers (datum value))) }
+        ensures front { take (length out.old.items) out.new.items ≡ out.old.items };
 }
 
 impl AppendValue for i32 {
     ghost numbers = { spec.i32s_of };
 
+    #[tactic(auto, using(crate::proofs::Joined::front_same))]
     fn append_value(value: Value, out: &mut Vec<i32>) -> TiffResult<()> {
         match value {
             Value::SRational(n, d) => append_two(out, n, d),
@@ -685,6 +688,7 @@ impl AppendValue for i32 {
 impl AppendValue for i64 {
     ghost numbers = { spec.i64s_of };
 
+    #[tactic(auto, using(crate::proofs::Joined::front_same))]
     fn append_value(value: Value, out: &mut Vec<i64>) -> TiffResult<()> {
         match value {
             Value::SRational(n, d) => append_two(out, i64::from(n), i64::from(d)),
@@ -701,16 +705,19 @@ fn narrow_signed(n: i64) -> TiffResult<i32>
     i32::try_from(n).map_err(|_| TiffError::IntSizeError)
 }
 
+#[tactic(auto, using(crate::proofs::Joined::front_appended, crate::proofs::Joined::front_same))]
 fn append_one<T: Drop>(out: &mut Vec<T>, x: T) -> TiffResult<()>
-    ensures { AnswersHere (λ _. out.new.items) result (Ok (out.old.items ++ x ∷ [])) }
+    ensures answer { AnswersHere (λ _. out.new.items) result (Ok (out.old.items ++ x ∷ [])) }
+    ensures front { take (length out.old.items) out.new.items ≡ out.old.items }
 {
     out.push(x)?;
     Ok(())
 }
 
-#[tactic(auto, using(crate::proofs::Joined::two_more))]
+#[tactic(auto, using(crate::proofs::Joined::two_more, crate::proofs::Joined::front_appended, crate::proofs::Joined::front_same))]
 fn append_two<T: Drop>(out: &mut Vec<T>, x: T, y: T) -> TiffResult<()>
-    ensures { AnswersHere (λ _. out.new.items) result (Ok (out.old.items ++ x ∷ y ∷ [])) }
+    ensures answer { AnswersHere (λ _. out.new.items) result (Ok (out.old.items ++ x ∷ y ∷ [])) }
+    ensures front { take (length out.old.items) out.new.items ≡ out.old.items }
 {
     out.push(x)?;
     out.push(y)?;

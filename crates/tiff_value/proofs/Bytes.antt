@@ -1,5 +1,8 @@
 -- Bytes as they are written one by one.
-use Rattle.std.proofs.Common.{◌≡◌, ℕ, ◌%◌, List, [], ◌∷◌, get_or, Fits, w8, refl, ap, ◌∙◌, arith, suc}
+use Rattle.std.proofs.Common.{◌≡◌, ℕ, ◌≤◌, ◌%◌, List, [], ◌∷◌, ◌++◌, length, take, get_or, Fits, w8, refl, ap, sym, ◌∙◌, arith, suc, length-append}
+use Rattle.std.proofs.Math.Seq.{take-append_seam}
+use Rattle.std.proofs.lemmas.List.{take-take}
+use Rattle.std.specs.Io.{StartsWith}
 use Rattle.std.specs.List.{flat_map}
 use Rattle.tiff_base.specs.Number.{le}
 
@@ -13,3 +16,13 @@ bytes_alone (x ∷ xs) h =
     let e : x % 256 ≡ x = byte_alone x (h 0) in
     let rest : flat_map (le 1) xs ≡ xs = bytes_alone xs (λ i. h (suc i)) in
     ap (λ (b : ℕ). b ∷ flat_map (le 1) xs) e ∙ ap (λ (bs : List ℕ). x ∷ bs) rest
+
+-- what is appended to a list leaves its front
+pub front_appended : (new old xs : List ℕ) → new ≡ old ++ xs → StartsWith new old
+front_appended new old xs e = ap (take (length old)) e ∙ take-append_seam old xs
+
+-- the front of a front
+pub front_kept : (new mid old xs : List ℕ) → StartsWith new mid → mid ≡ old ++ xs → StartsWith new old
+front_kept new mid old xs h e =
+    let within : length old ≤ length mid = omega (arith, ap length e, length-append old xs) in
+    sym (take-take (length old) (length mid) new within) ∙ ap (take (length old)) h ∙ front_appended mid old xs e

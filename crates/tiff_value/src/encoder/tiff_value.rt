@@ -1,6 +1,7 @@
 //! The values that are written.
 
 ghost use Rattle.std.specs.Prelude.{◌≡◌, ◌+◌, ◌++◌, length, Err, MatchResult};
+ghost use Rattle.std.specs.Io.{StartsWith};
 ghost use Rattle.std.specs.List.{flat_map, list_all};
 ghost use Rattle.tiff_base.specs.Answers.{AnswersBut};
 ghost use Rattle.tiff_base.specs.Types.{type_size};
@@ -81,6 +82,7 @@ pub trait TiffValue {
 
 /// A single value that can always be written (this project's); a `Slice` is several of them.
 pub trait TiffScalar: TiffValue + Sized {
+    ghost use Rattle.std.specs.Io.{StartsWith};
     ghost use Rattle.std.specs.Prelude.{◌≡◌, ℕ, List, [], ◌∷◌, Ok};
     ghost use Rattle.tiff_value.specs.Data.{Scalars, data_by, data_of};
 
@@ -90,13 +92,16 @@ pub trait TiffScalar: TiffValue + Sized {
     // The bytes of one.
     ghost spelled: { Self → List ℕ };
 
-    /// Appends its bytes. Its only error is `OutOfMemory`, after which `out` may hold anything.
+    /// Appends its bytes. Its only error is `OutOfMemory`, after which `out` begins with what it held.
     fn push_to(&self, out: &mut Vec<u8>) -> TiffResult<()>
-        ensures { MatchResult result (λ _. out.new.items ≡ out.old.items ++ spelled self.now) (λ e. e ≡ TiffError.OutOfMemory) };
+        ensures answer { MatchResult result (λ _. out.new.items ≡ out.old.items ++ spelled self.now) (λ e. e ≡ TiffError.OutOfMemory) }
+        ensures front { StartsWith out.new.items out.old.items };
 
-    /// Appends the bytes of several values. Errors are those of `push_to`.
+    /// Appends the bytes of several values. Errors are those of `push_to`, after which `out` begins with what it held.
+    #[tactic(auto, using(crate::proofs::Bytes::front_kept))]
     fn push_all(items: &[Self], out: &mut Vec<u8>) -> TiffResult<()>
-        ensures { MatchResult result (λ _. out.new.items ≡ out.old.items ++ flat_map spelled items.now) (λ e. e ≡ TiffError.OutOfMemory) }
+        ensures answer { MatchResult result (λ _. out.new.items ≡ out.old.items ++ flat_map spelled items.now) (λ e. e ≡ TiffError.OutOfMemory) }
+        ensures front { StartsWith out.new.items out.old.items }
     {
         for item in items {
             item.push_to(out)?;
