@@ -2,24 +2,22 @@
 use Rattle.std.proofs.Common.{◌≡◌, inl, inr, ℕ, zero, suc, ◌+◌, ◌-◌, ◌*◌, ◌/◌, ◌%◌, ◌^◌, ◌<◌, ◌≤◌, List, [], ◌∷◌, ◌++◌, length, take, drop, get_or, map, refl, ap, sym, ◌∙◌, subst, arith, ⊎_elim, add-one}
 use Rattle.std.proofs.lemmas.Bool.{cases_lt}
 use Rattle.std.proofs.lemmas.List.Sums.{sum_by_push, sum_by-cons}
-use Rattle.std.proofs.lemmas.List.{ext_get_or, get_or_past, get_or-reverse, length-reverse, get_or_append_left, get_or-append_right, get_or-take, get_or-drop, length-take-le, length-drop, length-append, take_at, drop_at, get_or-set_same, get_or-set_other}
+use Rattle.std.proofs.lemmas.List.{ext_get_or, get_or_past, get_or-take, get_or-drop, length-take-le, length-drop, length-append, take_at, drop_at, get_or-set_same, get_or-set_other}
 use Rattle.std.proofs.lemmas.Slice.{take-put_mid_below, drop-put_mid}
 use Rattle.std.proofs.Math.ListN.{set}
 use borrow.Rule.Slice.PartMut.{put_mid, post_of}
 use Rattle.std.proofs.lemmas.List.FromFn.{length-map-range_with_len, get_or-map-range_with_len}
 use Rattle.std.proofs.lemmas.Nat.{mod-mul-add, div-mul-add, div-add-mod', mod_below, le-div, from_le_bytes-to_le_bytes_2, from_le_bytes-to_le_bytes_4, from_le_bytes-to_le_bytes_8}
 use Rattle.std.proofs.Math.Nat.{div-mul-le_self, mul-le-mul_right, mul-le-mul_left, pow-suc, mod-add-mod, mod-eq_of_lt, div-eq_of_lt, mul_comm}
-use Rattle.std.specs.Prelude.{sum_by, reverse}
+use Rattle.std.specs.Prelude.{sum_by}
 use Rattle.std.specs.List.{range_with_len}
 use Rattle.std.specs.Int.{Width, w16, w32, w64, from_le_bytes, to_le_bytes}
 use Rattle.tiff_base.specs.declared.tags.ByteOrder.{ByteOrder}
 use Rattle.tiff_base.specs.declared.tags.ByteOrder.TheVariants.{LittleEndian, BigEndian}
 use Rattle.tiff_base.specs.Number.{number}
 use Rattle.tiff_base.specs.Told.{bytes_at}
-use Rattle.tiff_base.specs.declared.tags.«Type».{«Type»}
-use Rattle.tiff_base.specs.Turned.{unit_size, turned_units, turned, convert}
 use Rattle.tiff_page.specs.Pixels.{each_to, width_of}
-use Rattle.tiff_page.specs.Row.{IsSize, row_number, summed_number, summed_byte_in, joined_number, Became, AddsNumber}
+use Rattle.tiff_page.specs.Row.{IsSize, row_number, summed_number, summed_byte_in, joined_number, Became, AddsNumber, TurnsNumber}
 
 -- ---- bytes of a number
 
@@ -340,63 +338,8 @@ joined size s old mid planes new z whole l m sums e each =
 
 -- ---- numbers the other way round
 
-turned_at : (size count : ℕ) (bytes : List ℕ) (k j : ℕ) → k < count → j < size → count * size ≤ length bytes
-    → get_or (turned_units size count bytes) (k * size + j) 0 ≡ get_or bytes (k * size + (size - 1 - j)) 0
-turned_at size zero bytes k j a b h = absurd (omega (arith, a))
-turned_at size (suc count) bytes zero j a b h =
-    let t : length (take size bytes) ≡ size = length-take-le size bytes (omega (arith, h)) in
-    let l : length (reverse (take size bytes)) ≡ size = length-reverse (take size bytes) ∙ t in
-    let e : zero * size + j ≡ j = omega arith in
-    let f : length (take size bytes) - 1 - j ≡ zero * size + (size - 1 - j) = omega (arith, t) in
-    ap (λ (m : ℕ). get_or (reverse (take size bytes) ++ turned_units size count (drop size bytes)) m 0) e
-    ∙ get_or_append_left (reverse (take size bytes)) (turned_units size count (drop size bytes)) 0 j (omega (arith, l, b))
-    ∙ get_or-reverse (take size bytes) j 0 (omega (arith, t, b))
-    ∙ ap (λ (m : ℕ). get_or (take size bytes) m 0) f
-    ∙ get_or-take size bytes (zero * size + (size - 1 - j)) 0 (omega (arith, b))
-turned_at size (suc count) bytes (suc k) j a b h =
-    let l : length (reverse (take size bytes)) ≡ size = length-reverse (take size bytes) ∙ length-take-le size bytes (omega (arith, h)) in
-    let e : suc k * size + j - size ≡ k * size + j = omega arith in
-    let f : size + (k * size + (size - 1 - j)) ≡ suc k * size + (size - 1 - j) = omega arith in
-    get_or-append_right (reverse (take size bytes)) (turned_units size count (drop size bytes)) size (suc k * size + j) 0 l (omega arith)
-    ∙ ap (λ (m : ℕ). get_or (turned_units size count (drop size bytes)) m 0) e
-    ∙ turned_at size count (drop size bytes) k j (omega (arith, a)) b (omega (arith, h, length-drop size bytes))
-    ∙ get_or-drop size bytes (k * size + (size - 1 - j)) 0
-    ∙ ap (λ (m : ℕ). get_or bytes m 0) f
-
-turned_behind : (size count : ℕ) (bytes : List ℕ) (i : ℕ) → count * size ≤ i → count * size ≤ length bytes → get_or (turned_units size count bytes) i 0 ≡ get_or bytes i 0
-turned_behind size zero bytes i a h = refl
-turned_behind size (suc count) bytes i a h =
-    let l : length (reverse (take size bytes)) ≡ size = length-reverse (take size bytes) ∙ length-take-le size bytes (omega (arith, h)) in
-    let f : size + (i - size) ≡ i = omega (arith, a) in
-    get_or-append_right (reverse (take size bytes)) (turned_units size count (drop size bytes)) size i 0 l (omega (arith, a))
-    ∙ turned_behind size count (drop size bytes) (i - size) (omega (arith, a)) (omega (arith, h, length-drop size bytes))
-    ∙ get_or-drop size bytes (i - size) 0
-    ∙ ap (λ (m : ℕ). get_or bytes m 0) f
-
-turned_became : (size : ℕ) (old : List ℕ) → IsSize size → Became size (row_number BigEndian size old) old (turned_units size (length old / size) old)
-turned_became size old z =
-    let p : 0 < size = some_size size z in
-    let count = length old / size in
-    let w : count * size ≤ length old = div-mul-le_self (length old) size in
-    record {
-      numbers = λ k h.
-          ap (number LittleEndian (width_of size))
-          (each_same size (λ j. get_or (turned_units size count old) (k * size + j) 0) (λ j. get_or old (k * size + (size - 1 - j)) 0)
-          (λ j b. turned_at size count old k j (number_before k size (length old) p h) b w))
-          ∙ sym (big_as_little size (λ j. get_or old (k * size + j) 0) z);
-      behind = λ i h. turned_behind size count old i h w;
-    }
-
 pub stayed : (size : ℕ) (old : List ℕ) → Became size (row_number LittleEndian size old) old old
 stayed size old = record { numbers = λ k h. refl; behind = λ i h. refl }
-
-pub converted : (type : «Type») (order : ByteOrder) (size : ℕ) (old new : List ℕ) → unit_size type ≡ size → IsSize size → new ≡ convert type order old LittleEndian
-    → Became size (row_number order size old) old new
-unfolding turned
-converted type LittleEndian size old new u z e = subst (λ (xs : List ℕ). Became size (row_number LittleEndian size old) old xs) (sym e) (stayed size old)
-converted type BigEndian size old new u z e =
-    let f : new ≡ turned_units size (length old / size) old = e ∙ ap (λ (n : ℕ). turned_units n (length old / n) old) u in
-    subst (λ (xs : List ℕ). Became size (row_number BigEndian size old) old xs) (sym f) (turned_became size old z)
 
 -- a number of one byte is the same in either order
 one_byte : (order : ByteOrder) (old : List ℕ) (k : ℕ) → row_number LittleEndian 1 old k ≡ row_number order 1 old k
@@ -407,3 +350,60 @@ one_byte BigEndian old k = refl
 pub bytes_stayed : (order : ByteOrder) (size : ℕ) (old : List ℕ) → size ≡ 1 → Became size (row_number order size old) old old
 bytes_stayed order size old e =
     subst (λ (n : ℕ). Became n (row_number order n old) old old) (sym e) (record { numbers = λ k h. one_byte order old k; behind = λ i h. refl })
+
+turns : (size : ℕ) (old part : List ℕ) (at n k : ℕ) → k ≡ size → length part ≡ size → (at + 1) * size ≤ length old
+    → number LittleEndian (width_of size) part ≡ n → n ≡ number BigEndian (width_of size) (bytes_at old (at * size) size)
+    → TurnsNumber size old at (put_mid (at * size) k old part)
+turns size old part at n k e l w p q =
+    let z : length part ≡ k = omega (arith, l, e) in
+    let v : at * size + k ≤ length old = omega (arith, w, e) in
+    let there : bytes_at (put_mid (at * size) k old part) (at * size) size ≡ part =
+    ap (λ (m : ℕ). bytes_at (put_mid (at * size) k old part) (at * size) m) (sym e) ∙ put_there old part (at * size) k v z in
+    record {
+      turned = number_in size (put_mid (at * size) k old part) at (omega (arith, w, length_put old part (at * size) k v z))
+          ∙ ap (number LittleEndian (width_of size)) there ∙ p ∙ q
+          ∙ sym (ap (number BigEndian (width_of size)) (each_at size at old w));
+      below = λ i h. put_below old part (at * size) k i (omega (arith, v)) h;
+      above = λ i h. put_above old part (at * size) k i (omega (arith, v)) z (omega (arith, h, e));
+    }
+
+pub turns_2 : (old part : List ℕ) (at n k : ℕ) → k ≡ 2 → (at + 1) * 2 ≤ length old → n < 2 ^ 16 → part ≡ to_le_bytes w16 n
+    → n ≡ number BigEndian w16 (bytes_at old (at * 2) 2) → TurnsNumber 2 old at (put_mid (at * 2) k old part)
+turns_2 old part at n k e w b p q =
+    turns 2 old part at n k e (ap length p) w (as_bytes w16 part ∙ ap (from_le_bytes w16) p ∙ from_le_bytes-to_le_bytes_2 n b) q
+
+pub turns_4 : (old part : List ℕ) (at n k : ℕ) → k ≡ 4 → (at + 1) * 4 ≤ length old → n < 2 ^ 32 → part ≡ to_le_bytes w32 n
+    → n ≡ number BigEndian w32 (bytes_at old (at * 4) 4) → TurnsNumber 4 old at (put_mid (at * 4) k old part)
+turns_4 old part at n k e w b p q =
+    turns 4 old part at n k e (ap length p) w (as_bytes w32 part ∙ ap (from_le_bytes w32) p ∙ from_le_bytes-to_le_bytes_4 n b) q
+
+pub turns_8 : (old part : List ℕ) (at n k : ℕ) → k ≡ 8 → (at + 1) * 8 ≤ length old → n < 2 ^ 64 → part ≡ to_le_bytes w64 n
+    → n ≡ number BigEndian w64 (bytes_at old (at * 8) 8) → TurnsNumber 8 old at (put_mid (at * 8) k old part)
+turns_8 old part at n k e w b p q =
+    turns 8 old part at n k e (ap length p) w (as_bytes w64 part ∙ ap (from_le_bytes w64) p ∙ from_le_bytes-to_le_bytes_8 n b) q
+
+pub turned_done : (size : ℕ) (old mid new : List ℕ) (k : ℕ) → TurnsNumber size mid k new
+    → ((j : ℕ) → j < k → row_number LittleEndian size mid j ≡ row_number BigEndian size old j) → ((j : ℕ) → k ≤ j → row_number BigEndian size mid j ≡ row_number BigEndian size old j)
+    → (j : ℕ) → j < k + 1 → row_number LittleEndian size new j ≡ row_number BigEndian size old j
+turned_done size old mid new k a done rest j l =
+    ⊎_elim
+    (λ q.
+    let m : (j + 1) * size ≤ k * size = mul-le-mul_right size (omega (arith, q)) in
+    number_same LittleEndian size new mid j (λ i u v. a.below i (omega (arith, m, v))) ∙ done j q)
+    (λ q.
+    let e : k ≡ j = omega (arith, q, l) in
+    subst (λ (i : ℕ). row_number LittleEndian size new i ≡ row_number BigEndian size old i) e (a.turned ∙ rest k (omega arith)))
+    (cases_lt j k)
+
+pub turned_rest : (size : ℕ) (old mid new : List ℕ) (k : ℕ) → TurnsNumber size mid k new
+    → ((j : ℕ) → k ≤ j → row_number BigEndian size mid j ≡ row_number BigEndian size old j)
+    → (j : ℕ) → k + 1 ≤ j → row_number BigEndian size new j ≡ row_number BigEndian size old j
+turned_rest size old mid new k a rest j l =
+    let m : (k + 1) * size ≤ j * size = mul-le-mul_right size l in
+    number_same BigEndian size new mid j (λ i u v. a.above i (omega (arith, m, u))) ∙ rest j (omega (arith, l))
+
+pub turned_past : (size count : ℕ) (old mid new : List ℕ) (k : ℕ) → TurnsNumber size mid k new → k < count → ((i : ℕ) → count * size ≤ i → get_or mid i 0 ≡ get_or old i 0)
+    → (i : ℕ) → count * size ≤ i → get_or new i 0 ≡ get_or old i 0
+turned_past size count old mid new k a h rest i l =
+    let m : (k + 1) * size ≤ count * size = mul-le-mul_right size (omega (arith, h)) in
+    a.above i (omega (arith, m, l)) ∙ rest i l

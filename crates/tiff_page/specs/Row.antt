@@ -43,6 +43,12 @@ pub record AddsNumber (size : ℕ) (old : List ℕ) (from to : ℕ) (new : List 
   pub below : (i : ℕ) → i < to * size → slice_index new i ≡ slice_index old i
   pub above : (i : ℕ) → to * size + size ≤ i → slice_index new i ≡ slice_index old i
 
+-- The big-endian number at one place became little-endian, and no other byte was changed.
+pub record TurnsNumber (size : ℕ) (old : List ℕ) (at : ℕ) (new : List ℕ) : Type 0 where
+  pub turned : row_number LittleEndian size new at ≡ row_number BigEndian size old at
+  pub below : (i : ℕ) → i < at * size → slice_index new i ≡ slice_index old i
+  pub above : (i : ℕ) → at * size + size ≤ i → slice_index new i ≡ slice_index old i
+
 -- ---- its laws
 
 -- a list holds the first bytes of a row of a chunk

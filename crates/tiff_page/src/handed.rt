@@ -116,6 +116,10 @@ fn keep_pixels(row: &[u8], whole: usize, out: &mut [u8], kept: usize, width: usi
     requires out { length out.old ≡ width * kept }
     ensures { EachIndex out.new (λ i. slice_index out.new i ≡ slice_index row.now (i / kept * whole + i % kept)) }
 {
+    if kept == whole {
+        out.copy_from_slice(&row[..width * whole]);
+        return;
+    }
     for column in 0..width {
         let from = column * whole;
         let to = column * kept;

@@ -1,22 +1,92 @@
 //! The rows of a chunk, undone in place: numbers to little-endian, predictors, complements.
 
 ghost use Rattle.std.specs.Prelude.{◌≡◌, ℕ, ◌+◌, ◌-◌, ◌*◌, ◌/◌, ◌%◌, ◌<◌, ◌≤◌, length, slice_index, EachIndex};
-ghost use Rattle.tiff_base.specs.declared.tags.ByteOrder.TheVariants.{LittleEndian};
-ghost use Rattle.tiff_page.specs.Row.{IsSize, row_number, summed_number, joined_number, Became, AddsNumber};
+ghost use Rattle.tiff_base.specs.declared.tags.ByteOrder.TheVariants.{LittleEndian, BigEndian};
+ghost use Rattle.tiff_page.specs.Row.{IsSize, row_number, summed_number, joined_number, Became, AddsNumber, TurnsNumber};
 
 use tiff_base::read::{u16_in, u32_in, u64_in};
-use tiff_base::tags::{ByteOrder, Type};
+use tiff_base::tags::ByteOrder;
+
+// Turns the big-endian numbers of two, four and eight bytes at one place.
+#[tactic(auto, using(crate::proofs::Rows::turns_2))]
+fn turn_u16(row: &mut [u8], k: usize)
+    requires { (k + 1) * 2 ≤ length row.old }
+    ensures { TurnsNumber 2 row.old k row.new }
+{
+    let at = k * 2;
+    let number = u16_in(ByteOrder::BigEndian, row, at);
+    row[at..at + 2].copy_from_slice(&number.to_le_bytes());
+}
+
+#[tactic(auto, using(crate::proofs::Rows::turns_4))]
+fn turn_u32(row: &mut [u8], k: usize)
+    requires { (k + 1) * 4 ≤ length row.old }
+    ensures { TurnsNumber 4 row.old k row.new }
+{
+    let at = k * 4;
+    let number = u32_in(ByteOrder::BigEndian, row, at);
+    row[at..at + 4].copy_from_slice(&number.to_le_bytes());
+}
+
+#[tactic(auto, using(crate::proofs::Rows::turns_8))]
+fn turn_u64(row: &mut [u8], k: usize)
+    requires { (k + 1) * 8 ≤ length row.old }
+    ensures { TurnsNumber 8 row.old k row.new }
+{
+    let at = k * 8;
+    let number = u64_in(ByteOrder::BigEndian, row, at);
+    row[at..at + 8].copy_from_slice(&number.to_le_bytes());
+}
+
+// Those of a row. A ragged end stays.
+fn turn_u16s(row: &mut [u8])
+    ensures { Became 2 (row_number BigEndian 2 row.old) row.old row.new }
+{
+    let count = row.len() / 2;
+    for k in 0..count {
+        turn_u16(row, k);
+    }
+}
+
+fn turn_u32s(row: &mut [u8])
+    ensures { Became 4 (row_number BigEndian 4 row.old) row.old row.new }
+{
+    let count = row.len() / 4;
+    for k in 0..count {
+        turn_u32(row, k);
+    }
+}
+
+fn turn_u64s(row: &mut [u8])
+    ensures { Became 8 (row_number BigEndian 8 row.old) row.old row.new }
+{
+    let count = row.len() / 8;
+    for k in 0..count {
+        turn_u64(row, k);
+    }
+}
+
+// Turns the big-endian numbers of a row, of `size` bytes each.
+fn turn_numbers(row: &mut [u8], size: usize)
+    requires { IsSize size }
+    ensures { Became size (row_number BigEndian size row.old) row.old row.new }
+{
+    match size {
+        2 => turn_u16s(row),
+        4 => turn_u32s(row),
+        8 => turn_u64s(row),
+        _ => {}
+    }
+}
 
 /// Turns the numbers of a row, of `size` bytes each, into little-endian ones. A ragged end stays.
 pub fn to_little(row: &mut [u8], order: ByteOrder, size: usize)
     requires { IsSize size }
     ensures { Became size (row_number order size row.old) row.old row.new }
 {
-    match size {
-        2 => order.convert(Type::SHORT, row, ByteOrder::LittleEndian),
-        4 => order.convert(Type::LONG, row, ByteOrder::LittleEndian),
-        8 => order.convert(Type::LONG8, row, ByteOrder::LittleEndian),
-        _ => {}
+    match order {
+        ByteOrder::LittleEndian => {}
+        ByteOrder::BigEndian => turn_numbers(row, size),
     }
 }
 
@@ -81,8 +151,10 @@ fn add_number(row: &mut [u8], from: usize, to: usize, size: usize)
     }
 }
 
-/// Undoes the horizontal predictor over a row of little-endian numbers of `size` bytes, of which a pixel has `stored`.
-pub fn undo_horizontal(row: &mut [u8], size: usize, stored: usize)
+// Adds to each number of a row the one before it of the same sample. Where `size` and `stored` are constants, the loop is
+// compiled for these.
+#[inline(always)]
+fn sum_numbers(row: &mut [u8], size: usize, stored: usize)
     requires size { IsSize size }
     requires stored { 0 < stored }
     ensures { Became size (summed_number size stored row.old) row.old row.new }
@@ -90,6 +162,25 @@ pub fn undo_horizontal(row: &mut [u8], size: usize, stored: usize)
     let count = row.len() / size;
     for k in stored..count {
         add_number(row, k - stored, k, size);
+    }
+}
+
+/// Undoes the horizontal predictor over a row of little-endian numbers of `size` bytes, of which a pixel has `stored`.
+pub fn undo_horizontal(row: &mut [u8], size: usize, stored: usize)
+    requires size { IsSize size }
+    requires stored { 0 < stored }
+    ensures { Became size (summed_number size stored row.old) row.old row.new }
+{
+    match (size, stored) {
+        (1, 1) => sum_numbers(row, 1, 1),
+        (1, 2) => sum_numbers(row, 1, 2),
+        (1, 3) => sum_numbers(row, 1, 3),
+        (1, 4) => sum_numbers(row, 1, 4),
+        (2, 1) => sum_numbers(row, 2, 1),
+        (2, 3) => sum_numbers(row, 2, 3),
+        (2, 4) => sum_numbers(row, 2, 4),
+        (4, 1) => sum_numbers(row, 4, 1),
+        _ => sum_numbers(row, size, stored),
     }
 }
 
@@ -105,8 +196,10 @@ fn join_number(planes: &[u8], count: usize, k: usize, number: &mut [u8])
     }
 }
 
-// Puts the numbers of a row of planes together: the most significant bytes of all numbers stand first.
-fn join_planes(planes: &[u8], size: usize, row: &mut [u8])
+// Puts the numbers of a row of planes together: the most significant bytes of all numbers stand first. Where `size` is a
+// constant, the loop is compiled for it.
+#[inline(always)]
+fn join_numbers(planes: &[u8], size: usize, row: &mut [u8])
     requires size { 0 < size }
     requires same { length planes.now ≡ length row.old }
     ensures { (k : ℕ) → k < length planes.now / size → (j : ℕ) → j < size
@@ -116,6 +209,21 @@ fn join_planes(planes: &[u8], size: usize, row: &mut [u8])
     for k in 0..count {
         let at = k * size;
         join_number(planes, count, k, &mut row[at..at + size]);
+    }
+}
+
+// The same, by constants for the sizes of floating-point numbers.
+fn join_planes(planes: &[u8], size: usize, row: &mut [u8])
+    requires size { 0 < size }
+    requires same { length planes.now ≡ length row.old }
+    ensures { (k : ℕ) → k < length planes.now / size → (j : ℕ) → j < size
+        → slice_index row.new (k * size + j) ≡ slice_index planes.now ((size - 1 - j) * (length planes.now / size) + k) }
+{
+    match size {
+        2 => join_numbers(planes, 2, row),
+        4 => join_numbers(planes, 4, row),
+        8 => join_numbers(planes, 8, row),
+        _ => join_numbers(planes, size, row),
     }
 }
 

@@ -1,7 +1,7 @@
 use Rattle.std.proofs.Common.{◌≡◌, arith, length, take, drop, ◌∙◌, ◌*◌, ◌+◌, ◌-◌}
 use Rattle.std.proofs.lemmas.List.{length-take, length-drop}
 use Rattle.tiff_page.proofs.Rows.{join_more, number_within}
-use Rattle.tiff_page.proofs.undo.join_planes.Goals as goal
+use Rattle.tiff_page.proofs.undo.join_numbers.Goals as goal
 
 pub loop-k-preserved : goal.loop-k-preserved
 loop-k-preserved c =

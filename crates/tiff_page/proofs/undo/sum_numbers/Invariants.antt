@@ -1,7 +1,7 @@
 use Rattle.std.proofs.Common.{◌≡◌, ℕ, ◌*◌, ◌/◌, ◌<◌, ◌≤◌, length, get_or}
 use Rattle.tiff_base.specs.declared.tags.ByteOrder.TheVariants.{LittleEndian}
 use Rattle.tiff_page.specs.Row.{row_number, summed_number}
-use Rattle.tiff_page.proofs.undo.undo_horizontal.Given as goal
+use Rattle.tiff_page.proofs.undo.sum_numbers.Given as goal
 
 -- the numbers before the next are summed, and the rest is as it was
 abbrev pub invariant-loop-k : goal.invariant-loop-k

@@ -1,6 +1,6 @@
 use Rattle.std.proofs.Common.{arith, refl}
 use Rattle.tiff_page.proofs.Rows.{first_summed, summed_more, rest_more, behind_more}
-use Rattle.tiff_page.proofs.undo.undo_horizontal.Goals as goal
+use Rattle.tiff_page.proofs.undo.sum_numbers.Goals as goal
 
 pub loop-k-init : goal.loop-k-init
 loop-k-init c = record {

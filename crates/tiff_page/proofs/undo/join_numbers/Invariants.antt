@@ -1,5 +1,5 @@
 use Rattle.std.proofs.Common.{◌≡◌, ℕ, ◌+◌, ◌-◌, ◌*◌, ◌<◌, get_or}
-use Rattle.tiff_page.proofs.undo.join_planes.Given as goal
+use Rattle.tiff_page.proofs.undo.join_numbers.Given as goal
 
 -- the numbers before the next are put together
 abbrev pub invariant-loop-k : goal.invariant-loop-k
