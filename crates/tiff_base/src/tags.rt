@@ -1,6 +1,7 @@
 //! The numbers of TIFF as enums, byte orders, and bit patterns.
 
-ghost use Rattle.std.specs.Prelude.{◌≡◌, ◌<◌, ◌/◌, length};
+ghost use Rattle.std.specs.Prelude.{◌≡◌, ◌<◌, ◌/◌, false, true, length};
+ghost use Rattle.std.specs.Fmt.{WritesOnOk, digits};
 ghost use Rattle.tiff_base.specs.Tags.{extra_number, extra_of, format_number, format_of, interpretation_number, interpretation_of, method_number, method_of, planar_number, planar_of, predictor_number, predictor_of, tag_number, tag_of, type_number, type_of, unit_number, unit_of, named_tag, named_method, named_format};
 ghost use Rattle.tiff_base.specs.Turned.{convert, turned_units, unit_size};
 ghost use Rattle.tiff_base.specs.Types.{type_size};
@@ -646,13 +647,17 @@ impl ExtraSamples {
 pub struct IfdPointer(pub u64);
 
 impl fmt::LowerHex for IfdPointer {
-    fn fmt<W: fmt::Write>(&self, f: &mut fmt::Formatter<W>) -> fmt::Result {
+    fn fmt<W: fmt::Write>(&self, f: &mut fmt::Formatter<W>) -> fmt::Result
+        ensures { WritesOnOk W.write_str_gives f.old result (digits 16 false self.now.0) f.new }
+    {
         fmt::LowerHex::fmt(&self.0, f)
     }
 }
 
 impl fmt::UpperHex for IfdPointer {
-    fn fmt<W: fmt::Write>(&self, f: &mut fmt::Formatter<W>) -> fmt::Result {
+    fn fmt<W: fmt::Write>(&self, f: &mut fmt::Formatter<W>) -> fmt::Result
+        ensures { WritesOnOk W.write_str_gives f.old result (digits 16 true self.now.0) f.new }
+    {
         fmt::UpperHex::fmt(&self.0, f)
     }
 }
