@@ -14,3 +14,4 @@ pub mod Runs
 pub mod Turned
 pub mod Blocks
 pub mod Named
+pub mod Sparing

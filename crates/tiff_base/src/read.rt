@@ -5,6 +5,7 @@ ghost use Rattle.std.specs.Int.{w16, w32, w64};
 ghost use Rattle.tiff_base.specs.Told.{bytes_at, exactly_at};
 ghost use Rattle.tiff_base.specs.Number.{number, number_at};
 ghost use Rattle.tiff_base.specs.Answers.{Answers, AnswersExactly, IsKept};
+ghost use Rattle.tiff_base.specs.Sparing.{AnswersSparingly};
 
 use crate::error::{TiffError, TiffResult};
 use crate::io::{IoKind, Source};
@@ -32,7 +33,7 @@ pub fn read_exact_at<R: Source>(source: &mut R, at: u64, buf: &mut [u8]) -> Tiff
 }
 
 /// The `len` bytes at a place. Fewer bytes there: `IoError(UnexpectedEof)`, told before room for them is taken: the last
-/// byte is read first.
+/// byte is read first. Its only other errors are those of the device, and `OutOfMemory` where the bytes are there.
 #[tactic(auto, using(crate::proofs::Bytes::cut_at_last, crate::proofs::Bytes::cut_past))]
 pub fn read_bytes_at<R: Source>(
     alloc: Global,
@@ -41,7 +42,7 @@ pub fn read_bytes_at<R: Source>(
     len: usize,
 ) -> TiffResult<Vec<u8>>
     ensures kept { IsKept R.bytes R.failures source.old source.new }
-    ensures answer { Answers (λ v. v.items) result (exactly_at (R.bytes source.old) at len) (R.failures source.old) (R.failures source.new) }
+    ensures answer { AnswersSparingly (λ v. v.items) result (exactly_at (R.bytes source.old) at len) (R.failures source.old) (R.failures source.new) }
 {
     if len > 0 {
         let Some(last) = at.checked_add(len as u64 - 1) else {

@@ -10,3 +10,4 @@ mod Sames
 pub mod Followed
 pub mod Begun
 pub mod Unpacking
+pub mod Within

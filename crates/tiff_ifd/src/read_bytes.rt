@@ -2,7 +2,8 @@
 
 ghost use Rattle.std.specs.Prelude.{◌≡◌, ◌≤◌, IfOk, length, take, drop};
 ghost use Rattle.std.specs.Int.{byte_len};
-ghost use Rattle.tiff_base.specs.Answers.{Answers, AnswersExactly, IsKept};
+ghost use Rattle.tiff_base.specs.Answers.{AnswersExactly, IsKept};
+ghost use Rattle.tiff_base.specs.Sparing.{AnswersSparingly};
 ghost use Rattle.tiff_base.specs.Number.{number};
 ghost use Rattle.tiff_base.specs.Directory.{place_width};
 ghost use Rattle.tiff_ifd.specs.Ask.{buffer_of, part_of_field};
@@ -39,7 +40,7 @@ pub(crate) fn place_in(kind: FileKind, order: ByteOrder, value: [u8; 8]) -> u64
 }
 
 /// Reads the bytes of a field, in the file's order. 2^64 bytes or more, or more than the limit: `LimitsExceeded`; bytes
-/// past the end: `IoError(UnexpectedEof)`.
+/// past the end: `IoError(UnexpectedEof)`. Memory is taken after these.
 #[tactic(auto, unfolding(crate::specs::Ask::buffer_of, tiff_base::specs::FieldBytes::field_bytes))]
 pub fn read_field_bytes<R: Source>(
     alloc: Global,
@@ -50,7 +51,7 @@ pub fn read_field_bytes<R: Source>(
     entry: &Entry,
 ) -> TiffResult<Vec<u8>>
     ensures kept { IsKept R.bytes R.failures source.old source.new }
-    ensures answer { Answers (λ v. record { order = order; data_type = entry.now.field_type; bytes = v.items }) result
+    ensures answer { AnswersSparingly (λ v. record { order = order; data_type = entry.now.field_type; bytes = v.items }) result
         (buffer_of kind order (R.bytes source.old) limits.now entry.now) (R.failures source.old) (R.failures source.new) }
 {
     let size = u64::from(entry.field_type().byte_len());

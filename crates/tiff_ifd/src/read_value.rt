@@ -1,12 +1,15 @@
 //! The values of fields are read.
 
-ghost use Rattle.std.specs.Prelude.{◌≡◌, ◌≤◌, ◌<◌, ◌*◌, ◌-◌, Ok, Err, if◌then◌else◌, ◌&&◌, length, slice_index, option_map, string_bytes};
+ghost use Rattle.std.specs.Prelude.{◌≡◌, ◌≤◌, ◌<◌, ◌*◌, ◌-◌, Ok, Err, None, if◌then◌else◌, ◌&&◌, length, slice_index, option_map, string_bytes};
 ghost use Rattle.std.specs.Int.{w8, w16, w32, w64};
 ghost use Rattle.std.specs.List.{list_all, position_or_len, prefix_len, suffix_len};
 ghost use Rattle.std.specs.Str.{is_utf8};
 ghost use Rattle.tiff_base.specs.declared.error.TiffError.TheVariants as tiff;
 ghost use Rattle.tiff_base.specs.declared.error.TiffFormatError.TheVariants as format;
 ghost use Rattle.tiff_base.specs.Answers.{Answers, AnswersHere, IsKept};
+ghost use Rattle.tiff_base.specs.Sparing.{AnswersWithin, GivesSparingly};
+ghost use Rattle.std.specs.FinMap.{get};
+ghost use Rattle.tiff_base.specs.Tags.{tag_number};
 ghost use Rattle.tiff_base.specs.Number.{number};
 ghost use Rattle.tiff_base.specs.Types.{type_size};
 ghost use Rattle.tiff_ifd.specs.Datum as f;
@@ -165,7 +168,7 @@ fn numbers_from(
 // A text that is UTF-8.
 #[tactic(auto, using(crate::proofs::Texts::utf8))]
 fn text_from(alloc: Global, bytes: &[u8]) -> TiffResult<Value>
-    ensures { AnswersHere datum result (if is_utf8 bytes.now then Ok (f.ascii bytes.now) else Err (tiff.FormatError format.InvalidTag)) }
+    ensures { GivesSparingly datum result (if is_utf8 bytes.now then Ok (f.ascii bytes.now) else Err (tiff.FormatError format.InvalidTag)) }
 {
     match str::from_utf8(bytes) {
         Ok(text) => Ok(Value::Ascii(AsciiText::from_string(String::from_str(alloc, text)?))),
@@ -187,7 +190,7 @@ fn first_zero(bytes: &[u8]) -> usize
 
 // A text elsewhere: cut at the first zero.
 fn placed_text(alloc: Global, bytes: &[u8]) -> TiffResult<Value>
-    ensures { AnswersHere datum result (value.placed_text bytes.now) }
+    ensures { GivesSparingly datum result (value.placed_text bytes.now) }
 {
     text_from(alloc, &bytes[..first_zero(bytes)])
 }
@@ -240,7 +243,7 @@ fn without_zeros(bytes: &[u8]) -> &[u8]
 // A text in the entry itself.
 fn inline_text(alloc: Global, bytes: &[u8]) -> TiffResult<Value>
     requires { 0 < length bytes.now }
-    ensures { AnswersHere datum result (value.inline_text bytes.now) }
+    ensures { GivesSparingly datum result (value.inline_text bytes.now) }
 {
     if !is_inline_text(bytes) {
         return Err(TiffError::FormatError(TiffFormatError::InvalidTag));
@@ -259,7 +262,7 @@ fn value_from(
 ) -> TiffResult<Value>
     requires whole { length bytes.now ≡ count * type_size field_type }
     requires some { 0 < count }
-    ensures { AnswersHere datum result (value.value_from inline field_type order count bytes.now) }
+    ensures { GivesSparingly datum result (value.value_from inline field_type order count bytes.now) }
 {
     match field_type {
         Type::ASCII if inline => inline_text(alloc, bytes),
@@ -294,8 +297,9 @@ fn is_allowed(limits: &Limits, field_type: Type, count: u64) -> bool
 }
 
 /// Reads the value of a field. 2^64 bytes or more, or elsewhere more values than the limits allow: `LimitsExceeded`;
-/// bytes past the end: `IoError(UnexpectedEof)`; a text that doesn't end in its entry, or isn't one: `InvalidTag`.
-#[tactic(auto, unfolding(crate::specs::FieldValue::field_value, tiff_base::specs::FieldBytes::field_bytes))]
+/// bytes past the end: `IoError(UnexpectedEof)`; a text that doesn't end in its entry, or isn't one: `InvalidTag`. Memory is
+/// taken within the limits and the source alone.
+#[tactic(auto, using(crate::proofs::Within::value_within, crate::proofs::Within::read_within), unfolding(crate::specs::FieldValue::field_value, tiff_base::specs::FieldBytes::field_bytes))]
 pub fn read_value<R: Source>(
     alloc: Global,
     source: &mut R,
@@ -305,7 +309,7 @@ pub fn read_value<R: Source>(
     entry: &Entry,
 ) -> TiffResult<Value>
     ensures kept { IsKept R.bytes R.failures source.old source.new }
-    ensures answer { Answers datum result (value.field_value kind order (R.bytes source.old) limits.now entry.now) (R.failures source.old) (R.failures source.new) }
+    ensures answer { AnswersWithin datum result (value.field_value kind order (R.bytes source.old) limits.now entry.now) (R.failures source.old) (R.failures source.new) }
 {
     let count = entry.count();
     if count == 0 {
@@ -335,7 +339,7 @@ pub fn read_value<R: Source>(
 }
 
 /// Reads the value of a tag, if the directory has it.
-#[tactic(auto, unfolding(crate::specs::Look::look_in))]
+#[tactic(auto, using(crate::proofs::Within::found_within), unfolding(crate::specs::Look::look_in))]
 pub fn find_value<R: Source>(
     alloc: Global,
     source: &mut R,
@@ -346,7 +350,8 @@ pub fn find_value<R: Source>(
     tag: Tag,
 ) -> TiffResult<Option<Value>>
     ensures kept { IsKept R.bytes R.failures source.old source.new }
-    ensures answer { Answers (λ v. option_map datum v) result ((look_in kind order (R.bytes source.old) limits.now directory.now.entries).value tag) (R.failures source.old) (R.failures source.new) }
+    ensures none { get directory.now.entries (tag_number tag) ≡ None → result ≡ Ok None }
+    ensures answer { AnswersWithin (λ v. option_map datum v) result ((look_in kind order (R.bytes source.old) limits.now directory.now.entries).value tag) (R.failures source.old) (R.failures source.new) }
 {
     match directory.get(tag) {
         None => Ok(None),

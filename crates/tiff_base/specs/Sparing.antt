@@ -1,0 +1,29 @@
+-- What a call may answer that takes memory only where nothing is refused before.
+use Rattle.std.specs.Prelude.{ℕ, ◌<◌, Result, Ok, Err, IsOk}
+use Rattle.tiff_base.specs.declared.error.TiffError.{TiffError}
+use Rattle.tiff_base.specs.declared.error.TiffError.TheVariants.{IoError, LimitsExceeded}
+use Rattle.tiff_base.specs.declared.io.IoKind.TheVariants.{UnexpectedEof}
+use Rattle.tiff_base.specs.Answers.{AnswersBut}
+
+-- of a call that reads a source: want of memory only where what is given is no fault
+abbrev pub AnswersSparingly : {X Y : Type 0} → (X → Y) → Result X TiffError → Result Y TiffError → ℕ → ℕ → Type 0
+AnswersSparingly view result given before after = AnswersBut (IsOk given) (before < after) view result given
+
+-- the same of one that reads no source
+abbrev pub GivesSparingly : {X Y : Type 0} → (X → Y) → Result X TiffError → Result Y TiffError → Type 0
+GivesSparingly view result given = AnswersBut (IsOk given) ⊥ view result given
+
+-- a fault of what was read: neither that of a limit, nor the end of the source
+abbrev pub IsOfRead : TiffError → Type 0
+IsOfRead LimitsExceeded = ⊥
+IsOfRead (IoError UnexpectedEof) = ⊥
+IsOfRead e = Unit {0}
+
+-- no limit refuses what is given, and the source doesn't end before it
+abbrev pub IsWithin : {Y : Type 0} → Result Y TiffError → Type 0
+IsWithin (Ok y) = Unit {0}
+IsWithin (Err e) = IsOfRead e
+
+-- of a call that reads a source, and what was read may be refused too: want of memory only within the limits and the source
+abbrev pub AnswersWithin : {X Y : Type 0} → (X → Y) → Result X TiffError → Result Y TiffError → ℕ → ℕ → Type 0
+AnswersWithin view result given before after = AnswersBut (IsWithin given) (before < after) view result given
