@@ -98,6 +98,19 @@ pub trait Sink {
     ghost short: { (s : Self) → length (told s) < 2 ^ 63 };
 }
 
+// Reads the bytes of a slice from a place on, as many as there are and as the buffer holds.
+fn read_of(items: &[u8], at: u64, buf: &mut [u8]) -> usize
+    ensures { Reads items.now at buf.old result buf.new }
+{
+    if at >= items.len() as u64 {
+        return 0;
+    }
+    let rest = &items[at as usize..];
+    let n = rest.len().min(buf.len());
+    buf[..n].copy_from_slice(&rest[..n]);
+    n
+}
+
 /// A source in memory. No read of it fails.
 #[derive(Drop)]
 pub struct MemorySource {
@@ -130,14 +143,43 @@ impl Source for MemorySource {
     ghost octets = { λ s. s.octets };
 
     fn read_at(&mut self, at: u64, buf: &mut [u8]) -> Result<usize, DeviceFault> {
-        let items = self.items.as_slice();
-        if at >= items.len() as u64 {
-            return Ok(0);
-        }
-        let rest = &items[at as usize..];
-        let n = rest.len().min(buf.len());
-        buf[..n].copy_from_slice(&rest[..n]);
-        Ok(n)
+        Ok(read_of(self.items.as_slice(), at, buf))
+    }
+}
+
+/// A source that lies in a slice; nothing of it is copied. No read of it fails.
+#[derive(Drop)]
+pub struct SliceSource<'a> {
+    items: &'a [u8],
+    ghost places: { length items.now < 2 ^ 64 },
+    ghost octets: { AreOctets items.now },
+}
+
+impl<'a> SliceSource<'a> {
+    ghost use Rattle.tiff_base.specs.Memory.{slice_bytes};
+
+    /// The source of these bytes.
+    pub fn new(items: &'a [u8]) -> Self
+        ensures { slice_bytes result ≡ items.now }
+    {
+        let _len = items.len();
+        SliceSource { items }
+    }
+}
+
+impl Source for SliceSource<'_> {
+    ghost use Rattle.tiff_base.specs.Memory.{slice_bytes};
+
+    ghost bytes = { slice_bytes };
+
+    ghost failures = { λ _. 0 };
+
+    ghost places = { λ s. s.places };
+
+    ghost octets = { λ s. s.octets };
+
+    fn read_at(&mut self, at: u64, buf: &mut [u8]) -> Result<usize, DeviceFault> {
+        Ok(read_of(self.items, at, buf))
     }
 }
 
