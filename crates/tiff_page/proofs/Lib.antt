@@ -16,3 +16,4 @@ pub mod RowLaws
 pub mod Reading
 pub mod Handing
 pub mod PixelSteps
+pub mod Cut

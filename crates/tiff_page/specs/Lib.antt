@@ -17,3 +17,4 @@ pub mod Handed
 pub mod Read
 pub mod Reading
 pub mod Laws
+pub mod Early

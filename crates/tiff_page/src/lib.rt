@@ -5,6 +5,7 @@ pub mod buffers;
 pub mod checks;
 pub mod chunk;
 pub mod counts;
+pub mod early;
 pub mod faults;
 pub mod fill;
 pub mod handed;

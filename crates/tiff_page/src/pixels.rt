@@ -10,14 +10,15 @@
 ghost use Rattle.std.specs.Prelude.{◌≡◌, ◌*◌, ◌<◌, ◌≤◌, ◌^◌, Ok, IfOk, replicate, if◌then◌else◌, nat_le};
 ghost use Rattle.tiff_base.specs.Answers.{Answers, AnswersHere, IsKept};
 ghost use Rattle.tiff_page.specs.Buffers as buffers;
+ghost use Rattle.tiff_page.specs.Early.{early_fault};
 ghost use Rattle.tiff_page.specs.Image.{decoded, image_of};
 ghost use Rattle.tiff_page.specs.Layout as layouts;
 ghost use Rattle.tiff_page.specs.PixelCalls as calls;
-ghost use Rattle.tiff_page.specs.PixelFault.{samples_fault};
 ghost use Rattle.tiff_page.specs.Rect as place;
 ghost use Rattle.tiff_page.specs.View as view;
 
 use crate::buffers::{all_planes, planes_layout, unit_fault};
+use crate::early::early_fault;
 use crate::faults::samples_fault;
 use crate::fill::{fill_image, fill_unit};
 use crate::layout::{
@@ -119,17 +120,24 @@ fn planes_within(page: &Page, limits: &Limits, layout: PlaneLayout) -> u16
     1
 }
 
-// Zeros for samples of so many bytes, if these are within the limit.
-fn zeros(
+// Zeros for samples of so many bytes, if these are within the limit, and no fault of their first chunk is found before
+// memory is taken.
+fn zeros<R: Source>(
     alloc: Global,
+    source: &mut R,
+    page: &Page,
     limits: &Limits,
+    colour: ColorType,
     sample_type: DecodingSampleType,
+    first: u32,
     len: usize,
 ) -> TiffResult<Vec<u8>>
-    ensures answer { AnswersHere (λ _. tt) result (samples_fault limits.now (layouts.size_of sample_type) len) }
+    ensures kept { IsKept R.bytes R.failures source.old source.new }
+    ensures answer { Answers (λ _. tt) result (early_fault (R.bytes source.old) (view.page page.now) limits.now colour sample_type first len) (R.failures source.old) (R.failures source.new) }
     ensures zeros { IfOk result (λ v. v.items ≡ replicate len 0) }
 {
     samples_fault(limits, size_of(sample_type), len)?;
+    early_fault(source, page, limits, colour, first)?;
     Ok(vec![in alloc; 0u8; len]?)
 }
 
@@ -152,7 +160,19 @@ fn image_samples<R: Source>(
     ensures answer { Answers (λ s. decoded s.sample_type s.bytes.items) result (calls.samples (R.bytes source.old) order (view.page page.now) limits.now layout.colour (calls.image_part (R.bytes source.old) order (view.page page.now) planes layout.row_bytes) len) (R.failures source.old) (R.failures source.new) }
 {
     let sample_type = sample_type_of(page, alloc)?;
-    let mut bytes = zeros(alloc, limits, sample_type, len)?;
+    let mut bytes = match zeros(
+        alloc,
+        source,
+        page,
+        limits,
+        layout.colour,
+        sample_type,
+        0,
+        len,
+    ) {
+        Ok(bytes) => bytes,
+        Err(fault) => return Err(fault),
+    };
     match fill_image(
         alloc, source, order, page, limits, layout, planes, &mut bytes,
     ) {
@@ -181,7 +201,10 @@ fn chunk_samples<R: Source>(
     ensures answer { Answers (λ s. decoded s.sample_type s.bytes.items) result (calls.samples (R.bytes source.old) order (view.page page.now) limits.now colour (calls.chunk_part (R.bytes source.old) order (view.page page.now) index 1 stride) len) (R.failures source.old) (R.failures source.new) }
 {
     let sample_type = sample_type_of(page, alloc)?;
-    let mut bytes = zeros(alloc, limits, sample_type, len)?;
+    let mut bytes = match zeros(alloc, source, page, limits, colour, sample_type, index, len) {
+        Ok(bytes) => bytes,
+        Err(fault) => return Err(fault),
+    };
     match fill_unit(
         alloc, source, order, page, limits, colour, index, 1, stride, &mut bytes,
     ) {

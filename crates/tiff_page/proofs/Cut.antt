@@ -1,0 +1,180 @@
+-- What is found before memory is taken for samples.
+use Rattle.std.proofs.Common.{◌≡◌, ℕ, zero, suc, ◌+◌, ◌-◌, ◌*◌, ◌<◌, ◌≤◌, ◌^◌, min, List, [], ◌∷◌, length, take, drop, Bool, true, false, Ok, Err, Fits, refl, ap, sym, ◌∙◌, subst, ⊎_elim, arith, length-append, length-drop}
+use Rattle.std.proofs.lemmas.List.{length-take, length-replicate}
+use lib.ListN.{replicate}
+use Rattle.std.specs.Prelude.{Result, nat_lt, slice_index}
+use Rattle.std.specs.Int.{div_ceil, w128}
+use Rattle.std.proofs.lemmas.Bool.{cases_Bool, cases_lt, lt-ltb, le-ltb, ltb-true}
+use Rattle.std.proofs.lemmas.Grind.{div_ceil_times}
+use Rattle.std.proofs.lemmas.Nat.{mul-lt}
+use Rattle.tiff_base.specs.declared.color.ColorType.{ColorType}
+use Rattle.tiff_base.specs.declared.error.TiffError.{TiffError}
+use Rattle.tiff_base.specs.declared.error.TiffError.TheVariants.{IoError}
+use Rattle.tiff_base.specs.declared.io.IoKind.TheVariants.{UnexpectedEof}
+use Rattle.tiff_base.specs.declared.tags.ByteOrder.{ByteOrder}
+use Rattle.tiff_base.specs.declared.tags.CompressionMethod.{CompressionMethod}
+use Rattle.tiff_base.specs.declared.tags.CompressionMethod.TheVariants as method
+use Rattle.tiff_base.specs.Answers.{AnswersBut, IsCause}
+use Rattle.tiff_base.specs.Runs.{Broken, Unpacked, before, runs_after, runs}
+use Rattle.tiff_base.specs.Told.{exactly_at}
+use Rattle.tiff_base.proofs.Blocks.{runs_no_op, runs_literal, runs_run, runs_broken}
+use Rattle.tiff_base.proofs.Bytes.{missing}
+use Rattle.tiff_base.proofs.Causes.{cause_along}
+use Rattle.tiff_ifd.proofs.Unpacking.{byte_there}
+use Rattle.tiff_ifd.specs.declared.limits.Limits.{Limits}
+use Rattle.tiff_page.specs.declared.layout.DecodingSampleType.{DecodingSampleType}
+use Rattle.tiff_page.specs.Page.{PageRecord}
+use Rattle.tiff_page.specs.Rect.{chunks_of_plane}
+use Rattle.tiff_page.specs.Layout.{sample_type_of, size_of}
+use Rattle.tiff_page.specs.PixelFault.{unless, form_fault, chunk_fault, samples_fault, each_below}
+use Rattle.tiff_page.specs.PixelCalls.{Part, part_fault, filled, samples, image_part, chunk_part}
+use Rattle.tiff_page.specs.Pixels.{data_by, chunk_data, is_short}
+use Rattle.tiff_page.specs.Early.{needed_bytes, least_stored, held, is_cut, early_fault}
+use Rattle.tiff_page.proofs.Sizes.{plane_some}
+use Rattle.tiff_page.proofs.Placing.{cases_fault}
+use Rattle.tiff_page.proofs.Filling.{first_at}
+
+-- the rows of a chunk are of fewer than 2^88 bytes
+rows_few : (h r : ℕ) → h < 2 ^ 32 → r < 2 ^ 56 → (h - 1) * r < 2 ^ 88
+rows_few h r a b = let k : (h - 1) * r < 2 ^ 32 * 2 ^ 56 = mul-lt (h - 1) r (2 ^ 32) (2 ^ 56) (omega (arith, a)) b in omega (arith, k)
+
+pub rows_fit : (h r : ℕ) → h < 2 ^ 32 → r < 2 ^ 56 → Fits w128 ((h - 1) * r)
+rows_fit h r a b = let k = rows_few h r a b in omega (arith, k)
+
+pub bytes_few : (h r l : ℕ) → h < 2 ^ 32 → r < 2 ^ 56 → l < 2 ^ 56 → (h - 1) * r + l < 2 ^ 89
+bytes_few h r l a b d = let k = rows_few h r a b in omega (arith, k, d)
+
+-- ---- the last byte
+
+pub reached : (failed : Type 0) (bytes buf : List ℕ) (at len last : ℕ) (r : Result (Unit {0}) TiffError) → last ≡ at + len - 1 → 0 < len
+    → AnswersBut ⊥ failed (λ _. buf) r (exactly_at bytes last 1) → AnswersBut ⊥ failed (λ _. tt) r (unless (nat_lt (length bytes - at) len) (IoError UnexpectedEof))
+reached failed bytes buf at len last (Ok x) e s h =
+    let b = byte_there bytes buf last h in
+    rw (le-ltb (length bytes - at) len (omega (arith, b.0, e, s))) refl
+reached failed bytes buf at len last (Err f) e s h =
+    cause_along f (λ w. w) (λ d. d)
+    (λ g. (let m = missing bytes last 1 f g in rw (lt-ltb (length bytes - at) len (omega (arith, m.0, e, s))) (ap Err m.1))) h
+
+-- no byte stands at 2^64 or behind
+pub past_all : (bytes : List ℕ) (at len : ℕ) → length bytes < 2 ^ 64 → 0 < len → 2 ^ 64 ≤ at + len - 1 → unless (nat_lt (length bytes - at) len) (IoError UnexpectedEof) ≡ Err (IoError UnexpectedEof)
+past_all bytes at len l s p = rw (lt-ltb (length bytes - at) len (omega (arith, l, s, p))) refl
+
+-- ---- packed bytes
+
+pub least_few : (n : ℕ) → n < 2 ^ 89 → div_ceil n 64 < 2 ^ 89
+least_few n h = let k = div_ceil_times n 64 (omega arith) in omega (arith, h, k.1)
+
+pub counted_few : (bytes : List ℕ) (at count least : ℕ) → count < least → unless (nat_lt (min count (length bytes - at)) least) (IoError UnexpectedEof) ≡ Err (IoError UnexpectedEof)
+counted_few bytes at count least h = rw (lt-ltb (min count (length bytes - at)) least (omega (arith, h))) refl
+
+pub counted_all : (bytes : List ℕ) (at count least : ℕ) → least ≤ count → nat_lt (length bytes - at) least ≡ nat_lt (min count (length bytes - at)) least
+counted_all bytes at count least h =
+    ⊎_elim
+    (λ (l : length bytes - at < least). lt-ltb (length bytes - at) least l ∙ sym (lt-ltb (min count (length bytes - at)) least (omega (arith, l))))
+    (λ (l : least ≤ length bytes - at). le-ltb (length bytes - at) least l ∙ sym (le-ltb (min count (length bytes - at)) least (omega (arith, l, h))))
+    (cases_lt (length bytes - at) least)
+
+-- ---- what packed bytes unpack to at most
+
+of_step : (u v : Unpacked) (n : ℕ) → u ≡ v → length v.out ≤ n → length u.out ≤ n
+of_step u v n e h = subst (λ (w : Unpacked). length w.out ≤ n) (sym e) h
+
+run_few : (early : Bool) (h : ℕ) (P : List ℕ) → 128 < h → length (runs_after 1 early P).out ≤ 64 * (length P - 1) → length (runs early (h ∷ P)).out ≤ 64 * (length P + 1)
+unfolding runs_after
+run_few early h [] a k = of_step (runs early (h ∷ [])) (record { out = []; end = Broken }) (64 * (0 + 1)) (runs_broken early h a) (omega arith)
+run_few early h (v ∷ P) a k =
+    of_step (runs early (h ∷ v ∷ P)) (before (replicate (257 - h) v) (runs early P)) (64 * (length (v ∷ P) + 1)) (runs_run early h v P a)
+    (omega (arith, a, k, length-append (replicate (257 - h) v) (runs early P).out, length-replicate (257 - h) v))
+
+runs_few : (n : ℕ) (early : Bool) (P : List ℕ) → length (runs_after n early P).out ≤ 64 * (length P - n)
+unfolding runs_after
+runs_few (suc n) early [] = omega arith
+runs_few (suc n) early (b ∷ P) = omega (arith, runs_few n early P)
+runs_few zero early [] = omega arith
+runs_few zero early (h ∷ P) =
+    ⊎_elim
+    (λ (a : h < 128).
+    of_step (runs early (h ∷ P)) (before (take (h + 1) P) (runs_after (h + 1) early P)) (64 * (length (h ∷ P) - 0)) (runs_literal early h P a)
+    (omega (arith, runs_few (h + 1) early P, length-append (take (h + 1) P) (runs_after (h + 1) early P).out, length-take (h + 1) P)))
+    (λ (a : 128 ≤ h).
+    ⊎_elim
+    (λ (b : h < 129).
+    let e : h ≡ 128 = omega (arith, a, b) in
+    of_step (runs early (h ∷ P)) (runs early P) (64 * (length (h ∷ P) - 0)) (ap (λ (k : ℕ). runs early (k ∷ P)) e ∙ runs_no_op early P) (omega (arith, runs_few zero early P)))
+    (λ (b : 129 ≤ h). omega (arith, run_few early h P b (runs_few 1 early P)))
+    (cases_lt h 129))
+    (cases_lt h 128)
+
+-- ---- fewer bytes than the data take are too few data
+
+packed_short : (file : List ℕ) (place count n : ℕ) (early : Bool) → min count (length file - place) < div_ceil n 64 → length (runs early (take count (drop place file))).out < n
+packed_short file place count n early h =
+    let few = runs_few zero early (take count (drop place file)) in
+    let ceil = div_ceil_times n 64 (omega arith) in
+    omega (arith, h, few, ceil.1, length-take count (drop place file), length-drop place file)
+
+cut_short : (file : List ℕ) (order : ByteOrder) (p : PageRecord) (m : CompressionMethod) (place count n : ℕ) → held file m place count < least_stored m n
+    → length (data_by file order p m place count) < n
+cut_short file order p method.None place count n h = omega (arith, h, length-drop place file)
+cut_short file order p method.PackBits place count n h = packed_short file place count n (nat_lt (length file - place) count) h
+cut_short file order p m place count n h = omega (arith, h)
+
+module _ (file : List ℕ) (order : ByteOrder) (p : PageRecord) (limits : Limits) (colour : ColorType) where
+  is_short_of : (i : ℕ) → is_cut file p colour i ≡ true → is_short file order p colour i ≡ true
+  is_short_of i h =
+      lt-ltb (length (chunk_data file order p i)) (needed_bytes p colour i)
+      (cut_short file order p p.method (slice_index p.offsets i) (slice_index p.byte_counts i) (needed_bytes p colour i)
+      (ltb-true (held file p.method (slice_index p.offsets i) (slice_index p.byte_counts i)) (least_stored p.method (needed_bytes p colour i)) h))
+
+  abbrev fault_of : ℕ → Result (Unit {0}) TiffError
+  fault_of i = chunk_fault p limits (is_short file order p colour) colour i
+
+  -- what is found early of a chunk is its fault
+  found_early : (i : ℕ) (e : TiffError) → chunk_fault p limits (is_cut file p colour) colour i ≡ Err e → fault_of i ≡ Err e
+  found_early i e h =
+      ⊎_elim
+      (λ (formed : form_fault p limits colour i ≡ Ok tt).
+      ⊎_elim
+      (λ (t : is_cut file p colour i ≡ true). let g : Err (IoError UnexpectedEof) ≡ Err e = rw (formed, t) at h in rw (formed, is_short_of i t) g)
+      (λ (f : is_cut file p colour i ≡ false). let g : Ok tt ≡ Err e = rw (formed, f) at h in cc)
+      (cases_Bool (is_cut file p colour i)))
+      (λ er. let g : Err er.0 ≡ Err e = rw (er.1) at h in rw (er.1) g)
+      (cases_fault (form_fault p limits colour i))
+
+  -- a fault of the first chunk is the first of a part
+  part_early : (part : Part file order p) (e : TiffError) → 0 < part.count → 0 < part.planes → fault_of part.first ≡ Err e → part_fault file order p limits colour part ≡ Err e
+  part_early part e some planes h =
+      let in_plane : ℕ → ℕ → Result (Unit {0}) TiffError = λ j plane. fault_of (plane * chunks_of_plane p + (part.first + j)) in
+      let at : part.first ≡ 0 * chunks_of_plane p + (part.first + 0) = omega arith in
+      first_at (λ j. each_below (in_plane j) part.planes) part.count 0 e some refl
+      (first_at (in_plane 0) part.planes 0 e planes refl (subst (λ (m : ℕ). fault_of m ≡ Err e) at h))
+
+  -- and of its samples
+  pub samples_early : (part : Part file order p) (type : DecodingSampleType) (len : ℕ) (e : TiffError) → 0 < part.count → 0 < part.planes → sample_type_of p ≡ Ok type
+      → early_fault file p limits colour type part.first len ≡ Err e → samples file order p limits colour part len ≡ Err e
+  unfolding samples filled
+  samples_early part type len e some planes typed h =
+      ⊎_elim
+      (λ (few : samples_fault limits (size_of type) len ≡ Ok tt).
+      let g : chunk_fault p limits (is_cut file p colour) colour part.first ≡ Err e = rw few at h in
+      let f : part_fault file order p limits colour part ≡ Err e = part_early part e some planes (found_early part.first e g) in
+      rw (typed, few, f) refl)
+      (λ er. let g : Err er.0 ≡ Err e = rw (er.1) at h in let q : er.0 ≡ e = cc in rw (typed, er.1) (ap Err q))
+      (cases_fault (samples_fault limits (size_of type) len))
+
+-- ---- the samples of an image and of a chunk
+
+pub image_early : (failed : Type 0) (file : List ℕ) (order : ByteOrder) (p : PageRecord) (limits : Limits) (colour : ColorType) (type : DecodingSampleType) (planes stride len : ℕ) (e : TiffError)
+    → 0 < p.width → 0 < p.height → 0 < p.chunk_width → 0 < p.chunk_height → 0 < planes → sample_type_of p ≡ Ok type
+    → IsCause (Unit {0}) failed e (early_fault file p limits colour type 0 len ≡ Err e)
+    → IsCause (Unit {0}) failed e (samples file order p limits colour (image_part file order p planes stride) len ≡ Err e)
+image_early failed file order p limits colour type planes stride len e w h cw ch some typed c =
+    cause_along e (λ z. z) (λ f. f)
+    (λ t. samples_early file order p limits colour (image_part file order p planes stride) type len e (plane_some p.width p.height p.chunk_width p.chunk_height w h cw ch) some typed t) c
+
+pub chunk_early : (failed : Type 0) (file : List ℕ) (order : ByteOrder) (p : PageRecord) (limits : Limits) (colour : ColorType) (type : DecodingSampleType) (i stride len : ℕ) (e : TiffError)
+    → sample_type_of p ≡ Ok type → IsCause (Unit {0}) failed e (early_fault file p limits colour type i len ≡ Err e)
+    → IsCause (Unit {0}) failed e (samples file order p limits colour (chunk_part file order p i 1 stride) len ≡ Err e)
+chunk_early failed file order p limits colour type i stride len e typed c =
+    cause_along e (λ z. z) (λ f. f)
+    (λ t. samples_early file order p limits colour (chunk_part file order p i 1 stride) type len e (omega arith) (omega arith) typed t) c
