@@ -557,7 +557,7 @@ pub trait FromValue: Sized {
     ghost number: { Self → ℕ };
 
     fn from_value(value: Value) -> TiffResult<Self>
-        ensures { AnswersHere number result (into (datum value)) };
+        ensures { Gives number result (into (datum value)) };
 }
 
 impl FromValue for u8 {

@@ -164,17 +164,17 @@ module _ (file : List ℕ) (order : ByteOrder) (p : PageRecord) (limits : Limits
 
 -- ---- the samples of an image and of a chunk
 
-pub image_early : (failed : Type 0) (file : List ℕ) (order : ByteOrder) (p : PageRecord) (limits : Limits) (colour : ColorType) (type : DecodingSampleType) (planes stride len : ℕ) (e : TiffError)
+pub image_early : (wanting failed : Type 0) (file : List ℕ) (order : ByteOrder) (p : PageRecord) (limits : Limits) (colour : ColorType) (type : DecodingSampleType) (planes stride len : ℕ) (e : TiffError)
     → 0 < p.width → 0 < p.height → 0 < p.chunk_width → 0 < p.chunk_height → 0 < planes → sample_type_of p ≡ Ok type
-    → IsCause (Unit {0}) failed e (early_fault file p limits colour type 0 len ≡ Err e)
+    → IsCause wanting failed e (early_fault file p limits colour type 0 len ≡ Err e)
     → IsCause (Unit {0}) failed e (samples file order p limits colour (image_part file order p planes stride) len ≡ Err e)
-image_early failed file order p limits colour type planes stride len e w h cw ch some typed c =
-    cause_along e (λ z. z) (λ f. f)
+image_early wanting failed file order p limits colour type planes stride len e w h cw ch some typed c =
+    cause_along e (λ _. tt) (λ f. f)
     (λ t. samples_early file order p limits colour (image_part file order p planes stride) type len e (plane_some p.width p.height p.chunk_width p.chunk_height w h cw ch) some typed t) c
 
-pub chunk_early : (failed : Type 0) (file : List ℕ) (order : ByteOrder) (p : PageRecord) (limits : Limits) (colour : ColorType) (type : DecodingSampleType) (i stride len : ℕ) (e : TiffError)
-    → sample_type_of p ≡ Ok type → IsCause (Unit {0}) failed e (early_fault file p limits colour type i len ≡ Err e)
+pub chunk_early : (wanting failed : Type 0) (file : List ℕ) (order : ByteOrder) (p : PageRecord) (limits : Limits) (colour : ColorType) (type : DecodingSampleType) (i stride len : ℕ) (e : TiffError)
+    → sample_type_of p ≡ Ok type → IsCause wanting failed e (early_fault file p limits colour type i len ≡ Err e)
     → IsCause (Unit {0}) failed e (samples file order p limits colour (chunk_part file order p i 1 stride) len ≡ Err e)
-chunk_early failed file order p limits colour type i stride len e typed c =
-    cause_along e (λ z. z) (λ f. f)
+chunk_early wanting failed file order p limits colour type i stride len e typed c =
+    cause_along e (λ _. tt) (λ f. f)
     (λ t. samples_early file order p limits colour (chunk_part file order p i 1 stride) type len e (omega arith) (omega arith) typed t) c

@@ -98,9 +98,9 @@ module _ (file : List ℕ) (order : ByteOrder) (p : PageRecord) (limits : Limits
     from_first plane = let e : plane * chunks_of_plane p + (0 + j) ≡ plane * chunks_of_plane p + j = omega arith in ap fault_of e
 
     pub form_cause : (failed : Type 0) (plane i : ℕ) (e : TiffError) → i ≡ at plane → plane < planes → each_below of_plane plane ≡ Ok tt
-        → IsCause (Unit {0}) ⊥ e (form_fault p limits l.colour i ≡ Err e) → IsCause (Unit {0}) failed e (each_below of_plane planes ≡ Err e)
+        → IsCause ⊥ ⊥ e (form_fault p limits l.colour i ≡ Err e) → IsCause (Unit {0}) failed e (each_below of_plane planes ≡ Err e)
     form_cause failed plane i e q below none c =
-        cause_along e (λ w. w) (λ z. Prim.absurd z)
+        cause_along e (λ z. Prim.absurd z) (λ z. Prim.absurd z)
         (λ h.
         let f : form_fault p limits l.colour (at plane) ≡ Err e = subst (λ (m : ℕ). form_fault p limits l.colour m ≡ Err e) q h in
         first_at of_plane planes plane e below none (from_first plane ∙ rw f refl))
@@ -251,11 +251,11 @@ module _ (file : List ℕ) (order : ByteOrder) (p : PageRecord) (limits : Limits
       omega (arith, a, b, c, room)
 
   pub unit_form_cause : (failed : Type 0) (plane i : ℕ) (old : List ℕ) (e : TiffError) → i ≡ place plane → plane < planes → each_below in_unit plane ≡ Ok tt
-      → IsCause (Unit {0}) ⊥ e (form_fault p limits colour i ≡ Err e)
+      → IsCause ⊥ ⊥ e (form_fault p limits colour i ≡ Err e)
       → IsCause (Unit {0}) failed e (filled file order p limits colour (chunk_part file order p k planes stride) old ≡ Err e)
   unfolding filled
   unit_form_cause failed plane i old e q below none c =
-      cause_along e (λ w. w) (λ z. Prim.absurd z)
+      cause_along e (λ z. Prim.absurd z) (λ z. Prim.absurd z)
       (λ t.
       let f : form_fault p limits colour (place plane) ≡ Err e = subst (λ (m : ℕ). form_fault p limits colour m ≡ Err e) q t in
       let g : each_below in_unit planes ≡ Err e = first_at in_unit planes plane e below none (unit_at plane ∙ rw f refl) in

@@ -7,7 +7,7 @@ ghost use Rattle.tiff_base.specs.declared.tags.ExtraSamples.TheVariants as extra
 ghost use Rattle.tiff_ifd.specs.Fitted.{fitted};
 ghost use Rattle.tiff_page.specs.Counts.{chunk_count, planes_of};
 ghost use Rattle.tiff_page.specs.View as view;
-ghost use Rattle.tiff_base.specs.Answers.{Answers, AnswersHere, IsKept};
+ghost use Rattle.tiff_base.specs.Answers.{Answers, AnswersHere, Gives, IsKept};
 ghost use Rattle.tiff_page.specs.Checks as checks;
 
 use crate::lists::{ExtraSampleList, NumberList};
@@ -187,7 +187,7 @@ pub fn read_format<T: Tags>(tags: &mut T, alloc: Global) -> TiffResult<SampleFor
 }
 
 fn one_depth(samples: u16, bits: Vec<u8>) -> TiffResult<u8>
-    ensures answer { AnswersHere (λ d. d) result (checks.one_depth samples bits.items) }
+    ensures answer { Gives (λ d. d) result (checks.one_depth samples bits.items) }
     ensures some { IfOk result (λ d. 0 < d) }
 {
     if bits.len() != usize::from(samples) && bits.len() != 1 {
@@ -248,7 +248,7 @@ pub fn read_planar<T: Tags>(tags: &mut T, alloc: Global) -> TiffResult<PlanarCon
 }
 
 fn two(sizes: &[u16]) -> TiffResult<(u16, u16)>
-    ensures { AnswersHere (λ s. s) result (checks.two sizes.now) }
+    ensures { Gives (λ s. s) result (checks.two sizes.now) }
 {
     match sizes {
         [across, down] => Ok((*across, *down)),
@@ -274,7 +274,7 @@ pub fn read_subsampling<T: Tags>(tags: &mut T, alloc: Global) -> TiffResult<(u16
 /// Whether chunks are strips or tiles.
 #[tactic(auto, unfolding(crate::specs::Checks::chunk_type_of))]
 pub fn chunk_type<T: Tags>(tags: &T) -> TiffResult<ChunkType>
-    ensures { AnswersHere (λ s. s) result (checks.chunk_type_of (T.told tags.now).look) }
+    ensures { Gives (λ s. s) result (checks.chunk_type_of (T.told tags.now).look) }
 {
     match (
         tags.contains(Tag::StripOffsets),
@@ -311,7 +311,7 @@ fn chunk_count(
 fn counted(width: u32, height: u32, planes: u16, chunks: ChunkTable) -> TiffResult<ChunkTable>
     requires wide { 0 < chunks.chunk_width }
     requires high { 0 < chunks.chunk_height }
-    ensures answer { AnswersHere view.chunks result (checks.counted width height planes (view.chunks chunks)) }
+    ensures answer { Gives view.chunks result (checks.counted width height planes (view.chunks chunks)) }
     ensures wide { IfOk result (λ c. 0 < c.chunk_width) }
     ensures high { IfOk result (λ c. 0 < c.chunk_height) }
     ensures same { IfOk result (λ c. length c.byte_counts ≡ length c.offsets) }

@@ -2,7 +2,7 @@
 
 ghost use Rattle.std.specs.Prelude.{◌≡◌, ◌+◌, ◌-◌, ◌*◌, ◌<◌, ◌≤◌, ◌^◌, length, min, nat_lt};
 ghost use Rattle.std.specs.Int.{div_ceil};
-ghost use Rattle.tiff_base.specs.Answers.{Answers, AnswersExactly, IsKept};
+ghost use Rattle.tiff_base.specs.Answers.{AnswersExactly, IsKept};
 ghost use Rattle.tiff_base.specs.declared.error.TiffError.TheVariants as tiff;
 ghost use Rattle.tiff_base.specs.declared.io.IoKind.TheVariants as io;
 ghost use Rattle.tiff_page.specs.Early as spec;
@@ -112,7 +112,7 @@ pub(crate) fn early_fault<R: Source>(
     index: u32,
 ) -> TiffResult<()>
     ensures kept { IsKept R.bytes R.failures source.old source.new }
-    ensures answer { Answers (λ _. tt) result (chunk_fault (view.page page.now) limits.now (spec.is_cut (R.bytes source.old) (view.page page.now) colour) colour index) (R.failures source.old) (R.failures source.new) }
+    ensures answer { AnswersExactly (λ _. tt) result (chunk_fault (view.page page.now) limits.now (spec.is_cut (R.bytes source.old) (view.page page.now) colour) colour index) (R.failures source.old) (R.failures source.new) }
 {
     form_fault(page, limits, colour, index as usize)?;
     cut_fault(source, page, colour, index)

@@ -1,7 +1,7 @@
 //! The faults of reading pixels, but that of too few data.
 
 ghost use Rattle.std.specs.Prelude.{◌≡◌, ◌<◌, length, OnOk};
-ghost use Rattle.tiff_base.specs.Answers.{Answers, AnswersHere, IsKept};
+ghost use Rattle.tiff_base.specs.Answers.{Gives};
 ghost use Rattle.tiff_base.specs.declared.error.TiffError.TheVariants as tiff;
 ghost use Rattle.tiff_base.specs.declared.io.IoKind.TheVariants as io;
 ghost use Rattle.tiff_page.specs.View as view;
@@ -38,7 +38,7 @@ fn is_gray(colour: ColorType) -> bool
 
 #[tactic(auto, unfolding(crate::specs::PixelFault::depth_fault))]
 fn depth_fault(page: &Page, colour: ColorType) -> TiffResult<()>
-    ensures { AnswersHere (λ _. tt) result (spec.depth_fault (view.page page.now) colour) }
+    ensures { Gives (λ _. tt) result (spec.depth_fault (view.page page.now) colour) }
 {
     if is_whole(page.depth) && is_plain(colour) {
         return Ok(());
@@ -55,7 +55,7 @@ fn depth_fault(page: &Page, colour: ColorType) -> TiffResult<()>
 
 #[tactic(auto, unfolding(crate::specs::PixelFault::predictor_fault))]
 fn predictor_fault(page: &Page, colour: ColorType) -> TiffResult<()>
-    ensures { AnswersHere (λ _. tt) result (spec.predictor_fault (view.page page.now) colour) }
+    ensures { Gives (λ _. tt) result (spec.predictor_fault (view.page page.now) colour) }
 {
     match (page.predictor, page.format) {
         (Predictor::None, _) => Ok(()),
@@ -68,7 +68,7 @@ fn predictor_fault(page: &Page, colour: ColorType) -> TiffResult<()>
 }
 
 fn method_fault(method: CompressionMethod) -> TiffResult<()>
-    ensures { AnswersHere (λ _. tt) result (spec.method_fault method) }
+    ensures { Gives (λ _. tt) result (spec.method_fault method) }
 {
     match method {
         CompressionMethod::None | CompressionMethod::PackBits => Ok(()),
@@ -87,7 +87,7 @@ fn can_invert(format: SampleFormat, colour: ColorType) -> bool
 
 #[tactic(auto, unfolding(crate::specs::PixelFault::white_fault))]
 fn white_fault(page: &Page, colour: ColorType) -> TiffResult<()>
-    ensures { AnswersHere (λ _. tt) result (spec.white_fault (view.page page.now) colour) }
+    ensures { Gives (λ _. tt) result (spec.white_fault (view.page page.now) colour) }
 {
     match page.interpretation {
         PhotometricInterpretation::WhiteIsZero if !can_invert(page.format, colour) => {
@@ -102,7 +102,7 @@ fn white_fault(page: &Page, colour: ColorType) -> TiffResult<()>
 /// `intermediate_buffer_size`: `LimitsExceeded`.
 #[tactic(auto, unfolding(crate::specs::PixelFault::form_fault))]
 pub fn form_fault(page: &Page, limits: &Limits, colour: ColorType, index: usize) -> TiffResult<()>
-    ensures answer { AnswersHere (λ _. tt) result (spec.form_fault (view.page page.now) limits.now colour index) }
+    ensures answer { Gives (λ _. tt) result (spec.form_fault (view.page page.now) limits.now colour index) }
     ensures within { OnOk result (index < length page.now.offsets) }
 {
     let byte_counts = page.byte_counts.as_slice();
@@ -121,7 +121,7 @@ pub fn form_fault(page: &Page, limits: &Limits, colour: ColorType, index: usize)
 /// More samples than `decoding_buffer_size` bytes hold: `LimitsExceeded`.
 pub fn samples_fault(limits: &Limits, size: usize, bytes: usize) -> TiffResult<()>
     requires { 0 < size }
-    ensures { AnswersHere (λ _. tt) result (spec.samples_fault limits.now size bytes) }
+    ensures { Gives (λ _. tt) result (spec.samples_fault limits.now size bytes) }
 {
     if bytes.div_ceil(size) > limits.decoding_buffer_size / size {
         return Err(TiffError::LimitsExceeded);

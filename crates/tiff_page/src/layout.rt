@@ -316,7 +316,7 @@ pub(crate) fn row_bits(page: &Page, colour: ColorType, width: u32) -> usize
 }
 
 fn is_whole_chroma(page: &Page, colour: ColorType) -> TiffResult<()>
-    ensures { AnswersHere (λ _. colour) result (spec.whole_chroma (view.page page.now) colour) }
+    ensures { Gives (λ _. colour) result (spec.whole_chroma (view.page page.now) colour) }
 {
     match colour {
         ColorType::YCbCr(_) if page.subsampling != (1, 1) => match page.method {
@@ -328,7 +328,7 @@ fn is_whole_chroma(page: &Page, colour: ColorType) -> TiffResult<()>
 }
 
 fn is_aligned(page: &Page, colour: ColorType, width: u32) -> TiffResult<()>
-    ensures { AnswersHere (λ _. colour) result (spec.aligned (view.page page.now) colour width) }
+    ensures { Gives (λ _. colour) result (spec.aligned (view.page page.now) colour width) }
 {
     let across = (u64::from(width) + u64::from(page.chunk_width) - 1) / u64::from(page.chunk_width);
     if across > 1 && row_bits(page, colour, page.chunk_width) % 8 != 0 {
@@ -338,7 +338,7 @@ fn is_aligned(page: &Page, colour: ColorType, width: u32) -> TiffResult<()>
 }
 
 pub fn wide_product(a: usize, b: usize) -> TiffResult<usize>
-    ensures { AnswersHere (λ n. n) result (spec.wide (a * b)) }
+    ensures { Gives (λ n. n) result (spec.wide (a * b)) }
 {
     a.checked_mul(b).ok_or(TiffError::LimitsExceeded)
 }

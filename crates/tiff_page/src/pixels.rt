@@ -8,7 +8,8 @@
 //! a fault is open.
 
 ghost use Rattle.std.specs.Prelude.{◌≡◌, ◌*◌, ◌<◌, ◌≤◌, ◌^◌, Ok, IfOk, replicate, if◌then◌else◌, nat_le};
-ghost use Rattle.tiff_base.specs.Answers.{Answers, AnswersHere, IsKept};
+ghost use Rattle.tiff_base.specs.Answers.{Answers, AnswersHere, Gives, IsKept};
+ghost use Rattle.tiff_base.specs.Sparing.{AnswersSparingly};
 ghost use Rattle.tiff_page.specs.Buffers as buffers;
 ghost use Rattle.tiff_page.specs.Early.{early_fault};
 ghost use Rattle.tiff_page.specs.Image.{decoded, image_of};
@@ -42,7 +43,7 @@ pub struct SampleBytes {
 
 // A slice has room for one plane.
 fn room_fault(provided: usize, needed: usize) -> TiffResult<()>
-    ensures answer { AnswersHere (λ _. tt) result (calls.room_fault provided needed) }
+    ensures answer { Gives (λ _. tt) result (calls.room_fault provided needed) }
     ensures room { IfOk result (λ _. needed ≤ provided) }
 {
     if provided < needed {
@@ -53,7 +54,7 @@ fn room_fault(provided: usize, needed: usize) -> TiffResult<()>
 
 // Rows that lie so many bytes apart don't reach into each other.
 fn stride_fault(stride: usize, row_bytes: usize) -> TiffResult<()>
-    ensures answer { AnswersHere (λ _. tt) result (calls.stride_fault stride row_bytes) }
+    ensures answer { Gives (λ _. tt) result (calls.stride_fault stride row_bytes) }
     ensures columns { IfOk result (λ _. row_bytes ≤ stride) }
 {
     if stride < row_bytes {
@@ -133,7 +134,7 @@ fn zeros<R: Source>(
     len: usize,
 ) -> TiffResult<Vec<u8>>
     ensures kept { IsKept R.bytes R.failures source.old source.new }
-    ensures answer { Answers (λ _. tt) result (early_fault (R.bytes source.old) (view.page page.now) limits.now colour sample_type first len) (R.failures source.old) (R.failures source.new) }
+    ensures answer { AnswersSparingly (λ _. tt) result (early_fault (R.bytes source.old) (view.page page.now) limits.now colour sample_type first len) (R.failures source.old) (R.failures source.new) }
     ensures zeros { IfOk result (λ v. v.items ≡ replicate len 0) }
 {
     samples_fault(limits, size_of(sample_type), len)?;
