@@ -108,7 +108,23 @@ fn undo_whole(page: &Page, order: ByteOrder, row: &mut [u8], room: &mut [u8])
     }
 }
 
-// Keeps the first bytes of each pixel of a row.
+// Keeps the first bytes of each pixel of a row. Where `whole` and `kept` are constants, the loop is compiled for these.
+#[inline(always)]
+fn keep_bytes(row: &[u8], whole: usize, out: &mut [u8], kept: usize, width: usize)
+    requires some { 0 < kept }
+    requires within { kept ≤ whole }
+    requires row { width * whole ≤ length row.now }
+    requires out { length out.old ≡ width * kept }
+    ensures { EachIndex out.new (λ i. slice_index out.new i ≡ slice_index row.now (i / kept * whole + i % kept)) }
+{
+    for column in 0..width {
+        let from = column * whole;
+        let to = column * kept;
+        out[to..to + kept].copy_from_slice(&row[from..from + kept]);
+    }
+}
+
+// The same: at once where pixels are kept whole, and by constants for three samples of four.
 fn keep_pixels(row: &[u8], whole: usize, out: &mut [u8], kept: usize, width: usize)
     requires some { 0 < kept }
     requires within { kept ≤ whole }
@@ -120,10 +136,10 @@ fn keep_pixels(row: &[u8], whole: usize, out: &mut [u8], kept: usize, width: usi
         out.copy_from_slice(&row[..width * whole]);
         return;
     }
-    for column in 0..width {
-        let from = column * whole;
-        let to = column * kept;
-        out[to..to + kept].copy_from_slice(&row[from..from + kept]);
+    match (whole, kept) {
+        (4, 3) => keep_bytes(row, 4, out, 3, width),
+        (8, 6) => keep_bytes(row, 8, out, 6, width),
+        _ => keep_bytes(row, whole, out, kept, width),
     }
 }
 
