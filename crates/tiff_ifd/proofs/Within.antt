@@ -1,5 +1,5 @@
 -- Values that no limit refuses, and whose bytes are there.
-use Rattle.std.proofs.Common.{◌≡◌, ℕ, List, Bool, true, false, Option, Some, None, Result, Ok, Err, refl}
+use Rattle.std.proofs.Common.{ℕ, List, Bool, true, false, Some, Result, Ok, Err}
 use Rattle.std.specs.Prelude.{IsOk, if◌then◌else◌}
 use Rattle.tiff_base.specs.declared.error.TiffError.{TiffError}
 use Rattle.tiff_base.specs.declared.error.TiffError.TheVariants.{FormatError}
@@ -10,7 +10,7 @@ use Rattle.tiff_base.specs.declared.tags.«Type».TheVariants as t
 use Rattle.tiff_base.specs.Answers.{◌>>=◌}
 use Rattle.tiff_base.specs.Sparing.{IsWithin}
 use Rattle.tiff_ifd.specs.Datum.{Datum}
-use Rattle.tiff_ifd.specs.FieldValue.{inline_text, placed_text, value_from}
+use Rattle.tiff_ifd.specs.FieldValue.{value_from}
 
 text_within : {Y : Type 0} (b : Bool) (y : Y) → IsWithin (if b then Ok y else Err (FormatError InvalidTag))
 text_within true y = tt
