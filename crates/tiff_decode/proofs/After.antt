@@ -1,5 +1,5 @@
 -- Each step is along its call.
-use Rattle.std.proofs.Common.{◌≡◌, ◌+◌, ◌≤◌, ℕ, ◌⊎◌, inl, inr, List, [], ◌∷◌, Some, Result, Ok, Err, Vec, map, option_map, string_bytes, replicate, refl, ap, sym, ◌∙◌, subst, arith}
+use Rattle.std.proofs.Common.{◌≡◌, ◌+◌, ◌≤◌, ℕ, ◌⊎◌, inl, inr, List, [], ◌∷◌, Some, Result, Ok, Err, Vec, map, option_map, string_bytes, replicate, refl, ap, sym, ◌∙◌, arith}
 use Rattle.std.specs.declared.alloc.Global.{Global}
 use Rattle.tiff_base.specs.declared.error.TiffError.{TiffError}
 use Rattle.tiff_base.specs.declared.error.TiffError.TheVariants.{FormatError, UnsupportedError, IoError, LimitsExceeded, IntSizeError, UsageError, OutOfMemory}
@@ -14,16 +14,13 @@ use Rattle.tiff_decode.specs.declared.script.Call.{Call}
 use Rattle.tiff_decode.specs.declared.script.Call.TheVariants as call
 use Rattle.tiff_decode.specs.declared.script.Reply.{Reply}
 use Rattle.tiff_decode.specs.declared.script.Reply.TheVariants as reply
-use Rattle.tiff_ifd.specs.declared.limits.Limits.{Limits}
-use Rattle.tiff_base.specs.declared.tags.IfdPointer.{IfdPointer}
-use Rattle.tiff_page.specs.declared.layout.TiffCodingUnit.{TiffCodingUnit}
 use Rattle.tiff_decode.specs.Machine.{State, Decoding, Outcome, StandsAt, FollowsBut, FollowsHereBut, IsFault, Tells}
 use Rattle.tiff_decode.specs.Outcome as outcome
 use Rattle.tiff_decode.specs.Failures.{fault_of, device_count, failed_items, failed_list}
 use Rattle.tiff_decode.specs.Result.{decoded_as}
 use Rattle.tiff_decode.specs.Step.{Step, items_of, bits_32, bits_64, ItemIs, ItemsAre, Items}
 use Rattle.tiff_decode.specs.Reader.{TagsRead}
-use Rattle.tiff_decode.specs.After.{IsNamedFault, seen, item_seen, AreNamed, IsNamedList, IsNamed, IsAlong}
+use Rattle.tiff_decode.specs.After.{IsNamedFault, seen, IsAlong}
 
 -- what a named result says of the file, and where it leaves the decoder
 pub record IsTold {X Y : Type 0} (view : X → Y) (outcome : Outcome Y) (r : Result X TiffError) (old new : Decoding) : Type 0 where

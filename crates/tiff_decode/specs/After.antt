@@ -1,5 +1,5 @@
 -- What a step leaves, but for want of memory and faults of the device (this project's).
-use Rattle.std.specs.Prelude.{◌≡◌, ℕ, ◌+◌, ◌≤◌, List, [], ◌∷◌, Option, None, Some, Result, Ok, Err, Vec, map, option_map, string_bytes}
+use Rattle.std.specs.Prelude.{◌≡◌, ◌+◌, ◌≤◌, List, [], ◌∷◌, Option, None, Some, Result, Ok, Err, Vec}
 use Rattle.std.specs.declared.alloc.Global.{Global}
 use Rattle.tiff_base.specs.declared.error.TiffError.{TiffError}
 use Rattle.tiff_base.specs.declared.error.TiffError.TheVariants.{IoError, OutOfMemory}
@@ -15,12 +15,6 @@ use Rattle.tiff_decode.specs.declared.script.Reply.TheVariants as reply
 use Rattle.tiff_decode.specs.Machine.{State, Decoding}
 use Rattle.tiff_decode.specs.Outcome as outcome
 use Rattle.tiff_decode.specs.Failures.{fault_in, failures}
-use Rattle.tiff_base.specs.Field.{Field}
-use Rattle.tiff_value.specs.Buffer.{BufferRecord}
-use Rattle.tiff_page.specs.declared.layout.BufferLayoutPreference.{BufferLayoutPreference}
-use Rattle.tiff_page.specs.Image.{Decoded}
-use Rattle.tiff_decode.specs.Result.{decoded_as}
-use Rattle.tiff_decode.specs.Step.{Step, items_of, bits_32, bits_64}
 
 -- Where each call leaves the decoder: only these move it.
 abbrev pub next_state : Decoding → Call → State

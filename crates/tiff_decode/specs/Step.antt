@@ -56,11 +56,10 @@ abbrev pub Items : List (Result (Tag × Datum) TiffError) → Result (Vec (Resul
 Items given (Ok v) old new = StandsAt old.state old new × ItemsAre given v.items old.failures new.failures
 Items given (Err e) old new = (e ≡ OutOfMemory) × StandsAt old.state old new
 
--- the buffer that a refused read of a tag's values leaves; after want of memory it is open
+-- the buffer that a refused read of a tag's values leaves, for want of memory too; where there is no such tag it stays
 abbrev pub BufferLeft : ByteOrder → Option Field → BufferRecord → Result (Option Field) TiffError → BufferRecord → Type 0
-BufferLeft order None held r b = Unit {0}
+BufferLeft order None held r b = b ≡ held
 BufferLeft order (Some f) held (Ok x) b = Unit {0}
-BufferLeft order (Some f) held (Err OutOfMemory) b = Unit {0}
 BufferLeft order (Some f) held (Err e) b = b ≡ refused_buffer order f held e
 
 -- ---- the table

@@ -1,7 +1,7 @@
 //! Lists of decoded samples.
 
 ghost use Rattle.std.specs.Prelude.{◌≡◌, ◌≤◌, length, drop, replicate, IfOk, OnErr};
-ghost use Rattle.tiff_base.specs.Answers.{AnswersHere};
+ghost use Rattle.tiff_base.specs.Sparing.{GivesSparingly};
 ghost use Rattle.tiff_page.specs.Buffers.{resized};
 ghost use Rattle.tiff_decode.specs.Result.{buffered_as, decoded_as};
 
@@ -72,11 +72,11 @@ impl DecodingResult {
     }
 
     /// Makes it zeros of a layout's number type for all the layout's bytes, in whole samples. A layout with no number type:
-    /// `UnknownInterpretation`; more samples than `decoding_buffer_size` bytes hold: `LimitsExceeded`. It stays as it was
-    /// after a refusal, `OutOfMemory` too.
+    /// `UnknownInterpretation`; more samples than `decoding_buffer_size` bytes hold: `LimitsExceeded`. Memory is taken after
+    /// these. It stays as it was after a refusal, `OutOfMemory` too.
     #[tactic(auto, unfolding(tiff_page::specs::Buffers::resized))]
     pub fn resize_to(&mut self, layout: &BufferLayoutPreference, limits: &Limits) -> TiffResult<()>
-        ensures resized { AnswersHere (λ _. decoded_as self.new) result (resized layout.now limits.now) }
+        ensures resized { GivesSparingly (λ _. decoded_as self.new) result (resized layout.now limits.now) }
         ensures stays { OnErr result (self.new ≡ self.old) }
     {
         let Some(sample_type) = layout.sample_type else {

@@ -115,7 +115,8 @@ impl<R: Source> Decoder<R> {
     // The value of a tag of the page's directory, or of another one.
     #[tactic(auto, unfolding(crate::specs::Outcome::find_tag, tiff_ifd::specs::Look::look_in))]
     fn value_in(&mut self, other: Option<&Directory>, tag: Tag) -> TiffResult<Option<Value>>
-        ensures { TagsRead (option_map datum) (outcome.find_tag (reading self.old (option_map (λ d. d.now) other.entry)) tag) result self.old self.new }
+        ensures read { TagsRead (option_map datum) (outcome.find_tag (reading self.old (option_map (λ d. d.now) other.entry)) tag) result self.old self.new }
+        ensures none { outcome.find_entry (reading self.old (option_map (λ d. d.now) other.entry)) tag ≡ None → result ≡ Ok None }
     {
         let tags = &mut self.tags;
         let directory = chosen(&tags.directory, other);
@@ -209,9 +210,10 @@ impl<R: Source> Decoder<R> {
 
     /// The value of a tag of the page, if there is the tag. A list of more values than `decoding_buffer_size / 32`, a text of
     /// more bytes than `decoding_buffer_size`, and values of 2^64 bytes or more: `LimitsExceeded`; values past the end of the
-    /// source: `IoError(UnexpectedEof)`; a text that isn't one: `InvalidTag`.
+    /// source: `IoError(UnexpectedEof)`; a text that isn't one: `InvalidTag`. No memory is taken where there is no such tag.
     pub fn find_tag(&mut self, tag: Tag) -> TiffResult<Option<Value>>
-        ensures { TagsRead (option_map datum) (outcome.find_tag self.old tag) result self.old self.new }
+        ensures read { TagsRead (option_map datum) (outcome.find_tag self.old tag) result self.old self.new }
+        ensures none { outcome.find_entry self.old tag ≡ None → result ≡ Ok None }
     {
         self.value_in(None, tag)
     }
@@ -473,6 +475,7 @@ impl<'a, R: Source> IfdDecoder<'a, R> {
         ensures held { IsHeld self.old.decoder self.new.decoder }
         ensures other { self.new.other ≡ self.old.other }
         ensures answer { Answers (option_map datum) result (outcome.find_tag (reading self.old.decoder.now (option_map (λ d. d.now) self.old.other)) tag).answer self.old.decoder.now.failures self.new.decoder.now.failures }
+        ensures none { outcome.find_entry (reading self.old.decoder.now (option_map (λ d. d.now) self.old.other)) tag ≡ None → result ≡ Ok None }
     {
         self.decoder.value_in(self.other, tag)
     }
