@@ -7,3 +7,4 @@ mod Named
 mod Extended
 pub mod After
 pub mod Fits
+pub mod Held

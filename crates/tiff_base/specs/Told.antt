@@ -26,6 +26,11 @@ pub record Reads (bytes : List ℕ) (at : ℕ) (old : List ℕ) (n : ℕ) (new :
   pub some : 0 < length old → at < length bytes → 0 < n
   pub next : new ≡ bytes_at bytes at n ++ drop n old
 
+-- So many bytes from a place on have the one at another place, where there is one.
+pub record Holds (bytes : List ℕ) (from : ℕ) (count : ℕ) (at : ℕ) : Type 0 where
+  pub before : from ≤ at
+  pub behind : at < length bytes → at < from + count
+
 -- A write at the end took the first n bytes.
 pub record Appends (old : List ℕ) (bytes : List ℕ) (n : ℕ) (new : List ℕ) : Type 0 where
   pub in_bytes : n ≤ length bytes

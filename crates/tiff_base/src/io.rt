@@ -1,11 +1,15 @@
 //! Where bytes come from and go to.
 
-ghost use Rattle.std.specs.Prelude.{◌≡◌, ℕ, ◌+◌, ◌^◌, ◌≤◌, ◌<◌, List, length, Option, None, Some, IfErr, IfOk, OnOk, OnErr};
-ghost use Rattle.tiff_base.specs.Told.{AreOctets, Reads, Appends, Overwrites};
+ghost use Rattle.std.specs.Prelude.{◌≡◌, ℕ, ◌+◌, ◌^◌, ◌≤◌, ◌<◌, List, length, Option, None, Some, IfErr, IfOk, OnOk, OnErr, take, true};
+ghost use Rattle.tiff_base.specs.Told.{AreOctets, bytes_at, Holds, Reads, Appends, Overwrites};
 ghost use Rattle.tiff_base.specs.declared.io.SinkFault.{SinkFault};
 
 use crate::count::Count;
+use std::alloc::{AllocError, Global};
 use thiserror::Error;
+
+// How many bytes the buffer of a source holds.
+const BUFFER_LEN: usize = 8192;
 
 /// What went wrong between this library and its bytes.
 #[derive(Clone, Copy, Debug, PartialEq, Eq, Error)]
@@ -180,6 +184,110 @@ impl Source for SliceSource<'_> {
 
     fn read_at(&mut self, at: u64, buf: &mut [u8]) -> Result<usize, DeviceFault> {
         Ok(read_of(self.items, at, buf))
+    }
+}
+
+/// A source whose reads go through a buffer of 8192 bytes. It tells the bytes of the source that it reads, and fails where
+/// that fails. A read that the buffer can't hold goes straight to the source.
+#[derive(Drop)]
+pub struct BufferedSource<S: Source> {
+    source: S,
+    buffer: Vec<u8>,
+    from: u64,
+    held: usize,
+    ghost in_buffer: { held ≤ length buffer.items },
+    ghost holds: { take held buffer.items ≡ bytes_at (S.bytes source) from held },
+}
+
+impl<S: Source + Drop> BufferedSource<S> {
+    /// The source of the same bytes. It takes memory for its buffer, and reads nothing yet.
+    pub fn new(alloc: Global, source: S) -> Result<Self, AllocError>
+        ensures { IfOk result (λ s. s.source ≡ source) }
+    {
+        Ok(BufferedSource {
+            source,
+            buffer: vec![in alloc; 0u8; BUFFER_LEN]?,
+            from: 0,
+            held: 0,
+        })
+    }
+}
+
+impl<S: Source> BufferedSource<S> {
+    /// The source that it reads.
+    pub fn into_inner(self) -> S
+        ensures { result ≡ self.source }
+    {
+        let BufferedSource {
+            source,
+            buffer: _,
+            from: _,
+            held: _,
+        } = self;
+        source
+    }
+}
+
+impl<S: Source> BufferedSource<S> {
+    // Whether the byte at a place is in the buffer.
+    fn has(&self, at: u64) -> bool
+        ensures { result ≡ true → (self.now.from ≤ at) × (at < self.now.from + self.now.held) }
+    {
+        at >= self.from && at - self.from < self.held as u64
+    }
+
+    // Reads the source from a place on into the buffer. After a fault the buffer is empty.
+    fn fill(&mut self, at: u64) -> Result<(), DeviceFault>
+        requires { 0 < length self.old.buffer.items }
+        ensures bytes { S.bytes self.new.source ≡ S.bytes self.old.source }
+        ensures holds { OnOk result (Holds (S.bytes self.new.source) self.new.from self.new.held at) }
+        ensures answered { OnOk result (S.failures self.new.source ≡ S.failures self.old.source) }
+        ensures failed { OnErr result (S.failures self.old.source < S.failures self.new.source) }
+    {
+        self.held = 0;
+        self.from = at;
+        self.held = self.source.read_at(at, &mut self.buffer)?;
+        Ok(())
+    }
+
+    // Has the byte at a place in the buffer, where there is one.
+    fn hold(&mut self, at: u64) -> Result<(), DeviceFault>
+        requires { 0 < length self.old.buffer.items }
+        ensures bytes { S.bytes self.new.source ≡ S.bytes self.old.source }
+        ensures holds { OnOk result (Holds (S.bytes self.new.source) self.new.from self.new.held at) }
+        ensures answered { OnOk result (S.failures self.new.source ≡ S.failures self.old.source) }
+        ensures failed { OnErr result (S.failures self.old.source < S.failures self.new.source) }
+    {
+        if self.has(at) {
+            return Ok(());
+        }
+        self.fill(at)
+    }
+
+    // Reads what the buffer has from a place on.
+    fn read_held(&self, at: u64, buf: &mut [u8]) -> usize
+        requires { Holds (S.bytes self.now.source) self.now.from self.now.held at }
+        ensures { Reads (S.bytes self.now.source) at buf.old result buf.new }
+    {
+        read_of(&self.buffer[..self.held], at - self.from, buf)
+    }
+}
+
+impl<S: Source> Source for BufferedSource<S> {
+    ghost bytes = { λ s. S.bytes s.source };
+
+    ghost failures = { λ s. S.failures s.source };
+
+    ghost places = { λ s. S.places s.source };
+
+    ghost octets = { λ s. S.octets s.source };
+
+    fn read_at(&mut self, at: u64, buf: &mut [u8]) -> Result<usize, DeviceFault> {
+        if buf.len() >= self.buffer.len() {
+            return self.source.read_at(at, buf);
+        }
+        self.hold(at)?;
+        Ok(self.read_held(at, buf))
     }
 }
 
