@@ -1,0 +1,171 @@
+/* tiff.h - pages of TIFF files, read from memory
+
+DESCRIPTION
+    A file is FILE, LEN bytes of the caller's memory that hold all of it. Nothing of it is copied, and nothing is kept between calls:
+    each call opens the file anew, reads the header and the directories up to the page that is asked for, and lets go of all memory
+    that it took. Calls of several threads at once don't disturb each other.
+
+    PAGE is the number of a page from 0, along the file's chain of directories.
+
+    A call that answers TIFF_DONE has written its answer. One that answers anything else has left a struct or a number as it was; what it leaves
+    in a buffer of bytes isn't told.
+
+    A file may claim any size: ask for the layout, and judge it, before you take memory for an image. A file whose chunks are past
+    128 MiB in the file answers TIFF_LIMITS_EXCEEDED.
+
+POINTERS
+    No pointer may be null, not even with a length of 0: hand the address of any byte. FILE with a length of 0 is no TIFF file
+    (TIFF_SIGNATURE_NOT_FOUND or TIFF_UNEXPECTED_EOF). What is read and what is written may not overlap.
+
+LINKING
+    cc .. libtiff_c.a liblibc_c.a: the first is built by `rt lib` in crates/tiff_c, the second is in the toolchain's folder c. */
+#ifndef TIFF_H
+#define TIFF_H
+
+#include <stddef.h>
+#include <stdint.h>
+
+#ifdef __cplusplus
+extern "C" {
+#endif
+
+/* What a call answers. The numbers stay. */
+typedef uint32_t tiff_status;
+enum {
+    /* the call itself */
+    TIFF_DONE = 0, /* done */
+    TIFF_LIMITS_EXCEEDED = 1, /* decoder limits exceeded */
+    TIFF_INT_SIZE_ERROR = 2, /* platform or format size limits exceeded */
+    TIFF_OUT_OF_MEMORY = 3, /* out of memory */
+    TIFF_LATER_FAULT = 4, /* a fault that has no number yet; never answered */
+    /* the bytes */
+    TIFF_UNEXPECTED_EOF = 10, /* unexpected end of file */
+    TIFF_INVALID_DATA = 11, /* invalid data */
+    TIFF_INVALID_INPUT = 12, /* invalid input */
+    TIFF_WRITE_ZERO = 13, /* write zero */
+    TIFF_DEVICE = 14, /* device fault */
+    /* the file does not have TIFF's form */
+    TIFF_SIGNATURE_NOT_FOUND = 20, /* TIFF signature not found */
+    TIFF_SIGNATURE_INVALID = 21, /* TIFF signature invalid */
+    TIFF_IMAGE_FILE_DIRECTORY_NOT_FOUND = 22, /* image file directory not found */
+    TIFF_INCONSISTENT_SIZES_ENCOUNTERED = 23, /* inconsistent sizes encountered */
+    TIFF_INVALID_DIMENSIONS = 24, /* invalid dimensions */
+    TIFF_INVALID_TAG = 25, /* image contains invalid tag */
+    TIFF_INVALID_TAG_VALUE_TYPE = 26, /* a tag did not have the expected value type */
+    TIFF_REQUIRED_TAG_NOT_FOUND = 27, /* a required tag was not found */
+    TIFF_UNKNOWN_PREDICTOR = 28, /* unknown predictor */
+    TIFF_UNKNOWN_PLANAR_CONFIGURATION = 29, /* unknown planar configuration */
+    TIFF_INVALID_TYPE_FOR_TAG = 30, /* tag has invalid type */
+    TIFF_INVALID_COUNT_FOR_TAG = 31, /* a tag with an incorrect number of elements */
+    TIFF_STRIP_TILE_TAG_CONFLICT = 32, /* strips and tiles are mixed, or neither is told */
+    TIFF_CYCLE_IN_OFFSETS = 33, /* file contained a cycle in the list of IFDs */
+    TIFF_SAMPLES_PER_PIXEL_IS_ZERO = 34, /* samples per pixel is zero */
+    TIFF_COMPRESSED_DATA_CORRUPT = 35, /* compressed data is corrupt */
+    /* the file asks for what is not supported */
+    TIFF_FLOATING_POINT_PREDICTOR = 40, /* floating point predictor is unsupported */
+    TIFF_HORIZONTAL_PREDICTOR = 41, /* horizontal predictor is unsupported for this color */
+    TIFF_INCONSISTENT_BITS_PER_SAMPLE = 42, /* inconsistent bits per sample */
+    TIFF_INTERPRETATION_WITH_BITS = 43, /* photometric interpretation with these bits per sample is unsupported */
+    TIFF_UNKNOWN_INTERPRETATION = 44, /* unknown photometric interpretation */
+    TIFF_UNKNOWN_COMPRESSION_METHOD = 45, /* unknown compression method */
+    TIFF_UNSUPPORTED_COMPRESSION_METHOD = 46, /* compression method is unsupported */
+    TIFF_UNSUPPORTED_SAMPLE_DEPTH = 47, /* samples per pixel is unsupported */
+    TIFF_UNSUPPORTED_SAMPLE_FORMAT = 48, /* sample format is unsupported */
+    TIFF_UNSUPPORTED_COLOR_TYPE = 49, /* color type is unsupported */
+    TIFF_UNSUPPORTED_BITS_PER_CHANNEL = 50, /* bits per channel not supported */
+    TIFF_UNSUPPORTED_PLANAR_CONFIG = 51, /* unsupported planar configuration */
+    TIFF_UNSUPPORTED_DATA_TYPE = 52, /* unsupported data type */
+    TIFF_UNSUPPORTED_INTERPRETATION = 53, /* unsupported photometric interpretation */
+    TIFF_CHROMA_SUBSAMPLING = 54, /* chroma subsampling of YCbCr color is unsupported */
+    TIFF_MISALIGNED_TILE_BOUNDARIES = 55, /* tile rows are not aligned to byte boundaries */
+    /* the call doesn't fit */
+    TIFF_INVALID_CHUNK_TYPE = 60, /* operation is only valid for the other kind of chunk */
+    TIFF_INVALID_CHUNK_INDEX = 61, /* invalid chunk index */
+    TIFF_INVALID_PLANE_INDEX = 62, /* invalid plane index */
+    TIFF_INVALID_CODING_UNIT = 63, /* out of bounds coding unit */
+    TIFF_PREDICTOR_COMPRESSION_MISMATCH = 64, /* predictor is not compatible with the compression */
+    TIFF_PREDICTOR_INCOMPATIBLE = 65, /* predictor is not compatible with the image's format */
+    TIFF_PREDICTOR_UNAVAILABLE = 66, /* predictor is not available */
+    TIFF_INSUFFICIENT_OUTPUT_BUFFER_SIZE = 67, /* the output buffer is not large enough */
+    TIFF_INSUFFICIENT_OUTPUT_ROW_STRIDE = 68, /* the output row stride would alias rows */
+    TIFF_ZERO_IFD_POINTER = 69, /* the offset 0 can not point to a valid IFD */
+    TIFF_RECONFIGURED_AFTER_IMAGE_WRITE = 70, /* encoder reconfigured after image writing has started */
+    TIFF_BYTE_ORDER_MISMATCH = 71, /* data of another byte order */
+    TIFF_MISMATCHED_ENTRY_LENGTH = 72, /* the length of data is not a multiple of the size of its type */
+    TIFF_PARENT_NOT_WRITTEN = 73, /* the parent's link lies outside what was written */
+    TIFF_WRITER_FAILED = 74, /* an earlier write failed */
+};
+
+/* The width and the height of a page, in pixels. */
+struct tiff_sides {
+    uint32_t width;
+    uint32_t height;
+};
+
+/* The sides of a page. */
+tiff_status tiff_page_sides(const uint8_t *file, size_t len, size_t page, struct tiff_sides *sides);
+
+/* Reads the image of a page into BUFFER, of SIZE bytes: rows from the top, each of whole bytes, samples of 16 bits and more with
+   their lowest byte first. A chunky page has the samples of a pixel side by side; a planar one has its planes one behind the other, as many
+   as BUFFER takes whole. The bytes of BUFFER behind them stay. A BUFFER that is shorter than one plane:
+   TIFF_INSUFFICIENT_OUTPUT_BUFFER_SIZE. */
+tiff_status tiff_read_image_bytes(const uint8_t *file, size_t len, size_t page, uint8_t *buffer, size_t size);
+
+/* The bytes of the image of a page: LEN of one plane, COMPLETE_LEN of all planes (the same for a chunky page). */
+struct tiff_layout {
+    size_t len;
+    size_t complete_len;
+};
+tiff_status tiff_page_layout(const uint8_t *file, size_t len, size_t page, struct tiff_layout *layout);
+
+/* The colour of a page: its kind, the bits of a sample, and how many samples a pixel shows. */
+enum {
+    TIFF_GRAY = 0,
+    TIFF_RGB = 1,
+    TIFF_PALETTE = 2,   /* never answered */
+    TIFF_GRAY_A = 3,    /* never answered */
+    TIFF_RGBA = 4,
+    TIFF_CMYK = 5,
+    TIFF_CMYKA = 6,
+    TIFF_YCBCR = 7,
+    TIFF_LAB = 8,
+    TIFF_MULTIBAND = 9, /* several samples of one kind */
+};
+struct tiff_color {
+    uint32_t kind;
+    uint32_t bits;
+    uint32_t samples;
+};
+tiff_status tiff_page_color(const uint8_t *file, size_t len, size_t page, struct tiff_color *color);
+
+/* The chunks of a page, of all planes: their kind, how many there are, and the width and the height of one in pixels, before
+   those at the edges of the image are cut. */
+enum {
+    TIFF_STRIPS = 0,
+    TIFF_TILES = 1,
+};
+struct tiff_chunks {
+    uint32_t kind;
+    uint32_t count;
+    uint32_t width;
+    uint32_t height;
+};
+tiff_status tiff_page_chunks(const uint8_t *file, size_t len, size_t page, struct tiff_chunks *chunks);
+
+/* Reads the chunk of this number, from 0, into BUFFER, as it is in the image and in one plane; the other bytes of BUFFER stay. A
+   BUFFER that is shorter than the chunk: TIFF_INSUFFICIENT_OUTPUT_BUFFER_SIZE. */
+tiff_status tiff_read_chunk_bytes(const uint8_t *file, size_t len, size_t page, uint32_t chunk, uint8_t *buffer, size_t size);
+
+/* Reads a coding unit, which is a chunk of the first plane with those of the other planes that lie upon it, one behind the other, as
+   many as BUFFER takes whole. No such unit: TIFF_INVALID_CODING_UNIT. */
+tiff_status tiff_read_coding_unit_bytes(const uint8_t *file, size_t len, size_t page, uint32_t unit, uint8_t *buffer, size_t size);
+
+/* Writes the text of a status into BUFFER, of SIZE bytes, as much of it as fits, with no zero behind it. Answers how many bytes the
+   text has. */
+size_t tiff_fault_text(tiff_status status, uint8_t *buffer, size_t size);
+
+#ifdef __cplusplus
+}
+#endif
+
+#endif

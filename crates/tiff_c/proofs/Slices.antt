@@ -1,0 +1,34 @@
+-- A decoder whose reads never fail: its answers are those that the file gives, but for want of memory.
+use Rattle.std.proofs.Common.{◌≡◌, ℕ, ◌<◌, Result, Ok, Err, refl, sym, ◌∙◌, ap, arith, OnOk}
+use Rattle.tiff_base.specs.declared.error.TiffError.{TiffError}
+use Rattle.tiff_base.specs.declared.error.TiffError.TheVariants.{FormatError, UnsupportedError, IoError, UsageError, LimitsExceeded, IntSizeError, OutOfMemory}
+use Rattle.tiff_base.specs.declared.io.IoKind.TheVariants.{UnexpectedEof, InvalidData, InvalidInput, WriteZero, Device}
+use Rattle.tiff_base.specs.Answers.{AnswersHere}
+use Rattle.tiff_decode.specs.Machine.{Decoding, Follows, Gives, Outcome, Refused}
+
+not_more : (m n : ℕ) → m ≡ 0 → n ≡ 0 → m < n → ⊥
+not_more m n a b h = omega (arith, a, b, h)
+
+refused : {X Y : Type 0} → (view : X → Y) → (o : Outcome Y) → (e : TiffError) → (old new : Decoding) → Refused (Unit {0}) e o old new
+    → old.failures ≡ 0 → new.failures ≡ 0 → AnswersHere view (Err e) o.answer
+refused view o OutOfMemory old new r a b = tt
+refused view o (IoError Device) old new r a b = not_more old.failures new.failures a b r.grew
+refused view o (IoError UnexpectedEof) old new r a b = r.answer
+refused view o (IoError InvalidData) old new r a b = r.answer
+refused view o (IoError InvalidInput) old new r a b = r.answer
+refused view o (IoError WriteZero) old new r a b = r.answer
+refused view o (FormatError x) old new r a b = r.answer
+refused view o (UnsupportedError x) old new r a b = r.answer
+refused view o (UsageError x) old new r a b = r.answer
+refused view o LimitsExceeded old new r a b = r.answer
+refused view o IntSizeError old new r a b = r.answer
+
+pub here : {X Y : Type 0} → (view : X → Y) → (o : Outcome Y) → (result : Result X TiffError) → (old new : Decoding) → Follows view o result old new
+    → old.failures ≡ 0 → new.failures ≡ 0 → AnswersHere view result o.answer
+here view o (Ok x) old new f a b = f.answer
+here view o (Err e) old new f a b = refused view o e old new f a b
+
+pub gone : {X Y : Type 0} → (view : X → Y) → (o : Outcome Y) → (result : Result X TiffError) → (old new : Decoding) → Follows view o result old new
+    → old.failures ≡ 0 → new.failures ≡ 0 → OnOk result (new ≡ record old { state = o.next })
+gone view o (Ok x) old new f a b = f.at.stands ∙ ap (λ n. record old { failures = n; state = o.next }) (b ∙ sym a)
+gone view o (Err e) old new f a b = tt

@@ -1,0 +1,34 @@
+-- A status tells the answer of which it is the number.
+use Rattle.std.proofs.Common.{◌≡◌, ◌⊎◌, ℕ, Result, Ok, Err, IfOk, inl, inr, subst, sym}
+use Rattle.tiff_base.specs.declared.error.TiffError.{TiffError}
+use Rattle.tiff_base.specs.declared.error.TiffError.TheVariants.{FormatError, UnsupportedError, IoError, UsageError, LimitsExceeded, IntSizeError, OutOfMemory}
+use Rattle.tiff_base.specs.declared.io.IoKind.TheVariants.{UnexpectedEof, InvalidData, InvalidInput, WriteZero, Device}
+use Rattle.tiff_base.specs.Answers.{AnswersHere}
+use Rattle.tiff_c.specs.Status.{fault_number, status, Tells}
+
+wanting : {Y : Type 0} → (given : Result Y TiffError) → (n : ℕ) → (left : Y) → n ≡ fault_number OutOfMemory → Tells given n left
+wanting (Ok y) n left e = inr e
+wanting (Err f) n left e = inr e
+
+fault : {Y : Type 0} → (given : Result Y TiffError) → (n : ℕ) → (left : Y) → (f : TiffError) → given ≡ Err f → n ≡ fault_number f → Tells given n left
+fault given n left f h e = subst (λ g. Tells g n left) (sym h) (inl e)
+
+refused : {X Y : Type 0} → (view : X → Y) → (f : TiffError) → (given : Result Y TiffError) → (n : ℕ) → (left : Y) → AnswersHere view (Err f) given
+    → n ≡ fault_number f → Tells given n left
+refused view OutOfMemory given n left h e = wanting given n left e
+refused view (IoError Device) given n left h e = absurd h
+refused view (IoError UnexpectedEof) given n left h e = fault given n left _ h e
+refused view (IoError InvalidData) given n left h e = fault given n left _ h e
+refused view (IoError InvalidInput) given n left h e = fault given n left _ h e
+refused view (IoError WriteZero) given n left h e = fault given n left _ h e
+refused view (FormatError x) given n left h e = fault given n left _ h e
+refused view (UnsupportedError x) given n left h e = fault given n left _ h e
+refused view (UsageError x) given n left h e = fault given n left _ h e
+refused view LimitsExceeded given n left h e = fault given n left _ h e
+refused view IntSizeError given n left h e = fault given n left _ h e
+
+-- what a call leaves in a place of its own
+pub tells_left : {X Y : Type 0} → (view : X → Y) → (answer : Result X TiffError) → (given : Result Y TiffError) → (n : ℕ) → (left : Y)
+    → AnswersHere view answer given → n ≡ status answer → IfOk answer (λ x. left ≡ view x) → Tells given n left
+tells_left view (Ok x) given n left h e l = subst (λ g. Tells g n left) (sym h) (inl (e, l))
+tells_left view (Err f) given n left h e l = refused view f given n left h e

@@ -1,0 +1,102 @@
+-- What the pages of a file answer, by the outcomes of a decoder's calls.
+use Rattle.std.specs.Prelude.{ℕ, List, Result, Ok}
+use Rattle.tiff_base.specs.declared.color.ChunkType.{ChunkType}
+use Rattle.tiff_base.specs.declared.color.ChunkType.TheVariants.{Strip, Tile}
+use Rattle.tiff_base.specs.declared.color.ColorType.{ColorType}
+use Rattle.tiff_base.specs.declared.color.ColorType.TheVariants.{Gray, RGB, Palette, GrayA, RGBA, CMYK, CMYKA, YCbCr, Lab, Multiband}
+use Rattle.tiff_base.specs.declared.error.TiffError.{TiffError}
+use Rattle.tiff_base.specs.Answers.{◌>>=◌}
+use Rattle.tiff_base.specs.Color.{bit_depth, num_samples}
+use Rattle.tiff_decode.specs.Machine.{Decoding}
+use Rattle.tiff_decode.specs.Outcome as outcome
+use Rattle.tiff_c.specs.declared.calls.Sides.{Sides}
+use Rattle.tiff_c.specs.declared.calls.Layout.{Layout}
+use Rattle.tiff_c.specs.declared.calls.Color.{Color}
+use Rattle.tiff_c.specs.declared.calls.Chunks.{Chunks}
+
+-- the decoder at the page of this number
+abbrev pub at_page : List ℕ → ℕ → Result Decoding TiffError
+at_page file page = do
+  d ← outcome.begun file 0
+  _ ← (outcome.seek_to_image d page).answer
+  Ok (record d { state = (outcome.seek_to_image d page).next })
+
+-- the sides of a page
+abbrev pub page_sides : List ℕ → ℕ → Result Sides TiffError
+page_sides file page = do
+  d ← at_page file page
+  sides ← (outcome.dimensions d).answer
+  Ok (record { width = sides.0; height = sides.1 })
+
+-- the bytes of an image in a slice
+abbrev pub read_image_bytes : List ℕ → ℕ → List ℕ → Result (List ℕ) TiffError
+read_image_bytes file page slice = do
+  d ← at_page file page
+  (outcome.read_image_bytes d slice).answer
+
+-- the bytes of an image: of one plane, and of all
+abbrev pub layout_of : Decoding → Result Layout TiffError
+layout_of d = do
+  layout ← (outcome.image_buffer_layout d).answer
+  Ok (record { len = layout.len; complete_len = layout.complete_len })
+
+abbrev pub page_layout : List ℕ → ℕ → Result Layout TiffError
+page_layout file page = at_page file page >>= layout_of
+
+-- the bytes of a chunk in a slice
+abbrev pub read_chunk_bytes : List ℕ → ℕ → ℕ → List ℕ → Result (List ℕ) TiffError
+read_chunk_bytes file page chunk slice = do
+  d ← at_page file page
+  (outcome.read_chunk_bytes d chunk slice).answer
+
+-- the bytes of a coding unit in a slice
+abbrev pub read_unit_bytes : List ℕ → ℕ → ℕ → List ℕ → Result (List ℕ) TiffError
+read_unit_bytes file page unit slice = do
+  d ← at_page file page
+  (outcome.read_coding_unit_bytes d unit slice).answer
+
+-- the kind of a colour, as a number
+abbrev pub color_number : ColorType → ℕ
+color_number (Gray b) = 0
+color_number (RGB b) = 1
+color_number (Palette b) = 2
+color_number (GrayA b) = 3
+color_number (RGBA b) = 4
+color_number (CMYK b) = 5
+color_number (CMYKA b) = 6
+color_number (YCbCr b) = 7
+color_number (Lab b) = 8
+color_number (Multiband b n) = 9
+
+-- the colour of a page
+abbrev pub color_of : Decoding → Result Color TiffError
+color_of d = do
+  color ← (outcome.colortype d).answer
+  Ok (record { kind = color_number color; bits = bit_depth color; samples = num_samples color })
+
+abbrev pub page_color : List ℕ → ℕ → Result Color TiffError
+page_color file page = at_page file page >>= color_of
+
+-- strips are 0, tiles 1
+abbrev pub chunk_number : ChunkType → ℕ
+chunk_number Strip = 0
+chunk_number Tile = 1
+
+-- how many chunks of its kind a page has
+abbrev pub chunk_count : Decoding → ChunkType → Result ℕ TiffError
+chunk_count d Strip = (outcome.strip_count d).answer
+chunk_count d Tile = (outcome.tile_count d).answer
+
+-- the chunks of a page, with their sides before they are cut at the edges of the image
+abbrev pub chunks_of : Decoding → Result Chunks TiffError
+chunks_of d = do
+  count ← chunk_count d (outcome.get_chunk_type d)
+  Ok (record {
+    kind = chunk_number (outcome.get_chunk_type d);
+    count = count;
+    width = (outcome.chunk_dimensions d).0;
+    height = (outcome.chunk_dimensions d).1;
+  })
+
+abbrev pub page_chunks : List ℕ → ℕ → Result Chunks TiffError
+page_chunks file page = at_page file page >>= chunks_of

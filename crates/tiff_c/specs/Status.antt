@@ -1,0 +1,97 @@
+-- The numbers by which C is told of faults. 0 is none of them: it says that a call is done.
+use Rattle.std.specs.Prelude.{◌≡◌, ◌⊎◌, ℕ, Result, Ok, Err}
+use Rattle.tiff_base.specs.declared.error.TiffError.{TiffError}
+use Rattle.tiff_base.specs.declared.error.TiffError.TheVariants.{FormatError, UnsupportedError, IoError, UsageError, LimitsExceeded, IntSizeError, OutOfMemory}
+use Rattle.tiff_base.specs.declared.error.TiffFormatError.{TiffFormatError}
+use Rattle.tiff_base.specs.declared.error.TiffFormatError.TheVariants.{TiffSignatureNotFound, TiffSignatureInvalid, ImageFileDirectoryNotFound, InconsistentSizesEncountered, InvalidDimensions, InvalidTag, InvalidTagValueType, RequiredTagNotFound, UnknownPredictor, UnknownPlanarConfiguration, InvalidTypeForTag, InvalidCountForTag, StripTileTagConflict, CycleInOffsets, SamplesPerPixelIsZero, CompressedDataCorrupt}
+use Rattle.tiff_base.specs.declared.error.TiffUnsupportedError.{TiffUnsupportedError}
+use Rattle.tiff_base.specs.declared.error.TiffUnsupportedError.TheVariants.{FloatingPointPredictor, HorizontalPredictor, InconsistentBitsPerSample, InterpretationWithBits, UnknownInterpretation, UnknownCompressionMethod, UnsupportedCompressionMethod, UnsupportedSampleDepth, UnsupportedSampleFormat, UnsupportedColorType, UnsupportedBitsPerChannel, UnsupportedPlanarConfig, UnsupportedDataType, UnsupportedInterpretation, ChromaSubsampling, MisalignedTileBoundaries}
+use Rattle.tiff_base.specs.declared.error.UsageError.{UsageError as Usage}
+use Rattle.tiff_base.specs.declared.error.UsageError.TheVariants.{InvalidChunkType, InvalidChunkIndex, InvalidPlaneIndex, InvalidCodingUnit, PredictorCompressionMismatch, PredictorIncompatible, PredictorUnavailable, InsufficientOutputBufferSize, InsufficientOutputRowStride, ZeroIfdPointer, ReconfiguredAfterImageWrite, ByteOrderMismatch, MismatchedEntryLength, ParentNotWritten, WriterFailed}
+use Rattle.tiff_base.specs.declared.io.IoKind.{IoKind}
+use Rattle.tiff_base.specs.declared.io.IoKind.TheVariants.{UnexpectedEof, InvalidData, InvalidInput, WriteZero, Device}
+
+-- of a file that does not have TIFF's form
+abbrev pub format_number : TiffFormatError → ℕ
+format_number TiffSignatureNotFound = 20
+format_number TiffSignatureInvalid = 21
+format_number ImageFileDirectoryNotFound = 22
+format_number InconsistentSizesEncountered = 23
+format_number (InvalidDimensions a b) = 24
+format_number InvalidTag = 25
+format_number (InvalidTagValueType a) = 26
+format_number (RequiredTagNotFound a) = 27
+format_number (UnknownPredictor a) = 28
+format_number (UnknownPlanarConfiguration a) = 29
+format_number InvalidTypeForTag = 30
+format_number (InvalidCountForTag a b) = 31
+format_number StripTileTagConflict = 32
+format_number CycleInOffsets = 33
+format_number SamplesPerPixelIsZero = 34
+format_number (CompressedDataCorrupt a) = 35
+
+-- of what is not supported
+abbrev pub unsupported_number : TiffUnsupportedError → ℕ
+unsupported_number (FloatingPointPredictor a) = 40
+unsupported_number (HorizontalPredictor a) = 41
+unsupported_number (InconsistentBitsPerSample a) = 42
+unsupported_number (InterpretationWithBits a b) = 43
+unsupported_number UnknownInterpretation = 44
+unsupported_number UnknownCompressionMethod = 45
+unsupported_number (UnsupportedCompressionMethod a) = 46
+unsupported_number (UnsupportedSampleDepth a) = 47
+unsupported_number (UnsupportedSampleFormat a) = 48
+unsupported_number (UnsupportedColorType a) = 49
+unsupported_number (UnsupportedBitsPerChannel a) = 50
+unsupported_number (UnsupportedPlanarConfig a) = 51
+unsupported_number UnsupportedDataType = 52
+unsupported_number (UnsupportedInterpretation a) = 53
+unsupported_number ChromaSubsampling = 54
+unsupported_number MisalignedTileBoundaries = 55
+
+-- of a call that doesn't fit
+abbrev pub usage_number : Usage → ℕ
+usage_number (InvalidChunkType a b) = 60
+usage_number (InvalidChunkIndex a) = 61
+usage_number (InvalidPlaneIndex a) = 62
+usage_number (InvalidCodingUnit a b) = 63
+usage_number PredictorCompressionMismatch = 64
+usage_number PredictorIncompatible = 65
+usage_number PredictorUnavailable = 66
+usage_number (InsufficientOutputBufferSize a b) = 67
+usage_number (InsufficientOutputRowStride a b) = 68
+usage_number ZeroIfdPointer = 69
+usage_number ReconfiguredAfterImageWrite = 70
+usage_number ByteOrderMismatch = 71
+usage_number (MismatchedEntryLength a b) = 72
+usage_number ParentNotWritten = 73
+usage_number WriterFailed = 74
+
+-- of a fault of the bytes
+abbrev pub io_number : IoKind → ℕ
+io_number UnexpectedEof = 10
+io_number InvalidData = 11
+io_number InvalidInput = 12
+io_number WriteZero = 13
+io_number Device = 14
+
+-- of any fault
+abbrev pub fault_number : TiffError → ℕ
+fault_number (FormatError e) = format_number e
+fault_number (UnsupportedError e) = unsupported_number e
+fault_number (IoError k) = io_number k
+fault_number (UsageError e) = usage_number e
+fault_number LimitsExceeded = 1
+fault_number IntSizeError = 2
+fault_number OutOfMemory = 3
+
+-- of an answer
+abbrev pub status : {X : Type 0} → Result X TiffError → ℕ
+status (Ok x) = 0
+status (Err e) = fault_number e
+
+-- The status of a call tells the answer that is given: 0, and what the call left is the value; or the number of the fault. Or else
+-- it is want of memory.
+abbrev pub Tells : {X : Type 0} → Result X TiffError → ℕ → X → Type 0
+Tells (Ok x) status left = ((status ≡ 0) × (left ≡ x)) ⊎ (status ≡ fault_number OutOfMemory)
+Tells (Err e) status left = (status ≡ fault_number e) ⊎ (status ≡ fault_number OutOfMemory)

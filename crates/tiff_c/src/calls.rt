@@ -1,0 +1,252 @@
+//! The calls of a decoder on a page of a file that lies in a slice. No read of it fails, so a fault is the file's, the
+//! caller's, or want of memory.
+
+ghost use Rattle.std.specs.Prelude.{◌≡◌, IfOk, OnOk};
+ghost use Rattle.tiff_base.specs.Answers.{AnswersHere};
+ghost use Rattle.tiff_decode.specs.Outcome as outcome;
+ghost use Rattle.tiff_c.specs.Calls as calls;
+
+use std::alloc::Global;
+use tiff_base::color::{ChunkType, ColorType};
+use tiff_base::error::TiffResult;
+use tiff_base::io::SliceSource;
+use tiff_decode::decoder::Decoder;
+use tiff_page::layout::TiffCodingUnit;
+
+/// The width and the height of a page.
+#[derive(Clone, Copy, Debug, PartialEq, Eq)]
+#[repr(C)]
+pub struct Sides {
+    pub width: u32,
+    pub height: u32,
+}
+
+/// The bytes of an image: of one plane, and of all.
+#[derive(Clone, Copy, Debug, PartialEq, Eq)]
+#[repr(C)]
+pub struct Layout {
+    pub len: usize,
+    pub complete_len: usize,
+}
+
+/// The colour of a page: the number of its kind, the bits of a sample, and how many samples a pixel shows.
+#[derive(Clone, Copy, Debug, PartialEq, Eq)]
+#[repr(C)]
+pub struct Color {
+    pub kind: u32,
+    pub bits: u32,
+    pub samples: u32,
+}
+
+/// The chunks of a page: the number of their kind, how many there are, and their sides.
+#[derive(Clone, Copy, Debug, PartialEq, Eq)]
+#[repr(C)]
+pub struct Chunks {
+    pub kind: u32,
+    pub count: u32,
+    pub width: u32,
+    pub height: u32,
+}
+
+// No read of a slice failed.
+fn never_failed(decoder: &Decoder<SliceSource<'_>>)
+    ensures { decoder.now.failures ≡ 0 }
+{
+    let _source = decoder.inner();
+}
+
+// A decoder at the first page of a file.
+fn open_first(alloc: Global, file: &[u8]) -> TiffResult<Decoder<SliceSource<'_>>>
+    ensures { AnswersHere (λ d. d) result (outcome.begun file.now 0) }
+{
+    match Decoder::new(alloc, SliceSource::new(file)) {
+        Ok(decoder) => {
+            never_failed(&decoder);
+            Ok(decoder)
+        }
+        Err(fault) => Err(fault),
+    }
+}
+
+// Goes to a page.
+#[tactic(auto, using(crate::proofs::Slices::here, crate::proofs::Slices::gone))]
+fn seek(decoder: &mut Decoder<SliceSource<'_>>, page: usize) -> TiffResult<()>
+    ensures answer { AnswersHere (λ x. x) result (outcome.seek_to_image decoder.old page).answer }
+    ensures gone { OnOk result (decoder.new ≡ record decoder.old { state = (outcome.seek_to_image decoder.old page).next }) }
+{
+    never_failed(decoder);
+    let answer = decoder.seek_to_image(page);
+    never_failed(decoder);
+    answer
+}
+
+// A decoder at a page of a file.
+fn open_at(alloc: Global, file: &[u8], page: usize) -> TiffResult<Decoder<SliceSource<'_>>>
+    ensures { AnswersHere (λ d. d) result (calls.at_page file.now page) }
+{
+    let mut decoder = open_first(alloc, file)?;
+    seek(&mut decoder, page)?;
+    Ok(decoder)
+}
+
+/// The width and the height of a page.
+#[tactic(auto, unfolding(tiff_decode::specs::Outcome::dimensions))]
+pub fn page_sides(alloc: Global, file: &[u8], page: usize) -> TiffResult<Sides>
+    ensures { AnswersHere (λ s. s) result (calls.page_sides file.now page) }
+{
+    let (width, height) = open_at(alloc, file, page)?.dimensions()?;
+    Ok(Sides { width, height })
+}
+
+// Reads the image of a decoder's page into a slice.
+#[tactic(auto, using(crate::proofs::Slices::here))]
+fn image_here(decoder: &mut Decoder<SliceSource<'_>>, buffer: &mut [u8]) -> TiffResult<()>
+    ensures { AnswersHere (λ _. buffer.new) result (outcome.read_image_bytes decoder.old buffer.old).answer }
+{
+    never_failed(decoder);
+    let answer = decoder.read_image_bytes(buffer);
+    never_failed(decoder);
+    answer
+}
+
+/// Reads the image of a page into a slice.
+pub fn image_bytes(alloc: Global, file: &[u8], page: usize, buffer: &mut [u8]) -> TiffResult<()>
+    ensures { AnswersHere (λ _. buffer.new) result (calls.read_image_bytes file.now page buffer.old) }
+{
+    image_here(&mut open_at(alloc, file, page)?, buffer)
+}
+
+// The layout of a decoder's page.
+#[tactic(auto, unfolding(tiff_decode::specs::Outcome::image_buffer_layout))]
+fn layout_here(decoder: &mut Decoder<SliceSource<'_>>) -> TiffResult<Layout>
+    ensures { AnswersHere (λ l. l) result (calls.layout_of decoder.old) }
+{
+    let layout = decoder.image_buffer_layout()?;
+    Ok(Layout {
+        len: layout.len,
+        complete_len: layout.complete_len,
+    })
+}
+
+/// The bytes of the image of a page.
+pub fn page_layout(alloc: Global, file: &[u8], page: usize) -> TiffResult<Layout>
+    ensures { AnswersHere (λ l. l) result (calls.page_layout file.now page) }
+{
+    layout_here(&mut open_at(alloc, file, page)?)
+}
+
+// Reads a chunk of a decoder's page into a slice.
+#[tactic(auto, using(crate::proofs::Slices::here))]
+fn chunk_here(
+    decoder: &mut Decoder<SliceSource<'_>>,
+    chunk: u32,
+    buffer: &mut [u8],
+) -> TiffResult<()>
+    ensures { AnswersHere (λ _. buffer.new) result (outcome.read_chunk_bytes decoder.old chunk buffer.old).answer }
+{
+    never_failed(decoder);
+    let answer = decoder.read_chunk_bytes(chunk, buffer);
+    never_failed(decoder);
+    answer
+}
+
+/// Reads a chunk of a page into a slice.
+pub fn chunk_bytes(
+    alloc: Global,
+    file: &[u8],
+    page: usize,
+    chunk: u32,
+    buffer: &mut [u8],
+) -> TiffResult<()>
+    ensures { AnswersHere (λ _. buffer.new) result (calls.read_chunk_bytes file.now page chunk buffer.old) }
+{
+    chunk_here(&mut open_at(alloc, file, page)?, chunk, buffer)
+}
+
+// Reads a coding unit of a decoder's page into a slice.
+#[tactic(auto, using(crate::proofs::Slices::here))]
+fn unit_here(decoder: &mut Decoder<SliceSource<'_>>, unit: u32, buffer: &mut [u8]) -> TiffResult<()>
+    ensures { AnswersHere (λ _. buffer.new) result (outcome.read_coding_unit_bytes decoder.old unit buffer.old).answer }
+{
+    never_failed(decoder);
+    let answer = decoder.read_coding_unit_bytes(TiffCodingUnit(unit), buffer);
+    never_failed(decoder);
+    answer
+}
+
+/// Reads a coding unit of a page into a slice.
+pub fn unit_bytes(
+    alloc: Global,
+    file: &[u8],
+    page: usize,
+    unit: u32,
+    buffer: &mut [u8],
+) -> TiffResult<()>
+    ensures { AnswersHere (λ _. buffer.new) result (calls.read_unit_bytes file.now page unit buffer.old) }
+{
+    unit_here(&mut open_at(alloc, file, page)?, unit, buffer)
+}
+
+// The kind of a colour, as C is told of it.
+fn color_number(color: ColorType) -> u32
+    ensures { result ≡ calls.color_number color }
+{
+    match color {
+        ColorType::Gray(_) => 0,
+        ColorType::RGB(_) => 1,
+        ColorType::Palette(_) => 2,
+        ColorType::GrayA(_) => 3,
+        ColorType::RGBA(_) => 4,
+        ColorType::CMYK(_) => 5,
+        ColorType::CMYKA(_) => 6,
+        ColorType::YCbCr(_) => 7,
+        ColorType::Lab(_) => 8,
+        ColorType::Multiband { .. } => 9,
+        _ => 10,
+    }
+}
+
+// The colour of a decoder's page.
+#[tactic(auto, unfolding(tiff_decode::specs::Outcome::colortype))]
+fn color_here(decoder: &mut Decoder<SliceSource<'_>>) -> TiffResult<Color>
+    ensures { AnswersHere (λ c. c) result (calls.color_of decoder.old) }
+{
+    let color = decoder.colortype()?;
+    Ok(Color {
+        kind: color_number(color),
+        bits: u32::from(color.bit_depth()),
+        samples: u32::from(color.num_samples()),
+    })
+}
+
+/// The colour of a page.
+pub fn page_color(alloc: Global, file: &[u8], page: usize) -> TiffResult<Color>
+    ensures { AnswersHere (λ c. c) result (calls.page_color file.now page) }
+{
+    color_here(&mut open_at(alloc, file, page)?)
+}
+
+// The chunks of a decoder's page.
+#[tactic(auto, unfolding(tiff_decode::specs::Outcome::strip_count, tiff_decode::specs::Outcome::tile_count))]
+fn chunks_here(decoder: &mut Decoder<SliceSource<'_>>) -> TiffResult<Chunks>
+    ensures { AnswersHere (λ c. c) result (calls.chunks_of decoder.old) }
+{
+    let (width, height) = decoder.chunk_dimensions();
+    let (kind, count) = match decoder.get_chunk_type() {
+        ChunkType::Strip => (0, decoder.strip_count()?),
+        ChunkType::Tile => (1, decoder.tile_count()?),
+    };
+    Ok(Chunks {
+        kind,
+        count,
+        width,
+        height,
+    })
+}
+
+/// The chunks of a page.
+pub fn page_chunks(alloc: Global, file: &[u8], page: usize) -> TiffResult<Chunks>
+    ensures { AnswersHere (λ c. c) result (calls.page_chunks file.now page) }
+{
+    chunks_here(&mut open_at(alloc, file, page)?)
+}

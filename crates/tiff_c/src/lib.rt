@@ -1,0 +1,115 @@
+//! A static library for C: the pages of a TIFF file that lies in memory are read. `include/tiff.h` tells each call to C.
+#![tactic(auto)]
+
+ghost use Rattle.tiff_c.specs.Calls as calls;
+ghost use Rattle.tiff_c.specs.Status.{Tells};
+
+use std::alloc::Global;
+
+mod calls;
+mod status;
+
+use crate::calls::{
+    Chunks, Color, Layout, Sides, chunk_bytes, image_bytes, page_chunks, page_color, page_layout,
+    page_sides, unit_bytes,
+};
+use crate::status::{done, given, text_of};
+
+/// The width and the height of a page.
+#[unsafe(no_mangle)]
+#[tactic(auto, using(crate::proofs::Told::tells_left))]
+pub extern "C" fn tiff_page_sides(alloc: Global, file: &[u8], page: usize, sides: &mut Sides) -> u32
+    ensures { Tells (calls.page_sides file.now page) result sides.new }
+{
+    given(page_sides(alloc, file, page), sides)
+}
+
+/// Reads the image of a page into a slice.
+#[unsafe(no_mangle)]
+#[tactic(auto, using(crate::proofs::Told::tells_left))]
+pub extern "C" fn tiff_read_image_bytes(
+    alloc: Global,
+    file: &[u8],
+    page: usize,
+    buffer: &mut [u8],
+) -> u32
+    ensures { Tells (calls.read_image_bytes file.now page buffer.old) result buffer.new }
+{
+    done(image_bytes(alloc, file, page, buffer))
+}
+
+/// The colour of a page.
+#[unsafe(no_mangle)]
+#[tactic(auto, using(crate::proofs::Told::tells_left))]
+pub extern "C" fn tiff_page_color(alloc: Global, file: &[u8], page: usize, color: &mut Color) -> u32
+    ensures { Tells (calls.page_color file.now page) result color.new }
+{
+    given(page_color(alloc, file, page), color)
+}
+
+/// The strips or the tiles of a page.
+#[unsafe(no_mangle)]
+#[tactic(auto, using(crate::proofs::Told::tells_left))]
+pub extern "C" fn tiff_page_chunks(
+    alloc: Global,
+    file: &[u8],
+    page: usize,
+    chunks: &mut Chunks,
+) -> u32
+    ensures { Tells (calls.page_chunks file.now page) result chunks.new }
+{
+    given(page_chunks(alloc, file, page), chunks)
+}
+
+/// The bytes of the image of a page: of one plane, and of all.
+#[unsafe(no_mangle)]
+#[tactic(auto, using(crate::proofs::Told::tells_left))]
+pub extern "C" fn tiff_page_layout(
+    alloc: Global,
+    file: &[u8],
+    page: usize,
+    layout: &mut Layout,
+) -> u32
+    ensures { Tells (calls.page_layout file.now page) result layout.new }
+{
+    given(page_layout(alloc, file, page), layout)
+}
+
+/// Reads a chunk of a page into a slice.
+#[unsafe(no_mangle)]
+#[tactic(auto, using(crate::proofs::Told::tells_left))]
+pub extern "C" fn tiff_read_chunk_bytes(
+    alloc: Global,
+    file: &[u8],
+    page: usize,
+    chunk: u32,
+    buffer: &mut [u8],
+) -> u32
+    ensures { Tells (calls.read_chunk_bytes file.now page chunk buffer.old) result buffer.new }
+{
+    done(chunk_bytes(alloc, file, page, chunk, buffer))
+}
+
+/// Reads a coding unit of a page into a slice.
+#[unsafe(no_mangle)]
+#[tactic(auto, using(crate::proofs::Told::tells_left))]
+pub extern "C" fn tiff_read_coding_unit_bytes(
+    alloc: Global,
+    file: &[u8],
+    page: usize,
+    unit: u32,
+    buffer: &mut [u8],
+) -> u32
+    ensures { Tells (calls.read_unit_bytes file.now page unit buffer.old) result buffer.new }
+{
+    done(unit_bytes(alloc, file, page, unit, buffer))
+}
+
+/// Writes the text of a status into a slice, as much of it as fits, and answers how many bytes it has.
+#[unsafe(no_mangle)]
+pub extern "C" fn tiff_fault_text(status: u32, buffer: &mut [u8]) -> usize {
+    let text = text_of(status).as_bytes();
+    let n = text.len().min(buffer.len());
+    buffer[..n].copy_from_slice(&text[..n]);
+    text.len()
+}
