@@ -444,7 +444,7 @@ impl<'a, R: Source> IfdDecoder<'a, R> {
 
     /// The field of a tag, if there is the tag, and its bytes as they stand, in the file's order. No such tag: the buffer stays.
     /// Values of 2^64 bytes or more, and more bytes than `decoding_buffer_size`: `LimitsExceeded`, and the buffer stays; values
-    /// past the end of the source: `IoError(UnexpectedEof)`, and the buffer has the field's type and no values.
+    /// past the end of the source: `IoError(UnexpectedEof)`. After any other fault the buffer has the field's type and no values.
     pub fn find_tag_buf(&mut self, tag: Tag, buf: &mut ValueBuffer) -> TiffResult<Option<Entry>>
         ensures held { IsHeld self.old.decoder self.new.decoder }
         ensures other { self.new.other ≡ self.old.other }
