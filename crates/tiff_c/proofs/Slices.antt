@@ -1,10 +1,10 @@
 -- A decoder whose reads never fail: its answers are those that the file gives, but for want of memory.
-use Rattle.std.proofs.Common.{◌≡◌, ℕ, ◌<◌, Result, Ok, Err, refl, sym, ◌∙◌, ap, arith, OnOk}
+use Rattle.std.proofs.Common.{◌≡◌, ℕ, ◌<◌, Result, Ok, Err, sym, ◌∙◌, ap, arith, OnOk}
 use Rattle.tiff_base.specs.declared.error.TiffError.{TiffError}
 use Rattle.tiff_base.specs.declared.error.TiffError.TheVariants.{FormatError, UnsupportedError, IoError, UsageError, LimitsExceeded, IntSizeError, OutOfMemory}
 use Rattle.tiff_base.specs.declared.io.IoKind.TheVariants.{UnexpectedEof, InvalidData, InvalidInput, WriteZero, Device}
 use Rattle.tiff_base.specs.Answers.{AnswersHere}
-use Rattle.tiff_decode.specs.Machine.{Decoding, Follows, Gives, Outcome, Refused}
+use Rattle.tiff_decode.specs.Machine.{Decoding, Follows, Outcome, Refused}
 
 not_more : (m n : ℕ) → m ≡ 0 → n ≡ 0 → m < n → ⊥
 not_more m n a b h = omega (arith, a, b, h)
