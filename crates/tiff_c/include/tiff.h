@@ -102,6 +102,9 @@ struct tiff_sides {
     uint32_t height;
 };
 
+/* How many pages a file has. A page that can't be read, or a chain of directories that is cut or leads back: its fault. */
+tiff_status tiff_page_count(const uint8_t *file, size_t len, uint32_t *pages);
+
 /* The sides of a page. */
 tiff_status tiff_page_sides(const uint8_t *file, size_t len, size_t page, struct tiff_sides *sides);
 
@@ -159,6 +162,14 @@ tiff_status tiff_read_chunk_bytes(const uint8_t *file, size_t len, size_t page, 
 /* Reads a coding unit, which is a chunk of the first plane with those of the other planes that lie upon it, one behind the other, as
    many as BUFFER takes whole. No such unit: TIFF_INVALID_CODING_UNIT. */
 tiff_status tiff_read_coding_unit_bytes(const uint8_t *file, size_t len, size_t page, uint32_t unit, uint8_t *buffer, size_t size);
+
+/* The field of a tag of a page, by the tag's number: the number of its type, and how many values there are. No such tag:
+   TIFF_REQUIRED_TAG_NOT_FOUND. */
+struct tiff_field {
+    uint32_t kind;
+    uint64_t count;
+};
+tiff_status tiff_tag_field(const uint8_t *file, size_t len, size_t page, uint16_t tag, struct tiff_field *field);
 
 /* Writes the text of a status into BUFFER, of SIZE bytes, as much of it as fits, with no zero behind it. Answers how many bytes the
    text has. */

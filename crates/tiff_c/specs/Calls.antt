@@ -9,6 +9,12 @@ use Rattle.tiff_base.specs.Answers.{◌>>=◌}
 use Rattle.tiff_base.specs.Color.{bit_depth, num_samples}
 use Rattle.tiff_decode.specs.Machine.{Decoding}
 use Rattle.tiff_decode.specs.Outcome as outcome
+use Rattle.tiff_base.specs.declared.error.TiffError.TheVariants.{FormatError}
+use Rattle.tiff_base.specs.declared.error.TiffFormatError.TheVariants.{RequiredTagNotFound}
+use Rattle.tiff_base.specs.declared.tags.Tag.{Tag}
+use Rattle.tiff_base.specs.Tags.{tag_of, type_number}
+use Rattle.tiff_ifd.specs.Look.{known}
+use Rattle.tiff_c.specs.declared.calls.FieldSize.{FieldSize}
 use Rattle.tiff_c.specs.declared.calls.Sides.{Sides}
 use Rattle.tiff_c.specs.declared.calls.Layout.{Layout}
 use Rattle.tiff_c.specs.declared.calls.Color.{Color}
@@ -100,3 +106,14 @@ chunks_of d = do
 
 abbrev pub page_chunks : List ℕ → ℕ → Result Chunks TiffError
 page_chunks file page = at_page file page >>= chunks_of
+
+-- the field of a tag of a page: the number of its type, and how many values there are
+abbrev pub field_of : Decoding → Tag → Result FieldSize TiffError
+field_of d tag = do
+  field ← known (outcome.find_entry d tag) (FormatError (RequiredTagNotFound tag))
+  Ok (record { kind = type_number field.field_type; count = field.count })
+
+abbrev pub tag_field : List ℕ → ℕ → ℕ → Result FieldSize TiffError
+tag_field file page number = do
+  d ← at_page file page
+  field_of d (tag_of number)

@@ -8,8 +8,9 @@ ghost use Rattle.tiff_c.specs.Calls as calls;
 
 use std::alloc::Global;
 use tiff_base::color::{ChunkType, ColorType};
-use tiff_base::error::TiffResult;
+use tiff_base::error::{TiffFormatError, TiffResult};
 use tiff_base::io::SliceSource;
+use tiff_base::tags::Tag;
 use tiff_decode::decoder::Decoder;
 use tiff_page::layout::TiffCodingUnit;
 
@@ -46,6 +47,14 @@ pub struct Chunks {
     pub count: u32,
     pub width: u32,
     pub height: u32,
+}
+
+/// The field of a tag: the number of its type, and how many values there are.
+#[derive(Clone, Copy, Debug, PartialEq, Eq)]
+#[repr(C)]
+pub struct FieldSize {
+    pub kind: u32,
+    pub count: u64,
 }
 
 // No read of a slice failed.
@@ -249,4 +258,45 @@ pub fn page_chunks(alloc: Global, file: &[u8], page: usize) -> TiffResult<Chunks
     ensures { AnswersHere (λ c. c) result (calls.page_chunks file.now page) }
 {
     chunks_here(&mut open_at(alloc, file, page)?)
+}
+
+// The field of a tag of a decoder's page.
+fn field_here(decoder: &mut Decoder<SliceSource<'_>>, tag: Tag) -> TiffResult<FieldSize>
+    ensures { AnswersHere (λ f. f) result (calls.field_of decoder.old tag) }
+{
+    match decoder.image_ifd().find_entry(tag) {
+        None => Err(TiffFormatError::RequiredTagNotFound(tag).into()),
+        Some(entry) => Ok(FieldSize {
+            kind: u32::from(entry.field_type().to_u16()),
+            count: entry.count(),
+        }),
+    }
+}
+
+/// The field of a tag of a page, by the tag's number.
+pub fn tag_field(alloc: Global, file: &[u8], page: usize, number: u16) -> TiffResult<FieldSize>
+    ensures { AnswersHere (λ f. f) result (calls.tag_field file.now page number) }
+{
+    field_here(
+        &mut open_at(alloc, file, page)?,
+        Tag::from_u16_exhaustive(number),
+    )
+}
+
+// How many pages a decoder's file has, from its first page on.
+fn count_pages(decoder: &mut Decoder<SliceSource<'_>>) -> TiffResult<u32> {
+    let mut count = 1;
+    for _ in 0..u32::MAX {
+        if !decoder.more_images() {
+            break;
+        }
+        decoder.next_image()?;
+        count = u32::wrapping_add(count, 1);
+    }
+    Ok(count)
+}
+
+/// How many pages a file has.
+pub fn page_count(alloc: Global, file: &[u8]) -> TiffResult<u32> {
+    count_pages(&mut open_first(alloc, file)?)
 }

@@ -10,8 +10,8 @@ mod calls;
 mod status;
 
 use crate::calls::{
-    Chunks, Color, Layout, Sides, chunk_bytes, image_bytes, page_chunks, page_color, page_layout,
-    page_sides, unit_bytes,
+    Chunks, Color, FieldSize, Layout, Sides, chunk_bytes, image_bytes, page_chunks, page_color,
+    page_count, page_layout, page_sides, tag_field, unit_bytes,
 };
 use crate::status::{done, given, text_of};
 
@@ -103,6 +103,27 @@ pub extern "C" fn tiff_read_coding_unit_bytes(
     ensures { Tells (calls.read_unit_bytes file.now page unit buffer.old) result buffer.new }
 {
     done(unit_bytes(alloc, file, page, unit, buffer))
+}
+
+/// The field of a tag of a page, by the tag's number.
+#[unsafe(no_mangle)]
+#[tactic(auto, using(crate::proofs::Told::tells_left))]
+pub extern "C" fn tiff_tag_field(
+    alloc: Global,
+    file: &[u8],
+    page: usize,
+    number: u16,
+    field: &mut FieldSize,
+) -> u32
+    ensures { Tells (calls.tag_field file.now page number) result field.new }
+{
+    given(tag_field(alloc, file, page, number), field)
+}
+
+/// How many pages a file has.
+#[unsafe(no_mangle)]
+pub extern "C" fn tiff_page_count(alloc: Global, file: &[u8], pages: &mut u32) -> u32 {
+    given(page_count(alloc, file), pages)
 }
 
 /// Writes the text of a status into a slice, as much of it as fits, and answers how many bytes it has.
