@@ -171,6 +171,10 @@ struct tiff_field {
 };
 tiff_status tiff_tag_field(const uint8_t *file, size_t len, size_t page, uint16_t tag, struct tiff_field *field);
 
+/* The number of a tag of a page, which has to have one value: a compression by tag 259 (1: none, 32773: PackBits; no such tag: none), or
+   any other. No such tag: TIFF_REQUIRED_TAG_NOT_FOUND. */
+tiff_status tiff_tag_number(const uint8_t *file, size_t len, size_t page, uint16_t tag, uint64_t *number);
+
 /* Writes the text of a status into BUFFER, of SIZE bytes, as much of it as fits, with no zero behind it. Answers how many bytes the
    text has. */
 size_t tiff_fault_text(tiff_status status, uint8_t *buffer, size_t size);

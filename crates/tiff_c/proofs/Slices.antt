@@ -3,7 +3,8 @@ use Rattle.std.proofs.Common.{◌≡◌, ℕ, ◌<◌, Result, Ok, Err, sym, ◌
 use Rattle.tiff_base.specs.declared.error.TiffError.{TiffError}
 use Rattle.tiff_base.specs.declared.error.TiffError.TheVariants.{FormatError, UnsupportedError, IoError, UsageError, LimitsExceeded, IntSizeError, OutOfMemory}
 use Rattle.tiff_base.specs.declared.io.IoKind.TheVariants.{UnexpectedEof, InvalidData, InvalidInput, WriteZero, Device}
-use Rattle.tiff_base.specs.Answers.{AnswersHere}
+use Rattle.tiff_base.specs.Answers.{Answers, AnswersHere}
+use Rattle.tiff_decode.specs.Reader.{TagsRead}
 use Rattle.tiff_decode.specs.Machine.{Decoding, Follows, Outcome, Refused}
 
 not_more : (m n : ℕ) → m ≡ 0 → n ≡ 0 → m < n → ⊥
@@ -32,3 +33,26 @@ pub gone : {X Y : Type 0} → (view : X → Y) → (o : Outcome Y) → (result :
     → old.failures ≡ 0 → new.failures ≡ 0 → OnOk result (new ≡ record old { state = o.next })
 gone view o (Ok x) old new f a b = f.at.stands ∙ ap (λ n. record old { failures = n; state = o.next }) (b ∙ sym a)
 gone view o (Err e) old new f a b = tt
+
+tag_refused : {X Y : Type 0} → (view : X → Y) → (given : Result Y TiffError) → (e : TiffError) → (m n : ℕ) → Answers view (Err e) given m n
+    → m ≡ 0 → n ≡ 0 → AnswersHere view (Err e) given
+tag_refused view given OutOfMemory m n r a b = tt
+tag_refused view given (IoError Device) m n r a b = not_more m n a b r
+tag_refused view given (IoError UnexpectedEof) m n r a b = r
+tag_refused view given (IoError InvalidData) m n r a b = r
+tag_refused view given (IoError InvalidInput) m n r a b = r
+tag_refused view given (IoError WriteZero) m n r a b = r
+tag_refused view given (FormatError x) m n r a b = r
+tag_refused view given (UnsupportedError x) m n r a b = r
+tag_refused view given (UsageError x) m n r a b = r
+tag_refused view given LimitsExceeded m n r a b = r
+tag_refused view given IntSizeError m n r a b = r
+
+answer_here : {X Y : Type 0} → (view : X → Y) → (given : Result Y TiffError) → (result : Result X TiffError) → (m n : ℕ) → Answers view result given m n
+    → m ≡ 0 → n ≡ 0 → AnswersHere view result given
+answer_here view given (Ok x) m n r a b = r
+answer_here view given (Err e) m n r a b = tag_refused view given e m n r a b
+
+pub read_here : {X Y : Type 0} → (view : X → Y) → (o : Outcome Y) → (result : Result X TiffError) → (old new : Decoding) → TagsRead view o result old new
+    → old.failures ≡ 0 → new.failures ≡ 0 → AnswersHere view result o.answer
+read_here view o result old new r a b = answer_here view o.answer result old.failures new.failures r.answer a b

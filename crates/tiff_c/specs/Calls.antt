@@ -117,3 +117,9 @@ abbrev pub tag_field : List ℕ → ℕ → ℕ → Result FieldSize TiffError
 tag_field file page number = do
   d ← at_page file page
   field_of d (tag_of number)
+
+-- the number of a tag of a page
+abbrev pub tag_number_at : List ℕ → ℕ → ℕ → Result ℕ TiffError
+tag_number_at file page number = do
+  d ← at_page file page
+  (outcome.get_tag_u64 d (tag_of number)).answer

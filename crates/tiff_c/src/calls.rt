@@ -300,3 +300,24 @@ fn count_pages(decoder: &mut Decoder<SliceSource<'_>>) -> TiffResult<u32> {
 pub fn page_count(alloc: Global, file: &[u8]) -> TiffResult<u32> {
     count_pages(&mut open_first(alloc, file)?)
 }
+
+// The number of a tag of a decoder's page.
+#[tactic(auto, using(crate::proofs::Slices::read_here))]
+fn number_here(decoder: &mut Decoder<SliceSource<'_>>, tag: Tag) -> TiffResult<u64>
+    ensures { AnswersHere (λ n. n) result (outcome.get_tag_u64 decoder.old tag).answer }
+{
+    never_failed(decoder);
+    let answer = decoder.get_tag_u64(tag);
+    never_failed(decoder);
+    answer
+}
+
+/// The number of a tag of a page, by the tag's number.
+pub fn tag_number(alloc: Global, file: &[u8], page: usize, number: u16) -> TiffResult<u64>
+    ensures { AnswersHere (λ n. n) result (calls.tag_number_at file.now page number) }
+{
+    number_here(
+        &mut open_at(alloc, file, page)?,
+        Tag::from_u16_exhaustive(number),
+    )
+}

@@ -11,7 +11,7 @@ mod status;
 
 use crate::calls::{
     Chunks, Color, FieldSize, Layout, Sides, chunk_bytes, image_bytes, page_chunks, page_color,
-    page_count, page_layout, page_sides, tag_field, unit_bytes,
+    page_count, page_layout, page_sides, tag_field, tag_number, unit_bytes,
 };
 use crate::status::{done, given, text_of};
 
@@ -118,6 +118,21 @@ pub extern "C" fn tiff_tag_field(
     ensures { Tells (calls.tag_field file.now page number) result field.new }
 {
     given(tag_field(alloc, file, page, number), field)
+}
+
+/// The number of a tag of a page, by the tag's number.
+#[unsafe(no_mangle)]
+#[tactic(auto, using(crate::proofs::Told::tells_left))]
+pub extern "C" fn tiff_tag_number(
+    alloc: Global,
+    file: &[u8],
+    page: usize,
+    number: u16,
+    value: &mut u64,
+) -> u32
+    ensures { Tells (calls.tag_number_at file.now page number) result value.new }
+{
+    given(tag_number(alloc, file, page, number), value)
 }
 
 /// How many pages a file has.
