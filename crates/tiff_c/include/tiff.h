@@ -15,7 +15,7 @@ DESCRIPTION
 
 POINTERS
     No pointer may be null, not even with a length of 0: hand the address of any byte. FILE with a length of 0 is no TIFF file
-    (TIFF_SIGNATURE_NOT_FOUND or TIFF_UNEXPECTED_EOF). What is read and what is written may not overlap.
+    (TIFF_SIGNATURE_NOT_FOUND). What is read and what is written may not overlap.
 
 LINKING
     cc .. libtiff_c.a liblibc_c.a: the first is built by `rt lib` in crates/tiff_c, the second is in the toolchain's folder c. */
