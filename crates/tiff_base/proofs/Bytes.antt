@@ -38,19 +38,6 @@ next_read bytes buf new old at done n k place p sofar fits r =
     ∙ ap (λ q. bytes_at bytes at done ++ bytes_at bytes q n) p
     ∙ sym (bytes_at-add bytes at done n)
 
--- what stands in a sink after a write of the rest
-pub next_append : (first old bytes new : List ℕ) (done n : ℕ)
-    → old ≡ first ++ take done bytes
-    → Appends old (take (length bytes - done) (drop done bytes)) n new
-    → new ≡ first ++ take (done + n) bytes
-next_append first old bytes new done n sofar r =
-    let le : length bytes ≤ length bytes = omega arith in
-    r.next
-    ∙ ap (λ (l : List ℕ). old ++ take n l) (between_to_end bytes done (length bytes) le)
-    ∙ ap (λ (l : List ℕ). l ++ take n (drop done bytes)) sofar
-    ∙ append_assoc first (take done bytes) (take n (drop done bytes))
-    ∙ ap (λ (l : List ℕ). first ++ l) (sym (take-add done n bytes))
-
 -- no bytes where they reach past the end
 pub cut_past : (bytes : List ℕ) (at len : ℕ) → length bytes - at < len → exactly_at bytes at len ≡ Err (IoError UnexpectedEof)
 cut_past bytes at len past =

@@ -245,9 +245,6 @@ list_along given (Err e) old new h = (h.1, omega (arith, h.1.failures, wanting_c
 
 -- ---- each step is along its call
 
-tells_along : {Y : Type 0} (given r : Y) (old new : Decoding) → Tells given r old new → new.state ≡ old.state
-tells_along given r old new h = ap (λ (d : Decoding). d.state) h.1
-
 same_file : (old new : Decoding) → new ≡ old → new ≡ record old { failures = new.failures; state = new.state }
 same_file old new p = p ∙ (λ i. record old { failures = sym (ap (λ (d : Decoding). d.failures) p) i; state = sym (ap (λ (d : Decoding). d.state) p) i })
 

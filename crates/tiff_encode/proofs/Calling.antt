@@ -334,13 +334,3 @@ pub data_placed : (type : «Type») (bytes : List ℕ) (size : ℕ) (r : Result 
     → Places (data_sized type bytes size) old new r → Ends (λ field. field) (placed (data_in type bytes) old) r old new
 data_placed type bytes size r old new z p =
     placed_ends (data_in type bytes) r old new (subst (λ s. Places (data_sized type bytes s) old new r) z p)
-
--- the bytes of a buffer
-pub buf_of : (b : BufferRecord) (r : Result Field TiffError) (old new : FileState) (order : ByteOrder) (type : «Type») (bytes : List ℕ)
-    → old.fault ≡ None → order ≡ b.order → order_cause order None ≡ None → type ≡ b.data_type → bytes ≡ b.bytes
-    → Ends (λ field. field) (by_cause (field_cause old (data_in type bytes)) (placed (data_in type bytes)) old) r old new
-    → Ends (λ field. field) (write_entry_buf b old) r old new
-buf_of b r old new order type bytes f o c t x h =
-    let P : «Type» → List ℕ → Type 0 = λ type bytes. Ends (λ field. field) (by_cause (field_cause old (data_in type bytes)) (placed (data_in type bytes)) old) r old new in
-    buf_ends (λ field. field) b r old new f (ap (λ o. order_cause o None) (sym o) ∙ c)
-    (subst (λ bytes. P b.data_type bytes) x (subst (λ type. P type bytes) t h))

@@ -178,11 +178,6 @@ module _ (p : PageRecord) (numbers : List ℕ) (r : RectRecord) (row : ℕ) wher
         ∙ sym (each_more a b (row_sample p numbers r row))
         ∙ ap (λ n. each_to n (row_sample p numbers r row)) all
 
-  -- and where it hasn't
-  pub empty_row : r.height ≤ row → each_to (row_samples p) (λ _. 0) ≡ each_to (row_samples p) (row_sample p numbers r row)
-  empty_row none =
-      each_same (row_samples p) (λ _. 0) (row_sample p numbers r row) (λ n l. rw (le-ltb row r.height none) refl)
-
 -- ---- the rows of a chunk
 
 module _ (p : PageRecord) (numbers : List ℕ) (k : ℕ) where

@@ -128,15 +128,6 @@ within_grown old mid d kind more parent k f h s q place p =
 
 -- ---- links
 
--- a link is pointed to a place: the file is as long as before
-pub linked_length : (kind : FileKind) (bytes : List ℕ) (parent : Option ℕ) (target : ℕ)
-    → ((place : ℕ) → parent ≡ Some place → place + place_len kind ≤ length bytes)
-    → length (bytes_after kind bytes (links_to parent target)) ≡ length bytes
-linked_length kind bytes None target w = refl
-linked_length kind bytes (Some place) target w =
-    let over : List ℕ = le (place_len kind) target in
-    length_put bytes place over (let x = w place refl in omega (arith, x, length-le 0 (place_len kind) target))
-
 -- the chain goes on
 chain_is : (file : FileState) (chained : Bool) (offsets : Offsets)
     → cond chained (record file { chain = offsets.link }) file ≡ chain_after file chained offsets

@@ -39,11 +39,6 @@ plain_done most told file p = record { kind = p.kind; bytes = p.bytes }
 pub gives_done : {A : Type 0} (x : A) (file : FileState) → IsDone (gives x file) file
 gives_done x file = record { kind = refl; bytes = refl }
 
-pub caused_done : {A : Type 0} (cause : Option TiffError) (call : Writing A) (file : FileState) → IsDone (call file) file
-    → IsDone (by_cause cause call file) file
-caused_done None call file d = d
-caused_done (Some e) call file d = record { kind = refl; bytes = refl }
-
 joined_done : {A B : Type 0} (r : Result A TiffError) (deeds : List Deed) (next : FileState) (rest : A → Writing B) (file : FileState)
     → next.kind ≡ file.kind → next.bytes ≡ bytes_after file.kind file.bytes deeds
     → ((x : A) → r ≡ Ok x → IsDone (rest x next) next) → IsDone (going_on r deeds next rest) file

@@ -231,14 +231,3 @@ cut_moves i r samples cut old new same h =
     let P : List ℕ → Type 0 = λ xs. EndMoves (λ s t place. WritesData i xs r s t place) i.directory.parent old new (DataHeld i xs) in
     moves_as (λ s t place. WritesData i cut r s t place) (DataHeld i cut) (λ s t place. WritesDataIfFound i cut r s t place) (DataHeld i cut)
     i.directory.parent old new (λ s t place x. inl x) (λ s t place x. x) (subst P same h)
-
--- where it isn't, nothing is done
-pub short_moves : (i : OpenImage) (e : TiffError) (cut : List ℕ) (old new : FileState) → e ≡ OutOfMemory → new ≡ old
-    → EndMoves (λ s t place. WritesDataIfFound i cut (Err e) s t place) i.directory.parent old new (DataHeld i cut)
-short_moves i e cut old new q h =
-    let r : Result EndReply TiffError = Err e in
-    let Short : Standing → Standing → Option Offsets → Type 0 = λ s t place. WritesDataIfFound i cut r s t place in
-    moves_from Short (DataHeld i cut) i.directory.parent old new
-    (λ known m k l.
-    led known (at old m) (at old m) new Short (DataHeld i cut) None (sym h) (inr (ap (λ x. Err x) q, (refl, refl)))
-    (λ before all o x p. absurd (no_place p)) (leads_still known old old m refl refl k))

@@ -247,23 +247,6 @@ module _ {A B : Type 0} (rest : A → Writing B) where
       let P : Result A TiffError → Type 0 = λ q. Ends view (going_on q deeds next rest) s old new in
       subst P (sym a) (behind_ends view deeds (rest x next) s old new at_grown)
 
-  -- There is no memory before the second is begun.
-  after_short : (r : Result A TiffError) (deeds : List Deed) (next : FileState) (x : A) (e : TiffError) (old mid : FileState)
-      → next ≡ grown old (all_appended old.kind deeds) → HasDeeds r deeds → r ≡ Ok x → mid ≡ next → mid.fault ≡ None → e ≡ OutOfMemory
-      → Fails (going_on r deeds next rest) e old mid
-  after_short (Err f) deeds next x e old mid n d a m f0 q = absurd (ok_err (sym a))
-  after_short (Ok y) deeds next x e old mid n d a m f q =
-      let second : Told B = rest y next in
-      let all : List ℕ = all_appended old.kind deeds in
-      inr (inr (inr (record {
-        fresh = sym (ap (λ file. file.fault) (m ∙ n)) ∙ f;
-        fault = q;
-        begun = more_begun y second.answer deeds second.deeds d;
-        count = length all;
-        within = (let l = appended_len old.kind deeds second.deeds in omega (arith, l));
-        state = m ∙ n ∙ ap (grown old) (sym (take-length all) ∙ begun_first old.kind deeds second.deeds (length all) (omega arith));
-      })))
-
   -- Both append.
   joined_adding : (r : Result A TiffError) (deeds : List Deed) (next : FileState) (old : FileState) → IsAdding (first_told r deeds next) old
       → ((x : A) → r ≡ Ok x → IsAdding (rest x next) next) → IsAdding (going_on r deeds next rest) old
@@ -306,12 +289,6 @@ pub bind_fails : {A B : Type 0} (call : Writing A) (rest : A → Writing B) (e :
     → Fails (call old) e old new → Fails ((call >>= rest) old) e old new
 bind_fails call rest e old new a h =
     first_fails rest (call old).answer (call old).deeds (call old).next e old new a.appending a.some h
-
--- The first call is done, and there is no memory before the second is begun.
-pub bind_short : {A B : Type 0} (call : Writing A) (rest : A → Writing B) (x : A) (e : TiffError) (old mid : FileState)
-    → Adds (call old) old → IsTold (call old) (Ok x) mid → mid.fault ≡ None → e ≡ OutOfMemory → Fails ((call >>= rest) old) e old mid
-bind_short call rest x e old mid a h f q =
-    after_short rest (call old).answer (call old).deeds (call old).next x e old mid a.next a.some h.answer h.state f q
 
 -- Both append.
 pub bind_adding : {A B : Type 0} (call : Writing A) (rest : A → Writing B) (old : FileState) → IsAdding (call old) old
@@ -360,10 +337,6 @@ done_adds : {A : Type 0} (x : A) (deed : Deed) (deeds : List Deed) (file : FileS
 done_adds x deed deeds file a =
     let answer : Unit {0} → Writing _ = λ _. gives x in
     bind_adds (does (deed ∷ deeds)) answer file (does_adds deed deeds file a) (λ _ _. answers_adding (Ok x) (does (deed ∷ deeds) file).next)
-
--- zeros up to a multiple of 4
-pub pad_adds : (file : FileState) → Adds (pad file) file
-pad_adds file = does_adds (Appended (padding (end_of file))) [] file tt
 
 -- a directory is opened
 opens_adds : (cause : Option TiffError) (d : OpenDirectory) (file : FileState) → Adds (by_cause cause (pad >>= (λ _. gives d)) file) file

@@ -193,19 +193,6 @@ plain_leaves view told (Err fault) old new m p f s e =
       ]
     ]
 
--- a file keeps its kind, however a plain call ends
-pub kind_kept : {X Y : Type 0} (most : ℕ) (view : X → Y) (told : Told Y) (r : Result X TiffError) (old new : FileState)
-    → IsPlain most told old → Ends view told r old new → new.kind ≡ old.kind
-kind_kept most view told (Ok x) old new p e = ap (λ f. f.kind) e.state ∙ p.kind
-kind_kept most view told (Err fault) old new p e =
-    elim e as (λ _. new.kind ≡ old.kind) [
-      | inl t ↦ ap (λ f. f.kind) t.state ∙ p.kind
-      | inr e ↦ elim e [
-        | inl c ↦ ap (λ f. f.kind) c.state
-        | inr e ↦ elim e [ inl t ↦ ap (λ f. f.kind) t.state | inr c ↦ ap (λ f. f.kind) c.state ]
-      ]
-    ]
-
 -- ---- a directory is opened
 
 -- zeros are appended, and a directory is answered
@@ -229,10 +216,6 @@ opens_leaves cause d view r old new m s e =
 pub begin_plain : (file : FileState) → IsPlain 0 (image_directory file) file
 unfolding image_directory
 begin_plain file = opens_plain (begin_cause file) (opened (Some file.chain) true) file
-
-pub extra_plain : (file : FileState) → IsPlain 0 (extra_directory file) file
-unfolding extra_directory
-extra_plain file = opens_plain (begin_cause file) (opened None false) file
 
 pub begin_leaves : {X : Type 0} (view : X → OpenDirectory) (r : Result X TiffError) (old new : FileState) (m : Model)
     → Stands old.kind old.bytes m → Ends view (image_directory old) r old new → Leaves (image_directory old) r old new m

@@ -42,9 +42,6 @@ some_right : (a b n : ℕ) → n < a * b → 0 < b
 some_right a zero n h = Prim.absurd (omega (arith, h))
 some_right a (suc b) n h = omega arith
 
-some_left : (a b n : ℕ) → n < a * b → 0 < a
-some_left a b n h = some_right b a n (subst (λ (m : ℕ). n < m) (mul_comm a b) h)
-
 -- the first plane's samples are those of the pixel
 first_plane : (planar : PlanarConfiguration) (n : ℕ) (colour : ColorType) → planar_or planar (0 + 0) (n % shown planar colour) ≡ n % shown planar colour
 first_plane Planar n colour = omega arith

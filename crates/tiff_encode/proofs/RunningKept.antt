@@ -25,9 +25,6 @@ pub record IsSame (old new : FileState) : Type 0 where
   pub kind : new.kind ≡ old.kind
   pub chain : new.chain ≡ old.chain
 
-pub same_here : (file : FileState) → IsSame file file
-same_here file = record { kind = refl; chain = refl }
-
 pub same_by : (old new : FileState) → new ≡ old → IsSame old new
 same_by old new h = record { kind = ap (λ f. f.kind) h; chain = ap (λ f. f.chain) h }
 

@@ -74,30 +74,6 @@ some_bytes : (kind : FileKind) → 0 < byte_len (place_width kind)
 some_bytes Classic = lit< tt
 some_bytes Big = lit< tt
 
--- what a directory is, when all of it was read
-pub directory_is : (kind : FileKind) (order : ByteOrder) (bytes : List ℕ) (at count first place next : ℕ)
-    → number_at order (count_width kind) bytes at ≡ Ok count
-    → first ≡ first_entry kind at
-    → place ≡ first + entry_len kind * count
-    → number_at order (place_width kind) bytes place ≡ Ok next
-    → directory_at kind order bytes at ≡ Ok (record { entries = last_of_each (entries_from kind order bytes first count); next = link next })
-unfolding directory_at
-directory_is kind order bytes at count first place next n f p l =
-    let there : link_place kind at count ≡ place = ap (λ (q : ℕ). q + entry_len kind * count) (sym f) ∙ sym p in
-    let read : Result ℕ TiffError → ℕ → Result DirectoryRecord TiffError = λ r q. r >>= λ next. Ok (record { entries = last_of_each (entries_from kind order bytes q count); next = link next }) in
-    ap (λ (r : Result ℕ TiffError). r >>= λ count. number_at order (place_width kind) bytes (link_place kind at count) >>= λ next. Ok (record { entries = last_of_each (entries_from kind order bytes (first_entry kind at) count); next = link next })) n
-    ∙ ap (λ (q : ℕ). read (number_at order (place_width kind) bytes q) (first_entry kind at)) there
-    ∙ ap (λ (r : Result ℕ TiffError). read r (first_entry kind at)) l
-    ∙ ap (read (Ok next)) (sym f)
-
--- the faults of a directory: at its count, at its link
-pub directory_uncounted : (kind : FileKind) (order : ByteOrder) (bytes : List ℕ) (at : ℕ) (e : TiffError)
-    → number_at order (count_width kind) bytes at ≡ Err e
-    → directory_at kind order bytes at ≡ Err e
-unfolding directory_at
-directory_uncounted kind order bytes at e n =
-    ap (λ (r : Result ℕ TiffError). r >>= λ count. number_at order (place_width kind) bytes (link_place kind at count) >>= λ next. Ok (record { entries = last_of_each (entries_from kind order bytes (first_entry kind at) count); next = link next })) n
-
 pub directory_unlinked : (kind : FileKind) (order : ByteOrder) (bytes : List ℕ) (at count place : ℕ) (e : TiffError)
     → number_at order (count_width kind) bytes at ≡ Ok count
     → place ≡ link_place kind at count

@@ -14,8 +14,3 @@ lengths_differ [] [] h = absurd (h refl)
 lengths_differ [] (y ∷ ys) h = refl
 lengths_differ (x ∷ xs) [] h = refl
 lengths_differ (x ∷ xs) (y ∷ ys) h = rw (lengths_differ xs ys (λ e. h (ap suc e))) (and_false (same (datum x) (datum y)))
-
-pub same_step : (xs ys : List Value) (i : ℕ) (d e : Value) → i < length xs → i < length ys
-    → all_same (data_of (datum_list (drop i xs))) (data_of (datum_list (drop i ys)))
-    ≡ (same (datum (get_or xs i d)) (datum (get_or ys i e)) && all_same (data_of (datum_list (drop (i + 1) xs))) (data_of (datum_list (drop (i + 1) ys))))
-same_step xs ys i d e p q = rw (drop-cons xs i d p, drop-cons ys i e q, add-one) refl

@@ -96,9 +96,6 @@ module _ (file : List ℕ) (order : ByteOrder) (p : PageRecord) (colour : ColorT
       let m : r * stored_row_bytes p ≤ (h - 1) * stored_row_bytes p = mul-le-mul_right (stored_row_bytes p) (omega (arith, rl)) in
       lt-ltb (length bytes) ((h - 1) * stored_row_bytes p + need) (omega (arith, f, m, l))
 
-  pub whole_chunk : (h - 1) * stored_row_bytes p + need ≤ length bytes → is_short file order p colour k ≡ false
-  whole_chunk l = le-ltb (length bytes) ((h - 1) * stored_row_bytes p + need) l
-
   pub too_short : (failed failed' : Type 0) (r : ℕ) (left out : List ℕ) (e : TiffError) → (failed → failed') → r < h → length out ≡ len → left ≡ drop (r * stored_row_bytes p) bytes
       → IsCause (Unit {0}) failed e (IsTooShort left (needed_of_row p colour (length out)) e)
       → IsCause (Unit {0}) failed' e (unless (is_short file order p colour k) (IoError UnexpectedEof) ≡ Err e)

@@ -25,9 +25,3 @@ more_passed first mid last piece n left k h l e a b =
     ∙ ap (drop k) (sym (ap (λ (u : Unpacked). u.out) b) ∙ a)
     ∙ drop-drop k (n - left) first.out
     ∙ ap (λ (z : ℕ). drop z first.out) (omega (arith, h, l))
-
--- all that are left, where there are fewer
-pub all_passed : (first mid : Unpacked) (n left k : ℕ) → left ≤ n → k ≤ left → mid.out ≡ drop (n - left) first.out → length mid.out < k → [] ≡ drop n first.out
-all_passed first mid n left k h l a s =
-    let e : length mid.out ≡ length first.out - (n - left) = ap (λ (z : List ℕ). length z) a ∙ length-drop (n - left) first.out in
-    sym (drop_all n first.out (omega (arith, e, h, l, s)))

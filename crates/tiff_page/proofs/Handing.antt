@@ -109,14 +109,6 @@ depth_limit p z e = ap (λ (n : ℕ). 2 ^ n) e ∙ bytes_limit (p.depth / 8) z
 -- ---- the numbers of a row, without the byte-plane predictor
 
 module _ (order : ByteOrder) (p : PageRecord) (old : List ℕ) where
-  pub plain_numbers : (new : List ℕ) → p.predictor ≡ predictor.None → Became (p.depth / 8) (row_number order (p.depth / 8) old) old new
-      → Became (p.depth / 8) (number_of_row order p old) old new
-  plain_numbers new e b =
-      record {
-        numbers = λ k h. b.numbers k h ∙ (rw e (ap (row_number order (p.depth / 8) old) (sym (div-add-mod' k (stored_samples p)))));
-        behind = b.behind;
-      }
-
   summed_terms : (mid : List ℕ) (k : ℕ) → 0 < p.depth / 8 → (k + 1) * (p.depth / 8) ≤ length old → Became (p.depth / 8) (row_number order (p.depth / 8) old) old mid
       → sum_by (λ c. row_number LittleEndian (p.depth / 8) mid (c * stored_samples p + k % stored_samples p)) (range_with_len 0 (k / stored_samples p + 1))
       ≡ sum_by (λ c. row_number order (p.depth / 8) old (c * stored_samples p + k % stored_samples p)) (range_with_len 0 (k / stored_samples p + 1))
@@ -277,18 +269,6 @@ whole_deep p c r h =
     let f : nat_lt (shown p.planar c) (stored_samples p) ≡ false = le-ltb (shown p.planar c) (stored_samples p) (omega (arith, r.all l)) in
     let k : false ≡ true = rw (e, f) at h in cc)
     (λ (d : 8 ≤ p.depth). d) (cases_lt p.depth 8)
-
--- a row of shown samples is of whole numbers
-pub row_even : (p : PageRecord) (c : ColorType) (width n : ℕ) → IsRead p c → n ≡ row_bytes p c width → (p.depth < 8) ⊎ (n / (p.depth / 8) * (p.depth / 8) ≡ n)
-row_even p c width n r e =
-    ⊎_elim (λ (l : p.depth < 8). inl l)
-    (λ (d : 8 ≤ p.depth).
-    let size : ℕ = p.depth / 8 in
-    let k : ℕ = width * shown p.planar c in
-    let f : n ≡ k * size + 0 = omega (arith, e, shown_bytes p c width (whole p c r d).1, mul_assoc width (shown p.planar c) size) in
-    let q : n / size ≡ k = ap (λ (x : ℕ). x / size) f ∙ div-mul-add k size 0 (some_size size (whole p c r d).0) in
-    inr (ap (λ (x : ℕ). x * size) q ∙ omega (arith, f)))
-    (cases_lt p.depth 8)
 
 pub stored_fill : (p : PageRecord) (c : ColorType) (width whole_pixel n : ℕ) → IsRead p c → needs_whole_rows p c ≡ true → width ≤ p.chunk_width → n ≡ stored_row_bytes p
     → whole_pixel ≡ stored_samples p * (p.depth / 8) → width * whole_pixel ≤ n
