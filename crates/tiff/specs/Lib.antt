@@ -4,11 +4,14 @@ pub use Rattle.tiff_page.specs.Image
 pub use Rattle.tiff_decode.specs.Machine
 pub use Rattle.tiff_decode.specs.Outcome
 pub use Rattle.tiff_decode.specs.State
+pub use Rattle.tiff_decode.specs.Step
+pub use Rattle.tiff_decode.specs.Steps
 pub use Rattle.tiff_decode.specs.Result
 pub use Rattle.tiff_encode.specs.Written
 pub use Rattle.tiff_encode.specs.Model
 pub use Rattle.tiff_encode.specs.Shows
 pub use Rattle.tiff_encode.specs.Encoder
+pub use Rattle.tiff_encode.specs.Jobs
 pub use Rattle.tiff_base.specs.Field
 pub use Rattle.tiff_base.specs.Tags
 pub use Rattle.tiff_ifd.specs.Ask

@@ -1,5 +1,6 @@
 //! Files are written.
 
+pub use tiff_base::tags::Predictor;
 pub use tiff_encode::encoder::{
     Compression, DirectoryEncoder, DirectoryOffset, ImageEncoder, TiffEncoder, TiffKind,
     TiffKindBig, TiffKindStandard, data_laws, image_laws, laws, reading_laws, script,

@@ -11,4 +11,5 @@ pub use tiff_base::directory::Directory;
 pub use tiff_base::error::{
     TiffError, TiffFormatError, TiffResult, TiffUnsupportedError, UsageError,
 };
+pub use tiff_base::lists::{SampleBits, SampleFormats};
 pub use tiff_base::{directory, error, io};

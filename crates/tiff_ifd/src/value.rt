@@ -118,6 +118,13 @@ impl ValueList {
     {
         self.items.len()
     }
+
+    /// The values, in their order.
+    pub fn as_slice(&self) -> &[Value]
+        ensures { datum_list result.now ≡ self.now }
+    {
+        &self.items
+    }
 }
 
 impl Value {
