@@ -26,8 +26,8 @@ fn entry_text(alloc: Global, entry: &Entry) -> Result<String, AllocError> {
     Ok(text)
 }
 
-/// What a step is answered: `nothing`, a number, the type, the count and the bytes of an entry, or the refusal.
-pub fn step_text(alloc: Global, reply: &TiffResult<StepReply>) -> Result<String, AllocError> {
+// What a step is answered: `nothing`, a number, the type, the count and the bytes of an entry, or the refusal.
+fn step_text(alloc: Global, reply: &TiffResult<StepReply>) -> Result<String, AllocError> {
     match reply {
         Ok(StepReply::Nothing) => String::from_str(alloc, "nothing"),
         Ok(StepReply::Number(number)) => format!(in alloc; "{number}"),
@@ -36,8 +36,8 @@ pub fn step_text(alloc: Global, reply: &TiffResult<StepReply>) -> Result<String,
     }
 }
 
-/// What the end of a job is answered: `nothing`, where its directory and the link to the next one stand, or the refusal.
-pub fn end_text(alloc: Global, reply: &TiffResult<EndReply>) -> Result<String, AllocError> {
+// What the end of a job is answered: `nothing`, where its directory and the link to the next one stand, or the refusal.
+fn end_text(alloc: Global, reply: &TiffResult<EndReply>) -> Result<String, AllocError> {
     match reply {
         Ok(EndReply::Nothing) => String::from_str(alloc, "nothing"),
         Ok(EndReply::Offsets { pointer, link }) => {
@@ -47,39 +47,46 @@ pub fn end_text(alloc: Global, reply: &TiffResult<EndReply>) -> Result<String, A
     }
 }
 
-/// What a job is answered: a line for each of its steps, and one for its end.
-pub fn job_lines(alloc: Global, reply: &JobReply) -> Result<String, AllocError> {
-    let mut lines = String::new(alloc);
-    for step in &reply.steps {
-        lines.push_str(&step_text(alloc, step)?)?;
-        lines.push_str("\n")?;
-    }
-    lines.push_str(&end_text(alloc, &reply.last)?)?;
-    lines.push_str("\n")?;
-    Ok(lines)
+// What is told in lines.
+trait Lines {
+    // The lines.
+    fn lines(&self, alloc: Global) -> Result<String, AllocError>;
 }
 
-/// What jobs are answered, one after another.
-pub fn all_lines(alloc: Global, replies: &[JobReply]) -> Result<String, AllocError> {
+impl Lines for Reply {
+    // One line.
+    fn lines(&self, alloc: Global) -> Result<String, AllocError> {
+        let mut line = text_of(alloc, self)?;
+        line.push_str("\n")?;
+        Ok(line)
+    }
+}
+
+impl Lines for JobReply {
+    // A line for each step, and one for the end.
+    fn lines(&self, alloc: Global) -> Result<String, AllocError> {
+        let mut lines = String::new(alloc);
+        for step in &self.steps {
+            lines.push_str(&step_text(alloc, step)?)?;
+            lines.push_str("\n")?;
+        }
+        lines.push_str(&end_text(alloc, &self.last)?)?;
+        lines.push_str("\n")?;
+        Ok(lines)
+    }
+}
+
+// What is answered, one after another.
+fn all_lines<T: Lines>(alloc: Global, replies: &[T]) -> Result<String, AllocError> {
     let mut lines = String::new(alloc);
     for reply in replies {
-        lines.push_str(&job_lines(alloc, reply)?)?;
+        lines.push_str(&reply.lines(alloc)?)?;
     }
     Ok(lines)
 }
 
 // Lets a value go. A list of replies is let go here: where a function isn't generic, that is long to prove.
 fn let_go<T: Drop>(_value: T) {}
-
-// What calls are answered, a line for each.
-fn reply_lines(alloc: Global, replies: &[Reply]) -> Result<String, AllocError> {
-    let mut lines = String::new(alloc);
-    for reply in replies {
-        lines.push_str(&text_of(alloc, reply)?)?;
-        lines.push_str("\n")?;
-    }
-    Ok(lines)
-}
 
 /// Makes calls of a decoder, as `run_calls` does, and answers what each is answered, a refusal too, a line for each.
 pub fn lines_of_calls<R: Source>(
@@ -91,7 +98,7 @@ pub fn lines_of_calls<R: Source>(
 {
     let mut replies = Vec::new(alloc);
     let made = run_calls(decoder, calls, &mut replies);
-    let lines = reply_lines(alloc, &replies);
+    let lines = all_lines(alloc, &replies);
     let_go(replies);
     made?;
     Ok(lines?)
