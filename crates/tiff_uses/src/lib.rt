@@ -100,6 +100,3 @@ pub fn gray_file(alloc: Global, width: u32, height: u32, samples: &[u8]) -> Tiff
     encoder.write_image::<Gray8>(width, height, samples)?;
     Ok(encoder.into_inner().into_vec())
 }
-
-#[cfg(test)]
-mod tests;

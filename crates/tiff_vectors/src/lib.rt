@@ -18,7 +18,11 @@ mod packed;
 #[cfg(test)]
 mod packing;
 #[cfg(test)]
+mod program;
+#[cfg(test)]
 mod undone;
+#[cfg(test)]
+mod uses;
 #[cfg(test)]
 mod values;
 #[cfg(test)]

@@ -2,21 +2,12 @@
 //! the calls of a list, and writes a file by the jobs of one.
 #![tactic(auto)]
 
-mod calls;
-mod command;
 mod files;
-mod gray;
-mod jobs;
-mod listing;
-mod program;
-mod replies;
-mod samples;
-#[cfg(test)]
-mod tests;
 
 use files::MachineFiles;
 use std::process::ExitCode;
 use std::{env, io};
+use tiff_pages::program::run;
 
 fn main(rt: HostRuntime) -> io::Result<ExitCode> {
     let mut words = Vec::new(rt.alloc());
@@ -26,6 +17,6 @@ fn main(rt: HostRuntime) -> io::Result<ExitCode> {
     let mut files = MachineFiles::new(&rt);
     let mut out = rt.stdout();
     let mut err = rt.stderr();
-    let status = program::run(rt.alloc(), words.as_slice(), &mut files, &mut out, &mut err);
+    let status = run(rt.alloc(), words.as_slice(), &mut files, &mut out, &mut err);
     Ok(ExitCode::from(status))
 }

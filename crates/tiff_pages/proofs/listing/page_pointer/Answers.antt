@@ -1,0 +1,18 @@
+use Rattle.std.proofs.Common.{Result, Option, sym, subst}
+use Rattle.tiff_base.specs.declared.error.TiffError.{TiffError}
+use Rattle.tiff_base.specs.declared.tags.IfdPointer.{IfdPointer}
+use Rattle.tiff_decode.specs.declared.script.Call.TheVariants as call
+use Rattle.tiff_pages.specs.AtPage.{VisitsPage}
+use Rattle.tiff_pages.specs.Listing.{page_pointer}
+use Rattle.tiff_pages.proofs.Replied.{pointer_second}
+use Rattle.tiff_pages.proofs.Visits.{pointer_visit}
+use Rattle.tiff_pages.proofs.listing.page_pointer.Goals as goal
+
+pub pointer_told-requires : goal.pointer_told-requires
+pointer_told-requires g c = pointer_second c.args.decoder.now c.replies_to_both.new.decoder (call.SeekToImage c.args.page) c.in-Ok.seek c.in-Ok.pointer c.in-Ok.ensures
+
+pub returns-in-Ok : goal.returns-in-Ok
+returns-in-Ok g c =
+    let P : Result (Option IfdPointer) TiffError → Type 0 = λ r. VisitsPage (λ p. p) page_pointer r c.args.page c.args.decoder.now c.replies_to_both.new.decoder in
+    subst P (sym c.and.ensures)
+    (pointer_visit c.args.decoder.now c.replies_to_both.new.decoder c.args.page c.in-Ok.seek c.in-Ok.pointer c.sought.result c.pointer_told.result c.in-Ok.ensures c.sought.ensures c.pointer_told.ensures)

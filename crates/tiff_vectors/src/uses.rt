@@ -1,0 +1,67 @@
+//! The five uses of `tiff_uses`, run on tiny files.
+
+use std::alloc::Global;
+use std::test::Fail;
+use tiff::TiffResult;
+use tiff::decoder::{Decoder, DecodingResult};
+use tiff::io::MemorySource;
+use tiff_uses::{first_image, geo_key, gray_file, page_chunk, page_sides};
+
+// A file of one page, 1 by 1, of 8 bits and gray: its one strip is the last byte. Its directory of keys, at place 98, holds two: 1024
+// (GTModelType) is 2, and 2048 (GeographicType) is 4326.
+const WITH_KEYS: &[u8] = b"II\x2a\0\x08\0\0\0\
+\x07\0\
+\0\x01\x03\0\x01\0\0\0\x01\0\0\0\
+\x01\x01\x03\0\x01\0\0\0\x01\0\0\0\
+\x02\x01\x03\0\x01\0\0\0\x08\0\0\0\
+\x06\x01\x03\0\x01\0\0\0\x01\0\0\0\
+\x11\x01\x04\0\x01\0\0\0\x7a\0\0\0\
+\x17\x01\x04\0\x01\0\0\0\x01\0\0\0\
+\xaf\x87\x03\0\x0c\0\0\0\x62\0\0\0\
+\0\0\0\0\
+\x01\0\x01\0\0\0\x02\0\
+\0\x04\0\0\x01\0\x02\0\
+\0\x08\0\0\x01\0\xe6\x10\
+\x07";
+
+// Whether these are samples of 8 bits, and these.
+fn are(samples: &DecodingResult, want: &[u8]) -> bool {
+    match samples {
+        DecodingResult::U8(samples) => samples.as_slice() == want,
+        _ => false,
+    }
+}
+
+fn image_is(alloc: Global, file: Vec<u8>, want: &[u8]) -> TiffResult<bool> {
+    let image = first_image(alloc, file)?;
+    Ok(are(&image, want))
+}
+
+fn chunk_is(alloc: Global, file: Vec<u8>, want: &[u8]) -> TiffResult<bool> {
+    let chunk = page_chunk(alloc, file, 0, 0)?;
+    Ok(are(&chunk, want))
+}
+
+fn key_of(alloc: Global, file: Vec<u8>, id: u16) -> TiffResult<Option<u16>> {
+    let mut decoder = Decoder::new(alloc, MemorySource::new(file))?;
+    geo_key(&mut decoder, id)
+}
+
+#[test]
+fn uses(rt: HostRuntime) -> Result<(), Fail> {
+    let alloc = rt.alloc();
+    let samples = [5, 6, 7].as_slice();
+    let sides = page_sides(alloc, gray_file(alloc, 3, 1, samples)?)?;
+    assert!(rt; sides.as_slice() == [(3, 1)].as_slice());
+    assert!(rt; image_is(alloc, gray_file(alloc, 3, 1, samples)?, samples)?);
+    assert!(rt; chunk_is(alloc, gray_file(alloc, 3, 1, samples)?, samples)?);
+    assert_eq!(rt;
+        key_of(alloc, Vec::from_slice(alloc, WITH_KEYS)?, 2048)?,
+        Some(4326)
+    );
+    assert_eq!(rt;
+        key_of(alloc, Vec::from_slice(alloc, WITH_KEYS)?, 3072)?,
+        None
+    );
+    Ok(())
+}
