@@ -1,0 +1,94 @@
+/* Reads a file that lies in memory by libtiff. */
+#include <stdlib.h>
+#include <string.h>
+#include <tiffio.h>
+#include "by_libtiff.h"
+
+struct memory {
+    const uint8_t *bytes;
+    size_t len, at;
+};
+
+static tmsize_t read_some(thandle_t handle, void *out, tmsize_t size) {
+    struct memory *m = handle;
+    size_t left = m->at < m->len ? m->len - m->at : 0, n = (size_t)size < left ? (size_t)size : left;
+    memcpy(out, m->bytes + m->at, n);
+    m->at += n;
+    return (tmsize_t)n;
+}
+
+static tmsize_t write_none(thandle_t handle, void *in, tmsize_t size) { return 0; }
+
+static toff_t seek(thandle_t handle, toff_t to, int from) {
+    struct memory *m = handle;
+    m->at = from == SEEK_SET ? to : from == SEEK_CUR ? m->at + to : m->len + to;
+    return m->at;
+}
+
+static int close_it(thandle_t handle) { return 0; }
+
+static toff_t size_of(thandle_t handle) { return ((struct memory *)handle)->len; }
+
+static int map_it(thandle_t handle, void **base, toff_t *size) {
+    struct memory *m = handle;
+    *base = (void *)m->bytes;
+    *size = m->len;
+    return 1;
+}
+
+static void unmap_it(thandle_t handle, void *base, toff_t size) {}
+
+static TIFF *open_it(struct memory *m) {
+    TIFFSetWarningHandler(NULL);
+    return TIFFClientOpen("bench", "r", m, read_some, write_none, seek, close_it, size_of, map_it, unmap_it);
+}
+
+static int strips(TIFF *t, uint8_t *buffer) {
+    uint32_t count = TIFFNumberOfStrips(t);
+    for (uint32_t i = 0; i < count; i++) {
+        tmsize_t n = TIFFReadEncodedStrip(t, i, buffer, -1);
+        if (n < 0) return 0;
+        buffer += n;
+    }
+    return 1;
+}
+
+static int tiles(TIFF *t, uint8_t *buffer) {
+    uint32_t width = 0, height = 0, across = 0, down = 0;
+    TIFFGetField(t, TIFFTAG_IMAGEWIDTH, &width);
+    TIFFGetField(t, TIFFTAG_IMAGELENGTH, &height);
+    TIFFGetField(t, TIFFTAG_TILEWIDTH, &across);
+    TIFFGetField(t, TIFFTAG_TILELENGTH, &down);
+    size_t row = (size_t)TIFFScanlineSize(t), tile_row = (size_t)TIFFTileRowSize(t);
+    uint8_t *tile = malloc((size_t)TIFFTileSize(t));
+    uint32_t count = TIFFNumberOfTiles(t), columns = (width + across - 1) / across;
+    int well = tile != NULL;
+    for (uint32_t i = 0; well && i < count; i++) {
+        well = TIFFReadEncodedTile(t, i, tile, -1) >= 0;
+        size_t left = (i % columns) * tile_row, top = (size_t)(i / columns) * down;
+        size_t n = row - left < tile_row ? row - left : tile_row;
+        for (size_t y = 0; well && y < down && top + y < height; y++)
+            memcpy(buffer + (top + y) * row + left, tile + y * tile_row, n);
+    }
+    free(tile);
+    return well;
+}
+
+int by_libtiff(const uint8_t *file, size_t len, uint8_t *buffer) {
+    struct memory m = {file, len, 0};
+    TIFF *t = open_it(&m);
+    if (!t) return 0;
+    int well = TIFFIsTiled(t) ? tiles(t, buffer) : strips(t, buffer);
+    TIFFClose(t);
+    return well;
+}
+
+uint32_t width_by_libtiff(const uint8_t *file, size_t len) {
+    struct memory m = {file, len, 0};
+    TIFF *t = open_it(&m);
+    uint32_t width = 0;
+    if (!t) return 0;
+    TIFFGetField(t, TIFFTAG_IMAGEWIDTH, &width);
+    TIFFClose(t);
+    return width;
+}
