@@ -14,6 +14,8 @@ struct load {
     uint8_t *file, *ours, *theirs;
     size_t len, size;
     int both;
+    /* the rows of chunks: how many bytes each has, how many chunks lie side by side, and how high they are */
+    size_t row, across, height;
 };
 
 static double now(void) {
@@ -55,6 +57,15 @@ static void read_theirs(struct load *l) {
 
 static void copy(struct load *l) { memcpy(l->theirs, l->ours, l->size); }
 
+/* Copies as many bytes as the image has, in the rows of its chunks, each to where it stands in the image. */
+static void copy_rows(struct load *l) {
+    size_t stride = l->row * l->across, band = stride * l->height;
+    const uint8_t *from = l->file;
+    for (size_t top = 0; top + band <= l->size; top += band)
+        for (size_t left = 0; left < l->across; left++)
+            for (size_t y = 0; y < l->height; y++, from += l->row) memcpy(l->theirs + top + y * stride + left * l->row, from, l->row);
+}
+
 static void open_ours(struct load *l) {
     struct tiff_sides sides;
     for (int i = 0; i < OPENINGS; i++)
@@ -82,26 +93,48 @@ static void print_opening(struct load *l) {
     printf("\n%s: %.2f microseconds; libtiff: %.2f\n", l->name, 1e6 * ours / OPENINGS, 1e6 * theirs / OPENINGS);
 }
 
-static void print_reading(struct load *l) {
+static void measure(struct load *l) {
     struct tiff_layout layout;
-    if (tiff_page_layout(l->file, l->len, 0, &layout)) stop("refused by tiff_c", l->name);
+    struct tiff_sides sides;
+    struct tiff_chunks chunks;
+    if (tiff_page_layout(l->file, l->len, 0, &layout) || tiff_page_sides(l->file, l->len, 0, &sides) ||
+        tiff_page_chunks(l->file, l->len, 0, &chunks))
+        stop("refused by tiff_c", l->name);
     l->size = layout.complete_len;
+    l->across = sides.width / chunks.width;
+    l->height = chunks.height;
+    l->row = layout.len / sides.height / l->across;
+}
+
+static void print_reading(struct load *l) {
+    measure(l);
     l->ours = room(l->size);
     l->theirs = room(l->size);
-    double ours = 0, theirs = 0, copied = 0, mega = (double)l->size / 1e6;
+    double ours = 0, theirs = 0, copied = 0, by_rows = 0, mega = (double)l->size / 1e6;
     for (int i = 0; i < ROUNDS; i++) {
         best(&ours, read_ours, l);
         if (l->both) best(&theirs, read_theirs, l);
         if (i == 0 && l->both && memcmp(l->ours, l->theirs, l->size)) stop("other bytes than libtiff's", l->name);
         best(&copied, copy, l);
+        if (l->len >= l->size) best(&by_rows, copy_rows, l);
     }
     printf("| %s | %.0f | ", l->name, mega / ours);
-    if (l->both) printf("%.0f | %.0f | %.2f | %.2f | yes |\n", mega / theirs, mega / copied, theirs / ours, copied / ours);
-    else printf("- | %.0f | - | %.2f | - |\n", mega / copied, copied / ours);
+    if (l->both) printf("%.0f | ", mega / theirs);
+    else printf("- | ");
+    printf("%.0f | ", mega / copied);
+    if (by_rows > 0) printf("%.0f | ", mega / by_rows);
+    else printf("- | ");
+    if (l->both) printf("%.2f | ", theirs / ours);
+    else printf("- | ");
+    printf("%.2f | ", copied / ours);
+    if (by_rows > 0) printf("%.2f | ", by_rows / ours);
+    else printf("- | ");
+    printf("%s |\n", l->both ? "yes" : "-");
 }
 
 int main(int argc, char **argv) {
-    printf("| Load | tiff_c, MB/s | libtiff, MB/s | memcpy, MB/s | to libtiff | to memcpy | Same bytes |\n|---|---|---|---|---|---|---|\n");
+    printf("| Load | tiff_c, MB/s | libtiff, MB/s | memcpy, MB/s | memcpy by rows, MB/s | to libtiff | to memcpy | to rows | Same bytes |\n"
+           "|---|---|---|---|---|---|---|---|---|\n");
     for (int i = 1; i + 2 < argc; i += 3) {
         struct load l = {.name = argv[i], .both = strcmp(argv[i + 2], "both") == 0};
         read_file(&l, argv[i + 1]);

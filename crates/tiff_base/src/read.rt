@@ -88,14 +88,41 @@ pub fn u64_from(order: ByteOrder, bytes: [u8; 8]) -> u64
     }
 }
 
+/// The number that the two bytes of a slice are.
+pub fn u16_of(order: ByteOrder, bytes: &[u8]) -> u16
+    requires { length bytes.now ≡ 2 }
+    ensures { result ≡ number order w16 bytes.now }
+{
+    u16_from(order, [bytes[0], bytes[1]])
+}
+
+/// The number that the four bytes of a slice are.
+pub fn u32_of(order: ByteOrder, bytes: &[u8]) -> u32
+    requires { length bytes.now ≡ 4 }
+    ensures { result ≡ number order w32 bytes.now }
+{
+    u32_from(order, [bytes[0], bytes[1], bytes[2], bytes[3]])
+}
+
+/// The number that the eight bytes of a slice are.
+pub fn u64_of(order: ByteOrder, bytes: &[u8]) -> u64
+    requires { length bytes.now ≡ 8 }
+    ensures { result ≡ number order w64 bytes.now }
+{
+    u64_from(
+        order,
+        [
+            bytes[0], bytes[1], bytes[2], bytes[3], bytes[4], bytes[5], bytes[6], bytes[7],
+        ],
+    )
+}
+
 /// The number that the two bytes from `at` on are.
 pub fn u16_in(order: ByteOrder, bytes: &[u8], at: usize) -> u16
     requires { at + 2 ≤ length bytes.now }
     ensures { result ≡ number order w16 (bytes_at bytes.now at 2) }
 {
-    let mut part = [0u8; 2];
-    part.copy_from_slice(&bytes[at..at + 2]);
-    u16_from(order, part)
+    u16_of(order, &bytes[at..at + 2])
 }
 
 /// The number that the four bytes from `at` on are.
@@ -103,9 +130,7 @@ pub fn u32_in(order: ByteOrder, bytes: &[u8], at: usize) -> u32
     requires { at + 4 ≤ length bytes.now }
     ensures { result ≡ number order w32 (bytes_at bytes.now at 4) }
 {
-    let mut part = [0u8; 4];
-    part.copy_from_slice(&bytes[at..at + 4]);
-    u32_from(order, part)
+    u32_of(order, &bytes[at..at + 4])
 }
 
 /// The number that the eight bytes from `at` on are.
@@ -113,9 +138,7 @@ pub fn u64_in(order: ByteOrder, bytes: &[u8], at: usize) -> u64
     requires { at + 8 ≤ length bytes.now }
     ensures { result ≡ number order w64 (bytes_at bytes.now at 8) }
 {
-    let mut part = [0u8; 8];
-    part.copy_from_slice(&bytes[at..at + 8]);
-    u64_from(order, part)
+    u64_of(order, &bytes[at..at + 8])
 }
 
 /// The two bytes at a place as a number.

@@ -122,3 +122,15 @@ big_endian_rational = refl
 pub too_many : s.too_many
 unfolding field_value
 too_many = refl
+
+pub three_numbers : s.three_numbers
+unfolding field_value field_bytes number
+three_numbers = refl
+
+pub one_number : s.one_number
+unfolding field_value field_bytes number
+one_number = refl
+
+pub numbers_limit : s.numbers_limit
+unfolding field_value field_bytes number
+numbers_limit = refl

@@ -10,6 +10,7 @@ use Rattle.tiff_ifd.specs.declared.limits.Limits.{Limits}
 use Rattle.tiff_ifd.specs.Limits.{unlimited}
 use Rattle.tiff_ifd.specs.Datum.{none, more, list, byte, short, unsigned, unsigned_big, signed, signed_short, float, rational, srational, ascii}
 use Rattle.tiff_ifd.specs.FieldValue.{field_value}
+use Rattle.tiff_ifd.specs.Unsigned.{field_numbers, placed_numbers}
 use Rattle.tiff_examples.specs.Files.{gray_file}
 use Rattle.tiff_examples.specs.Fields.{of}
 
@@ -187,3 +188,23 @@ abbrev pub too_many : Type 0
 too_many =
     field_value Big LittleEndian [] unlimited (of LONG (2 ^ 64 - 1) (0x00 ∷ 0x00 ∷ 0x00 ∷ 0x00 ∷ 0x00 ∷ 0x00 ∷ 0x00
     ∷ 0x00 ∷ [])) ≡ Err LimitsExceeded
+
+-- the numbers of a list that stands elsewhere, and of one number there
+abbrev pub three_numbers : Type 0
+three_numbers =
+    field_numbers Classic LittleEndian (0x01 ∷ 0x00 ∷ 0x02 ∷ 0x00 ∷ 0x03 ∷ 0x00 ∷ []) (limited 96) (of SHORT 3 (0x00
+    ∷ 0x00 ∷ 0x00 ∷ 0x00 ∷ 0x00 ∷ 0x00 ∷ 0x00 ∷ 0x00 ∷ []))
+    ≡ Ok (1 ∷ 2 ∷ 3 ∷ [])
+
+abbrev pub one_number : Type 0
+one_number =
+    field_numbers Classic LittleEndian (0x00 ∷ 0x00 ∷ 0x00 ∷ 0x00 ∷ 0x01 ∷ 0x00 ∷ 0x00 ∷ 0x00
+    ∷ []) (limited 0) (of LONG8 1 (0x00 ∷ 0x00 ∷ 0x00 ∷ 0x00 ∷ 0x00 ∷ 0x00 ∷ 0x00 ∷ 0x00 ∷ []))
+    ≡ Ok (4294967296 ∷ [])
+
+-- their limit is that of the values
+abbrev pub numbers_limit : Type 0
+numbers_limit =
+    placed_numbers Classic LittleEndian [] (limited 95) (of SHORT 3 (0x00 ∷ 0x00 ∷ 0x00 ∷ 0x00 ∷ 0x00 ∷ 0x00 ∷ 0x00
+    ∷ 0x00 ∷ []))
+    ≡ Err LimitsExceeded

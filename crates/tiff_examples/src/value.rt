@@ -19,3 +19,8 @@ pub fn placed()
     ensures { s.three_shorts × s.list_limit × s.limit_first × s.past_end × s.long8_placed × s.long8_inline ×
         s.resolution × s.big_endian_rational × s.too_many }
 {}
+
+/// The numbers of fields.
+pub fn read_as_numbers()
+    ensures { s.three_numbers × s.one_number × s.numbers_limit }
+{}

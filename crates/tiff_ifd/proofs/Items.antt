@@ -1,5 +1,6 @@
 -- One turn of a loop that reads values.
-use Rattle.std.proofs.Common.{◌≡◌, ℕ, zero, suc, ◌+◌, ◌-◌, ◌*◌, ◌<◌, List, [], ◌∷◌, ◌++◌, take, drop, refl, arith, append_assoc}
+use Rattle.std.proofs.Common.{◌≡◌, ℕ, zero, suc, ◌+◌, ◌-◌, ◌*◌, ◌<◌, List, [], ◌∷◌, ◌++◌, take, drop, refl, ◌∙◌, arith, append_assoc}
+use Rattle.std.proofs.lemmas.List.{append-nil}
 use Rattle.std.proofs.Math.Nat.{suc-mul}
 use Rattle.std.proofs.lemmas.List.{map-append}
 use Rattle.tiff_ifd.specs.Datum.{Datum}
@@ -7,7 +8,7 @@ use Rattle.tiff_ifd.specs.View.{datum, datum_list}
 use Rattle.tiff_ifd.specs.declared.value.Value.{Value}
 use Rattle.tiff_ifd.specs.Item.{items}
 
-pub items-step : (read : List ℕ → Datum) (width k : ℕ) (bs : List ℕ) → 0 < k
+pub items-step : {A : Type 0} (read : List ℕ → A) (width k : ℕ) (bs : List ℕ) → 0 < k
     → items read width k bs ≡ read (take width bs) ∷ items read width (k - 1) (drop width bs)
 items-step read width zero bs h = absurd (omega arith)
 items-step read width (suc k) bs h = let e : suc k - 1 ≡ k = omega arith in rw e refl
@@ -22,3 +23,15 @@ pub read_one_more : (read : List ℕ → Datum) (width k : ℕ) (bs front back :
     → whole ≡ datum_list after ++ items read width (k - 1) back
 read_one_more read width k bs front back all after v whole ih h f b e p =
     cc (items-step read width k bs h, map-append datum all (v ∷ []), append_assoc (datum_list all) (datum v ∷ []) (items read width (k - 1) (drop width bs)))
+
+pub read_number_more : (read : List ℕ → ℕ) (width k : ℕ) (bs front back all after : List ℕ) (n : ℕ) (whole : List ℕ)
+    → whole ≡ all ++ items read width k bs → 0 < k → front ≡ take width bs → back ≡ drop width bs
+    → n ≡ read front → after ≡ all ++ n ∷ []
+    → whole ≡ after ++ items read width (k - 1) back
+read_number_more read width k bs front back all after n whole ih h f b e p =
+    cc (items-step read width k bs h, append_assoc all (n ∷ []) (items read width (k - 1) (drop width bs)))
+
+-- all numbers are read
+pub all_read : (read : List ℕ → ℕ) (width left : ℕ) (rest all whole : List ℕ) → whole ≡ all ++ items read width left rest → left ≡ 0 → whole ≡ all
+all_read read width zero rest all whole e z = e ∙ append-nil all
+all_read read width (suc left) rest all whole e z = absurd (omega (arith, z))

@@ -11,3 +11,4 @@ pub mod Followed
 pub mod Begun
 pub mod Unpacking
 pub mod Within
+mod Unsigned

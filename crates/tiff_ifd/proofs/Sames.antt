@@ -1,5 +1,5 @@
 -- Steps of the comparison of two lists.
-use Rattle.std.proofs.Common.{◌≡◌, ℕ, suc, ◌+◌, ◌<◌, List, [], ◌∷◌, Bool, true, false, ◌&&◌, length, drop, get_or, refl, ap, drop-cons, add-one}
+use Rattle.std.proofs.Common.{◌≡◌, suc, List, [], ◌∷◌, Bool, true, false, ◌&&◌, length, refl, ap}
 use Rattle.tiff_ifd.specs.Datum.{data_of}
 use Rattle.tiff_ifd.specs.Same.{same, all_same}
 use Rattle.tiff_ifd.specs.View.{datum, datum_list}

@@ -9,8 +9,9 @@ use Rattle.tiff_base.specs.declared.tags.«Type».{«Type»}
 use Rattle.tiff_base.specs.declared.tags.«Type».TheVariants as t
 use Rattle.tiff_base.specs.Answers.{◌>>=◌}
 use Rattle.tiff_base.specs.Sparing.{IsWithin}
-use Rattle.tiff_ifd.specs.Datum.{Datum}
-use Rattle.tiff_ifd.specs.FieldValue.{value_from}
+use Rattle.tiff_ifd.specs.Datum.{Datum, ascii}
+use Rattle.tiff_ifd.specs.FieldValue.{value_from, placed_text}
+use Rattle.tiff_ifd.specs.Into.{into_string}
 
 text_within : {Y : Type 0} (b : Bool) (y : Y) → IsWithin (if b then Ok y else Err (FormatError InvalidTag))
 text_within true y = tt
@@ -41,6 +42,15 @@ pub read_within : (inline : Bool) (type : «Type») (order : ByteOrder) (count :
     → IsOk found → IsWithin (found >>= λ bytes. value_from inline type order count bytes)
 read_within inline type order count (Ok bytes) h = value_within inline type order count bytes
 read_within inline type order count (Err e) h = absurd (cc)
+
+text_string_within : (b : Bool) (text : List ℕ) → IsWithin ((if b then Ok (ascii text) else Err (FormatError InvalidTag)) >>= into_string)
+text_string_within true text = tt
+text_string_within false text = tt
+
+-- the same of a text alone
+pub text_read_within : (found : Result (List ℕ) TiffError) → IsOk found → IsWithin (found >>= placed_text >>= into_string)
+text_read_within (Ok bytes) h = text_string_within _ _
+text_read_within (Err e) h = absurd (cc)
 
 -- a value that is looked for, and there
 pub found_within : (given : Result Datum TiffError) → IsWithin given → IsWithin (given >>= λ d. Ok (Some d))

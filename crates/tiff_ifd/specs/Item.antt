@@ -38,6 +38,6 @@ abbrev pub list_item : Bool → «Type» → ByteOrder → List ℕ → Datum
 list_item inline type o bs = if inline then inline_item type o bs else item type o bs
 
 -- so many values of so many bytes
-abbrev pub items : (List ℕ → Datum) → ℕ → ℕ → List ℕ → List Datum
+abbrev pub items : {A : Type 0} → (List ℕ → A) → ℕ → ℕ → List ℕ → List A
 items read width zero bs = []
 items read width (suc n) bs = read (take width bs) ∷ items read width n (drop width bs)

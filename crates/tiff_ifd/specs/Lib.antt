@@ -4,6 +4,7 @@ pub mod Falls
 pub mod Item
 pub mod FieldValue
 pub mod Into
+pub mod Unsigned
 pub mod Look
 pub mod Limits
 pub mod Chain

@@ -8,6 +8,7 @@ pub mod laws;
 pub mod limits;
 pub mod packbits;
 pub mod read_bytes;
+pub mod read_numbers;
 pub mod read_value;
 pub mod stream;
 pub mod tags;

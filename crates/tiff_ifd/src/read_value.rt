@@ -1,12 +1,12 @@
 //! The values of fields are read.
 
 ghost use Rattle.std.specs.Prelude.{◌≡◌, ◌≤◌, ◌<◌, ◌*◌, ◌-◌, Ok, Err, None, if◌then◌else◌, ◌&&◌, length, slice_index, option_map, string_bytes};
-ghost use Rattle.std.specs.Int.{w8, w16, w32, w64};
+ghost use Rattle.std.specs.Int.{w8};
 ghost use Rattle.std.specs.List.{list_all, position_or_len, prefix_len, suffix_len};
 ghost use Rattle.std.specs.Str.{is_utf8};
 ghost use Rattle.tiff_base.specs.declared.error.TiffError.TheVariants as tiff;
 ghost use Rattle.tiff_base.specs.declared.error.TiffFormatError.TheVariants as format;
-ghost use Rattle.tiff_base.specs.Answers.{Answers, AnswersHere, IsKept};
+ghost use Rattle.tiff_base.specs.Answers.{AnswersHere, IsKept};
 ghost use Rattle.tiff_base.specs.Sparing.{AnswersWithin, GivesSparingly};
 ghost use Rattle.std.specs.FinMap.{get};
 ghost use Rattle.tiff_base.specs.Tags.{tag_number};
@@ -26,7 +26,7 @@ use std::str;
 use tiff_base::directory::{Directory, Entry};
 use tiff_base::error::{TiffError, TiffFormatError, TiffResult};
 use tiff_base::io::Source;
-use tiff_base::read::{read_bytes_at, u16_from, u32_from, u64_from};
+use tiff_base::read::{read_bytes_at, u16_of, u32_of, u64_of};
 use tiff_base::tags::{Bits32, Bits64, ByteOrder, FileKind, Tag, Type};
 
 // The number that one byte is, in either order.
@@ -39,35 +39,6 @@ fn u8_of(order: ByteOrder, bytes: &[u8]) -> u8
         ByteOrder::LittleEndian => u8::from_le_bytes([bytes[0]]),
         ByteOrder::BigEndian => u8::from_be_bytes([bytes[0]]),
     }
-}
-
-// The number that two bytes are.
-fn u16_of(order: ByteOrder, bytes: &[u8]) -> u16
-    requires { length bytes.now ≡ 2 }
-    ensures { result ≡ number order w16 bytes.now }
-{
-    u16_from(order, [bytes[0], bytes[1]])
-}
-
-// The number that four bytes are.
-fn u32_of(order: ByteOrder, bytes: &[u8]) -> u32
-    requires { length bytes.now ≡ 4 }
-    ensures { result ≡ number order w32 bytes.now }
-{
-    u32_from(order, [bytes[0], bytes[1], bytes[2], bytes[3]])
-}
-
-// The number that eight bytes are.
-fn u64_of(order: ByteOrder, bytes: &[u8]) -> u64
-    requires { length bytes.now ≡ 8 }
-    ensures { result ≡ number order w64 bytes.now }
-{
-    u64_from(
-        order,
-        [
-            bytes[0], bytes[1], bytes[2], bytes[3], bytes[4], bytes[5], bytes[6], bytes[7],
-        ],
-    )
 }
 
 // The value that some bytes of a type are.
@@ -271,7 +242,9 @@ fn value_from(
     }
 }
 
-/// Reads a text of so many bytes, up to its first zero. Fewer bytes there: `IoError(UnexpectedEof)`; not UTF-8: `InvalidTag`.
+/// Reads a text of so many bytes, up to its first zero. Fewer bytes there: `IoError(UnexpectedEof)`, told before memory is
+/// taken; not UTF-8: `InvalidTag`.
+#[tactic(auto, using(crate::proofs::Within::text_read_within))]
 pub fn read_text_at<R: Source>(
     alloc: Global,
     source: &mut R,
@@ -279,14 +252,14 @@ pub fn read_text_at<R: Source>(
     len: usize,
 ) -> TiffResult<String>
     ensures kept { IsKept R.bytes R.failures source.old source.new }
-    ensures answer { Answers string_bytes result (value.text_at (R.bytes source.old) at len) (R.failures source.old) (R.failures source.new) }
+    ensures answer { AnswersWithin string_bytes result (value.text_at (R.bytes source.old) at len) (R.failures source.old) (R.failures source.new) }
 {
     let bytes = read_bytes_at(alloc, source, at, len)?;
     placed_text(alloc, &bytes)?.into_string()
 }
 
 // Whether so many values may be read from elsewhere.
-fn is_allowed(limits: &Limits, field_type: Type, count: u64) -> bool
+pub(crate) fn is_allowed(limits: &Limits, field_type: Type, count: u64) -> bool
     ensures { result ≡ value.is_allowed limits.now field_type count }
 {
     let room = limits.decoding_buffer_size as u64;

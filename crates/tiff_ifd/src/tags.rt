@@ -29,6 +29,11 @@ pub trait Tags {
     fn find(&mut self, alloc: Global, tag: Tag) -> TiffResult<Option<Value>>
         ensures kept { IsKept told failures self.old self.new }
         ensures answer { Answers (λ v. option_map datum v) result ((told self.old).look.value tag) (failures self.old) (failures self.new) };
+
+    /// A tag's numbers, as `Value::into_u64_vec` gives them, if there is the tag.
+    fn find_u64_vec(&mut self, alloc: Global, tag: Tag) -> TiffResult<Option<Vec<u64>>>
+        ensures kept { IsKept told failures self.old self.new }
+        ensures answer { Answers (λ o. option_map (λ v. v.items) o) result (find into.into_u64_vec (told self.old).look tag) (failures self.old) (failures self.new) };
 }
 
 /// A tag's number below 2^16, if there is the tag.
@@ -67,18 +72,6 @@ pub fn find_u16_vec<T: Tags>(tags: &mut T, alloc: Global, tag: Tag) -> TiffResul
     }
 }
 
-/// A tag's numbers, if there is the tag.
-#[tactic(auto, unfolding(crate::specs::Look::find))]
-pub fn find_u64_vec<T: Tags>(tags: &mut T, alloc: Global, tag: Tag) -> TiffResult<Option<Vec<u64>>>
-    ensures kept { IsKept T.told T.failures tags.old tags.new }
-    ensures answer { Answers (λ o. option_map (λ v. v.items) o) result (find into.into_u64_vec (T.told tags.old).look tag) (T.failures tags.old) (T.failures tags.new) }
-{
-    match tags.find(alloc, tag)? {
-        None => Ok(None),
-        Some(value) => Ok(Some(value.into_u64_vec(alloc)?)),
-    }
-}
-
 /// A required tag's number below 2^32. No such tag: `RequiredTagNotFound`.
 #[tactic(auto, unfolding(crate::specs::Look::require))]
 pub fn require_u32<T: Tags>(tags: &mut T, alloc: Global, tag: Tag) -> TiffResult<u32>
@@ -97,7 +90,7 @@ pub fn require_u64_vec<T: Tags>(tags: &mut T, alloc: Global, tag: Tag) -> TiffRe
     ensures kept { IsKept T.told T.failures tags.old tags.new }
     ensures answer { Answers (λ v. v.items) result (require into.into_u64_vec (T.told tags.old).look tag) (T.failures tags.old) (T.failures tags.new) }
 {
-    match find_u64_vec(tags, alloc, tag)? {
+    match tags.find_u64_vec(alloc, tag)? {
         None => Err(TiffFormatError::RequiredTagNotFound(tag).into()),
         Some(numbers) => Ok(numbers),
     }

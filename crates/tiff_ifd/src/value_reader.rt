@@ -6,6 +6,7 @@ ghost use Rattle.tiff_ifd.specs.View.{datum};
 ghost use Rattle.tiff_ifd.specs.Look.{look_in};
 
 use crate::limits::Limits;
+use crate::read_numbers::find_numbers;
 use crate::read_value::find_value;
 use crate::tags::Tags;
 use crate::value::Value;
@@ -44,6 +45,18 @@ impl<R: Source> Tags for ValueReader<R> {
 
     fn find(&mut self, alloc: Global, tag: Tag) -> TiffResult<Option<Value>> {
         find_value(
+            alloc,
+            &mut self.source,
+            self.kind,
+            self.order,
+            &self.limits,
+            &self.directory,
+            tag,
+        )
+    }
+
+    fn find_u64_vec(&mut self, alloc: Global, tag: Tag) -> TiffResult<Option<Vec<u64>>> {
+        find_numbers(
             alloc,
             &mut self.source,
             self.kind,

@@ -1,7 +1,7 @@
 //! Buffers for an image and its parts.
 
 ghost use Rattle.std.specs.Prelude.{◌≡◌, ◌<◌, ◌*◌, ◌^◌, IfOk, IfSome, Ok};
-ghost use Rattle.tiff_base.specs.Answers.{AnswersHere};
+ghost use Rattle.tiff_base.specs.Answers.{AnswersHere, Gives};
 ghost use Rattle.tiff_page.specs.Buffers as spec;
 ghost use Rattle.tiff_page.specs.Layout as layouts;
 ghost use Rattle.tiff_page.specs.Rect as place;
@@ -67,7 +67,7 @@ pub fn image_buffer_layout(page: &Page, alloc: Global) -> TiffResult<BufferLayou
 // So many bytes in whole samples, below 2^63.
 fn rounded(bytes: usize, size: usize) -> TiffResult<usize>
     requires { 0 < size }
-    ensures { AnswersHere (λ n. n) result (spec.rounded bytes size) }
+    ensures { Gives (λ n. n) result (spec.rounded bytes size) }
 {
     let Some(len) = bytes.div_ceil(size).checked_mul(size) else {
         return Err(TiffError::LimitsExceeded);
@@ -108,7 +108,7 @@ pub fn image_chunk_buffer_layout(
 
 // A coding unit is one of the chunks of a plane.
 pub(crate) fn unit_fault(page: &Page, unit: u32) -> TiffResult<()>
-    ensures answer { AnswersHere (λ _. tt) result (spec.unit_fault (view.page page.now) unit) }
+    ensures answer { Gives (λ _. tt) result (spec.unit_fault (view.page page.now) unit) }
     ensures below { IfOk result (λ _. unit < place.chunks_of_plane (view.page page.now)) }
 {
     let chunks = chunks_of_plane(page);

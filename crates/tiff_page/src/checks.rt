@@ -20,9 +20,7 @@ use tiff_base::tags::{
     CompressionMethod, ExtraSamples, PhotometricInterpretation, PlanarConfiguration, Predictor,
     SampleFormat, Tag,
 };
-use tiff_ifd::tags::{
-    Tags, find_u16, find_u16_vec, find_u32, find_u64_vec, require_u32, require_u64_vec,
-};
+use tiff_ifd::tags::{Tags, find_u16, find_u16_vec, find_u32, require_u32, require_u64_vec};
 
 /// The width and the height.
 #[tactic(auto, unfolding(crate::specs::Checks::size_of))]
@@ -177,7 +175,7 @@ pub fn read_format<T: Tags>(tags: &mut T, alloc: Global) -> TiffResult<SampleFor
     ensures kept { IsKept T.told T.failures tags.old tags.new }
     ensures answer { Answers (λ s. s) result (checks.format_of (T.told tags.old).look) (T.failures tags.old) (T.failures tags.new) }
 {
-    match find_u64_vec(tags, alloc, Tag::SampleFormat)? {
+    match tags.find_u64_vec(alloc, Tag::SampleFormat)? {
         None => Ok(SampleFormat::Uint),
         Some(numbers) => {
             let numbers = fit_u16s(alloc, Tag::SampleFormat, numbers)?;
@@ -211,7 +209,7 @@ pub fn read_depth<T: Tags>(tags: &mut T, alloc: Global, samples: u16) -> TiffRes
     ensures answer { Answers (λ s. s) result (checks.depth_of (T.told tags.old).look samples) (T.failures tags.old) (T.failures tags.new) }
     ensures some { IfOk result (λ d. 0 < d) }
 {
-    match find_u64_vec(tags, alloc, Tag::BitsPerSample)? {
+    match tags.find_u64_vec(alloc, Tag::BitsPerSample)? {
         None => Ok(1),
         Some(numbers) => one_depth(samples, fit_u8s(alloc, Tag::BitsPerSample, numbers)?),
     }
@@ -262,7 +260,7 @@ pub fn read_subsampling<T: Tags>(tags: &mut T, alloc: Global) -> TiffResult<(u16
     ensures kept { IsKept T.told T.failures tags.old tags.new }
     ensures answer { Answers (λ s. s) result (checks.subsampling_of (T.told tags.old).look) (T.failures tags.old) (T.failures tags.new) }
 {
-    match find_u64_vec(tags, alloc, Tag::ChromaSubsampling)? {
+    match tags.find_u64_vec(alloc, Tag::ChromaSubsampling)? {
         None => Ok((2, 2)),
         Some(numbers) => {
             let sizes = fit_u16s(alloc, Tag::ChromaSubsampling, numbers)?;

@@ -128,7 +128,8 @@ fn gap_of(page: &Page, colour: ColorType, len: usize) -> u64
 // Those behind a row: there are none to be passed behind the last.
 fn gap_behind(gap: u64, row: usize, rows: usize) -> u64
     requires { row < rows }
-    ensures { row + 1 < rows → result ≡ gap }
+    ensures between { row + 1 < rows → result ≡ gap }
+    ensures last { row + 1 ≡ rows → result ≡ 0 }
 {
     if row + 1 < rows { gap } else { 0 }
 }

@@ -20,6 +20,8 @@ mod packing;
 #[cfg(test)]
 mod program;
 #[cfg(test)]
+mod texts;
+#[cfg(test)]
 mod undone;
 #[cfg(test)]
 mod uses;

@@ -103,7 +103,7 @@ loop-row-preserved g c =
       same_bytes = c.in-Ok-pass.ensures.kept.told ∙ told;
       count = omega (arith, c.in-Ok-pass.ensures.kept.failures, c.in-Ok.ensures.kept.failures, c.loop-row.invariant.count);
       place = λ z. next_row bytes order p colour k sides stored listed row c.gap_behind-behind.result left rest next c.read_row.new.out some z (out ∙ n) from given
-          (c.gap_behind-behind.ensures (omega (arith, z, h)) ∙ (c.gap_of-gap.ensures ∙ ap (λ (m : ℕ). stored_row_bytes p - needed_of_row p colour m) n)) passed;
+          (c.gap_behind-behind.ensures.between (omega (arith, z, h)) ∙ (c.gap_of-gap.ensures ∙ ap (λ (m : ℕ). stored_row_bytes p - needed_of_row p colour m) n)) passed;
       enough = λ z. omega (arith, held, now);
       written = subst (λ (m : ℕ). Writes (IsIn corner.stride corner.top (row + 1) corner.left m) (in_rect value corner.stride corner.top corner.left) c.args.buf.now (put_mid at (at + c.row_len-len.result - at) c.loop-row.buf c.read_row.new.out)) n after;
     }

@@ -1,0 +1,92 @@
+-- Unsigned numbers are converted as they are.
+use Rattle.std.proofs.Common.{◌≡◌, inl, inr, ℕ, zero, suc, ◌*◌, List, [], ◌∷◌, length, drop, Bool, Result, Ok, Err, true, false, ◌==◌, refl, ap, sym, arith}
+use Rattle.std.proofs.lemmas.Bool.{ne_eqb}
+use Rattle.std.proofs.lemmas.List.{take_all}
+use Rattle.std.specs.Int.{w16, w32, w64}
+use Rattle.std.specs.Prelude.{if◌then◌else◌}
+use Rattle.tiff_base.specs.declared.error.TiffError.{TiffError}
+use Rattle.tiff_base.specs.declared.error.TiffError.TheVariants.{LimitsExceeded}
+use Rattle.tiff_base.specs.declared.tags.FileKind.{FileKind}
+use Rattle.tiff_base.specs.Field.{Field}
+use Rattle.tiff_base.specs.FieldBytes.{field_bytes}
+use Rattle.tiff_base.specs.declared.tags.ByteOrder.{ByteOrder}
+use Rattle.tiff_base.specs.declared.tags.«Type».{«Type»}
+use Rattle.tiff_base.specs.declared.tags.«Type».TheVariants as t
+use Rattle.tiff_base.specs.Answers.{◌>>=◌}
+use Rattle.tiff_base.specs.Number.{number}
+use Rattle.tiff_base.specs.Types.{type_size}
+use Rattle.tiff_ifd.specs.Datum.{Datum, data_of}
+use Rattle.tiff_ifd.specs.FieldValue.{is_allowed, placed_value, value_from}
+use Rattle.tiff_ifd.specs.declared.limits.Limits.{Limits}
+use Rattle.tiff_ifd.specs.Into.{each, into_u64, into_u64_vec}
+use Rattle.tiff_ifd.specs.Item.{items, list_item}
+use Rattle.tiff_ifd.specs.Unsigned.{IsUnsigned, placed_numbers, unsigned_width}
+
+shorts : (order : ByteOrder) (n : ℕ) (bs : List ℕ)
+    → each into_u64 (data_of (items (list_item false t.SHORT order) 2 n bs)) ≡ Ok (items (number order w16) 2 n bs)
+shorts order zero bs = refl
+shorts order (suc n) bs = rw (shorts order n (drop 2 bs)) refl
+
+longs : (order : ByteOrder) (n : ℕ) (bs : List ℕ)
+    → each into_u64 (data_of (items (list_item false t.LONG order) 4 n bs)) ≡ Ok (items (number order w32) 4 n bs)
+longs order zero bs = refl
+longs order (suc n) bs = rw (longs order n (drop 4 bs)) refl
+
+longs_8 : (order : ByteOrder) (n : ℕ) (bs : List ℕ)
+    → each into_u64 (data_of (items (list_item false t.LONG8 order) 8 n bs)) ≡ Ok (items (number order w64) 8 n bs)
+longs_8 order zero bs = refl
+longs_8 order (suc n) bs = rw (longs_8 order n (drop 8 bs)) refl
+
+several : (n : ℕ) → (suc (suc n) == 1) ≡ false
+several n = ne_eqb (suc (suc n)) 1 (λ e. omega (arith, e))
+
+-- one number stands alone
+one_short : (order : ByteOrder) (bs : List ℕ) → length bs ≡ 2 → (number order w16 bs ∷ []) ≡ items (number order w16) 2 1 bs
+one_short order bs l = ap (λ (xs : List ℕ). number order w16 xs ∷ []) (sym (take_all 2 bs (omega (arith, l))))
+
+one_long : (order : ByteOrder) (bs : List ℕ) → length bs ≡ 4 → (number order w32 bs ∷ []) ≡ items (number order w32) 4 1 bs
+one_long order bs l = ap (λ (xs : List ℕ). number order w32 xs ∷ []) (sym (take_all 4 bs (omega (arith, l))))
+
+one_long_8 : (order : ByteOrder) (bs : List ℕ) → length bs ≡ 8 → (number order w64 bs ∷ []) ≡ items (number order w64) 8 1 bs
+one_long_8 order bs l = ap (λ (xs : List ℕ). number order w64 xs ∷ []) (sym (take_all 8 bs (omega (arith, l))))
+
+-- numbers of each of the types, as they are placed
+placed_shorts : (order : ByteOrder) (n : ℕ) (bs : List ℕ) → length bs ≡ n * 2
+    → (value_from false t.SHORT order n bs >>= into_u64_vec) ≡ Ok (items (number order w16) 2 n bs)
+placed_shorts order zero bs l = refl
+placed_shorts order (suc zero) bs l = ap Ok (one_short order bs (omega (arith, l)))
+placed_shorts order (suc (suc n)) bs l = rw (several n) (shorts order (suc (suc n)) bs)
+
+placed_longs : (order : ByteOrder) (n : ℕ) (bs : List ℕ) → length bs ≡ n * 4
+    → (value_from false t.LONG order n bs >>= into_u64_vec) ≡ Ok (items (number order w32) 4 n bs)
+placed_longs order zero bs l = refl
+placed_longs order (suc zero) bs l = ap Ok (one_long order bs (omega (arith, l)))
+placed_longs order (suc (suc n)) bs l = rw (several n) (longs order (suc (suc n)) bs)
+
+placed_longs_8 : (order : ByteOrder) (n : ℕ) (bs : List ℕ) → length bs ≡ n * 8
+    → (value_from false t.LONG8 order n bs >>= into_u64_vec) ≡ Ok (items (number order w64) 8 n bs)
+placed_longs_8 order zero bs l = refl
+placed_longs_8 order (suc zero) bs l = ap Ok (one_long_8 order bs (omega (arith, l)))
+placed_longs_8 order (suc (suc n)) bs l = rw (several n) (longs_8 order (suc (suc n)) bs)
+
+-- unsigned numbers that stand elsewhere
+pub unsigned_value : (type : «Type») (order : ByteOrder) (n : ℕ) (bs : List ℕ) → IsUnsigned type → length bs ≡ n * type_size type
+    → (value_from false type order n bs >>= into_u64_vec) ≡ Ok (items (number order (unsigned_width type)) (type_size type) n bs)
+unsigned_value t.SHORT order n bs h l = placed_shorts order n bs l
+unsigned_value t.LONG order n bs h l = placed_longs order n bs l
+unsigned_value t.LONG8 order n bs h l = placed_longs_8 order n bs l
+unsigned_value type order n bs (inl e) l = absurd (cc)
+unsigned_value type order n bs (inr (inl e)) l = absurd (cc)
+unsigned_value type order n bs (inr (inr e)) l = absurd (cc)
+
+-- bytes that are allowed, read and converted, in one step or in two
+converted : {B : Type 0} (b : Bool) (found : Result (List ℕ) TiffError) (e : TiffError) (f : List ℕ → Result Datum TiffError) (g : Datum → Result B TiffError)
+    → ((if b then (found >>= f) else Err e) >>= g) ≡ (if b then (found >>= λ x. f x >>= g) else Err e)
+converted true (Ok x) e f g = refl
+converted true (Err d) e f g = refl
+converted false found e f g = refl
+
+pub placed_converted : (kind : FileKind) (order : ByteOrder) (bytes : List ℕ) (limits : Limits) (e : Field)
+    → (placed_value kind order bytes limits e >>= into_u64_vec) ≡ placed_numbers kind order bytes limits e
+placed_converted kind order bytes limits e =
+    converted (is_allowed limits e.field_type e.count) (field_bytes kind order bytes e) LimitsExceeded (λ found. value_from false e.field_type order e.count found) into_u64_vec

@@ -1,0 +1,138 @@
+//! The numbers of a field are read, without a `Value` for each.
+
+ghost use Rattle.std.specs.Prelude.{◌≡◌, ◌*◌, ◌<◌, true, length, option_map};
+ghost use Rattle.std.specs.Int.{byte_len};
+ghost use Rattle.tiff_base.specs.Answers.{Answers, AnswersHere, IsKept};
+ghost use Rattle.tiff_base.specs.Directory.{place_width};
+ghost use Rattle.tiff_base.specs.FieldBytes.{field_len};
+ghost use Rattle.tiff_base.specs.Number.{number};
+ghost use Rattle.tiff_base.specs.Types.{type_size};
+ghost use Rattle.tiff_ifd.specs.Into.{into_u64_vec};
+ghost use Rattle.tiff_ifd.specs.Look.{find, look_in};
+ghost use Rattle.tiff_ifd.specs.Unsigned.{IsUnsigned, field_numbers, numbers_from, placed_numbers, unsigned_width};
+
+use crate::limits::Limits;
+use crate::read_bytes::{place_in, place_len};
+use crate::read_value::{is_allowed, read_value};
+use std::alloc::Global;
+use tiff_base::directory::{Directory, Entry};
+use tiff_base::error::{TiffError, TiffResult};
+use tiff_base::io::Source;
+use tiff_base::read::{read_bytes_at, u16_of, u32_of, u64_of};
+use tiff_base::tags::{ByteOrder, FileKind, Tag, Type};
+
+// Whether the values of a type are unsigned numbers of two, four or eight bytes.
+fn is_unsigned(field_type: Type) -> bool
+    ensures { result ≡ true → IsUnsigned field_type }
+{
+    matches!(field_type, Type::SHORT | Type::LONG | Type::LONG8)
+}
+
+// The number that some bytes of such a type are.
+fn unsigned_of(field_type: Type, order: ByteOrder, bytes: &[u8]) -> u64
+    requires numbers { IsUnsigned field_type }
+    requires whole { length bytes.now ≡ type_size field_type }
+    ensures { result ≡ number order (unsigned_width field_type) bytes.now }
+{
+    match field_type {
+        Type::SHORT => u64::from(u16_of(order, bytes)),
+        Type::LONG => u64::from(u32_of(order, bytes)),
+        // Type::LONG8
+        _ => u64_of(order, bytes),
+    }
+}
+
+// So many numbers of such a type, one after the other.
+fn unsigned_from(
+    alloc: Global,
+    field_type: Type,
+    order: ByteOrder,
+    count: u64,
+    bytes: &[u8],
+) -> TiffResult<Vec<u64>>
+    requires numbers { IsUnsigned field_type }
+    requires whole { length bytes.now ≡ count * type_size field_type }
+    ensures { AnswersHere (λ v. v.items) result (numbers_from field_type order count bytes.now) }
+{
+    let width = usize::from(field_type.byte_len());
+    let mut all = Vec::with_capacity(alloc, count as usize)?;
+    let mut rest = bytes;
+    let mut left = count;
+    while left > 0 {
+        let (unit, after) = rest.split_at(width);
+        all.push(unsigned_of(field_type, order, unit))?;
+        rest = after;
+        left -= 1;
+    }
+    Ok(all)
+}
+
+// Reads the numbers of a field of such a type that stand elsewhere.
+#[tactic(auto, unfolding(tiff_base::specs::FieldBytes::field_bytes))]
+fn read_placed<R: Source>(
+    alloc: Global,
+    source: &mut R,
+    kind: FileKind,
+    order: ByteOrder,
+    limits: &Limits,
+    entry: &Entry,
+    len: u64,
+) -> TiffResult<Vec<u64>>
+    requires numbers { IsUnsigned entry.now.field_type }
+    requires len { len ≡ field_len entry.now }
+    requires elsewhere { byte_len (place_width kind) < len }
+    ensures kept { IsKept R.bytes R.failures source.old source.new }
+    ensures answer { Answers (λ v. v.items) result (placed_numbers kind order (R.bytes source.old) limits.now entry.now) (R.failures source.old) (R.failures source.new) }
+{
+    let (field_type, count) = (entry.field_type(), entry.count());
+    if !is_allowed(limits, field_type, count) {
+        return Err(TiffError::LimitsExceeded);
+    }
+    let place = place_in(kind, order, entry.value());
+    let bytes = read_bytes_at(alloc, source, place, len as usize)?;
+    unsigned_from(alloc, field_type, order, count, &bytes)
+}
+
+/// Reads the numbers of a field, as `Value::into_u64_vec` gives them of its value, with the faults of `read_value` and of
+/// that.
+#[tactic(auto, using(crate::proofs::Unsigned::placed_converted), unfolding(crate::specs::FieldValue::field_value))]
+pub fn read_numbers<R: Source>(
+    alloc: Global,
+    source: &mut R,
+    kind: FileKind,
+    order: ByteOrder,
+    limits: &Limits,
+    entry: &Entry,
+) -> TiffResult<Vec<u64>>
+    ensures kept { IsKept R.bytes R.failures source.old source.new }
+    ensures answer { Answers (λ v. v.items) result (field_numbers kind order (R.bytes source.old) limits.now entry.now) (R.failures source.old) (R.failures source.new) }
+{
+    let field_type = entry.field_type();
+    let Some(len) = entry.count().checked_mul(u64::from(field_type.byte_len())) else {
+        return Err(TiffError::LimitsExceeded);
+    };
+    if is_unsigned(field_type) && len > place_len(kind) {
+        return read_placed(alloc, source, kind, order, limits, entry, len);
+    }
+    read_value(alloc, source, kind, order, limits, entry)?.into_u64_vec(alloc)
+}
+
+/// Reads the numbers of a tag, if the directory has it.
+#[tactic(auto, unfolding(crate::specs::Look::look_in, crate::specs::Look::find))]
+pub fn find_numbers<R: Source>(
+    alloc: Global,
+    source: &mut R,
+    kind: FileKind,
+    order: ByteOrder,
+    limits: &Limits,
+    directory: &Directory,
+    tag: Tag,
+) -> TiffResult<Option<Vec<u64>>>
+    ensures kept { IsKept R.bytes R.failures source.old source.new }
+    ensures answer { Answers (λ o. option_map (λ v. v.items) o) result (find into_u64_vec (look_in kind order (R.bytes source.old) limits.now directory.now.entries) tag) (R.failures source.old) (R.failures source.new) }
+{
+    match directory.get(tag) {
+        None => Ok(None),
+        Some(entry) => Ok(Some(read_numbers(alloc, source, kind, order, limits, entry)?)),
+    }
+}
