@@ -1,6 +1,5 @@
 -- One turn of a loop that reads values.
-use Rattle.std.proofs.Common.{◌≡◌, ℕ, zero, suc, ◌+◌, ◌-◌, ◌*◌, ◌<◌, List, [], ◌∷◌, ◌++◌, take, drop, refl, ◌∙◌, arith, append_assoc}
-use Rattle.std.proofs.lemmas.List.{append-nil}
+use Rattle.std.proofs.Common.{◌≡◌, ℕ, zero, suc, ◌+◌, ◌-◌, ◌*◌, ◌<◌, List, [], ◌∷◌, ◌++◌, take, drop, refl, arith, append_assoc}
 use Rattle.std.proofs.Math.Nat.{suc-mul}
 use Rattle.std.proofs.lemmas.List.{map-append}
 use Rattle.tiff_ifd.specs.Datum.{Datum}
@@ -23,15 +22,3 @@ pub read_one_more : (read : List ℕ → Datum) (width k : ℕ) (bs front back :
     → whole ≡ datum_list after ++ items read width (k - 1) back
 read_one_more read width k bs front back all after v whole ih h f b e p =
     cc (items-step read width k bs h, map-append datum all (v ∷ []), append_assoc (datum_list all) (datum v ∷ []) (items read width (k - 1) (drop width bs)))
-
-pub read_number_more : (read : List ℕ → ℕ) (width k : ℕ) (bs front back all after : List ℕ) (n : ℕ) (whole : List ℕ)
-    → whole ≡ all ++ items read width k bs → 0 < k → front ≡ take width bs → back ≡ drop width bs
-    → n ≡ read front → after ≡ all ++ n ∷ []
-    → whole ≡ after ++ items read width (k - 1) back
-read_number_more read width k bs front back all after n whole ih h f b e p =
-    cc (items-step read width k bs h, append_assoc all (n ∷ []) (items read width (k - 1) (drop width bs)))
-
--- all numbers are read
-pub all_read : (read : List ℕ → ℕ) (width left : ℕ) (rest all whole : List ℕ) → whole ≡ all ++ items read width left rest → left ≡ 0 → whole ≡ all
-all_read read width zero rest all whole e z = e ∙ append-nil all
-all_read read width (suc left) rest all whole e z = absurd (omega (arith, z))

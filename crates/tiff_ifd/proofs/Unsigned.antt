@@ -1,7 +1,8 @@
 -- Unsigned numbers are converted as they are.
-use Rattle.std.proofs.Common.{◌≡◌, inl, inr, ℕ, zero, suc, ◌*◌, List, [], ◌∷◌, length, drop, Bool, Result, Ok, Err, true, false, ◌==◌, refl, ap, sym, arith}
+use Rattle.std.proofs.Common.{◌≡◌, ◌∙◌, inl, inr, ℕ, zero, suc, ◌+◌, ◌*◌, ◌<◌, ◌≤◌, get_or, List, [], ◌∷◌, length, take, drop, Bool, Result, Ok, Err, true, false, ◌==◌, refl, ap, sym, arith}
 use Rattle.std.proofs.lemmas.Bool.{ne_eqb}
-use Rattle.std.proofs.lemmas.List.{take_all}
+use Rattle.std.proofs.lemmas.List.{drop-drop, ext_get_or, take_all}
+use Rattle.std.proofs.Math.Nat.{mul-le-mul_right, suc-mul}
 use Rattle.std.specs.Int.{w16, w32, w64}
 use Rattle.std.specs.Prelude.{if◌then◌else◌}
 use Rattle.tiff_base.specs.declared.error.TiffError.{TiffError}
@@ -14,13 +15,14 @@ use Rattle.tiff_base.specs.declared.tags.«Type».{«Type»}
 use Rattle.tiff_base.specs.declared.tags.«Type».TheVariants as t
 use Rattle.tiff_base.specs.Answers.{◌>>=◌}
 use Rattle.tiff_base.specs.Number.{number}
+use Rattle.tiff_base.specs.Told.{bytes_at}
 use Rattle.tiff_base.specs.Types.{type_size}
 use Rattle.tiff_ifd.specs.Datum.{Datum, data_of}
 use Rattle.tiff_ifd.specs.FieldValue.{is_allowed, placed_value, value_from}
 use Rattle.tiff_ifd.specs.declared.limits.Limits.{Limits}
 use Rattle.tiff_ifd.specs.Into.{each, into_u64, into_u64_vec}
 use Rattle.tiff_ifd.specs.Item.{items, list_item}
-use Rattle.tiff_ifd.specs.Unsigned.{IsUnsigned, placed_numbers, unsigned_width}
+use Rattle.tiff_ifd.specs.Unsigned.{IsUnsigned, numbers_from, placed_numbers, unsigned_width}
 
 shorts : (order : ByteOrder) (n : ℕ) (bs : List ℕ)
     → each into_u64 (data_of (items (list_item false t.SHORT order) 2 n bs)) ≡ Ok (items (number order w16) 2 n bs)
@@ -90,3 +92,32 @@ pub placed_converted : (kind : FileKind) (order : ByteOrder) (bytes : List ℕ) 
     → (placed_value kind order bytes limits e >>= into_u64_vec) ≡ placed_numbers kind order bytes limits e
 placed_converted kind order bytes limits e =
     converted (is_allowed limits e.field_type e.count) (field_bytes kind order bytes e) LimitsExceeded (λ found. value_from false e.field_type order e.count found) into_u64_vec
+
+-- a number's bytes are within those of all
+pub unit_within : (k n width : ℕ) → k < n → k * width + width ≤ n * width
+unit_within k n width h = let m : (k + 1) * width ≤ n * width = mul-le-mul_right width (omega (arith, h)) in omega (arith, m)
+
+length-items : (read : List ℕ → ℕ) (width n : ℕ) (bs : List ℕ) → length (items read width n bs) ≡ n
+length-items read width zero bs = refl
+length-items read width (suc n) bs = ap suc (length-items read width n (drop width bs))
+
+items_at : (read : List ℕ → ℕ) (width n k : ℕ) (bs : List ℕ) → k < n → get_or (items read width n bs) k 0 ≡ read (bytes_at bs (k * width) width)
+items_at read width zero k bs h = absurd (omega (arith, h))
+items_at read width (suc n) zero bs h = let e : 0 ≡ 0 * width = omega arith in ap (λ (m : ℕ). read (bytes_at bs m width)) e
+items_at read width (suc n) (suc k) bs h =
+    let e : width + k * width ≡ suc k * width = omega (arith, suc-mul k width) in
+    items_at read width n k (drop width bs) (omega (arith, h)) ∙ ap (λ (xs : List ℕ). read (take width xs)) (drop-drop (k * width) width bs)
+    ∙ ap (λ (m : ℕ). read (bytes_at bs m width)) e
+
+-- numbers that are read one by one are all of them
+pub each_read : (read : List ℕ → ℕ) (width n : ℕ) (bs numbers : List ℕ) → length numbers ≡ n
+    → ((k : ℕ) → k < length numbers → get_or numbers k 0 ≡ read (bytes_at bs (k * width) width)) → numbers ≡ items read width n bs
+each_read read width n bs numbers l e =
+    ext_get_or 0 numbers (items read width n bs) (l ∙ sym (length-items read width n bs)) (λ k h. e k h ∙ sym (items_at read width n k bs (omega (arith, h, l))))
+
+-- and so the numbers of the value
+pub each_given : (type : «Type») (order : ByteOrder) (n : ℕ) (bs numbers : List ℕ) → IsUnsigned type → length bs ≡ n * type_size type → length numbers ≡ n
+    → ((k : ℕ) → k < length numbers → get_or numbers k 0 ≡ number order (unsigned_width type) (bytes_at bs (k * type_size type) (type_size type)))
+    → numbers_from type order n bs ≡ Ok numbers
+each_given type order n bs numbers h l m e =
+    unsigned_value type order n bs h l ∙ ap Ok (sym (each_read (number order (unsigned_width type)) (type_size type) n bs numbers m e))

@@ -224,12 +224,14 @@ impl PackedPlace {
         ensures kept { IsKept R.bytes R.failures source.old source.new }
         ensures filled { Fills result (unpacking R.bytes R.failures source.old self.old) (unpacking R.bytes R.failures source.new self.new) buf.new }
     {
-        let place = *self;
-        if let Err(fault) = self.fill(source, buf) {
-            *self = place;
-            return Err(fault);
+        let mut place = *self;
+        match place.fill(source, buf) {
+            Ok(()) => {
+                *self = place;
+                Ok(())
+            }
+            Err(fault) => Err(fault),
         }
-        Ok(())
     }
 }
 

@@ -1,11 +1,12 @@
 //! The numbers of a field are read, without a `Value` for each.
 
-ghost use Rattle.std.specs.Prelude.{◌≡◌, ◌*◌, ◌<◌, true, length, option_map};
+ghost use Rattle.std.specs.Prelude.{◌≡◌, ◌*◌, ◌<◌, true, length, slice_index, EachIndex, option_map};
 ghost use Rattle.std.specs.Int.{byte_len};
 ghost use Rattle.tiff_base.specs.Answers.{Answers, AnswersHere, IsKept};
 ghost use Rattle.tiff_base.specs.Directory.{place_width};
 ghost use Rattle.tiff_base.specs.FieldBytes.{field_len};
 ghost use Rattle.tiff_base.specs.Number.{number};
+ghost use Rattle.tiff_base.specs.Told.{bytes_at};
 ghost use Rattle.tiff_base.specs.Types.{type_size};
 ghost use Rattle.tiff_ifd.specs.Into.{into_u64_vec};
 ghost use Rattle.tiff_ifd.specs.Look.{find, look_in};
@@ -42,6 +43,20 @@ fn unsigned_of(field_type: Type, order: ByteOrder, bytes: &[u8]) -> u64
     }
 }
 
+// Makes numbers those of such a type that some bytes are, one after the other.
+#[tactic(auto, using(crate::proofs::Unsigned::unit_within))]
+fn fill_numbers(field_type: Type, order: ByteOrder, bytes: &[u8], numbers: &mut [u64])
+    requires numbers { IsUnsigned field_type }
+    requires whole { length bytes.now ≡ length numbers.old * type_size field_type }
+    ensures { EachIndex numbers.new (λ k. slice_index numbers.new k ≡ number order (unsigned_width field_type) (bytes_at bytes.now (k * type_size field_type) (type_size field_type))) }
+{
+    let width = usize::from(field_type.byte_len());
+    for k in 0..numbers.len() {
+        let at = k * width;
+        numbers[k] = unsigned_of(field_type, order, &bytes[at..at + width]);
+    }
+}
+
 // So many numbers of such a type, one after the other.
 fn unsigned_from(
     alloc: Global,
@@ -54,16 +69,8 @@ fn unsigned_from(
     requires whole { length bytes.now ≡ count * type_size field_type }
     ensures { AnswersHere (λ v. v.items) result (numbers_from field_type order count bytes.now) }
 {
-    let width = usize::from(field_type.byte_len());
-    let mut all = Vec::with_capacity(alloc, count as usize)?;
-    let mut rest = bytes;
-    let mut left = count;
-    while left > 0 {
-        let (unit, after) = rest.split_at(width);
-        all.push(unsigned_of(field_type, order, unit))?;
-        rest = after;
-        left -= 1;
-    }
+    let mut all = vec![in alloc; 0u64; count as usize]?;
+    fill_numbers(field_type, order, bytes, &mut all);
     Ok(all)
 }
 
