@@ -17,3 +17,4 @@ pub mod Reading
 pub mod Handing
 pub mod PixelSteps
 pub mod Cut
+mod Sums

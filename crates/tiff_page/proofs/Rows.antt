@@ -98,7 +98,7 @@ put_below row part at k i h a =
     ∙ ap (λ (xs : List ℕ). get_or xs i 0) (take-put_mid_below at k row part at (omega arith) h)
     ∙ get_or-take at row i 0 a
 
-put_above : (row part : List ℕ) (at k i : ℕ) → at ≤ length row → length part ≡ k → at + k ≤ i → get_or (put_mid at k row part) i 0 ≡ get_or row i 0
+pub put_above : (row part : List ℕ) (at k i : ℕ) → at ≤ length row → length part ≡ k → at + k ≤ i → get_or (put_mid at k row part) i 0 ≡ get_or row i 0
 put_above row part at k i h l a =
     let e : i ≡ at + k + (i - (at + k)) = omega (arith, a) in
     ap (λ (m : ℕ). get_or (put_mid at k row part) m 0) e
@@ -201,7 +201,7 @@ pub first_summed : (size s : ℕ) (old : List ℕ) (k : ℕ) → IsSize size →
 first_summed size s old k z b h =
     sym (ap (λ (m : ℕ). m % 256 ^ size) (strided_first (row_number LittleEndian size old) s k h) ∙ mod-eq_of_lt (number_lt size old k z b))
 
-next_summed : (size s : ℕ) (old : List ℕ) (k : ℕ) → 0 < s → s ≤ k
+pub next_summed : (size s : ℕ) (old : List ℕ) (k : ℕ) → 0 < s → s ≤ k
     → summed_number size s old k ≡ (summed_number size s old (k - s) + row_number LittleEndian size old k) % 256 ^ size
 next_summed size s old k p h =
     ap (λ (m : ℕ). m % 256 ^ size) (strided_next (row_number LittleEndian size old) s k p h)
@@ -294,7 +294,7 @@ plane_within size count j k len a b h =
 pub planes_within : (size len : ℕ) → size * (len / size) ≤ len
 planes_within size len = omega (arith, div-mul-le_self len size, mul_comm size (len / size))
 
-put_at : (row part : List ℕ) (at k j : ℕ) → at + k ≤ length row → length part ≡ k → j < k → get_or (put_mid at k row part) (at + j) 0 ≡ get_or part j 0
+pub put_at : (row part : List ℕ) (at k j : ℕ) → at + k ≤ length row → length part ≡ k → j < k → get_or (put_mid at k row part) (at + j) 0 ≡ get_or part j 0
 put_at row part at k j h l b =
     sym (get_or-drop at (put_mid at k row part) j 0) ∙ sym (get_or-take k (drop at (put_mid at k row part)) j 0 b) ∙ ap (λ (xs : List ℕ). get_or xs j 0) (put_there row part at k h l)
 

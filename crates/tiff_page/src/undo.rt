@@ -165,6 +165,34 @@ fn sum_numbers(row: &mut [u8], size: usize, stored: usize)
     }
 }
 
+// Adds to the bytes of a pixel those of `last`, which becomes the sums.
+#[inline(always)]
+fn sum_pixel<const N: usize>(last: &mut [u8; N], pixel: &mut [u8])
+    requires { length pixel.old ≡ N }
+    ensures sums { EachIndex pixel.new (λ j. slice_index pixel.new j ≡ (slice_index last.old j + slice_index pixel.old j) % 256) }
+    ensures held { EachIndex pixel.new (λ j. slice_index last.new j ≡ slice_index pixel.new j) }
+{
+    for j in 0..N {
+        let sum = last[j].wrapping_add(pixel[j]);
+        last[j] = sum;
+        pixel[j] = sum;
+    }
+}
+
+// Adds to each byte of a row of pixels of N bytes the one before it of the same sample. The sums stay in registers.
+#[inline(always)]
+fn sum_pixels<const N: usize>(row: &mut [u8])
+    requires some { 0 < N }
+    requires whole { length row.old / N * N ≡ length row.old }
+    ensures { Became 1 (summed_number 1 N row.old) row.old row.new }
+{
+    let mut last = [0; N];
+    for k in 0..row.len() / N {
+        let at = k * N;
+        sum_pixel(&mut last, &mut row[at..at + N]);
+    }
+}
+
 /// Undoes the horizontal predictor over a row of little-endian numbers of `size` bytes, of which a pixel has `stored`.
 pub fn undo_horizontal(row: &mut [u8], size: usize, stored: usize)
     requires size { IsSize size }
@@ -174,8 +202,8 @@ pub fn undo_horizontal(row: &mut [u8], size: usize, stored: usize)
     match (size, stored) {
         (1, 1) => sum_numbers(row, 1, 1),
         (1, 2) => sum_numbers(row, 1, 2),
-        (1, 3) => sum_numbers(row, 1, 3),
-        (1, 4) => sum_numbers(row, 1, 4),
+        (1, 3) if row.len() % 3 == 0 => sum_pixels::<3>(row),
+        (1, 4) if row.len() % 4 == 0 => sum_pixels::<4>(row),
         (2, 1) => sum_numbers(row, 2, 1),
         (2, 3) => sum_numbers(row, 2, 3),
         (2, 4) => sum_numbers(row, 2, 4),
