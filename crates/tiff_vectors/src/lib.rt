@@ -5,6 +5,8 @@
 #[cfg(test)]
 mod chain;
 #[cfg(test)]
+mod conversions;
+#[cfg(test)]
 mod directories;
 pub mod doubles;
 #[cfg(test)]

@@ -13,8 +13,8 @@ fn whole_numbers_are_turned(rt: HostRuntime) {
 
 #[test]
 fn the_last_of_one_tag_stands(rt: HostRuntime) -> Result<(), Fail> {
-    let mut directory = Directory::empty(rt.alloc());
-    directory.extend((0..=65535).map(|i| (Tag::Unknown(1), Entry::new(Type::BYTE, i, [0; 4]))))?;
+    let entries = (0..=65535).map(|i| (Tag::Unknown(1), Entry::new(Type::BYTE, i, [0; 4])));
+    let directory = Directory::from_iter(rt.alloc(), entries)?;
     assert_eq!(rt; directory.len(), 1);
     assert_eq!(rt;
         directory.get(Tag::Unknown(1)).map(|e| e.count()),
