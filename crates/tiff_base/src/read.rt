@@ -88,24 +88,24 @@ pub fn u64_from(order: ByteOrder, bytes: [u8; 8]) -> u64
     }
 }
 
-/// The number that the two bytes of a slice are.
-pub fn u16_of(order: ByteOrder, bytes: &[u8]) -> u16
+// The number that the two bytes of a slice are.
+fn u16_of(order: ByteOrder, bytes: &[u8]) -> u16
     requires { length bytes.now ≡ 2 }
     ensures { result ≡ number order w16 bytes.now }
 {
     u16_from(order, [bytes[0], bytes[1]])
 }
 
-/// The number that the four bytes of a slice are.
-pub fn u32_of(order: ByteOrder, bytes: &[u8]) -> u32
+// The number that the four bytes of a slice are.
+fn u32_of(order: ByteOrder, bytes: &[u8]) -> u32
     requires { length bytes.now ≡ 4 }
     ensures { result ≡ number order w32 bytes.now }
 {
     u32_from(order, [bytes[0], bytes[1], bytes[2], bytes[3]])
 }
 
-/// The number that the eight bytes of a slice are.
-pub fn u64_of(order: ByteOrder, bytes: &[u8]) -> u64
+// The number that the eight bytes of a slice are.
+fn u64_of(order: ByteOrder, bytes: &[u8]) -> u64
     requires { length bytes.now ≡ 8 }
     ensures { result ≡ number order w64 bytes.now }
 {

@@ -14,12 +14,12 @@ ghost use Rattle.tiff_ifd.specs.Unsigned.{IsUnsigned, field_numbers, numbers_fro
 
 use crate::limits::Limits;
 use crate::read_bytes::{place_in, place_len};
-use crate::read_value::{is_allowed, read_value};
+use crate::read_value::{is_allowed, read_value, u16_of, u32_of, u64_of};
 use std::alloc::Global;
 use tiff_base::directory::{Directory, Entry};
 use tiff_base::error::{TiffError, TiffResult};
 use tiff_base::io::Source;
-use tiff_base::read::{read_bytes_at, u16_of, u32_of, u64_of};
+use tiff_base::read::read_bytes_at;
 use tiff_base::tags::{ByteOrder, FileKind, Tag, Type};
 
 // Whether the values of a type are unsigned numbers of two, four or eight bytes.

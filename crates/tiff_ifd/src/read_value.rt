@@ -1,7 +1,7 @@
 //! The values of fields are read.
 
 ghost use Rattle.std.specs.Prelude.{◌≡◌, ◌≤◌, ◌<◌, ◌*◌, ◌-◌, Ok, Err, None, if◌then◌else◌, ◌&&◌, length, slice_index, option_map, string_bytes};
-ghost use Rattle.std.specs.Int.{w8};
+ghost use Rattle.std.specs.Int.{w8, w16, w32, w64};
 ghost use Rattle.std.specs.List.{list_all, position_or_len, prefix_len, suffix_len};
 ghost use Rattle.std.specs.Str.{is_utf8};
 ghost use Rattle.tiff_base.specs.declared.error.TiffError.TheVariants as tiff;
@@ -26,7 +26,7 @@ use std::str;
 use tiff_base::directory::{Directory, Entry};
 use tiff_base::error::{TiffError, TiffFormatError, TiffResult};
 use tiff_base::io::Source;
-use tiff_base::read::{read_bytes_at, u16_of, u32_of, u64_of};
+use tiff_base::read::{read_bytes_at, u16_from, u32_from, u64_from};
 use tiff_base::tags::{Bits32, Bits64, ByteOrder, FileKind, Tag, Type};
 
 // The number that one byte is, in either order.
@@ -39,6 +39,35 @@ fn u8_of(order: ByteOrder, bytes: &[u8]) -> u8
         ByteOrder::LittleEndian => u8::from_le_bytes([bytes[0]]),
         ByteOrder::BigEndian => u8::from_be_bytes([bytes[0]]),
     }
+}
+
+// The number that two bytes are.
+pub(crate) fn u16_of(order: ByteOrder, bytes: &[u8]) -> u16
+    requires { length bytes.now ≡ 2 }
+    ensures { result ≡ number order w16 bytes.now }
+{
+    u16_from(order, [bytes[0], bytes[1]])
+}
+
+// The number that four bytes are.
+pub(crate) fn u32_of(order: ByteOrder, bytes: &[u8]) -> u32
+    requires { length bytes.now ≡ 4 }
+    ensures { result ≡ number order w32 bytes.now }
+{
+    u32_from(order, [bytes[0], bytes[1], bytes[2], bytes[3]])
+}
+
+// The number that eight bytes are.
+pub(crate) fn u64_of(order: ByteOrder, bytes: &[u8]) -> u64
+    requires { length bytes.now ≡ 8 }
+    ensures { result ≡ number order w64 bytes.now }
+{
+    u64_from(
+        order,
+        [
+            bytes[0], bytes[1], bytes[2], bytes[3], bytes[4], bytes[5], bytes[6], bytes[7],
+        ],
+    )
 }
 
 // The value that some bytes of a type are.
