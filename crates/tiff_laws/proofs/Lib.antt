@@ -6,3 +6,4 @@ mod Covered
 mod Made
 mod FirstRefused
 mod Back
+mod Sides
