@@ -7,3 +7,4 @@ mod Made
 mod FirstRefused
 mod Back
 mod Sides
+mod Bytes

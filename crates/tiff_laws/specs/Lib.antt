@@ -1,3 +1,4 @@
 pub mod Once
 pub mod Sides
 pub mod Whole
+pub mod Bytes
