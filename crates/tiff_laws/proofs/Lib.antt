@@ -8,3 +8,7 @@ mod FirstRefused
 mod Back
 mod Sides
 mod Bytes
+mod Samples
+mod SampleChunks
+mod UnitChunks
+mod UnitBytes

@@ -2,3 +2,5 @@ pub mod Once
 pub mod Sides
 pub mod Whole
 pub mod Bytes
+pub mod Samples
+pub mod Units
