@@ -3,6 +3,7 @@
 ghost use Rattle.std.specs.Prelude.{◌≡◌, ◌<◌, IfOk, IfSome};
 ghost use Rattle.tiff_decode.specs.Machine.{FollowsHere, FollowsPlainly};
 ghost use Rattle.tiff_decode.specs.Outcome as outcome;
+ghost use Rattle.tiff_page.specs.Laws.{HasSides};
 
 use crate::decoder::Decoder;
 use tiff_base::color::ChunkType;
@@ -13,6 +14,16 @@ use tiff_page::{buffers, counts, layout};
 
 /// These calls read nothing of the file, and leave the decoder as it was.
 impl<R: Source> Decoder<R> {
+    /// Tells a contract what each page of a decoder has, and does nothing: the page and its chunks are at least a pixel wide
+    /// and high, and its pixels have samples of some bits.
+    pub fn has_sides(&self)
+        ensures sides { HasSides self.now.state.page }
+        ensures sampled { 0 < self.now.state.page.samples }
+        ensures deep { 0 < self.now.state.page.depth }
+    {
+        let _page = &self.page;
+    }
+
     /// Whether the page is in strips or in tiles.
     pub fn get_chunk_type(&self) -> ChunkType
         ensures { result ≡ outcome.get_chunk_type self.now }

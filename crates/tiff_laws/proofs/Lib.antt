@@ -6,3 +6,9 @@ mod Covered
 mod Made
 mod FirstRefused
 mod Back
+mod Sides
+mod Bytes
+mod Samples
+mod SampleChunks
+mod UnitChunks
+mod UnitBytes

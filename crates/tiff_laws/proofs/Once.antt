@@ -1,5 +1,5 @@
 -- Each call has one answer.
-use Rattle.std.proofs.Common.{◌≡◌, ◌+◌, ◌≤◌, ℕ, ◌⊎◌, inl, inr, List, [], ◌∷◌, Some, Result, Ok, Err, Vec, map, option_map, string_bytes, replicate, refl, ap, sym, ◌∙◌, subst, arith}
+use Rattle.std.proofs.Common.{◌≡◌, ℕ, inl, inr, List, [], ◌∷◌, Some, Result, Ok, Err, Vec, map, option_map, string_bytes, replicate, refl, ap, sym, ◌∙◌, subst}
 use Rattle.std.specs.declared.alloc.Global.{Global}
 use Rattle.tiff_base.specs.declared.error.TiffError.{TiffError}
 use Rattle.tiff_base.specs.declared.error.TiffError.TheVariants.{FormatError, UnsupportedError, IoError, LimitsExceeded, IntSizeError, UsageError, OutOfMemory}
@@ -17,15 +17,14 @@ use Rattle.tiff_decode.specs.declared.script.Reply.TheVariants as reply
 use Rattle.tiff_ifd.specs.declared.limits.Limits.{Limits}
 use Rattle.tiff_base.specs.declared.tags.IfdPointer.{IfdPointer}
 use Rattle.tiff_page.specs.declared.layout.TiffCodingUnit.{TiffCodingUnit}
-use Rattle.tiff_decode.specs.Machine.{State, Decoding, Outcome, StandsAt, FollowsBut, FollowsHereBut, IsFault, Tells}
+use Rattle.tiff_decode.specs.Machine.{Decoding, IsFault}
 use Rattle.tiff_decode.specs.Outcome as outcome
-use Rattle.tiff_decode.specs.Failures.{fault_of, device_count, failed_items, failed_list}
+use Rattle.tiff_decode.specs.Failures.{fault_of}
 use Rattle.tiff_decode.specs.Result.{decoded_as}
 use Rattle.tiff_decode.specs.Step.{Step, items_of, bits_32, bits_64, ItemIs, ItemsAre, Items}
-use Rattle.tiff_decode.specs.Reader.{TagsRead}
 use Rattle.tiff_decode.specs.After.{IsNamedFault, seen, item_seen, AreNamed, IsNamedList, IsNamed}
 use Rattle.tiff_laws.specs.Once.{SameAnswer}
-use Rattle.tiff_decode.proofs.After.{IsTold, told, told_here, tags_follow}
+use Rattle.tiff_decode.proofs.After.{told, told_here, tags_follow}
 
 seen_same : {X : Type 0} (r : Result X TiffError) → seen (λ (x : X). x) r ≡ r
 seen_same (Ok x) = refl

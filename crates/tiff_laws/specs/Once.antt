@@ -1,20 +1,10 @@
 -- Each call has one answer and leaves one state, but for want of memory and faults of the device (this project's).
-use Rattle.std.specs.Prelude.{◌≡◌, ℕ, ◌+◌, ◌≤◌, List, [], ◌∷◌, Option, None, Some, Result, Ok, Err, Vec, map, option_map, string_bytes}
-use Rattle.std.specs.declared.alloc.Global.{Global}
-use Rattle.tiff_base.specs.declared.error.TiffError.{TiffError}
-use Rattle.tiff_base.specs.declared.error.TiffError.TheVariants.{IoError, OutOfMemory}
-use Rattle.tiff_base.specs.declared.io.IoKind.TheVariants.{Device}
-use Rattle.tiff_base.specs.declared.tags.Tag.{Tag}
-use Rattle.tiff_ifd.specs.declared.value.Value.{Value}
-use Rattle.tiff_ifd.specs.Datum.{Datum}
+use Rattle.std.specs.Prelude.{◌≡◌, ℕ, List, Option, map, option_map, string_bytes}
 use Rattle.tiff_ifd.specs.View.{datum}
 use Rattle.tiff_decode.specs.declared.script.Call.{Call}
-use Rattle.tiff_decode.specs.declared.script.Call.TheVariants as call
 use Rattle.tiff_decode.specs.declared.script.Reply.{Reply}
 use Rattle.tiff_decode.specs.declared.script.Reply.TheVariants as reply
-use Rattle.tiff_decode.specs.Machine.{State, Decoding}
-use Rattle.tiff_decode.specs.Outcome as outcome
-use Rattle.tiff_decode.specs.Failures.{fault_in, failures}
+use Rattle.tiff_decode.specs.Machine.{Decoding}
 use Rattle.tiff_base.specs.Field.{Field}
 use Rattle.tiff_value.specs.Buffer.{BufferRecord}
 use Rattle.tiff_page.specs.declared.layout.BufferLayoutPreference.{BufferLayoutPreference}

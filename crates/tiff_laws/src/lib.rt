@@ -2,3 +2,4 @@
 #![tactic(auto)]
 
 pub mod decoder;
+pub mod page;

@@ -1,2 +1,3 @@
+pub mod Chunks
 pub mod Pages
 pub mod GeoKeys

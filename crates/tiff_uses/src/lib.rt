@@ -1,11 +1,13 @@
-//! Five uses of `tiff`, as a caller writes them.
+//! Six uses of `tiff`, as a caller writes them.
 #![tactic(auto)]
 
-ghost use Rattle.std.specs.Prelude.{◌≡◌, ◌≤◌, IfOk, Ok};
+ghost use Rattle.std.specs.Prelude.{◌≡◌, ◌≤◌, IfOk, Ok, OnOk};
 ghost use Rattle.tiff.specs.Answers.{Answers};
-ghost use Rattle.tiff.specs.Outcome.{begun};
+ghost use Rattle.tiff.specs.Machine.{Follows};
+ghost use Rattle.tiff.specs.Outcome.{begun, read_image_bytes};
 ghost use Rattle.tiff.specs.Result.{decoded_as};
 ghost use Rattle.tiff.specs.Shows.{ShowsGray};
+ghost use Rattle.tiff_uses.specs.Chunks.{IsImageOfChunks};
 ghost use Rattle.tiff_uses.specs.GeoKeys.{geo_key, key_value, value_in};
 ghost use Rattle.tiff_uses.specs.Pages.{AreSides, FileAnswers, first_image, page_chunk};
 
@@ -16,6 +18,7 @@ use tiff::encoder::TiffEncoder;
 use tiff::encoder::colortype::Gray8;
 use tiff::io::{MemorySink, MemorySource, Source};
 use tiff::tags::Tag;
+use tiff_laws::decoder::{image_is_its_chunks, read_where_chunks};
 
 /// The samples of a file's first page, or the first fault.
 pub fn first_image(alloc: Global, file: Vec<u8>) -> TiffResult<DecodingResult>
@@ -90,6 +93,18 @@ pub fn geo_key<R: Source>(decoder: &mut Decoder<R>, id: u16) -> TiffResult<Optio
 {
     let numbers = decoder.get_tag_u16_vec(Tag::GeoKeyDirectoryTag)?;
     Ok(value_of(&numbers, id))
+}
+
+/// Reads the image of the decoder's page into a slice, which is then made of the chunks of one plane at least, each as it is
+/// read alone; or answers the first fault. The decoder stays where it is, and nothing is asked of it.
+pub fn image_of_chunks<R: Source>(decoder: &mut Decoder<R>, buffer: &mut [u8]) -> TiffResult<()>
+    ensures answer { Follows (λ _. buffer.new) (read_image_bytes decoder.old buffer.old) result decoder.old decoder.new }
+    ensures made { OnOk result (IsImageOfChunks decoder.old buffer.old buffer.new) }
+{
+    decoder.has_sides();
+    read_where_chunks();
+    image_is_its_chunks();
+    decoder.read_image_bytes(buffer)
 }
 
 /// A file of one gray page, which shows the samples.

@@ -1,0 +1,15 @@
+-- A page that the tags tell has sides and samples (this project's).
+use Rattle.std.specs.Prelude.{◌≡◌, ◌<◌, Ok}
+use Rattle.tiff_ifd.specs.Look.{Look}
+use Rattle.tiff_page.specs.Page.{PageRecord}
+use Rattle.tiff_page.specs.Checks.{page_of}
+use Rattle.tiff_page.specs.Laws.{HasSides}
+
+-- a pixel has samples, of some bits
+pub record HasSamples (p : PageRecord) : Type 0 where
+  pub sampled : 0 < p.samples
+  pub deep : 0 < p.depth
+
+-- the page that the tags tell has sides, and its pixels have samples
+abbrev pub PageHasSides : Type 0
+PageHasSides = (look : Look) (p : PageRecord) → page_of look ≡ Ok p → HasSides p × HasSamples p
