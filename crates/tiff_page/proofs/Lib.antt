@@ -10,6 +10,7 @@ pub mod ChunkRows
 pub mod Units
 pub mod ChunkRead
 pub mod RowRead
+pub mod Bands
 pub mod Filling
 pub mod Rows
 pub mod RowLaws

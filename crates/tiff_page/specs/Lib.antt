@@ -16,5 +16,6 @@ pub mod Stored
 pub mod Handed
 pub mod Read
 pub mod Reading
+pub mod Together
 pub mod Laws
 pub mod Early

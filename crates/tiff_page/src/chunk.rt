@@ -1,22 +1,25 @@
 //! The rows of a chunk are read into a buffer.
 
-ghost use Rattle.std.specs.Prelude.{◌≡◌, ◌+◌, ◌-◌, ◌*◌, Ok, true, ◌<◌, ◌≤◌, ◌^◌, length, OnOk};
+ghost use Rattle.std.specs.Prelude.{◌≡◌, ℕ, List, ◌+◌, ◌-◌, ◌*◌, Ok, true, ◌<◌, ◌≤◌, ◌^◌, length, OnOk};
 ghost use Rattle.tiff_base.specs.Answers.{Answers, IsKept};
 ghost use Rattle.tiff_base.specs.declared.error.TiffError.TheVariants as tiff;
 ghost use Rattle.tiff_base.specs.declared.io.IoKind.TheVariants as io;
+ghost use Rattle.tiff_base.specs.declared.tags.ByteOrder.{ByteOrder};
 ghost use Rattle.tiff_page.specs.Layout.{row_bytes};
 ghost use Rattle.tiff_page.specs.PixelFault.{method_fault, unless};
-ghost use Rattle.tiff_page.specs.Pixels.{is_short, needs_whole_rows, stored_row_bytes};
+ghost use Rattle.tiff_page.specs.Pixels.{chunk_data, is_short, needs_whole_rows, stored_row_bytes};
 ghost use Rattle.tiff_page.specs.Place.{Writes, IsIn, in_rect, chunk_byte};
 ghost use Rattle.tiff_page.specs.Read.{IsRead};
 ghost use Rattle.tiff_page.specs.Reading.{RowRead, needed_of_row};
 ghost use Rattle.tiff_page.specs.Rect.{rect};
+ghost use Rattle.tiff_page.specs.Stored.{left_of};
 ghost use Rattle.tiff_page.specs.View as view;
 
-use crate::handed::{hand_row, hand_whole_row, needs_whole_rows, row_len, stored_row_bytes};
+use crate::handed::{hand_whole_row, needs_whole_rows, row_len, stored_row_bytes};
 use crate::layout::chunk_data_dimensions;
 use crate::page::Page;
 use crate::stored::Stored;
+use crate::together::{lies_together, read_handed, read_together};
 use std::alloc::Global;
 use tiff_base::color::ColorType;
 use tiff_base::error::TiffResult;
@@ -87,7 +90,6 @@ fn read_whole_row<R: Source>(
 }
 
 // Reads the next row of a chunk into a buffer, as it is handed out.
-#[tactic(auto, using(crate::proofs::RowRead::row_taken, crate::proofs::RowRead::row_cause))]
 fn read_row<R: Source>(
     source: &mut R,
     order: ByteOrder,
@@ -107,12 +109,7 @@ fn read_row<R: Source>(
     if needs_whole_rows(page, colour) {
         return read_whole_row(source, order, page, colour, width, place, room, out);
     }
-    let rest = match place.read(source, out) {
-        Ok(rest) => rest,
-        Err(fault) => return Err(fault),
-    };
-    hand_row(page, order, colour, out);
-    Ok(rest)
+    read_handed(source, order, page, colour, place, out)
 }
 
 // The bytes of a stored row that aren't read.
@@ -134,20 +131,35 @@ fn gap_behind(gap: u64, row: usize, rows: usize) -> u64
     if row + 1 < rows { gap } else { 0 }
 }
 
-// Reads the rows of a chunk.
-pub(crate) fn read_rows<R: Source>(
+// The front of the data of a chunk.
+fn front_of(page: &Page, index: u32) -> Stored
+    requires formed { method_fault page.now.method ≡ Ok tt }
+    requires listed { index < length page.now.offsets }
+    ensures { (file : List ℕ) (order : ByteOrder) → left_of file result ≡ chunk_data file order (view.page page.now) index }
+{
+    let chunk = index as usize;
+    Stored::new(
+        page.method,
+        page.offsets.as_slice()[chunk],
+        page.byte_counts.as_slice()[chunk],
+    )
+}
+
+// Reads the rows of a chunk one by one, from the front of its data on.
+fn read_each<R: Source>(
     alloc: Global,
     source: &mut R,
     order: ByteOrder,
     page: &Page,
     colour: ColorType,
     index: u32,
+    front: Stored,
     buf: &mut [u8],
     corner: Corner,
 ) -> TiffResult<()>
     requires read { IsRead (view.page page.now) colour }
-    requires formed { method_fault page.now.method ≡ Ok tt }
     requires listed { index < length page.now.offsets }
+    requires front { left_of (R.bytes source.old) front ≡ chunk_data (R.bytes source.old) order (view.page page.now) index }
     requires some { 0 < corner.stride }
     requires columns { corner.left + row_bytes (view.page page.now) colour (rect (view.page page.now) index).width ≤ corner.stride }
     requires rows { (corner.top + (rect (view.page page.now) index).height) * corner.stride ≤ length buf.old }
@@ -159,12 +171,7 @@ pub(crate) fn read_rows<R: Source>(
     let rows = height as usize;
     let len = row_len(page, colour, width);
     let gap = gap_of(page, colour, len);
-    let chunk = index as usize;
-    let mut place = Stored::new(
-        page.method,
-        page.offsets.as_slice()[chunk],
-        page.byte_counts.as_slice()[chunk],
-    );
+    let mut place = front;
     let mut room = RowRoom::new(alloc);
     for row in 0..rows {
         let at = (corner.top + row) * corner.stride + corner.left;
@@ -188,4 +195,36 @@ pub(crate) fn read_rows<R: Source>(
         };
     }
     Ok(())
+}
+
+// Reads the rows of a chunk.
+pub(crate) fn read_rows<R: Source>(
+    alloc: Global,
+    source: &mut R,
+    order: ByteOrder,
+    page: &Page,
+    colour: ColorType,
+    index: u32,
+    buf: &mut [u8],
+    corner: Corner,
+) -> TiffResult<()>
+    requires read { IsRead (view.page page.now) colour }
+    requires formed { method_fault page.now.method ≡ Ok tt }
+    requires listed { index < length page.now.offsets }
+    requires some { 0 < corner.stride }
+    requires columns { corner.left + row_bytes (view.page page.now) colour (rect (view.page page.now) index).width ≤ corner.stride }
+    requires rows { (corner.top + (rect (view.page page.now) index).height) * corner.stride ≤ length buf.old }
+    ensures kept { IsKept R.bytes R.failures source.old source.new }
+    ensures ok { OnOk result (Writes (IsIn corner.stride corner.top (rect (view.page page.now) index).height corner.left (row_bytes (view.page page.now) colour (rect (view.page page.now) index).width)) (in_rect (chunk_byte (R.bytes source.old) order (view.page page.now) colour index) corner.stride corner.top corner.left) buf.old buf.new) }
+    ensures answer { Answers (λ _. tt) result (unless (is_short (R.bytes source.old) order (view.page page.now) colour index) (tiff.IoError io.UnexpectedEof)) (R.failures source.old) (R.failures source.new) }
+{
+    let (width, _) = chunk_data_dimensions(page, index);
+    let len = row_len(page, colour, width);
+    let front = front_of(page, index);
+    if lies_together(page, colour, len, corner) {
+        return read_together(source, order, page, colour, index, front, buf, corner);
+    }
+    read_each(
+        alloc, source, order, page, colour, index, front, buf, corner,
+    )
 }

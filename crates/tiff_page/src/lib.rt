@@ -16,4 +16,5 @@ pub mod page;
 pub mod pixels;
 pub mod place;
 pub mod stored;
+mod together;
 pub mod undo;

@@ -6,7 +6,7 @@ use Rattle.tiff_page.specs.Reading.{needed_of_row}
 use Rattle.tiff_page.specs.Rect.{rect}
 use Rattle.tiff_page.specs.Stored.{left_of}
 use Rattle.tiff_page.specs.View as view
-use Rattle.tiff_page.proofs.chunk.read_rows.Given as goal
+use Rattle.tiff_page.proofs.chunk.read_each.Given as goal
 
 -- the rows so far are in the buffer, and the data hold them; the next one stands at the place
 abbrev pub invariant-loop-row : goal.invariant-loop-row

@@ -1,0 +1,279 @@
+-- Rows of a chunk that lie together are read many at once.
+use Rattle.std.proofs.Common.{◌≡◌, ℕ, ◌+◌, ◌-◌, ◌*◌, ◌/◌, ◌%◌, ◌^◌, ◌<◌, ◌≤◌, ◌⊎◌, true, false, List, take, drop, length, Err, refl, ap, sym, ◌∙◌, subst, inl, inr, ⊎_elim, arith, drop-drop, length-drop}
+use Rattle.std.specs.Prelude.{nat_lt, slice_index}
+use Rattle.std.proofs.lemmas.Bool.{cases_lt, lt-ltb, le-ltb}
+use Rattle.std.proofs.lemmas.List.{get_or-take, get_or-drop}
+use Rattle.std.proofs.lemmas.Nat.{div-add-mod', mod_below, div_below}
+use Rattle.std.proofs.Math.Nat.{mul-div_cancel, le-mul_of_pos_right, mul-le-mul_right, mul-add-div_right, mul-add-mod_self_right}
+use borrow.Rule.Slice.PartMut.{put_mid}
+use Rattle.tiff_base.specs.declared.color.ColorType.{ColorType}
+use Rattle.tiff_base.specs.declared.error.TiffError.{TiffError}
+use Rattle.tiff_base.specs.declared.error.TiffError.TheVariants.{IoError}
+use Rattle.tiff_base.specs.declared.io.IoKind.TheVariants.{UnexpectedEof}
+use Rattle.tiff_base.specs.declared.tags.ByteOrder.{ByteOrder}
+use Rattle.tiff_base.specs.declared.tags.Predictor.{Predictor}
+use Rattle.tiff_base.specs.declared.tags.Predictor.TheVariants as predictor
+use Rattle.tiff_base.specs.Number.{number}
+use Rattle.tiff_base.specs.Answers.{IsCause}
+use Rattle.tiff_base.proofs.Causes.{cause_along}
+use Rattle.tiff_page.specs.Page.{PageRecord}
+use Rattle.tiff_page.specs.Counts.{all_chunks}
+use Rattle.tiff_page.specs.Rect.{rect}
+use Rattle.tiff_page.specs.Layout.{row_bits, row_bytes, shown}
+use Rattle.tiff_page.specs.Laws.{HasSides}
+use Rattle.tiff_page.specs.PixelFault.{unless}
+use Rattle.tiff_page.specs.Pixels.{width_of, stored_samples, chunk_data, stored_row_bytes, is_byte_plane, needed_of_last, is_short}
+use Rattle.tiff_page.specs.Place.{Writes, IsIn, in_rect, chunk_byte}
+use Rattle.tiff_page.specs.Row.{row_number}
+use Rattle.tiff_page.specs.Handed.{IsStored, complemented, number_in, handed_byte}
+use Rattle.tiff_page.specs.Reading.{needed_of_row, TakesRow}
+use Rattle.tiff_page.specs.Stored.{IsTooShort}
+use Rattle.tiff_page.specs.Together.{LieTogether}
+use Rattle.tiff_page.proofs.ChunkRows.{row_handed, bits_are, number_in_row, none_dropped}
+use Rattle.tiff_page.proofs.Rects.{holds_put_mid, copied, writes_more, writes_as}
+use Rattle.tiff_page.proofs.Rows.{each_same}
+
+-- ---- what is handed out of one row of several
+
+-- the numbers of one row
+number_moved : (order : ByteOrder) (size len q n k : ℕ) (many one : List ℕ) → len ≡ n * size → k < n
+    → ((m : ℕ) → m < len → slice_index many (q * len + m) ≡ slice_index one m)
+    → row_number order size many (q * n + k) ≡ row_number order size one k
+number_moved order size len q n k many one e l same =
+    let a : (k + 1) * size ≤ n * size = mul-le-mul_right size (omega (arith, l)) in
+    let d : q * len ≡ q * (n * size) = ap (λ z. q * z) e in
+    ap (number order (width_of size))
+    (each_same size (λ j. slice_index many ((q * n + k) * size + j)) (λ j. slice_index one (k * size + j))
+    (λ j jl.
+    let x : (q * n + k) * size + j ≡ q * len + (k * size + j) = omega (arith, d) in
+    ap (λ z. slice_index many z) x ∙ same (k * size + j) (omega (arith, jl, a, e))))
+
+number_alone : (order : ByteOrder) (p : PageRecord) (many one : List ℕ) (pr : Predictor) (c d sample : ℕ) → pr ≡ predictor.None
+    → row_number order (p.depth / 8) many (c * stored_samples p + sample) ≡ row_number order (p.depth / 8) one (d * stored_samples p + sample)
+    → number_in order p many pr c sample ≡ number_in order p one pr d sample
+number_alone order p many one predictor.None c d sample e h = h
+number_alone order p many one predictor.Horizontal c d sample e h = cc
+number_alone order p many one predictor.FloatingPoint c d sample e h = cc
+
+-- rows of so many columns, of which the one after q others is alone
+module _ (order : ByteOrder) (p : PageRecord) (colour : ColorType) (w q b : ℕ) (many one : List ℕ) (stored : IsStored p colour) (all : stored_samples p ≤ shown p.planar colour) (alone : p.predictor ≡ predictor.None) (bl : b < row_bytes p colour w) (same : (m : ℕ) → m < row_bytes p colour w → slice_index many (q * row_bytes p colour w + m) ≡ slice_index one m) where
+  abbrev len : ℕ
+  len = row_bytes p colour w
+
+  abbrev s : ℕ
+  s = shown p.planar colour
+
+  abbrev t : ℕ
+  t = stored_samples p
+
+  abbrev size : ℕ
+  size = p.depth / 8
+
+  abbrev n : ℕ
+  n = b / size
+
+  module _ (big : 8 ≤ p.depth) (whole : p.depth ≡ size * 8) where
+    len_is : len ≡ w * s * size
+    unfolding row_bits
+    len_is = bits_are w p.depth size s whole
+
+    before : q * len ≡ q * (w * s) * size
+    before = ap (λ z. q * z) len_is ∙ omega arith
+
+    number_here : row_number order size many ((q * w + n / s) * t + n % s) ≡ row_number order size one (n / s * t + n % s)
+    number_here =
+        let sz : 0 < size = omega (arith, big) in
+        let f : t ≡ s = omega (arith, all, stored.stores) in
+        let nl : n < w * s = div_below b size (w * s) sz (omega (arith, bl, len_is)) in
+        let k : n / s * t + n % s + 1 ≤ w * t = number_in_row n s t w stored.shows stored.stores nl in
+        let e : len ≡ w * t * size = len_is ∙ ap (λ z. w * z * size) (sym f) in
+        let x : (q * w + n / s) * t + n % s ≡ q * (w * t) + (n / s * t + n % s) = omega arith in
+        ap (row_number order size many) x ∙ number_moved order size len q (w * t) (n / s * t + n % s) many one e (omega (arith, k)) same
+
+    whole_moved : complemented p.interpretation (2 ^ p.depth) (number_in order p many p.predictor ((q * len + b) / size / s) ((q * len + b) / size % s)) / 256 ^ ((q * len + b) % size) % 256
+        ≡ complemented p.interpretation (2 ^ p.depth) (number_in order p one p.predictor (n / s) (n % s)) / 256 ^ (b % size) % 256
+    whole_moved =
+        let sz : 0 < size = omega (arith, big) in
+        let x : (q * len + b) / size ≡ q * (w * s) + n = ap (λ z. (z + b) / size) before ∙ mul-add-div_right sz (q * (w * s)) b in
+        let m : (q * len + b) % size ≡ b % size = ap (λ z. (z + b) % size) before ∙ mul-add-mod_self_right (q * (w * s)) size b in
+        let y : q * (w * s) ≡ q * w * s = omega arith in
+        let c : (q * (w * s) + n) / s ≡ q * w + n / s = ap (λ z. (z + n) / s) y ∙ mul-add-div_right stored.shows (q * w) n in
+        let d : (q * (w * s) + n) % s ≡ n % s = ap (λ z. (z + n) % s) y ∙ mul-add-mod_self_right (q * w) s n in
+        (λ z. complemented p.interpretation (2 ^ p.depth) (number_in order p many p.predictor (x z / s) (x z % s)) / 256 ^ m z % 256)
+        ∙ (λ z. complemented p.interpretation (2 ^ p.depth) (number_in order p many p.predictor (c z) (d z)) / 256 ^ (b % size) % 256)
+        ∙ ap (λ v. complemented p.interpretation (2 ^ p.depth) v / 256 ^ (b % size) % 256) (number_alone order p many one p.predictor (q * w + n / s) (n / s) (n % s) alone number_here)
+
+  pub handed_moved : handed_byte order p many colour (q * len + b) ≡ handed_byte order p one colour b
+  handed_moved =
+      ⊎_elim
+      (λ (l : p.depth < 8).
+      let e : nat_lt p.depth 8 ≡ true = lt-ltb p.depth 8 l in
+      rw e (ap (complemented p.interpretation 256) (same b bl)))
+      (λ (g : 8 ≤ p.depth).
+      let e : nat_lt p.depth 8 ≡ false = le-ltb p.depth 8 g in
+      ⊎_elim
+      (λ (l : p.depth < 8). Prim.absurd (omega (arith, l, g)))
+      (λ (whole : p.depth ≡ p.depth / 8 * 8). rw e (whole_moved g whole))
+      stored.depth)
+      (cases_lt p.depth 8)
+
+-- several rows of whole bytes are of whole numbers
+pub band_of_numbers : (p : PageRecord) (colour : ColorType) (w q n : ℕ) → IsStored p colour → n ≡ q * row_bytes p colour w
+    → (p.depth < 8) ⊎ (n / (p.depth / 8) * (p.depth / 8) ≡ n)
+unfolding row_bits
+band_of_numbers p colour w q n stored e =
+    let size : ℕ = p.depth / 8 in
+    let s : ℕ = shown p.planar colour in
+    ⊎_elim
+    (λ (l : p.depth < 8). inl l)
+    (λ (whole : p.depth ≡ p.depth / 8 * 8).
+    let a : n ≡ q * (w * s) * size = e ∙ ap (λ z. q * z) (bits_are w p.depth size s whole) ∙ omega arith in
+    ⊎_elim
+    (λ (z : 0 < size). inr (ap (λ m. m / size * size) a ∙ ap (λ m. m * size) (mul-div_cancel (q * (w * s)) z) ∙ sym a))
+    (λ (z : size ≤ 0). inl (omega (arith, z, whole)))
+    (cases_lt 0 size))
+    stored.depth
+
+-- ---- where the rows go
+
+-- so many rows lie in the buffer
+pub rows_below : (top h stride size row n : ℕ) → 0 < stride → (top + h) * stride ≤ size → row + n ≤ h → (top + row + n ≤ size) × ((top + row) * stride + n * stride ≤ size)
+rows_below top h stride size row n s l r =
+    let e : top + h ≤ (top + h) * stride = le-mul_of_pos_right (top + h) s in
+    let m : (top + (row + n)) * stride ≤ (top + h) * stride = mul-le-mul_right stride (omega (arith, r)) in
+    let a : (top + (row + n)) * stride ≡ (top + row) * stride + n * stride = omega arith in
+    (omega (arith, e, l, r), omega (arith, m, a, l))
+
+-- so many more rows are written
+pub band_put : (value : ℕ → ℕ → ℕ) (stride top row n left len at size : ℕ) (out old mid : List ℕ) → 0 < stride → left ≡ 0 → stride ≡ len
+    → at ≡ (top + row) * stride → size ≡ n * stride → at + size ≤ length mid → length out ≡ size
+    → ((i : ℕ) → i < length out → slice_index out i ≡ value (row + i / stride) (i % stride))
+    → Writes (IsIn stride top row left len) (in_rect value stride top left) old mid
+    → Writes (IsIn stride top (row + n) left len) (in_rect value stride top left) old (put_mid at (at + size - at) mid out)
+band_put value stride top row n left len at size out old mid s l e f g room c v w =
+    let new : List ℕ = put_mid at (at + size - at) mid out in
+    let Q : ℕ → Type 0 = λ i. (at ≤ i) × (i < at + length out) in
+    let there : (i : ℕ) → at ≤ i → (i / stride ≡ top + row + (i - at) / stride) × (i % stride ≡ (i - at) % stride) =
+    λ i h.
+    let d : i ≡ (top + row) * stride + (i - at) = omega (arith, f, h) in
+    (ap (λ z. z / stride) d ∙ mul-add-div_right s (top + row) (i - at), ap (λ z. z % stride) d ∙ mul-add-mod_self_right (top + row) stride (i - at)) in
+    let end : (top + row + n) * stride ≡ at + length out = omega (arith, f, g, c) in
+    writes_more (IsIn stride top row left len) Q (IsIn stride top (row + n) left len) (in_rect value stride top left) old mid new
+    (λ i p. record { below = p.below; above = omega (arith, p.above); right = p.right; within = p.within })
+    (λ i q.
+    let t = there i q.0 in
+    let a : i / stride < top + row + n = div_below i stride (top + row + n) s (omega (arith, q.1, end)) in
+    let m : i % stride < stride = mod_below i stride s in
+    record { below = omega (arith, t.0); above = omega (arith, a); right = omega (arith, l); within = omega (arith, m, e, l) })
+    (λ i p. ⊎_elim
+    (λ (b : i / stride < top + row). inl (record { below = p.below; above = b; right = p.right; within = p.within }))
+    (λ (b : top + row ≤ i / stride).
+    let d : i / stride * stride + i % stride ≡ i = div-add-mod' i stride in
+    let m : i % stride < stride = mod_below i stride s in
+    let x : (top + row) * stride ≤ i / stride * stride = mul-le-mul_right stride b in
+    let y : (i / stride + 1) * stride ≤ (top + row + n) * stride = mul-le-mul_right stride (omega (arith, p.above)) in
+    inr (omega (arith, d, x, f), omega (arith, d, m, y, end)))
+    (cases_lt (i / stride) (top + row)))
+    w
+    (writes_as Q (λ i. slice_index out (i - at)) (in_rect value stride top left) mid new
+    (λ i q.
+    let t = there i q.0 in
+    let y : row + (i - at) / stride ≡ i / stride - top = omega (arith, t.0) in
+    let x : (i - at) % stride ≡ i % stride - left = omega (arith, t.1, l) in
+    v (i - at) (omega (arith, q.0, q.1)) ∙ (λ z. value (y z) (x z)))
+    (copied mid out new at (omega (arith, c, room)) (holds_put_mid mid out at size c)))
+
+-- ---- the rows of a chunk
+
+module _ (file : List ℕ) (order : ByteOrder) (p : PageRecord) (colour : ColorType) (k left stride : ℕ) (sides : HasSides p) (stored : IsStored p colour) (listed : k < all_chunks p) (together : LieTogether p colour (row_bytes p colour (rect p k).width) left stride) where
+  abbrev h : ℕ
+  h = (rect p k).height
+
+  abbrev bytes : List ℕ
+  bytes = chunk_data file order p k
+
+  needed_last : needed_of_last file order p colour k ≡ row_bytes p colour (rect p k).width
+  needed_last = rw together.shown refl
+
+  needed_here : (m : ℕ) → needed_of_row p colour m ≡ m
+  needed_here m = rw together.shown refl
+
+  one_row : (row q m n : ℕ) → m < row_bytes p colour (rect p k).width → q * row_bytes p colour (rect p k).width + m < n
+      → slice_index (take n (drop (row * row_bytes p colour (rect p k).width) bytes)) (q * row_bytes p colour (rect p k).width + m)
+      ≡ slice_index (take (row_bytes p colour (rect p k).width) (drop ((row + q) * row_bytes p colour (rect p k).width) bytes)) m
+  one_row row q m n a b =
+      let len : ℕ = row_bytes p colour (rect p k).width in
+      let e : row * len + (q * len + m) ≡ (row + q) * len + m = omega arith in
+      get_or-take n (drop (row * len) bytes) (q * len + m) 0 b
+      ∙ get_or-drop (row * len) bytes (q * len + m) 0
+      ∙ ap (λ z. slice_index bytes z) e
+      ∙ sym (get_or-take len (drop ((row + q) * len) bytes) m 0 a ∙ get_or-drop ((row + q) * len) bytes m 0)
+
+  -- the bytes of several rows that were read are those of the chunk's rows
+  pub band_bytes_are : (row n i : ℕ) (ahead rest out : List ℕ) → 0 < stride → row + n ≤ h → length out ≡ n * stride → ahead ≡ drop (row * stride) bytes
+      → TakesRow order p colour ahead rest out → i < length out
+      → slice_index out i ≡ chunk_byte file order p colour k (row + i / stride) (i % stride)
+  band_bytes_are row n i ahead rest out s rl c d t il =
+      let len : ℕ = row_bytes p colour (rect p k).width in
+      let q : ℕ = i / stride in
+      let b : ℕ = i % stride in
+      let e : stride ≡ len = together.in_buffer in
+      let ql : q < n = div_below i stride n s (omega (arith, il, c)) in
+      let bl : b < len = omega (arith, mod_below i stride s, e) in
+      let u : q * stride ≡ q * len = ap (λ z. q * z) e in
+      let v : q * len + b ≡ i = omega (arith, div-add-mod' i stride, u) in
+      let from : ahead ≡ drop (row * len) bytes = d ∙ ap (λ z. drop (row * z) bytes) e in
+      let count : needed_of_row p colour (length out) ≡ length out = needed_here (length out) in
+      let top : (q + 1) * len ≤ n * len = mul-le-mul_right len (omega (arith, ql)) in
+      let size : length out ≡ n * len = c ∙ ap (λ z. n * z) e in
+      t.handed i il
+      ∙ (λ z. handed_byte order p (take (count z) (from z)) colour (sym v z))
+      ∙ handed_moved order p colour (rect p k).width q b (take (length out) (drop (row * len) bytes)) (take len (drop ((row + q) * len) bytes)) stored
+      (none_dropped (is_byte_plane p.predictor) (shown p.planar colour) (stored_samples p) together.shown) together.alone bl
+      (λ m ml. one_row row q m (length out) ml (omega (arith, ml, top, size)))
+      ∙ (λ z. handed_byte order p (take (sym needed_last z) (drop ((row + q) * sym together.in_data z) bytes)) colour b)
+      ∙ sym (row_handed file order p colour k (row + q) b sides stored listed (omega (arith, ql, rl)) bl)
+
+  -- the data hold the rows so far
+  pub band_held : (row n : ℕ) (ahead rest out : List ℕ) → 0 < stride → 0 < n → length out ≡ n * stride → ahead ≡ drop (row * stride) bytes
+      → TakesRow order p colour ahead rest out → (row + n) * stride ≤ length bytes
+  band_held row n ahead rest out s some c d t =
+      let a : length out ≤ length ahead = subst (λ (m : ℕ). m ≤ length ahead) (needed_here (length out)) t.enough in
+      let f : length ahead ≡ length bytes - row * stride = ap (λ (z : List ℕ). length z) d ∙ length-drop (row * stride) bytes in
+      let x : 1 * stride ≤ n * stride = mul-le-mul_right stride some in
+      let y : (row + n) * stride ≡ row * stride + n * stride = omega arith in
+      omega (arith, a, f, c, s, x, y)
+
+  -- where the next row stands
+  pub next_band : (row n : ℕ) (ahead rest out : List ℕ) → length out ≡ n * stride → ahead ≡ drop (row * stride) bytes
+      → TakesRow order p colour ahead rest out → rest ≡ drop ((row + n) * stride) bytes
+  next_band row n ahead rest out c d t =
+      let e : needed_of_row p colour (length out) ≡ n * stride = needed_here (length out) ∙ c in
+      t.behind
+      ∙ (λ z. drop (e z) (d z))
+      ∙ drop-drop (n * stride) (row * stride) bytes
+      ∙ ap (λ (m : ℕ). drop m bytes) (omega arith)
+
+  rows_needed : 0 < h → (h - 1) * stored_row_bytes p + needed_of_last file order p colour k ≡ h * stride
+  rows_needed some =
+      let a : stored_row_bytes p ≡ stride = together.in_data ∙ sym together.in_buffer in
+      let b : needed_of_last file order p colour k ≡ stride = needed_last ∙ sym together.in_buffer in
+      let c : h - 1 + 1 ≡ h = omega (arith, some) in
+      let d : (h - 1) * stride + stride ≡ (h - 1 + 1) * stride = omega arith in
+      (λ z. (h - 1) * a z + b z) ∙ d ∙ ap (λ m. m * stride) c
+
+  -- too few bytes for rows are too few for the chunk
+  pub short_band : (failed failed' : Type 0) (row n : ℕ) (ahead out : List ℕ) (e : TiffError) → (failed → failed') → 0 < h → row + n ≤ h → length out ≡ n * stride
+      → ahead ≡ drop (row * stride) bytes → IsCause (Unit {0}) failed e (IsTooShort ahead (needed_of_row p colour (length out)) e)
+      → IsCause (Unit {0}) failed' e (unless (is_short file order p colour k) (IoError UnexpectedEof) ≡ Err e)
+  short_band failed failed' row n ahead out e f some rl c d q =
+      cause_along e (λ w. w) f
+      (λ t.
+      let l : length ahead < length out = subst (λ (m : ℕ). length ahead < m) (needed_here (length out)) t.short in
+      let g : length ahead ≡ length bytes - row * stride = ap (λ (z : List ℕ). length z) d ∙ length-drop (row * stride) bytes in
+      let y : (row + n) * stride ≡ row * stride + n * stride = omega arith in
+      let m : (row + n) * stride ≤ h * stride = mul-le-mul_right stride rl in
+      let u = rows_needed some in
+      let s : is_short file order p colour k ≡ true = lt-ltb (length bytes) ((h - 1) * stored_row_bytes p + needed_of_last file order p colour k) (omega (arith, l, g, c, y, m, u)) in
+      rw (s, t.fault) refl)
+      q

@@ -1,0 +1,27 @@
+use Rattle.std.proofs.Common.{◌≡◌, ◌-◌, ◌*◌, ◌≤◌, length, drop}
+use Rattle.tiff_page.specs.Layout.{row_bytes}
+use Rattle.tiff_page.specs.Pixels.{chunk_data}
+use Rattle.tiff_page.specs.Place.{Writes, IsIn, in_rect, chunk_byte}
+use Rattle.tiff_page.specs.Rect.{rect}
+use Rattle.tiff_page.specs.Stored.{left_of}
+use Rattle.tiff_page.specs.View as view
+use Rattle.tiff_page.proofs.together.read_together.Given as goal
+
+-- the rows so far are in the buffer, and the data hold them; the next one stands at the place
+abbrev pub invariant-loop-row : goal.invariant-loop-row
+invariant-loop-row g l =
+    let bytes = g.R.Source.bytes l.fn.source in
+    let p = view.page l.page in
+    let stored = chunk_data bytes l.order p l.index in
+    let corner = l.corner in
+    record {
+      within : l.row ≤ (rect p l.index).height;
+      same_bytes : g.R.Source.bytes l.source ≡ bytes;
+      count : g.R.Source.failures l.fn.source ≤ g.R.Source.failures l.source;
+      place : left_of bytes l.place ≡ drop (l.row * corner.stride) stored;
+      enough : l.row * corner.stride ≤ length stored;
+      written : Writes (IsIn corner.stride corner.top l.row corner.left (row_bytes p l.colour (rect p l.index).width)) (in_rect (chunk_byte bytes l.order p l.colour l.index) corner.stride corner.top corner.left) l.fn.buf l.buf;
+    }
+
+abbrev pub decreases-loop-row : goal.decreases-loop-row
+decreases-loop-row g l = l.rows - l.row
