@@ -18,3 +18,5 @@ pub mod Read
 pub mod Reading
 pub mod Laws
 pub mod Early
+pub mod NumberBytes
+pub mod Samples

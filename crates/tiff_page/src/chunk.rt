@@ -17,6 +17,7 @@ use crate::handed::{hand_row, hand_whole_row, needs_whole_rows, row_len, stored_
 use crate::layout::chunk_data_dimensions;
 use crate::page::Page;
 use crate::stored::Stored;
+use crate::writer::RowWriter;
 use std::alloc::Global;
 use tiff_base::color::ColorType;
 use tiff_base::error::TiffResult;
@@ -31,9 +32,9 @@ pub struct Corner {
     pub stride: usize,
 }
 
-// Rooms for a whole stored row, and for its bytes before its byte planes are joined.
+/// Rooms for a whole stored row, and for its bytes before its byte planes are joined.
 #[derive(Drop)]
-struct RowRoom {
+pub struct RowRoom {
     row: Vec<u8>,
     planes: Vec<u8>,
 }
@@ -86,9 +87,9 @@ fn read_whole_row<R: Source>(
     Ok(rest)
 }
 
-// Reads the next row of a chunk into a buffer, as it is handed out.
+/// Reads the next row of a chunk into a buffer, as it is handed out.
 #[tactic(auto, using(crate::proofs::RowRead::row_taken, crate::proofs::RowRead::row_cause))]
-fn read_row<R: Source>(
+pub fn read_row<R: Source>(
     source: &mut R,
     order: ByteOrder,
     page: &Page,
@@ -134,15 +135,16 @@ fn gap_behind(gap: u64, row: usize, rows: usize) -> u64
     if row + 1 < rows { gap } else { 0 }
 }
 
-// Reads the rows of a chunk.
-pub(crate) fn read_rows<R: Source>(
+// Reads the rows of a chunk into the bytes of a list.
+pub(crate) fn read_rows<R: Source, T, W: RowWriter<T>>(
     alloc: Global,
     source: &mut R,
     order: ByteOrder,
     page: &Page,
     colour: ColorType,
     index: u32,
-    buf: &mut [u8],
+    writer: &mut W,
+    buf: &mut [T],
     corner: Corner,
 ) -> TiffResult<()>
     requires read { IsRead (view.page page.now) colour }
@@ -150,9 +152,10 @@ pub(crate) fn read_rows<R: Source>(
     requires listed { index < length page.now.offsets }
     requires some { 0 < corner.stride }
     requires columns { corner.left + row_bytes (view.page page.now) colour (rect (view.page page.now) index).width ≤ corner.stride }
-    requires rows { (corner.top + (rect (view.page page.now) index).height) * corner.stride ≤ length buf.old }
+    requires rows { (corner.top + (rect (view.page page.now) index).height) * corner.stride ≤ length (W.bytes buf.old) }
+    requires few { (corner.top + (rect (view.page page.now) index).height) * corner.stride < 2 ^ 64 }
     ensures kept { IsKept R.bytes R.failures source.old source.new }
-    ensures ok { OnOk result (Writes (IsIn corner.stride corner.top (rect (view.page page.now) index).height corner.left (row_bytes (view.page page.now) colour (rect (view.page page.now) index).width)) (in_rect (chunk_byte (R.bytes source.old) order (view.page page.now) colour index) corner.stride corner.top corner.left) buf.old buf.new) }
+    ensures ok { OnOk result (Writes (IsIn corner.stride corner.top (rect (view.page page.now) index).height corner.left (row_bytes (view.page page.now) colour (rect (view.page page.now) index).width)) (in_rect (chunk_byte (R.bytes source.old) order (view.page page.now) colour index) corner.stride corner.top corner.left) (W.bytes buf.old) (W.bytes buf.new)) }
     ensures answer { Answers (λ _. tt) result (unless (is_short (R.bytes source.old) order (view.page page.now) colour index) (tiff.IoError io.UnexpectedEof)) (R.failures source.old) (R.failures source.new) }
 {
     let (width, height) = chunk_data_dimensions(page, index);
@@ -168,15 +171,8 @@ pub(crate) fn read_rows<R: Source>(
     let mut room = RowRoom::new(alloc);
     for row in 0..rows {
         let at = (corner.top + row) * corner.stride + corner.left;
-        let rest = match read_row(
-            source,
-            order,
-            page,
-            colour,
-            width,
-            place,
-            &mut room,
-            &mut buf[at..at + len],
+        let rest = match writer.read_row(
+            source, order, page, colour, width, place, &mut room, buf, at, len,
         ) {
             Ok(rest) => rest,
             Err(fault) => return Err(fault),
