@@ -5,7 +5,6 @@ use Rattle.std.proofs.lemmas.Bool.{cases_lt, lt-ltb, le-ltb}
 use Rattle.std.proofs.lemmas.List.{get_or-take, get_or-drop}
 use Rattle.std.proofs.lemmas.Nat.{div-add-mod', mod_below, div_below}
 use Rattle.std.proofs.Math.Nat.{mul-div_cancel, le-mul_of_pos_right, mul-le-mul_right, mul-add-div_right, mul-add-mod_self_right}
-use borrow.Rule.Slice.PartMut.{put_mid}
 use Rattle.tiff_base.specs.declared.color.ColorType.{ColorType}
 use Rattle.tiff_base.specs.declared.error.TiffError.{TiffError}
 use Rattle.tiff_base.specs.declared.error.TiffError.TheVariants.{IoError}
@@ -16,6 +15,7 @@ use Rattle.tiff_base.specs.declared.tags.Predictor.TheVariants as predictor
 use Rattle.tiff_base.specs.Number.{number}
 use Rattle.tiff_base.specs.Answers.{IsCause}
 use Rattle.tiff_base.proofs.Causes.{cause_along}
+use Rattle.tiff_page.specs.NumberBytes.{IsPut}
 use Rattle.tiff_page.specs.Page.{PageRecord}
 use Rattle.tiff_page.specs.Counts.{all_chunks}
 use Rattle.tiff_page.specs.Rect.{rect}
@@ -144,20 +144,20 @@ rows_below top h stride size row n s l r =
     let a : (top + (row + n)) * stride ≡ (top + row) * stride + n * stride = omega arith in
     (omega (arith, e, l, r), omega (arith, m, a, l))
 
--- so many more rows are written
-pub band_put : (value : ℕ → ℕ → ℕ) (stride top row n left len at size : ℕ) (out old mid : List ℕ) → 0 < stride → left ≡ 0 → stride ≡ len
-    → at ≡ (top + row) * stride → size ≡ n * stride → at + size ≤ length mid → length out ≡ size
+-- so many more rows are put
+pub band_put : (value : ℕ → ℕ → ℕ) (stride top row n left len at : ℕ) (out old mid new : List ℕ) → 0 < stride → left ≡ 0 → stride ≡ len
+    → at ≡ (top + row) * stride → length out ≡ n * stride
     → ((i : ℕ) → i < length out → slice_index out i ≡ value (row + i / stride) (i % stride))
     → Writes (IsIn stride top row left len) (in_rect value stride top left) old mid
-    → Writes (IsIn stride top (row + n) left len) (in_rect value stride top left) old (put_mid at (at + size - at) mid out)
-band_put value stride top row n left len at size out old mid s l e f g room c v w =
-    let new : List ℕ = put_mid at (at + size - at) mid out in
+    → IsPut at out mid new
+    → Writes (IsIn stride top (row + n) left len) (in_rect value stride top left) old new
+band_put value stride top row n left len at out old mid new s l e f c v w put =
     let Q : ℕ → Type 0 = λ i. (at ≤ i) × (i < at + length out) in
     let there : (i : ℕ) → at ≤ i → (i / stride ≡ top + row + (i - at) / stride) × (i % stride ≡ (i - at) % stride) =
     λ i h.
     let d : i ≡ (top + row) * stride + (i - at) = omega (arith, f, h) in
     (ap (λ z. z / stride) d ∙ mul-add-div_right s (top + row) (i - at), ap (λ z. z % stride) d ∙ mul-add-mod_self_right (top + row) stride (i - at)) in
-    let end : (top + row + n) * stride ≡ at + length out = omega (arith, f, g, c) in
+    let end : (top + row + n) * stride ≡ at + length out = omega (arith, f, c) in
     writes_more (IsIn stride top row left len) Q (IsIn stride top (row + n) left len) (in_rect value stride top left) old mid new
     (λ i p. record { below = p.below; above = omega (arith, p.above); right = p.right; within = p.within })
     (λ i q.
@@ -181,7 +181,7 @@ band_put value stride top row n left len at size out old mid s l e f g room c v 
     let y : row + (i - at) / stride ≡ i / stride - top = omega (arith, t.0) in
     let x : (i - at) % stride ≡ i % stride - left = omega (arith, t.1, l) in
     v (i - at) (omega (arith, q.0, q.1)) ∙ (λ z. value (y z) (x z)))
-    (copied mid out new at (omega (arith, c, room)) (holds_put_mid mid out at size c)))
+    put)
 
 -- ---- the rows of a chunk
 
@@ -263,17 +263,17 @@ module _ (file : List ℕ) (order : ByteOrder) (p : PageRecord) (colour : ColorT
       (λ z. (h - 1) * a z + b z) ∙ d ∙ ap (λ m. m * stride) c
 
   -- too few bytes for rows are too few for the chunk
-  pub short_band : (failed failed' : Type 0) (row n : ℕ) (ahead out : List ℕ) (e : TiffError) → (failed → failed') → 0 < h → row + n ≤ h → length out ≡ n * stride
-      → ahead ≡ drop (row * stride) bytes → IsCause (Unit {0}) failed e (IsTooShort ahead (needed_of_row p colour (length out)) e)
+  pub short_band : (failed failed' : Type 0) (row n m : ℕ) (ahead : List ℕ) (e : TiffError) → (failed → failed') → 0 < h → row + n ≤ h → m ≡ n * stride
+      → ahead ≡ drop (row * stride) bytes → IsCause (Unit {0}) failed e (IsTooShort ahead (needed_of_row p colour m) e)
       → IsCause (Unit {0}) failed' e (unless (is_short file order p colour k) (IoError UnexpectedEof) ≡ Err e)
-  short_band failed failed' row n ahead out e f some rl c d q =
+  short_band failed failed' row n m ahead e f some rl c d q =
       cause_along e (λ w. w) f
       (λ t.
-      let l : length ahead < length out = subst (λ (m : ℕ). length ahead < m) (needed_here (length out)) t.short in
+      let l : length ahead < m = subst (λ (z : ℕ). length ahead < z) (needed_here m) t.short in
       let g : length ahead ≡ length bytes - row * stride = ap (λ (z : List ℕ). length z) d ∙ length-drop (row * stride) bytes in
       let y : (row + n) * stride ≡ row * stride + n * stride = omega arith in
-      let m : (row + n) * stride ≤ h * stride = mul-le-mul_right stride rl in
+      let x : (row + n) * stride ≤ h * stride = mul-le-mul_right stride rl in
       let u = rows_needed some in
-      let s : is_short file order p colour k ≡ true = lt-ltb (length bytes) ((h - 1) * stored_row_bytes p + needed_of_last file order p colour k) (omega (arith, l, g, c, y, m, u)) in
+      let s : is_short file order p colour k ≡ true = lt-ltb (length bytes) ((h - 1) * stored_row_bytes p + needed_of_last file order p colour k) (omega (arith, l, g, c, y, x, u)) in
       rw (s, t.fault) refl)
       q

@@ -96,12 +96,12 @@ module _ (file : List ℕ) (order : ByteOrder) (p : PageRecord) (colour : ColorT
       let m : r * stored_row_bytes p ≤ (h - 1) * stored_row_bytes p = mul-le-mul_right (stored_row_bytes p) (omega (arith, rl)) in
       lt-ltb (length bytes) ((h - 1) * stored_row_bytes p + need) (omega (arith, f, m, l))
 
-  pub too_short : (failed failed' : Type 0) (r : ℕ) (left out : List ℕ) (e : TiffError) → (failed → failed') → r < h → length out ≡ len → left ≡ drop (r * stored_row_bytes p) bytes
-      → IsCause (Unit {0}) failed e (IsTooShort left (needed_of_row p colour (length out)) e)
+  pub too_short : (failed failed' : Type 0) (r n : ℕ) (left : List ℕ) (e : TiffError) → (failed → failed') → r < h → n ≡ len → left ≡ drop (r * stored_row_bytes p) bytes
+      → IsCause (Unit {0}) failed e (IsTooShort left (needed_of_row p colour n) e)
       → IsCause (Unit {0}) failed' e (unless (is_short file order p colour k) (IoError UnexpectedEof) ≡ Err e)
-  too_short failed failed' r left out e f rl n d c =
+  too_short failed failed' r n left e f rl q d c =
       cause_along e (λ w. w) f
       (λ t.
-      let s : is_short file order p colour k ≡ true = short_row r left rl d (subst (λ (m : ℕ). length left < needed_of_row p colour m) n t.short) in
+      let s : is_short file order p colour k ≡ true = short_row r left rl d (subst (λ (m : ℕ). length left < needed_of_row p colour m) q t.short) in
       rw (s, t.fault) refl)
       c

@@ -18,4 +18,7 @@ pub mod Reading
 pub mod Handing
 pub mod PixelSteps
 pub mod Cut
+pub mod NumberBytes
+pub mod Placed
+pub mod Portions
 mod Sums

@@ -92,12 +92,13 @@ of_row stride top r left len at i e q l h =
     let f : i / stride * stride ≡ (top + r) * stride = ap (λ z. z * stride) q in
     (omega (arith, e, l, d, f), omega (arith, e, h, d, f))
 
--- one more row of a rectangle is written
-pub row_written : (value : ℕ → ℕ → ℕ) (stride top r left len at : ℕ) (bytes old mid new : List ℕ) → left + len ≤ stride → at ≡ (top + r) * stride + left
-    → length bytes ≡ len → ((k : ℕ) → k < len → get_or bytes k 0 ≡ value r k) → at + len ≤ length mid
-    → Writes (IsIn stride top r left len) (in_rect value stride top left) old mid → Holds mid at bytes new
+-- one more row of a rectangle is put
+pub row_put_there : (value : ℕ → ℕ → ℕ) (stride top r left len at : ℕ) (bytes old mid new : List ℕ) → left + len ≤ stride → at ≡ (top + r) * stride + left
+    → length bytes ≡ len → ((k : ℕ) → k < len → get_or bytes k 0 ≡ value r k)
+    → Writes (IsIn stride top r left len) (in_rect value stride top left) old mid
+    → Writes (λ i. (at ≤ i) × (i < at + length bytes)) (λ i. get_or bytes (i - at) 0) mid new
     → Writes (IsIn stride top (r + 1) left len) (in_rect value stride top left) old new
-row_written value stride top r left len at bytes old mid new b e n v f w h =
+row_put_there value stride top r left len at bytes old mid new b e n v w h =
     let Q : ℕ → Type 0 = λ i. (at ≤ i) × (i < at + length bytes) in
     let to : (i : ℕ) → Q i → (i / stride ≡ top + r) × (i % stride ≡ left + (i - at)) = λ i q. in_row stride top r left len at i b e q.0 (omega (arith, q.1, n)) in
     writes_more (IsIn stride top r left len) Q (IsIn stride top (r + 1) left len) (in_rect value stride top left) old mid new
@@ -119,7 +120,15 @@ row_written value stride top r left len at bytes old mid new b e n v f w h =
     let y : i / stride - top ≡ r = omega (arith, t.0) in
     let x : i % stride - left ≡ i - at = omega (arith, t.1) in
     v (i - at) (omega (arith, q.0, q.1, n)) ∙ sym (ap (λ z. value z (i % stride - left)) y ∙ ap (λ z. value r z) x))
-    (copied mid bytes new at (omega (arith, n, f)) h))
+    h)
+
+-- one more row of a rectangle is written
+pub row_written : (value : ℕ → ℕ → ℕ) (stride top r left len at : ℕ) (bytes old mid new : List ℕ) → left + len ≤ stride → at ≡ (top + r) * stride + left
+    → length bytes ≡ len → ((k : ℕ) → k < len → get_or bytes k 0 ≡ value r k) → at + len ≤ length mid
+    → Writes (IsIn stride top r left len) (in_rect value stride top left) old mid → Holds mid at bytes new
+    → Writes (IsIn stride top (r + 1) left len) (in_rect value stride top left) old new
+row_written value stride top r left len at bytes old mid new b e n v f w h =
+    row_put_there value stride top r left len at bytes old mid new b e n v w (copied mid bytes new at (omega (arith, n, f)) h)
 
 -- no row is written yet
 pub no_row : (value : ℕ → ℕ → ℕ) (stride top left len : ℕ) (old : List ℕ) → Writes (IsIn stride top 0 left len) (in_rect value stride top left) old old

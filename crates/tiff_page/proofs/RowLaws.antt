@@ -77,7 +77,7 @@ complements_invert size old new k z b e w =
     let c : digits f size + digits g size + 1 ≡ 256 ^ size = complemented f g size (λ j h. e (k * size + j) (omega (arith, h, w))) (λ j. b (k * size + j)) in
     little_digits size f z ∙ omega (arith, c) ∙ sym (ap (λ (m : ℕ). 256 ^ size - 1 - m) (little_digits size g z))
 
-power_pos : (n : ℕ) → 0 < 256 ^ n
+pub power_pos : (n : ℕ) → 0 < 256 ^ n
 power_pos zero = omega arith
 power_pos (suc n) = omega (arith, power_pos n, pow-suc 256 n)
 

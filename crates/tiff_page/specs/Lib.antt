@@ -19,3 +19,5 @@ pub mod Reading
 pub mod Together
 pub mod Laws
 pub mod Early
+pub mod NumberBytes
+pub mod Samples

@@ -5,6 +5,7 @@ use Rattle.tiff_base.specs.declared.error.TiffError.{TiffError}
 use Rattle.tiff_base.specs.declared.tags.ByteOrder.{ByteOrder}
 use Rattle.tiff_base.specs.Answers.{IsCause}
 use Rattle.tiff_page.specs.declared.stored.Stored.{Stored}
+use Rattle.tiff_page.specs.NumberBytes.{IsPut}
 use Rattle.tiff_page.specs.Page.{PageRecord}
 use Rattle.tiff_page.specs.Pixels.{stored_row_bytes, needs_whole_rows}
 use Rattle.tiff_page.specs.Handed.{handed_byte}
@@ -25,3 +26,15 @@ pub record TakesRow (order : ByteOrder) (p : PageRecord) (colour : ColorType) (l
 abbrev pub RowRead : List ℕ → ByteOrder → PageRecord → ColorType → Stored → Type 0 → Type 0 → List ℕ → Result Stored TiffError → Type 0
 RowRead file order p colour place wanting failed out (Ok rest) = TakesRow order p colour (left_of file place) (left_of file rest) out
 RowRead file order p colour place wanting failed out (Err e) = IsCause wanting failed e (IsTooShort (left_of file place) (needed_of_row p colour (length out)) e)
+
+-- A row was read and handed out, and its bytes were put at a place of those of a list.
+pub record PutsRow (order : ByteOrder) (p : PageRecord) (colour : ColorType) (left rest : List ℕ) (at len : ℕ) (old new : List ℕ) : Type 0 where
+  pub row : List ℕ
+  pub all : length row ≡ len
+  pub takes : TakesRow order p colour left rest row
+  pub put : IsPut at row old new
+
+-- the answer of a call that reads a row of so many bytes into a list
+abbrev pub RowPut : List ℕ → ByteOrder → PageRecord → ColorType → Stored → Type 0 → ℕ → ℕ → List ℕ → List ℕ → Result Stored TiffError → Type 0
+RowPut file order p colour place failed at len old new (Ok rest) = PutsRow order p colour (left_of file place) (left_of file rest) at len old new
+RowPut file order p colour place failed at len old new (Err e) = IsCause (Unit {0}) failed e (IsTooShort (left_of file place) (needed_of_row p colour len) e)

@@ -1,6 +1,6 @@
 //! The rows of a chunk are read into a buffer.
 
-ghost use Rattle.std.specs.Prelude.{◌≡◌, ℕ, List, ◌+◌, ◌-◌, ◌*◌, Ok, true, ◌<◌, ◌≤◌, ◌^◌, length, OnOk};
+ghost use Rattle.std.specs.Prelude.{◌≡◌, ℕ, List, ◌+◌, ◌-◌, ◌*◌, Ok, true, ◌<◌, ◌≤◌, ◌^◌, length, false, ◌/◌, ◌⊎◌, OnOk};
 ghost use Rattle.tiff_base.specs.Answers.{Answers, IsKept};
 ghost use Rattle.tiff_base.specs.declared.error.TiffError.TheVariants as tiff;
 ghost use Rattle.tiff_base.specs.declared.io.IoKind.TheVariants as io;
@@ -15,11 +15,12 @@ ghost use Rattle.tiff_page.specs.Rect.{rect};
 ghost use Rattle.tiff_page.specs.Stored.{left_of};
 ghost use Rattle.tiff_page.specs.View as view;
 
-use crate::handed::{hand_whole_row, needs_whole_rows, row_len, stored_row_bytes};
+use crate::handed::{hand_row, hand_whole_row, needs_whole_rows, row_len, stored_row_bytes};
 use crate::layout::chunk_data_dimensions;
 use crate::page::Page;
 use crate::stored::Stored;
-use crate::together::{lies_together, read_handed, read_together};
+use crate::together::{lies_together, read_together};
+use crate::writer::RowWriter;
 use std::alloc::Global;
 use tiff_base::color::ColorType;
 use tiff_base::error::TiffResult;
@@ -34,9 +35,9 @@ pub struct Corner {
     pub stride: usize,
 }
 
-// Rooms for a whole stored row, and for its bytes before its byte planes are joined.
+/// Rooms for a whole stored row, and for its bytes before its byte planes are joined.
 #[derive(Drop)]
-struct RowRoom {
+pub struct RowRoom {
     row: Vec<u8>,
     planes: Vec<u8>,
 }
@@ -89,8 +90,32 @@ fn read_whole_row<R: Source>(
     Ok(rest)
 }
 
-// Reads the next row of a chunk into a buffer, as it is handed out.
-fn read_row<R: Source>(
+/// Reads the next bytes of a chunk into a buffer, as they are handed out, where no whole rows have to be read for them.
+#[tactic(auto, using(crate::proofs::RowRead::row_taken, crate::proofs::RowRead::row_cause))]
+pub fn read_handed<R: Source>(
+    source: &mut R,
+    order: ByteOrder,
+    page: &Page,
+    colour: ColorType,
+    place: Stored,
+    out: &mut [u8],
+) -> TiffResult<Stored>
+    requires read { IsRead (view.page page.now) colour }
+    requires in_place { needs_whole_rows (view.page page.now) colour ≡ false }
+    requires whole { (page.now.depth < 8) ⊎ (length out.old / (page.now.depth / 8) * (page.now.depth / 8) ≡ length out.old) }
+    ensures kept { IsKept R.bytes R.failures source.old source.new }
+    ensures row { RowRead (R.bytes source.old) order (view.page page.now) colour place (Unit {0}) (R.failures source.old < R.failures source.new) out.new result }
+{
+    let rest = match place.read(source, out) {
+        Ok(rest) => rest,
+        Err(fault) => return Err(fault),
+    };
+    hand_row(page, order, colour, out);
+    Ok(rest)
+}
+
+/// Reads the next row of a chunk into a buffer, as it is handed out.
+pub fn read_row<R: Source>(
     source: &mut R,
     order: ByteOrder,
     page: &Page,
@@ -146,7 +171,7 @@ fn front_of(page: &Page, index: u32) -> Stored
 }
 
 // Reads the rows of a chunk one by one, from the front of its data on.
-fn read_each<R: Source>(
+fn read_each<R: Source, T, W: RowWriter<T>>(
     alloc: Global,
     source: &mut R,
     order: ByteOrder,
@@ -154,7 +179,8 @@ fn read_each<R: Source>(
     colour: ColorType,
     index: u32,
     front: Stored,
-    buf: &mut [u8],
+    writer: &mut W,
+    buf: &mut [T],
     corner: Corner,
 ) -> TiffResult<()>
     requires read { IsRead (view.page page.now) colour }
@@ -162,9 +188,10 @@ fn read_each<R: Source>(
     requires front { left_of (R.bytes source.old) front ≡ chunk_data (R.bytes source.old) order (view.page page.now) index }
     requires some { 0 < corner.stride }
     requires columns { corner.left + row_bytes (view.page page.now) colour (rect (view.page page.now) index).width ≤ corner.stride }
-    requires rows { (corner.top + (rect (view.page page.now) index).height) * corner.stride ≤ length buf.old }
+    requires rows { (corner.top + (rect (view.page page.now) index).height) * corner.stride ≤ length (W.bytes buf.old) }
+    requires few { (corner.top + (rect (view.page page.now) index).height) * corner.stride < 2 ^ 64 }
     ensures kept { IsKept R.bytes R.failures source.old source.new }
-    ensures ok { OnOk result (Writes (IsIn corner.stride corner.top (rect (view.page page.now) index).height corner.left (row_bytes (view.page page.now) colour (rect (view.page page.now) index).width)) (in_rect (chunk_byte (R.bytes source.old) order (view.page page.now) colour index) corner.stride corner.top corner.left) buf.old buf.new) }
+    ensures ok { OnOk result (Writes (IsIn corner.stride corner.top (rect (view.page page.now) index).height corner.left (row_bytes (view.page page.now) colour (rect (view.page page.now) index).width)) (in_rect (chunk_byte (R.bytes source.old) order (view.page page.now) colour index) corner.stride corner.top corner.left) (W.bytes buf.old) (W.bytes buf.new)) }
     ensures answer { Answers (λ _. tt) result (unless (is_short (R.bytes source.old) order (view.page page.now) colour index) (tiff.IoError io.UnexpectedEof)) (R.failures source.old) (R.failures source.new) }
 {
     let (width, height) = chunk_data_dimensions(page, index);
@@ -175,15 +202,8 @@ fn read_each<R: Source>(
     let mut room = RowRoom::new(alloc);
     for row in 0..rows {
         let at = (corner.top + row) * corner.stride + corner.left;
-        let rest = match read_row(
-            source,
-            order,
-            page,
-            colour,
-            width,
-            place,
-            &mut room,
-            &mut buf[at..at + len],
+        let rest = match writer.read_row(
+            source, order, page, colour, width, place, &mut room, buf, at, len,
         ) {
             Ok(rest) => rest,
             Err(fault) => return Err(fault),
@@ -197,15 +217,16 @@ fn read_each<R: Source>(
     Ok(())
 }
 
-// Reads the rows of a chunk.
-pub(crate) fn read_rows<R: Source>(
+// Reads the rows of a chunk into the bytes of a list.
+pub(crate) fn read_rows<R: Source, T, W: RowWriter<T>>(
     alloc: Global,
     source: &mut R,
     order: ByteOrder,
     page: &Page,
     colour: ColorType,
     index: u32,
-    buf: &mut [u8],
+    writer: &mut W,
+    buf: &mut [T],
     corner: Corner,
 ) -> TiffResult<()>
     requires read { IsRead (view.page page.now) colour }
@@ -213,18 +234,21 @@ pub(crate) fn read_rows<R: Source>(
     requires listed { index < length page.now.offsets }
     requires some { 0 < corner.stride }
     requires columns { corner.left + row_bytes (view.page page.now) colour (rect (view.page page.now) index).width ≤ corner.stride }
-    requires rows { (corner.top + (rect (view.page page.now) index).height) * corner.stride ≤ length buf.old }
+    requires rows { (corner.top + (rect (view.page page.now) index).height) * corner.stride ≤ length (W.bytes buf.old) }
+    requires few { (corner.top + (rect (view.page page.now) index).height) * corner.stride < 2 ^ 64 }
     ensures kept { IsKept R.bytes R.failures source.old source.new }
-    ensures ok { OnOk result (Writes (IsIn corner.stride corner.top (rect (view.page page.now) index).height corner.left (row_bytes (view.page page.now) colour (rect (view.page page.now) index).width)) (in_rect (chunk_byte (R.bytes source.old) order (view.page page.now) colour index) corner.stride corner.top corner.left) buf.old buf.new) }
+    ensures ok { OnOk result (Writes (IsIn corner.stride corner.top (rect (view.page page.now) index).height corner.left (row_bytes (view.page page.now) colour (rect (view.page page.now) index).width)) (in_rect (chunk_byte (R.bytes source.old) order (view.page page.now) colour index) corner.stride corner.top corner.left) (W.bytes buf.old) (W.bytes buf.new)) }
     ensures answer { Answers (λ _. tt) result (unless (is_short (R.bytes source.old) order (view.page page.now) colour index) (tiff.IoError io.UnexpectedEof)) (R.failures source.old) (R.failures source.new) }
 {
     let (width, _) = chunk_data_dimensions(page, index);
     let len = row_len(page, colour, width);
     let front = front_of(page, index);
     if lies_together(page, colour, len, corner) {
-        return read_together(source, order, page, colour, index, front, buf, corner);
+        return read_together(
+            source, order, page, colour, index, front, writer, buf, corner,
+        );
     }
     read_each(
-        alloc, source, order, page, colour, index, front, buf, corner,
+        alloc, source, order, page, colour, index, front, writer, buf, corner,
     )
 }

@@ -1,4 +1,4 @@
-//! The chunks of an image are read into a buffer, in one plane or in several.
+//! The chunks of an image are read into a list of bytes or of numbers, in one plane or in several.
 
 ghost use Rattle.std.specs.Prelude.{◌≡◌, ◌+◌, ◌*◌, ◌<◌, ◌≤◌, ◌^◌, ◌⊎◌, List, ℕ, Ok, length, OnOk};
 ghost use Rattle.tiff_base.specs.Answers.{Answers, IsKept};
@@ -14,6 +14,7 @@ use crate::chunk::{Corner, read_rows};
 use crate::faults::form_fault;
 use crate::layout::{PlaneLayout, chunk_data_dimensions, chunks_of_plane, rect, row_bits};
 use crate::page::Page;
+use crate::writer::RowWriter;
 use std::alloc::Global;
 use tiff_base::color::ColorType;
 use tiff_base::error::TiffResult;
@@ -38,7 +39,7 @@ fn image_corner(page: &Page, layout: PlaneLayout, plane: u16, chunk: u32) -> Cor
 }
 
 // Reads a chunk of an image in all planes that are asked for.
-fn fill_chunk<R: Source>(
+fn fill_chunk<R: Source, T, W: RowWriter<T>>(
     alloc: Global,
     source: &mut R,
     order: ByteOrder,
@@ -47,13 +48,15 @@ fn fill_chunk<R: Source>(
     layout: PlaneLayout,
     planes: u16,
     chunk: u32,
-    buf: &mut [u8],
+    writer: &mut W,
+    buf: &mut [T],
 ) -> TiffResult<()>
     requires laid { layout_of (view.page page.now) page.now.width page.now.height ≡ Ok (record { colour = layout.colour; row_bytes = layout.row_bytes; plane_stride = layout.plane_stride }) }
-    requires room { planes * layout.plane_stride ≤ length buf.old }
+    requires room { planes * layout.plane_stride ≤ length (W.bytes buf.old) }
+    requires few { planes * layout.plane_stride < 2 ^ 64 }
     requires chunk { chunk < chunks_of_plane (view.page page.now) }
     ensures kept { IsKept R.bytes R.failures source.old source.new }
-    ensures ok { OnOk result ((before : List ℕ) → Writes (IsBefore (view.page page.now) layout.colour layout.row_bytes planes chunk 0) (image_byte (view.page page.now) layout.colour layout.row_bytes (R.bytes source.old) order) before buf.old → Writes (IsBefore (view.page page.now) layout.colour layout.row_bytes planes chunk planes) (image_byte (view.page page.now) layout.colour layout.row_bytes (R.bytes source.old) order) before buf.new) }
+    ensures ok { OnOk result ((before : List ℕ) → Writes (IsBefore (view.page page.now) layout.colour layout.row_bytes planes chunk 0) (image_byte (view.page page.now) layout.colour layout.row_bytes (R.bytes source.old) order) before (W.bytes buf.old) → Writes (IsBefore (view.page page.now) layout.colour layout.row_bytes planes chunk planes) (image_byte (view.page page.now) layout.colour layout.row_bytes (R.bytes source.old) order) before (W.bytes buf.new)) }
     ensures answer { Answers (λ _. tt) result (each_below (λ plane. chunk_fault (view.page page.now) limits.now (is_short (R.bytes source.old) order (view.page page.now) layout.colour) layout.colour (plane * chunks_of_plane (view.page page.now) + (0 + chunk))) planes) (R.failures source.old) (R.failures source.new) }
 {
     let chunks = chunks_of_plane(page) as usize;
@@ -71,6 +74,7 @@ fn fill_chunk<R: Source>(
             page,
             layout.colour,
             index as u32,
+            writer,
             buf,
             corner,
         ) {
@@ -81,9 +85,9 @@ fn fill_chunk<R: Source>(
     Ok(())
 }
 
-/// Reads all chunks of an image into a buffer, in so many planes one behind the other, or answers the first fault: of the first
+/// Reads all chunks of an image into the bytes of a list, in so many planes one behind the other, or answers the first fault: of the first
 /// chunk, and in it of the first plane, that has one.
-pub fn fill_image<R: Source>(
+pub fn fill_image<R: Source, T, W: RowWriter<T>>(
     alloc: Global,
     source: &mut R,
     order: ByteOrder,
@@ -91,17 +95,19 @@ pub fn fill_image<R: Source>(
     limits: &Limits,
     layout: PlaneLayout,
     planes: u16,
-    buf: &mut [u8],
+    writer: &mut W,
+    buf: &mut [T],
 ) -> TiffResult<()>
     requires laid { layout_of (view.page page.now) page.now.width page.now.height ≡ Ok (record { colour = layout.colour; row_bytes = layout.row_bytes; plane_stride = layout.plane_stride }) }
     requires some { 0 < planes }
-    requires room { planes * layout.plane_stride ≤ length buf.old }
+    requires room { planes * layout.plane_stride ≤ length (W.bytes buf.old) }
+    requires few { planes * layout.plane_stride < 2 ^ 64 }
     ensures kept { IsKept R.bytes R.failures source.old source.new }
-    ensures answer { Answers (λ _. buf.new) result (filled (R.bytes source.old) order (view.page page.now) limits.now layout.colour (image_part (R.bytes source.old) order (view.page page.now) planes layout.row_bytes) buf.old) (R.failures source.old) (R.failures source.new) }
+    ensures answer { Answers (λ _. W.bytes buf.new) result (filled (R.bytes source.old) order (view.page page.now) limits.now layout.colour (image_part (R.bytes source.old) order (view.page page.now) planes layout.row_bytes) (W.bytes buf.old)) (R.failures source.old) (R.failures source.new) }
 {
     for chunk in 0..chunks_of_plane(page) {
         match fill_chunk(
-            alloc, source, order, page, limits, layout, planes, chunk, buf,
+            alloc, source, order, page, limits, layout, planes, chunk, writer, buf,
         ) {
             Ok(()) => {}
             Err(fault) => return Err(fault),
@@ -110,9 +116,9 @@ pub fn fill_image<R: Source>(
     Ok(())
 }
 
-/// Reads a chunk into a buffer, its rows a stride apart, or that of each of so many planes one behind the other; or answers
+/// Reads a chunk into the bytes of a list, its rows a stride apart, or that of each of so many planes one behind the other; or answers
 /// the first fault.
-pub fn fill_unit<R: Source>(
+pub fn fill_unit<R: Source, T, W: RowWriter<T>>(
     alloc: Global,
     source: &mut R,
     order: ByteOrder,
@@ -122,15 +128,17 @@ pub fn fill_unit<R: Source>(
     index: u32,
     planes: u16,
     stride: usize,
-    buf: &mut [u8],
+    writer: &mut W,
+    buf: &mut [T],
 ) -> TiffResult<()>
     requires coloured { colour_of (view.page page.now) ≡ Ok colour }
     requires columns { row_bytes (view.page page.now) colour (rect (view.page page.now) index).width ≤ stride }
     requires some { 0 < planes }
-    requires room { planes * ((rect (view.page page.now) index).height * stride) ≤ length buf.old }
+    requires room { planes * ((rect (view.page page.now) index).height * stride) ≤ length (W.bytes buf.old) }
+    requires few { planes * ((rect (view.page page.now) index).height * stride) < 2 ^ 64 }
     requires which { (planes ≡ 1) ⊎ (index < chunks_of_plane (view.page page.now)) }
     ensures kept { IsKept R.bytes R.failures source.old source.new }
-    ensures answer { Answers (λ _. buf.new) result (filled (R.bytes source.old) order (view.page page.now) limits.now colour (chunk_part (R.bytes source.old) order (view.page page.now) index planes stride) buf.old) (R.failures source.old) (R.failures source.new) }
+    ensures answer { Answers (λ _. W.bytes buf.new) result (filled (R.bytes source.old) order (view.page page.now) limits.now colour (chunk_part (R.bytes source.old) order (view.page page.now) index planes stride) (W.bytes buf.old)) (R.failures source.old) (R.failures source.new) }
 {
     let (_, height) = chunk_data_dimensions(page, index);
     let chunks = chunks_of_plane(page) as usize;
@@ -146,7 +154,9 @@ pub fn fill_unit<R: Source>(
             left: 0,
             stride,
         };
-        match read_rows(alloc, source, order, page, colour, at as u32, buf, corner) {
+        match read_rows(
+            alloc, source, order, page, colour, at as u32, writer, buf, corner,
+        ) {
             Ok(()) => {}
             Err(fault) => return Err(fault),
         }

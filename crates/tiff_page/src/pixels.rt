@@ -7,16 +7,20 @@
 //! `intermediate_buffer_size`, as `faults::form_fault`, and too few data, `IoError(UnexpectedEof)`. What a slice holds after
 //! a fault is open.
 
-ghost use Rattle.std.specs.Prelude.{◌≡◌, ◌*◌, ◌<◌, ◌≤◌, ◌^◌, Ok, IfOk, replicate, if◌then◌else◌, nat_le};
+ghost use Rattle.std.specs.Int.{div_ceil};
+ghost use Rattle.std.specs.Prelude.{◌≡◌, ◌*◌, ◌<◌, ◌≤◌, ◌^◌, Ok, IfOk, length, map, replicate, if◌then◌else◌, nat_le};
 ghost use Rattle.tiff_base.specs.Answers.{Answers, AnswersHere, Gives, IsKept};
 ghost use Rattle.tiff_base.specs.Sparing.{AnswersSparingly};
 ghost use Rattle.tiff_page.specs.Buffers as buffers;
 ghost use Rattle.tiff_page.specs.Early.{early_fault};
-ghost use Rattle.tiff_page.specs.Image.{decoded, image_of};
+ghost use Rattle.tiff_page.specs.Image.{image_of};
 ghost use Rattle.tiff_page.specs.Layout as layouts;
 ghost use Rattle.tiff_page.specs.PixelCalls as calls;
+ghost use Rattle.tiff_page.specs.PixelCalls.{filled};
 ghost use Rattle.tiff_page.specs.Rect as place;
+ghost use Rattle.tiff_page.specs.Samples.{samples_as, colour_in, first_in, part_of, IsLaid, room_of};
 ghost use Rattle.tiff_page.specs.View as view;
+ghost use Rattle.tiff_page.specs.declared.layout.DecodingSampleType.TheVariants as type;
 
 use crate::buffers::{all_planes, planes_layout, unit_fault};
 use crate::early::early_fault;
@@ -26,20 +30,16 @@ use crate::layout::{
     BufferLayoutPreference, DecodingSampleType, PlaneLayout, chunk_data_dimensions, planes,
     sample_type_of, size_of, wide_product,
 };
+use crate::numbers::Number;
 use crate::page::Page;
+use crate::samples::{Portion, Samples};
+use crate::writer::{InPlace, NumberRoom, RowWriter};
 use std::alloc::Global;
 use tiff_base::color::ColorType;
 use tiff_base::error::{TiffResult, UsageError};
 use tiff_base::io::Source;
 use tiff_base::tags::ByteOrder;
 use tiff_ifd::limits::Limits;
-
-/// Samples as the little-endian bytes of their numbers, the last filled up by zeros.
-#[derive(Debug, Drop)]
-pub struct SampleBytes {
-    pub sample_type: DecodingSampleType,
-    pub bytes: Vec<u8>,
-}
 
 // A slice has room for one plane.
 fn room_fault(provided: usize, needed: usize) -> TiffResult<()>
@@ -123,7 +123,7 @@ fn planes_within(page: &Page, limits: &Limits, layout: PlaneLayout) -> u16
 
 // Zeros for samples of so many bytes, if these are within the limit, and no fault of their first chunk is found before
 // memory is taken.
-fn zeros<R: Source>(
+fn zeros<R: Source, T: Number<N>, const N: usize>(
     alloc: Global,
     source: &mut R,
     page: &Page,
@@ -132,85 +132,293 @@ fn zeros<R: Source>(
     sample_type: DecodingSampleType,
     first: u32,
     len: usize,
-) -> TiffResult<Vec<u8>>
+) -> TiffResult<Vec<T>>
+    requires { 0 < N }
     ensures kept { IsKept R.bytes R.failures source.old source.new }
     ensures answer { AnswersSparingly (λ _. tt) result (early_fault (R.bytes source.old) (view.page page.now) limits.now colour sample_type first len) (R.failures source.old) (R.failures source.new) }
-    ensures zeros { IfOk result (λ v. v.items ≡ replicate len 0) }
+    ensures zeros { IfOk result (λ v. map T.bits v.items ≡ replicate (div_ceil len N) 0) }
 {
     samples_fault(limits, size_of(sample_type), len)?;
     early_fault(source, page, limits, colour, first)?;
-    Ok(vec![in alloc; 0u8; len]?)
+    Ok(T::zeros(alloc, len.div_ceil(N))?)
 }
 
-// The samples of an image in so many planes, in so many bytes.
-#[tactic(auto, unfolding(crate::specs::PixelCalls::samples))]
-fn image_samples<R: Source>(
+impl Portion {
+    // Its colour.
+    fn colour(self) -> ColorType
+        ensures { result ≡ colour_in self }
+    {
+        match self {
+            Portion::Image(layout, _) => layout.colour,
+            Portion::Chunk(colour, _, _) => colour,
+        }
+    }
+
+    // Its first chunk.
+    fn first(self) -> u32
+        ensures { result ≡ first_in self }
+    {
+        match self {
+            Portion::Image(_, _) => 0,
+            Portion::Chunk(_, index, _) => index,
+        }
+    }
+}
+
+// Reads an image or a chunk into the bytes of a list.
+fn fill<R: Source, T, W: RowWriter<T>>(
     alloc: Global,
     source: &mut R,
     order: ByteOrder,
     page: &Page,
     limits: &Limits,
-    layout: PlaneLayout,
-    planes: u16,
-    len: usize,
-) -> TiffResult<SampleBytes>
-    requires laid { layouts.layout_of (view.page page.now) page.now.width page.now.height ≡ Ok (record { colour = layout.colour; row_bytes = layout.row_bytes; plane_stride = layout.plane_stride }) }
-    requires some { 0 < planes }
-    requires room { planes * layout.plane_stride ≤ len }
+    portion: Portion,
+    writer: &mut W,
+    out: &mut [T],
+) -> TiffResult<()>
+    requires laid { IsLaid (view.page page.now) portion }
+    requires room { room_of (view.page page.now) portion ≤ length (W.bytes out.old) }
+    requires few { room_of (view.page page.now) portion < 2 ^ 64 }
     ensures kept { IsKept R.bytes R.failures source.old source.new }
-    ensures answer { Answers (λ s. decoded s.sample_type s.bytes.items) result (calls.samples (R.bytes source.old) order (view.page page.now) limits.now layout.colour (calls.image_part (R.bytes source.old) order (view.page page.now) planes layout.row_bytes) len) (R.failures source.old) (R.failures source.new) }
+    ensures answer { Answers (λ _. W.bytes out.new) result (filled (R.bytes source.old) order (view.page page.now) limits.now (colour_in portion) (part_of (R.bytes source.old) order (view.page page.now) portion) (W.bytes out.old)) (R.failures source.old) (R.failures source.new) }
 {
-    let sample_type = sample_type_of(page, alloc)?;
-    let mut bytes = match zeros(
+    match portion {
+        Portion::Image(layout, planes) => fill_image(
+            alloc, source, order, page, limits, layout, planes, writer, out,
+        ),
+        Portion::Chunk(colour, index, stride) => fill_unit(
+            alloc, source, order, page, limits, colour, index, 1, stride, writer, out,
+        ),
+    }
+}
+
+// The bytes of an image or a chunk whose samples are bytes.
+fn bytes_of<R: Source>(
+    alloc: Global,
+    source: &mut R,
+    order: ByteOrder,
+    page: &Page,
+    limits: &Limits,
+    portion: Portion,
+    len: usize,
+) -> TiffResult<Vec<u8>>
+    requires laid { IsLaid (view.page page.now) portion }
+    requires room { room_of (view.page page.now) portion ≤ len }
+    requires typed { layouts.sample_type_of (view.page page.now) ≡ Ok type.U8 }
+    ensures kept { IsKept R.bytes R.failures source.old source.new }
+    ensures answer { Answers (λ v. record { sample_type = type.U8; numbers = v.items }) result (calls.samples (R.bytes source.old) order (view.page page.now) limits.now (colour_in portion) (part_of (R.bytes source.old) order (view.page page.now) portion) len) (R.failures source.old) (R.failures source.new) }
+{
+    let (colour, first) = (portion.colour(), portion.first());
+    let sample_type = DecodingSampleType::U8;
+    let mut bytes: Vec<u8> = match zeros(
         alloc,
         source,
         page,
         limits,
-        layout.colour,
+        colour,
         sample_type,
-        0,
+        first,
         len,
     ) {
         Ok(bytes) => bytes,
         Err(fault) => return Err(fault),
     };
-    match fill_image(
-        alloc, source, order, page, limits, layout, planes, &mut bytes,
+    match fill(
+        alloc,
+        source,
+        order,
+        page,
+        limits,
+        portion,
+        &mut InPlace,
+        &mut bytes,
     ) {
-        Ok(()) => Ok(SampleBytes { sample_type, bytes }),
+        Ok(()) => Ok(bytes),
         Err(fault) => Err(fault),
     }
 }
 
-// The samples of a chunk, its rows a stride apart, in so many bytes.
-#[tactic(auto, unfolding(crate::specs::PixelCalls::samples))]
-fn chunk_samples<R: Source>(
+// The numbers of an image or a chunk whose samples are of a number type.
+#[tactic(auto, using(crate::proofs::Portions::portion_early, crate::proofs::Portions::numbers_given, crate::proofs::Portions::filling_cause, crate::proofs::Portions::room_in))]
+fn numbers_of<R: Source, T: Number<N>, const N: usize>(
     alloc: Global,
     source: &mut R,
     order: ByteOrder,
     page: &Page,
     limits: &Limits,
-    colour: ColorType,
-    index: u32,
-    stride: usize,
+    portion: Portion,
+    sample_type: DecodingSampleType,
     len: usize,
-) -> TiffResult<SampleBytes>
-    requires coloured { layouts.colour_of (view.page page.now) ≡ Ok colour }
-    requires columns { layouts.row_bytes (view.page page.now) colour (place.rect (view.page page.now) index).width ≤ stride }
-    requires room { (place.rect (view.page page.now) index).height * stride ≤ len }
+) -> TiffResult<Vec<T>>
+    requires some { 0 < N }
+    requires laid { IsLaid (view.page page.now) portion }
+    requires room { room_of (view.page page.now) portion ≤ len }
+    requires typed { layouts.sample_type_of (view.page page.now) ≡ Ok sample_type }
+    requires size { layouts.size_of sample_type ≡ N }
     ensures kept { IsKept R.bytes R.failures source.old source.new }
-    ensures answer { Answers (λ s. decoded s.sample_type s.bytes.items) result (calls.samples (R.bytes source.old) order (view.page page.now) limits.now colour (calls.chunk_part (R.bytes source.old) order (view.page page.now) index 1 stride) len) (R.failures source.old) (R.failures source.new) }
+    ensures answer { Answers (λ v. record { sample_type = sample_type; numbers = map T.bits v.items }) result (calls.samples (R.bytes source.old) order (view.page page.now) limits.now (colour_in portion) (part_of (R.bytes source.old) order (view.page page.now) portion) len) (R.failures source.old) (R.failures source.new) }
 {
-    let sample_type = sample_type_of(page, alloc)?;
-    let mut bytes = match zeros(alloc, source, page, limits, colour, sample_type, index, len) {
-        Ok(bytes) => bytes,
+    let (colour, first) = (portion.colour(), portion.first());
+    let mut numbers: Vec<T> = match zeros(
+        alloc,
+        source,
+        page,
+        limits,
+        colour,
+        sample_type,
+        first,
+        len,
+    ) {
+        Ok(numbers) => numbers,
         Err(fault) => return Err(fault),
     };
-    match fill_unit(
-        alloc, source, order, page, limits, colour, index, 1, stride, &mut bytes,
+    let mut room = NumberRoom::<N>::new(alloc);
+    match fill(
+        alloc,
+        source,
+        order,
+        page,
+        limits,
+        portion,
+        &mut room,
+        &mut numbers,
     ) {
-        Ok(()) => Ok(SampleBytes { sample_type, bytes }),
+        Ok(()) => Ok(numbers),
         Err(fault) => Err(fault),
+    }
+}
+
+// The samples of an image or a chunk, in so many bytes.
+#[tactic(auto, unfolding(crate::specs::PixelCalls::samples))]
+fn samples_of<R: Source>(
+    alloc: Global,
+    source: &mut R,
+    order: ByteOrder,
+    page: &Page,
+    limits: &Limits,
+    portion: Portion,
+    len: usize,
+) -> TiffResult<Samples>
+    requires laid { IsLaid (view.page page.now) portion }
+    requires room { room_of (view.page page.now) portion ≤ len }
+    ensures kept { IsKept R.bytes R.failures source.old source.new }
+    ensures answer { Answers samples_as result (calls.samples (R.bytes source.old) order (view.page page.now) limits.now (colour_in portion) (part_of (R.bytes source.old) order (view.page page.now) portion) len) (R.failures source.old) (R.failures source.new) }
+{
+    let sample_type = sample_type_of(page, alloc)?;
+    match sample_type {
+        DecodingSampleType::U8 => bytes_of(alloc, source, order, page, limits, portion, len).map(
+            Samples::U8,
+        ),
+        DecodingSampleType::U16 => numbers_of(
+            alloc,
+            source,
+            order,
+            page,
+            limits,
+            portion,
+            sample_type,
+            len,
+        )
+        .map(Samples::U16),
+        DecodingSampleType::U32 => numbers_of(
+            alloc,
+            source,
+            order,
+            page,
+            limits,
+            portion,
+            sample_type,
+            len,
+        )
+        .map(Samples::U32),
+        DecodingSampleType::U64 => numbers_of(
+            alloc,
+            source,
+            order,
+            page,
+            limits,
+            portion,
+            sample_type,
+            len,
+        )
+        .map(Samples::U64),
+        DecodingSampleType::F16 => numbers_of(
+            alloc,
+            source,
+            order,
+            page,
+            limits,
+            portion,
+            sample_type,
+            len,
+        )
+        .map(Samples::F16),
+        DecodingSampleType::F32 => numbers_of(
+            alloc,
+            source,
+            order,
+            page,
+            limits,
+            portion,
+            sample_type,
+            len,
+        )
+        .map(Samples::F32),
+        DecodingSampleType::F64 => numbers_of(
+            alloc,
+            source,
+            order,
+            page,
+            limits,
+            portion,
+            sample_type,
+            len,
+        )
+        .map(Samples::F64),
+        DecodingSampleType::I8 => numbers_of(
+            alloc,
+            source,
+            order,
+            page,
+            limits,
+            portion,
+            sample_type,
+            len,
+        )
+        .map(Samples::I8),
+        DecodingSampleType::I16 => numbers_of(
+            alloc,
+            source,
+            order,
+            page,
+            limits,
+            portion,
+            sample_type,
+            len,
+        )
+        .map(Samples::I16),
+        DecodingSampleType::I32 => numbers_of(
+            alloc,
+            source,
+            order,
+            page,
+            limits,
+            portion,
+            sample_type,
+            len,
+        )
+        .map(Samples::I32),
+        DecodingSampleType::I64 => numbers_of(
+            alloc,
+            source,
+            order,
+            page,
+            limits,
+            portion,
+            sample_type,
+            len,
+        )
+        .map(Samples::I64),
     }
 }
 
@@ -222,19 +430,19 @@ pub fn read_image<R: Source>(
     order: ByteOrder,
     page: &Page,
     limits: &Limits,
-) -> TiffResult<SampleBytes>
+) -> TiffResult<Samples>
     ensures kept { IsKept R.bytes R.failures source.old source.new }
-    ensures answer { Answers (λ s. decoded s.sample_type s.bytes.items) result (image_of (R.bytes source.old) order (view.page page.now) limits.now) (R.failures source.old) (R.failures source.new) }
+    ensures answer { Answers samples_as result (image_of (R.bytes source.old) order (view.page page.now) limits.now) (R.failures source.old) (R.failures source.new) }
 {
     let layout = planes_layout(page, alloc, page.width, page.height)?;
-    image_samples(
+    let portion = Portion::Image(layout, 1);
+    samples_of(
         alloc,
         source,
         order,
         page,
         limits,
-        layout,
-        1,
+        portion,
         layout.plane_stride,
     )
 }
@@ -248,15 +456,16 @@ pub fn read_image_to_buffer<R: Source>(
     order: ByteOrder,
     page: &Page,
     limits: &Limits,
-) -> TiffResult<(BufferLayoutPreference, SampleBytes)>
+) -> TiffResult<(BufferLayoutPreference, Samples)>
     ensures kept { IsKept R.bytes R.failures source.old source.new }
-    ensures answer { Answers (λ r. (r.0, decoded r.1.sample_type r.1.bytes.items)) result (calls.read_image_to_buffer (R.bytes source.old) order (view.page page.now) limits.now) (R.failures source.old) (R.failures source.new) }
+    ensures answer { Answers (λ r. (r.0, samples_as r.1)) result (calls.read_image_to_buffer (R.bytes source.old) order (view.page page.now) limits.now) (R.failures source.old) (R.failures source.new) }
 {
     let layout = planes_layout(page, alloc, page.width, page.height)?;
     let preference = all_planes(page, layout);
     let planes = planes_within(page, limits, layout);
     let len = layout.plane_stride * usize::from(planes);
-    match image_samples(alloc, source, order, page, limits, layout, planes, len) {
+    let portion = Portion::Image(layout, planes);
+    match samples_of(alloc, source, order, page, limits, portion, len) {
         Ok(samples) => Ok((preference, samples)),
         Err(fault) => Err(fault),
     }
@@ -279,7 +488,17 @@ pub fn read_image_bytes<R: Source>(
     let layout = planes_layout(page, alloc, page.width, page.height)?;
     room_fault(buf.len(), layout.plane_stride)?;
     let planes = planes_used(page, layout, buf.len());
-    fill_image(alloc, source, order, page, limits, layout, planes, buf)
+    fill_image(
+        alloc,
+        source,
+        order,
+        page,
+        limits,
+        layout,
+        planes,
+        &mut InPlace,
+        buf,
+    )
 }
 
 /// The samples of a chunk, in rows of its own width in the image. An index past the list of chunks:
@@ -292,20 +511,19 @@ pub fn read_chunk<R: Source>(
     page: &Page,
     limits: &Limits,
     index: u32,
-) -> TiffResult<SampleBytes>
+) -> TiffResult<Samples>
     ensures kept { IsKept R.bytes R.failures source.old source.new }
-    ensures answer { Answers (λ s. decoded s.sample_type s.bytes.items) result (calls.read_chunk (R.bytes source.old) order (view.page page.now) limits.now index) (R.failures source.old) (R.failures source.new) }
+    ensures answer { Answers samples_as result (calls.read_chunk (R.bytes source.old) order (view.page page.now) limits.now index) (R.failures source.old) (R.failures source.new) }
 {
     let layout = chunk_layout(page, alloc, index)?;
-    chunk_samples(
+    let portion = Portion::Chunk(layout.colour, index, layout.row_bytes);
+    samples_of(
         alloc,
         source,
         order,
         page,
         limits,
-        layout.colour,
-        index,
-        layout.row_bytes,
+        portion,
         layout.plane_stride,
     )
 }
@@ -337,6 +555,7 @@ pub fn read_chunk_bytes<R: Source>(
         index,
         1,
         layout.row_bytes,
+        &mut InPlace,
         buf,
     )
 }
@@ -353,25 +572,16 @@ pub fn read_chunk_to_buffer<R: Source>(
     limits: &Limits,
     index: u32,
     stride: usize,
-) -> TiffResult<SampleBytes>
+) -> TiffResult<Samples>
     ensures kept { IsKept R.bytes R.failures source.old source.new }
-    ensures answer { Answers (λ s. decoded s.sample_type s.bytes.items) result (calls.read_chunk_to_buffer (R.bytes source.old) order (view.page page.now) limits.now index stride) (R.failures source.old) (R.failures source.new) }
+    ensures answer { Answers samples_as result (calls.read_chunk_to_buffer (R.bytes source.old) order (view.page page.now) limits.now index stride) (R.failures source.old) (R.failures source.new) }
 {
     let layout = chunk_layout(page, alloc, index)?;
     stride_fault(stride, layout.row_bytes)?;
     wide_product(stride, page.chunk_height as usize)?;
     let len = rows_len(page, index, stride);
-    chunk_samples(
-        alloc,
-        source,
-        order,
-        page,
-        limits,
-        layout.colour,
-        index,
-        stride,
-        len,
-    )
+    let portion = Portion::Chunk(layout.colour, index, stride);
+    samples_of(alloc, source, order, page, limits, portion, len)
 }
 
 /// Reads the chunk of each plane of a coding unit into a slice, as many as it takes whole, one behind the other; bytes behind
@@ -404,6 +614,7 @@ pub fn read_coding_unit_bytes<R: Source>(
         unit,
         planes,
         layout.row_bytes,
+        &mut InPlace,
         buf,
     )
 }

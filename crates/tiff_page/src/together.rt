@@ -1,6 +1,6 @@
 //! The rows of a chunk that lie together, in its data and in a buffer, are read many at once.
 
-ghost use Rattle.std.specs.Prelude.{◌≡◌, ◌+◌, ◌*◌, ◌/◌, ◌<◌, ◌≤◌, ◌↔◌, ◌⊎◌, IsTrue, Ok, false, length, OnOk};
+ghost use Rattle.std.specs.Prelude.{◌≡◌, ◌+◌, ◌*◌, ◌^◌, ◌<◌, ◌≤◌, ◌↔◌, IsTrue, Ok, length, OnOk};
 ghost use Rattle.tiff_base.specs.Answers.{Answers, IsKept};
 ghost use Rattle.tiff_base.specs.declared.error.TiffError.TheVariants as tiff;
 ghost use Rattle.tiff_base.specs.declared.io.IoKind.TheVariants as io;
@@ -16,10 +16,11 @@ ghost use Rattle.tiff_page.specs.Together.{LieTogether};
 ghost use Rattle.tiff_page.specs.View as view;
 
 use crate::chunk::Corner;
-use crate::handed::{hand_row, needs_whole_rows, row_len, stored_row_bytes};
+use crate::handed::{needs_whole_rows, row_len, stored_row_bytes};
 use crate::layout::chunk_data_dimensions;
 use crate::page::Page;
 use crate::stored::Stored;
+use crate::writer::RowWriter;
 use tiff_base::color::ColorType;
 use tiff_base::error::TiffResult;
 use tiff_base::io::Source;
@@ -40,39 +41,16 @@ pub(crate) fn lies_together(page: &Page, colour: ColorType, len: usize, corner: 
         && matches!(page.predictor, Predictor::None)
 }
 
-/// Reads the next bytes of a chunk into a buffer, as they are handed out, where no whole rows have to be read for them.
-#[tactic(auto, using(crate::proofs::RowRead::row_taken, crate::proofs::RowRead::row_cause))]
-pub(crate) fn read_handed<R: Source>(
-    source: &mut R,
-    order: ByteOrder,
-    page: &Page,
-    colour: ColorType,
-    place: Stored,
-    out: &mut [u8],
-) -> TiffResult<Stored>
-    requires read { IsRead (view.page page.now) colour }
-    requires in_place { needs_whole_rows (view.page page.now) colour ≡ false }
-    requires whole { (page.now.depth < 8) ⊎ (length out.old / (page.now.depth / 8) * (page.now.depth / 8) ≡ length out.old) }
-    ensures kept { IsKept R.bytes R.failures source.old source.new }
-    ensures row { RowRead (R.bytes source.old) order (view.page page.now) colour place (Unit {0}) (R.failures source.old < R.failures source.new) out.new result }
-{
-    let rest = match place.read(source, out) {
-        Ok(rest) => rest,
-        Err(fault) => return Err(fault),
-    };
-    hand_row(page, order, colour, out);
-    Ok(rest)
-}
-
 /// Reads the rows of a chunk that lie together, from the front of its data on.
-pub(crate) fn read_together<R: Source>(
+pub(crate) fn read_together<R: Source, T, W: RowWriter<T>>(
     source: &mut R,
     order: ByteOrder,
     page: &Page,
     colour: ColorType,
     index: u32,
     front: Stored,
-    buf: &mut [u8],
+    writer: &mut W,
+    buf: &mut [T],
     corner: Corner,
 ) -> TiffResult<()>
     requires read { IsRead (view.page page.now) colour }
@@ -80,9 +58,10 @@ pub(crate) fn read_together<R: Source>(
     requires front { left_of (R.bytes source.old) front ≡ chunk_data (R.bytes source.old) order (view.page page.now) index }
     requires some { 0 < corner.stride }
     requires together { LieTogether (view.page page.now) colour (row_bytes (view.page page.now) colour (rect (view.page page.now) index).width) corner.left corner.stride }
-    requires rows { (corner.top + (rect (view.page page.now) index).height) * corner.stride ≤ length buf.old }
+    requires rows { (corner.top + (rect (view.page page.now) index).height) * corner.stride ≤ length (W.bytes buf.old) }
+    requires few { (corner.top + (rect (view.page page.now) index).height) * corner.stride < 2 ^ 64 }
     ensures kept { IsKept R.bytes R.failures source.old source.new }
-    ensures ok { OnOk result (Writes (IsIn corner.stride corner.top (rect (view.page page.now) index).height corner.left (row_bytes (view.page page.now) colour (rect (view.page page.now) index).width)) (in_rect (chunk_byte (R.bytes source.old) order (view.page page.now) colour index) corner.stride corner.top corner.left) buf.old buf.new) }
+    ensures ok { OnOk result (Writes (IsIn corner.stride corner.top (rect (view.page page.now) index).height corner.left (row_bytes (view.page page.now) colour (rect (view.page page.now) index).width)) (in_rect (chunk_byte (R.bytes source.old) order (view.page page.now) colour index) corner.stride corner.top corner.left) (W.bytes buf.old) (W.bytes buf.new)) }
     ensures answer { Answers (λ _. tt) result (unless (is_short (R.bytes source.old) order (view.page page.now) colour index) (tiff.IoError io.UnexpectedEof)) (R.failures source.old) (R.failures source.new) }
 {
     let (_, height) = chunk_data_dimensions(page, index);
@@ -94,7 +73,7 @@ pub(crate) fn read_together<R: Source>(
         let more = band.min(rows - row);
         let at = (corner.top + row) * corner.stride;
         let len = more * corner.stride;
-        place = match read_handed(source, order, page, colour, place, &mut buf[at..at + len]) {
+        place = match writer.read_band(source, order, page, colour, place, buf, at, len) {
             Ok(rest) => rest,
             Err(fault) => return Err(fault),
         };

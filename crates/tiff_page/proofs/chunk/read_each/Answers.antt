@@ -1,6 +1,4 @@
 use Rattle.std.proofs.Common.{arith, ◌≡◌, ℕ, ◌<◌, ◌∙◌, ◌+◌, ◌-◌, ◌*◌, length, refl, drop, ap, sym, subst}
-use Rattle.std.proofs.lemmas.List.Edits.{length-between}
-use borrow.Rule.Slice.PartMut.{put_mid}
 use Rattle.tiff_page.specs.declared.page.Page.{Page}
 use Rattle.tiff_page.specs.Pixels.{chunk_data, stored_row_bytes}
 use Rattle.tiff_page.specs.Counts.{all_chunks}
@@ -12,7 +10,7 @@ use Rattle.tiff_page.specs.Reading.{needed_of_row}
 use Rattle.tiff_page.specs.Stored.{left_of}
 use Rattle.tiff_page.specs.View as view
 use Rattle.tiff_page.proofs.ChunkRead.{row_below, width_within, row_some, row_bytes_are, row_held, next_row, too_short}
-use Rattle.tiff_page.proofs.Rects.{no_row, row_put, row_room}
+use Rattle.tiff_page.proofs.Rects.{no_row, row_put_there, row_room}
 use Rattle.tiff_page.proofs.chunk.read_each.Goals as goal
 
 abbrev pub sides_of : (p : Page) → HasSides (view.page p)
@@ -28,14 +26,15 @@ loop-row-init g c =
       count = omega arith;
       place = λ z. c.requires.front ∙ ap (λ (m : ℕ). drop m (chunk_data bytes c.args.order p c.args.index)) none;
       enough = λ z. Prim.absurd (omega (arith, z));
-      written = no_row (chunk_byte (g.R.Source.bytes c.args.source.now) c.args.order (view.page c.args.page.now) c.args.colour c.args.index) c.args.corner.stride c.args.corner.top c.args.corner.left (row_bytes (view.page c.args.page.now) c.args.colour (rect (view.page c.args.page.now) c.args.index).width) c.args.buf.now;
+      written = no_row (chunk_byte (g.R.Source.bytes c.args.source.now) c.args.order (view.page c.args.page.now) c.args.colour c.args.index) c.args.corner.stride c.args.corner.top c.args.corner.left (row_bytes (view.page c.args.page.now) c.args.colour (rect (view.page c.args.page.now) c.args.index).width) (g.W.RowWriter.bytes c.args.buf.now);
     }
 
 pub overflow_add-at : goal.overflow_add-at
 overflow_add-at g c =
     let h = ap (λ z. z.1) c.chunk_data_dimensions-width.ensures.size in
-    let l = row_below c.args.corner.top (rect (view.page c.args.page.now) c.args.index).height c.args.corner.stride (length c.args.buf.now) c.loop-row.row c.requires.some c.requires.rows (omega (arith, h, c.loop-row-test.true)) in
-    omega (arith, l, c.loop-row.auto.buf)
+    let height = (rect (view.page c.args.page.now) c.args.index).height in
+    let l = row_below c.args.corner.top height c.args.corner.stride ((c.args.corner.top + height) * c.args.corner.stride) c.loop-row.row c.requires.some (omega arith) (omega (arith, h, c.loop-row-test.true)) in
+    omega (arith, l, c.requires.few)
 
 pub read_row-requires-clause-width : goal.read_row-requires-clause-width
 read_row-requires-clause-width g c =
@@ -53,11 +52,30 @@ returns-in-Err-clause-answer g c =
     let rl : c.loop-row.row < (rect p c.args.index).height = omega (arith, h, c.loop-row-test.true) in
     let given = rw c.loop-row.invariant.same_bytes at c.in-Err.ensures.row in
     let listed : c.args.index < all_chunks p = omega (arith, c.requires.listed, c.args.page.now.counted) in
-    let fits = row_room c.args.corner.stride c.args.corner.top (rect p c.args.index).height c.loop-row.row c.args.corner.left len (length c.loop-row.buf) rl c.requires.columns (omega (arith, c.requires.rows, c.loop-row.auto.buf)) in
-    let out : length c.read_row.new.out ≡ c.row_len-len.result = c.read_row.auto.out ∙ (length-between c.loop-row.buf ((c.args.corner.top + c.loop-row.row) * c.args.corner.stride + c.args.corner.left) ((c.args.corner.top + c.loop-row.row) * c.args.corner.stride + c.args.corner.left + c.row_len-len.result) (omega (arith, fits, n)) ∙ omega arith) in
-    too_short bytes c.args.order p c.args.colour c.args.index (sides_of c.args.page.now) c.requires.read.stored listed _ _ c.loop-row.row _ c.read_row.new.out c.in-Err.fault (λ f. omega (arith, f, c.loop-row.invariant.count)) rl
-    (out ∙ n)
-    (c.loop-row.invariant.place rl) given
+    too_short bytes c.args.order p c.args.colour c.args.index (sides_of c.args.page.now) c.requires.read.stored listed _ _ c.loop-row.row c.row_len-len.result _ c.in-Err.fault (λ f. omega (arith, f, c.loop-row.invariant.count)) rl
+    n (c.loop-row.invariant.place rl) given
+
+pub read_row-requires-clause-room : goal.read_row-requires-clause-room
+read_row-requires-clause-room g c =
+    let p = view.page c.args.page.now in
+    let w = ap (λ z. z.0) c.chunk_data_dimensions-width.ensures.size in
+    let h = ap (λ z. z.1) c.chunk_data_dimensions-width.ensures.size in
+    let len = row_bytes p c.args.colour (rect p c.args.index).width in
+    let n : c.row_len-len.result ≡ len = c.row_len-len.ensures.value ∙ ap (row_bytes p c.args.colour) w in
+    let size = length (g.W.RowWriter.bytes c.loop-row.buf) in
+    let fits = row_room c.args.corner.stride c.args.corner.top (rect p c.args.index).height c.loop-row.row c.args.corner.left len size (omega (arith, h, c.loop-row-test.true)) c.requires.columns (omega (arith, c.requires.rows, c.loop-row.invariant.written.0)) in
+    omega (arith, fits, n)
+
+pub read_row-requires-clause-fits : goal.read_row-requires-clause-fits
+read_row-requires-clause-fits g c =
+    let p = view.page c.args.page.now in
+    let w = ap (λ z. z.0) c.chunk_data_dimensions-width.ensures.size in
+    let h = ap (λ z. z.1) c.chunk_data_dimensions-width.ensures.size in
+    let len = row_bytes p c.args.colour (rect p c.args.index).width in
+    let n : c.row_len-len.result ≡ len = c.row_len-len.ensures.value ∙ ap (row_bytes p c.args.colour) w in
+    let size = (c.args.corner.top + (rect p c.args.index).height) * c.args.corner.stride in
+    let fits = row_room c.args.corner.stride c.args.corner.top (rect p c.args.index).height c.loop-row.row c.args.corner.left len size (omega (arith, h, c.loop-row-test.true)) c.requires.columns (omega arith) in
+    omega (arith, fits, n, c.requires.few)
 
 pub loop-row-preserved : goal.loop-row-preserved
 loop-row-preserved g c =
@@ -79,8 +97,7 @@ loop-row-preserved g c =
     let given = rw same at c.in-Ok.ensures.row in
     let passed = rw told at c.in-Ok-pass.ensures.passed in
     let listed : k < all_chunks p = omega (arith, c.requires.listed, c.args.page.now.counted) in
-    let fits = row_room corner.stride corner.top (rect p k).height row corner.left len (length c.loop-row.buf) rl c.requires.columns (omega (arith, c.requires.rows, c.loop-row.auto.buf)) in
-    let out : length c.read_row.new.out ≡ c.row_len-len.result = c.read_row.auto.out ∙ (length-between c.loop-row.buf at (at + c.row_len-len.result) (omega (arith, fits, n)) ∙ omega arith) in
+    let out : length given.row ≡ c.row_len-len.result = given.all in
     let sides = sides_of c.args.page.now in
     let stored = c.requires.read.stored in
     let wide : 0 < (rect p k).width = omega (arith, c.chunk_data_dimensions-width.ensures.wide, w) in
@@ -89,21 +106,23 @@ loop-row-preserved g c =
     let rest = left_of bytes c.in-Ok.rest in
     let next = left_of bytes c.in-Ok-pass.next in
     let from = c.loop-row.invariant.place rl in
-    let held = row_held bytes order p colour k sides stored listed row left rest c.read_row.new.out some rl (out ∙ n) from given in
+    let held = row_held bytes order p colour k sides stored listed row left rest given.row some rl (out ∙ n) from given.takes in
     let now : (row + 1 - 1) * stored_row_bytes p ≡ row * stored_row_bytes p = ap (λ (m : ℕ). m * stored_row_bytes p) (omega arith) in
     let value = chunk_byte bytes order p colour k in
-    let before = subst (λ (m : ℕ). Writes (IsIn corner.stride corner.top row corner.left m) (in_rect value corner.stride corner.top corner.left) c.args.buf.now c.loop-row.buf) (sym n) c.loop-row.invariant.written in
-    let after = row_put value corner.stride corner.top row corner.left c.row_len-len.result at c.read_row.new.out c.args.buf.now c.loop-row.buf
-    (omega (arith, c.requires.columns, n)) refl out
-    (λ b bl. row_bytes_are bytes order p colour k sides stored listed row left rest c.read_row.new.out rl (out ∙ n) from given b (omega (arith, bl, n)))
-    (omega (arith, fits, n)) before in
+    let old = g.W.RowWriter.bytes c.args.buf.now in
+    let mid = g.W.RowWriter.bytes c.loop-row.buf in
+    let new = g.W.RowWriter.bytes c.read_row.new.out in
+    let after = row_put_there value corner.stride corner.top row corner.left len at given.row old mid new
+    c.requires.columns refl (out ∙ n)
+    (λ b bl. row_bytes_are bytes order p colour k sides stored listed row left rest given.row rl (out ∙ n) from given.takes b bl)
+    c.loop-row.invariant.written given.put in
     record {
       same_bytes = c.in-Ok-pass.ensures.kept.told ∙ told;
       count = omega (arith, c.in-Ok-pass.ensures.kept.failures, c.in-Ok.ensures.kept.failures, c.loop-row.invariant.count);
-      place = λ z. next_row bytes order p colour k sides stored listed row c.gap_behind-behind.result left rest next c.read_row.new.out some z (out ∙ n) from given
+      place = λ z. next_row bytes order p colour k sides stored listed row c.gap_behind-behind.result left rest next given.row some z (out ∙ n) from given.takes
           (c.gap_behind-behind.ensures.between (omega (arith, z, h)) ∙ (c.gap_of-gap.ensures ∙ ap (λ (m : ℕ). stored_row_bytes p - needed_of_row p colour m) n)) passed;
       enough = λ z. omega (arith, held, now);
-      written = subst (λ (m : ℕ). Writes (IsIn corner.stride corner.top (row + 1) corner.left m) (in_rect value corner.stride corner.top corner.left) c.args.buf.now (put_mid at (at + c.row_len-len.result - at) c.loop-row.buf c.read_row.new.out)) n after;
+      written = after;
     }
 
 pub returns-clause-ok : goal.returns-clause-ok
@@ -114,4 +133,4 @@ returns-clause-ok g c =
     let corner = c.args.corner in
     let h = ap (λ z. z.1) c.chunk_data_dimensions-width.ensures.size in
     let e : c.loop-row.row ≡ (rect p c.args.index).height = omega (arith, h, c.loop-row-test.false, c.loop-row.auto.row-end) in
-    subst (λ (m : ℕ). Writes (IsIn corner.stride corner.top m corner.left len) (in_rect (chunk_byte bytes c.args.order p c.args.colour c.args.index) corner.stride corner.top corner.left) c.args.buf.now c.loop-row.buf) e c.loop-row.invariant.written
+    subst (λ (m : ℕ). Writes (IsIn corner.stride corner.top m corner.left len) (in_rect (chunk_byte bytes c.args.order p c.args.colour c.args.index) corner.stride corner.top corner.left) (g.W.RowWriter.bytes c.args.buf.now) (g.W.RowWriter.bytes c.loop-row.buf)) e c.loop-row.invariant.written

@@ -62,8 +62,19 @@ read_rows-requires-clause-rows g c =
     let p = c.args.page.now in
     let i = c.from.result * c.chunks_of_plane-chunks.result + c.args.chunk in
     let q : i ≡ c.loop-plane.plane * chunks_of_plane (view.page p) + c.args.chunk = λ t. c.from.ensures t * c.chunks_of_plane-chunks.ensures.count t + c.args.chunk in
-    let l = rows_in (g.R.Source.bytes c.args.source.now) c.args.order (view.page p) c.args.limits.now (layout c.args.layout) (sides_of p) p.sampled p.deep c.requires.laid c.args.planes c.args.chunk c.requires.chunk c.loop-plane.plane i (length c.loop-plane.buf) q c.loop-plane-test.true (omega (arith, c.requires.room, c.loop-plane.auto.buf)) in
-    rw (c.image_corner-corner.ensures.top, c.image_corner-corner.ensures.stride) l
+    let size = c.args.planes * c.args.layout.plane_stride in
+    let l = rows_in (g.R.Source.bytes c.args.source.now) c.args.order (view.page p) c.args.limits.now (layout c.args.layout) (sides_of p) p.sampled p.deep c.requires.laid c.args.planes c.args.chunk c.requires.chunk c.loop-plane.plane i size q c.loop-plane-test.true (omega arith) in
+    let same = g.met.W.RowWriter.same_length c.loop-plane.buf c.args.buf.now c.loop-plane.auto.buf in
+    rw (c.image_corner-corner.ensures.top, c.image_corner-corner.ensures.stride) (omega (arith, l, same, c.requires.room))
+
+pub read_rows-requires-clause-few : goal.read_rows-requires-clause-few
+read_rows-requires-clause-few g c =
+    let p = c.args.page.now in
+    let i = c.from.result * c.chunks_of_plane-chunks.result + c.args.chunk in
+    let q : i ≡ c.loop-plane.plane * chunks_of_plane (view.page p) + c.args.chunk = λ t. c.from.ensures t * c.chunks_of_plane-chunks.ensures.count t + c.args.chunk in
+    let size = c.args.planes * c.args.layout.plane_stride in
+    let l = rows_in (g.R.Source.bytes c.args.source.now) c.args.order (view.page p) c.args.limits.now (layout c.args.layout) (sides_of p) p.sampled p.deep c.requires.laid c.args.planes c.args.chunk c.requires.chunk c.loop-plane.plane i size q c.loop-plane-test.true (omega arith) in
+    rw (c.image_corner-corner.ensures.top, c.image_corner-corner.ensures.stride) (omega (arith, l, c.requires.few))
 
 pub returns-in-Err-read_rows-clause-answer : goal.returns-in-Err-read_rows-clause-answer
 returns-in-Err-read_rows-clause-answer g c =
@@ -81,7 +92,7 @@ loop-plane-preserved g c =
     let q : i ≡ c.loop-plane.plane * chunks_of_plane (view.page p) + c.args.chunk = λ t. c.from.ensures t * c.chunks_of_plane-chunks.ensures.count t + c.args.chunk in
     let same = c.loop-plane.invariant.same_bytes in
     let given = subst (λ (bytes : List ℕ). unless (is_short bytes c.args.order (view.page p) c.args.layout.colour i) (IoError UnexpectedEof) ≡ Ok tt) same c.in-Ok-read_rows.ensures.answer in
-    let wrote = moved c.args.order (view.page p) c.args.layout.colour i (rect (view.page p) i).height (row_bytes (view.page p) c.args.layout.colour (rect (view.page p) i).width) c.loop-plane.buf c.read_rows.new.buf (g.R.Source.bytes c.loop-plane.source) (g.R.Source.bytes c.args.source.now)
+    let wrote = moved c.args.order (view.page p) c.args.layout.colour i (rect (view.page p) i).height (row_bytes (view.page p) c.args.layout.colour (rect (view.page p) i).width) (g.W.RowWriter.bytes c.loop-plane.buf) (g.W.RowWriter.bytes c.read_rows.new.buf) (g.R.Source.bytes c.loop-plane.source) (g.R.Source.bytes c.args.source.now)
     c.image_corner-corner.result.stride c.args.layout.row_bytes c.image_corner-corner.result.top (top_of (view.page p) c.args.layout.colour c.args.layout.row_bytes c.loop-plane.plane c.args.chunk)
     c.image_corner-corner.result.left (left_of (view.page p) c.args.layout.colour c.args.layout.row_bytes c.loop-plane.plane c.args.chunk)
     same c.image_corner-corner.ensures.stride c.image_corner-corner.ensures.top c.image_corner-corner.ensures.left c.in-Ok-read_rows.ensures.ok in
@@ -89,7 +100,7 @@ loop-plane-preserved g c =
       same_bytes = c.in-Ok-read_rows.ensures.kept.told ∙ same;
       count = omega (arith, c.in-Ok-read_rows.ensures.kept.failures, c.loop-plane.invariant.count);
       none = plane_none (g.R.Source.bytes c.args.source.now) c.args.order (view.page p) c.args.limits.now (layout c.args.layout) (sides_of p) p.sampled p.deep c.requires.laid c.args.planes c.args.chunk c.requires.chunk c.loop-plane.plane i q c.loop-plane.invariant.none c.in-Ok.ensures.answer given;
-      written = λ before a. plane_written (g.R.Source.bytes c.args.source.now) c.args.order (view.page p) c.args.limits.now (layout c.args.layout) (sides_of p) p.sampled p.deep c.requires.laid c.args.planes c.args.chunk c.requires.chunk c.loop-plane.plane i before c.loop-plane.buf c.read_rows.new.buf q c.loop-plane-test.true c.in-Ok.ensures.answer
+      written = λ before a. plane_written (g.R.Source.bytes c.args.source.now) c.args.order (view.page p) c.args.limits.now (layout c.args.layout) (sides_of p) p.sampled p.deep c.requires.laid c.args.planes c.args.chunk c.requires.chunk c.loop-plane.plane i before (g.W.RowWriter.bytes c.loop-plane.buf) (g.W.RowWriter.bytes c.read_rows.new.buf) q c.loop-plane-test.true c.in-Ok.ensures.answer
           (c.loop-plane.invariant.written before a) wrote;
     }
 
@@ -97,4 +108,4 @@ pub returns-clause-ok : goal.returns-clause-ok
 returns-clause-ok g c =
     let p = c.args.page.now in
     let e : c.loop-plane.plane ≡ c.args.planes = omega (arith, c.loop-plane-test.false, c.loop-plane.auto.plane-end) in
-    λ before a. subst (λ (m : ℕ). Writes (IsBefore (view.page p) c.args.layout.colour c.args.layout.row_bytes c.args.planes c.args.chunk m) (image_byte (view.page p) c.args.layout.colour c.args.layout.row_bytes (g.R.Source.bytes c.args.source.now) c.args.order) before c.loop-plane.buf) e (c.loop-plane.invariant.written before a)
+    λ before a. subst (λ (m : ℕ). Writes (IsBefore (view.page p) c.args.layout.colour c.args.layout.row_bytes c.args.planes c.args.chunk m) (image_byte (view.page p) c.args.layout.colour c.args.layout.row_bytes (g.R.Source.bytes c.args.source.now) c.args.order) before (g.W.RowWriter.bytes c.loop-plane.buf)) e (c.loop-plane.invariant.written before a)

@@ -29,7 +29,7 @@ returns-in-Err-clause-answer g c =
     (each_below (λ plane. chunk_fault (view.page p) c.args.limits.now (is_short bytes c.args.order (view.page p) c.args.layout.colour) c.args.layout.colour (plane * chunks_of_plane (view.page p) + (0 + c.loop-chunk.chunk))) c.args.planes ≡ Err c.in-Err.fault))
     c.loop-chunk.invariant.same_bytes c.in-Err.ensures.answer in
     chunk_cause file c.args.order (view.page p) c.args.limits.now (layout c.args.layout) (sides_of p) p.sampled p.deep c.requires.laid c.args.planes
-    _ _ c.loop-chunk.chunk c.args.buf.now c.in-Err.fault (λ f. omega (arith, f, c.loop-chunk.invariant.count)) (omega (arith, c.loop-chunk-test.true, c.chunks_of_plane-chunk-end.ensures.count)) c.loop-chunk.invariant.none given
+    _ _ c.loop-chunk.chunk (g.W.RowWriter.bytes c.args.buf.now) c.in-Err.fault (λ f. omega (arith, f, c.loop-chunk.invariant.count)) (omega (arith, c.loop-chunk-test.true, c.chunks_of_plane-chunk-end.ensures.count)) c.loop-chunk.invariant.none given
 
 pub loop-chunk-preserved : goal.loop-chunk-preserved
 loop-chunk-preserved g c =
@@ -44,15 +44,15 @@ loop-chunk-preserved g c =
     same c.in-Ok.ensures.answer in
     let wrote = subst
     (λ (bytes : List ℕ).
-    (before : List ℕ) → Writes (IsBefore (view.page p) colour stride c.args.planes c.loop-chunk.chunk 0) (image_byte (view.page p) colour stride bytes c.args.order) before c.loop-chunk.buf
-    → Writes (IsBefore (view.page p) colour stride c.args.planes c.loop-chunk.chunk c.args.planes) (image_byte (view.page p) colour stride bytes c.args.order) before c.fill_chunk.new.buf)
+    (before : List ℕ) → Writes (IsBefore (view.page p) colour stride c.args.planes c.loop-chunk.chunk 0) (image_byte (view.page p) colour stride bytes c.args.order) before (g.W.RowWriter.bytes c.loop-chunk.buf)
+    → Writes (IsBefore (view.page p) colour stride c.args.planes c.loop-chunk.chunk c.args.planes) (image_byte (view.page p) colour stride bytes c.args.order) before (g.W.RowWriter.bytes c.fill_chunk.new.buf))
     same c.in-Ok.ensures.ok in
     record {
       same_bytes = c.in-Ok.ensures.kept.told ∙ same;
       count = omega (arith, c.in-Ok.ensures.kept.failures, c.loop-chunk.invariant.count);
       none = one_more (of_chunk file c.args.order (view.page p) c.args.limits.now (layout c.args.layout) (sides_of p) p.sampled p.deep c.requires.laid c.args.planes) c.loop-chunk.chunk c.loop-chunk.invariant.none given;
-      written = planes_written (view.page p) colour stride c.args.planes c.loop-chunk.chunk (image_byte (view.page p) colour stride file c.args.order) c.args.buf.now c.fill_chunk.new.buf
-          (wrote c.args.buf.now c.loop-chunk.invariant.written);
+      written = planes_written (view.page p) colour stride c.args.planes c.loop-chunk.chunk (image_byte (view.page p) colour stride file c.args.order) (g.W.RowWriter.bytes c.args.buf.now) (g.W.RowWriter.bytes c.fill_chunk.new.buf)
+          (wrote (g.W.RowWriter.bytes c.args.buf.now) c.loop-chunk.invariant.written);
     }
 
 pub returns-clause-answer : goal.returns-clause-answer
@@ -60,6 +60,11 @@ returns-clause-answer g c =
     let p = c.args.page.now in
     let file = g.R.Source.bytes c.args.source.now in
     let e : c.loop-chunk.chunk ≡ chunks_of_plane (view.page p) = omega (arith, c.loop-chunk-test.false, c.loop-chunk.auto.chunk-end, c.chunks_of_plane-chunk-end.ensures.count) in
-    image_filled file c.args.order (view.page p) c.args.limits.now (layout c.args.layout) (sides_of p) p.sampled p.deep c.requires.laid c.args.planes c.args.buf.now c.loop-chunk.buf c.requires.some
+    image_filled file c.args.order (view.page p) c.args.limits.now (layout c.args.layout) (sides_of p) p.sampled p.deep c.requires.laid c.args.planes (g.W.RowWriter.bytes c.args.buf.now) (g.W.RowWriter.bytes c.loop-chunk.buf) c.requires.some
     (subst (λ (m : ℕ). each_below (of_chunk file c.args.order (view.page p) c.args.limits.now (layout c.args.layout) (sides_of p) p.sampled p.deep c.requires.laid c.args.planes) m ≡ Ok tt) e c.loop-chunk.invariant.none)
-    (subst (λ (m : ℕ). Writes (IsBefore (view.page p) c.args.layout.colour c.args.layout.row_bytes c.args.planes m 0) (image_byte (view.page p) c.args.layout.colour c.args.layout.row_bytes file c.args.order) c.args.buf.now c.loop-chunk.buf) e c.loop-chunk.invariant.written)
+    (subst (λ (m : ℕ). Writes (IsBefore (view.page p) c.args.layout.colour c.args.layout.row_bytes c.args.planes m 0) (image_byte (view.page p) c.args.layout.colour c.args.layout.row_bytes file c.args.order) (g.W.RowWriter.bytes c.args.buf.now) (g.W.RowWriter.bytes c.loop-chunk.buf)) e c.loop-chunk.invariant.written)
+
+pub fill_chunk-requires-clause-room : goal.fill_chunk-requires-clause-room
+fill_chunk-requires-clause-room g c =
+    let same = g.met.W.RowWriter.same_length c.loop-chunk.buf c.args.buf.now c.loop-chunk.auto.buf in
+    omega (arith, same, c.requires.room)

@@ -15,5 +15,5 @@ invariant-loop-plane g l =
       same_bytes : g.R.Source.bytes l.source ≡ bytes;
       count : g.R.Source.failures l.fn.source ≤ g.R.Source.failures l.source;
       none : each_below (λ plane. chunk_fault p l.limits (is_short bytes l.order p l.colour) l.colour (plane * chunks_of_plane p + (l.index + 0))) l.plane ≡ Ok tt;
-      written : Writes (IsInUnit p l.colour l.stride l.index l.plane) (unit_byte bytes l.order p l.colour l.stride l.index) l.fn.buf l.buf;
+      written : Writes (IsInUnit p l.colour l.stride l.index l.plane) (unit_byte bytes l.order p l.colour l.stride l.index) (g.W.RowWriter.bytes l.fn.buf) (g.W.RowWriter.bytes l.buf);
     }

@@ -1,5 +1,4 @@
 use Rattle.std.proofs.Common.{arith, ◌≡◌, ℕ, ◌<◌, ◌≤◌, ◌∙◌, ◌+◌, ◌*◌, length, refl, ap, subst}
-use Rattle.std.proofs.lemmas.List.Edits.{length-between}
 use Rattle.tiff_page.specs.declared.page.Page.{Page}
 use Rattle.tiff_page.specs.Counts.{all_chunks}
 use Rattle.tiff_page.specs.Laws.{HasSides}
@@ -17,32 +16,31 @@ sides_of p = record { wide = p.wide; high = p.high; chunk_wide = p.chunk_wide; c
 pub overflow_add-at : goal.overflow_add-at
 overflow_add-at g c =
     let h = ap (λ z. z.1) c.chunk_data_dimensions-height.ensures.size in
-    let f = rows_below c.args.corner.top (rect (view.page c.args.page.now) c.args.index).height c.args.corner.stride (length c.args.buf.now) c.loop-row.row c.min-more.result c.requires.some c.requires.rows (omega (arith, h, c.loop-row-test.true, c.min-more.ensures)) in
-    omega (arith, f.0, c.loop-row.auto.buf)
+    let height = (rect (view.page c.args.page.now) c.args.index).height in
+    let f = rows_below c.args.corner.top height c.args.corner.stride ((c.args.corner.top + height) * c.args.corner.stride) c.loop-row.row c.min-more.result c.requires.some (omega arith) (omega (arith, h, c.loop-row-test.true, c.min-more.ensures)) in
+    omega (arith, f.0, c.requires.few)
 
-pub overflow_add-at-in-loop-row : goal.overflow_add-at-in-loop-row
-overflow_add-at-in-loop-row g c =
+pub read_band-requires-clause-room : goal.read_band-requires-clause-room
+read_band-requires-clause-room g c =
     let h = ap (λ z. z.1) c.chunk_data_dimensions-height.ensures.size in
-    let f = rows_below c.args.corner.top (rect (view.page c.args.page.now) c.args.index).height c.args.corner.stride (length c.args.buf.now) c.loop-row.row c.min-more.result c.requires.some c.requires.rows (omega (arith, h, c.loop-row-test.true, c.min-more.ensures)) in
-    omega (arith, f.1, c.loop-row.auto.buf)
+    let height = (rect (view.page c.args.page.now) c.args.index).height in
+    let size = length (g.W.RowWriter.bytes c.loop-row.buf) in
+    let f = rows_below c.args.corner.top height c.args.corner.stride size c.loop-row.row c.min-more.result c.requires.some (omega (arith, c.requires.rows, c.loop-row.invariant.written.0)) (omega (arith, h, c.loop-row-test.true, c.min-more.ensures)) in
+    omega (arith, f.1)
 
-pub slice_bounds-read_handed-end : goal.slice_bounds-read_handed-end
-slice_bounds-read_handed-end g c =
+pub read_band-requires-clause-fits : goal.read_band-requires-clause-fits
+read_band-requires-clause-fits g c =
     let h = ap (λ z. z.1) c.chunk_data_dimensions-height.ensures.size in
-    let f = rows_below c.args.corner.top (rect (view.page c.args.page.now) c.args.index).height c.args.corner.stride (length c.args.buf.now) c.loop-row.row c.min-more.result c.requires.some c.requires.rows (omega (arith, h, c.loop-row-test.true, c.min-more.ensures)) in
-    omega (arith, f.1, c.loop-row.auto.buf)
+    let height = (rect (view.page c.args.page.now) c.args.index).height in
+    let f = rows_below c.args.corner.top height c.args.corner.stride ((c.args.corner.top + height) * c.args.corner.stride) c.loop-row.row c.min-more.result c.requires.some (omega arith) (omega (arith, h, c.loop-row-test.true, c.min-more.ensures)) in
+    omega (arith, f.1, c.requires.few)
 
-pub read_handed-requires-clause-whole : goal.read_handed-requires-clause-whole
-read_handed-requires-clause-whole g c =
+pub read_band-requires-clause-whole : goal.read_band-requires-clause-whole
+read_band-requires-clause-whole g c =
     let p = view.page c.args.page.now in
-    let corner = c.args.corner in
-    let row = c.loop-row.row in
     let more = c.min-more.result in
-    let at = (corner.top + row) * corner.stride in
-    let h = ap (λ z. z.1) c.chunk_data_dimensions-height.ensures.size in
-    let f = rows_below corner.top (rect p c.args.index).height corner.stride (length c.args.buf.now) row more c.requires.some c.requires.rows (omega (arith, h, c.loop-row-test.true, c.min-more.ensures)) in
     band_of_numbers p c.args.colour (rect p c.args.index).width more _ c.requires.read.stored
-    (length-between c.loop-row.buf at (at + more * corner.stride) (omega (arith, f.1, c.loop-row.auto.buf)) ∙ omega arith ∙ ap (λ z. more * z) c.requires.together.in_buffer)
+    (ap (λ z. more * z) c.requires.together.in_buffer)
 
 pub returns-in-Err-clause-answer : goal.returns-in-Err-clause-answer
 returns-in-Err-clause-answer g c =
@@ -51,15 +49,12 @@ returns-in-Err-clause-answer g c =
     let corner = c.args.corner in
     let row = c.loop-row.row in
     let more = c.min-more.result in
-    let at = (corner.top + row) * corner.stride in
     let h = ap (λ z. z.1) c.chunk_data_dimensions-height.ensures.size in
     let rl : row + more ≤ (rect p c.args.index).height = omega (arith, h, c.loop-row-test.true, c.min-more.ensures) in
-    let f = rows_below corner.top (rect p c.args.index).height corner.stride (length c.args.buf.now) row more c.requires.some c.requires.rows rl in
     let given = rw c.loop-row.invariant.same_bytes at c.in-Err.ensures.row in
     let listed : c.args.index < all_chunks p = omega (arith, c.requires.listed, c.args.page.now.counted) in
-    let out : length c.read_handed.new.out ≡ more * corner.stride = c.read_handed.auto.out ∙ (length-between c.loop-row.buf at (at + more * corner.stride) (omega (arith, f.1, c.loop-row.auto.buf)) ∙ omega arith) in
     short_band bytes c.args.order p c.args.colour c.args.index corner.left corner.stride (sides_of c.args.page.now) c.requires.read.stored listed c.requires.together
-    _ _ row more _ c.read_handed.new.out c.in-Err.fault (λ z. omega (arith, z, c.loop-row.invariant.count)) (omega (arith, h, c.loop-row-test.true)) rl out c.loop-row.invariant.place given
+    _ _ row more (more * corner.stride) _ c.in-Err.fault (λ z. omega (arith, z, c.loop-row.invariant.count)) (omega (arith, h, c.loop-row-test.true)) rl refl c.loop-row.invariant.place given
 
 pub loop-row-preserved : goal.loop-row-preserved
 loop-row-preserved g c =
@@ -74,11 +69,10 @@ loop-row-preserved g c =
     let at = (corner.top + row) * corner.stride in
     let h = ap (λ z. z.1) c.chunk_data_dimensions-height.ensures.size in
     let rl : row + more ≤ (rect p k).height = omega (arith, h, c.loop-row-test.true, c.min-more.ensures) in
-    let f = rows_below corner.top (rect p k).height corner.stride (length c.args.buf.now) row more c.requires.some c.requires.rows rl in
     let told = c.in-Ok.ensures.kept.told ∙ c.loop-row.invariant.same_bytes in
     let given = rw c.loop-row.invariant.same_bytes at c.in-Ok.ensures.row in
     let listed : k < all_chunks p = omega (arith, c.requires.listed, c.args.page.now.counted) in
-    let out : length c.read_handed.new.out ≡ more * corner.stride = c.read_handed.auto.out ∙ (length-between c.loop-row.buf at (at + more * corner.stride) (omega (arith, f.1, c.loop-row.auto.buf)) ∙ omega arith) in
+    let out : length given.row ≡ more * corner.stride = given.all in
     let sides = sides_of c.args.page.now in
     let stored = c.requires.read.stored in
     let together = c.requires.together in
@@ -86,16 +80,19 @@ loop-row-preserved g c =
     let rest = left_of bytes c.in-Ok.rest in
     let from = c.loop-row.invariant.place in
     let len = row_bytes p colour (rect p k).width in
+    let old = g.W.RowWriter.bytes c.args.buf.now in
+    let mid = g.W.RowWriter.bytes c.loop-row.buf in
+    let new = g.W.RowWriter.bytes c.read_band.new.out in
     record {
       within = rl;
       same_bytes = told;
       count = omega (arith, c.in-Ok.ensures.kept.failures, c.loop-row.invariant.count);
-      place = next_band bytes order p colour k corner.left corner.stride sides stored listed together row more ahead rest c.read_handed.new.out out from given;
-      enough = band_held bytes order p colour k corner.left corner.stride sides stored listed together row more ahead rest c.read_handed.new.out c.requires.some (omega (arith, c.loop-row-test.true, c.min-more.ensures, c.max-band.ensures)) out from given;
-      written = band_put (chunk_byte bytes order p colour k) corner.stride corner.top row more corner.left len at (more * corner.stride) c.read_handed.new.out c.args.buf.now c.loop-row.buf c.requires.some
-          together.from_edge together.in_buffer refl refl (omega (arith, f.1, c.loop-row.auto.buf)) out
-          (λ i il. band_bytes_are bytes order p colour k corner.left corner.stride sides stored listed together row more i ahead rest c.read_handed.new.out c.requires.some rl out from given il)
-          c.loop-row.invariant.written;
+      place = next_band bytes order p colour k corner.left corner.stride sides stored listed together row more ahead rest given.row out from given.takes;
+      enough = band_held bytes order p colour k corner.left corner.stride sides stored listed together row more ahead rest given.row c.requires.some (omega (arith, c.loop-row-test.true, c.min-more.ensures, c.max-band.ensures)) out from given.takes;
+      written = band_put (chunk_byte bytes order p colour k) corner.stride corner.top row more corner.left len at given.row old mid new c.requires.some
+          together.from_edge together.in_buffer refl out
+          (λ i il. band_bytes_are bytes order p colour k corner.left corner.stride sides stored listed together row more i ahead rest given.row c.requires.some rl out from given.takes il)
+          c.loop-row.invariant.written given.put;
     }
 
 pub returns-clause-ok : goal.returns-clause-ok
@@ -106,4 +103,4 @@ returns-clause-ok g c =
     let corner = c.args.corner in
     let h = ap (λ z. z.1) c.chunk_data_dimensions-height.ensures.size in
     let e : c.loop-row.row ≡ (rect p c.args.index).height = omega (arith, h, c.loop-row-test.false, c.loop-row.invariant.within) in
-    subst (λ (m : ℕ). Writes (IsIn corner.stride corner.top m corner.left len) (in_rect (chunk_byte bytes c.args.order p c.args.colour c.args.index) corner.stride corner.top corner.left) c.args.buf.now c.loop-row.buf) e c.loop-row.invariant.written
+    subst (λ (m : ℕ). Writes (IsIn corner.stride corner.top m corner.left len) (in_rect (chunk_byte bytes c.args.order p c.args.colour c.args.index) corner.stride corner.top corner.left) (g.W.RowWriter.bytes c.args.buf.now) (g.W.RowWriter.bytes c.loop-row.buf)) e c.loop-row.invariant.written

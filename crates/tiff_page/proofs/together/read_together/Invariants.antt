@@ -20,7 +20,7 @@ invariant-loop-row g l =
       count : g.R.Source.failures l.fn.source ≤ g.R.Source.failures l.source;
       place : left_of bytes l.place ≡ drop (l.row * corner.stride) stored;
       enough : l.row * corner.stride ≤ length stored;
-      written : Writes (IsIn corner.stride corner.top l.row corner.left (row_bytes p l.colour (rect p l.index).width)) (in_rect (chunk_byte bytes l.order p l.colour l.index) corner.stride corner.top corner.left) l.fn.buf l.buf;
+      written : Writes (IsIn corner.stride corner.top l.row corner.left (row_bytes p l.colour (rect p l.index).width)) (in_rect (chunk_byte bytes l.order p l.colour l.index) corner.stride corner.top corner.left) (g.W.RowWriter.bytes l.fn.buf) (g.W.RowWriter.bytes l.buf);
     }
 
 abbrev pub decreases-loop-row : goal.decreases-loop-row

@@ -1,0 +1,315 @@
+-- Rows of bytes that are put into lists of numbers.
+use Rattle.std.proofs.Common.{◌≡◌, ℕ, zero, suc, ◌+◌, ◌-◌, ◌*◌, ◌/◌, ◌%◌, ◌^◌, ◌<◌, ◌≤◌, ◌⊎◌, Bool, true, false, inl, inr, ⊎_elim, List, [], ◌∷◌, length, map, take, drop, get_or, refl, ap, sym, subst, ◌∙◌, arith}
+use Rattle.std.specs.Prelude.{◌==◌, slice_index, slice_set, replicate}
+use Rattle.std.specs.Int.{div_ceil, w8, w16, w32, w64, to_le_bytes}
+use Rattle.std.specs.Simd.{first_chunks}
+use Rattle.std.proofs.lemmas.Bool.{cases_Bool, cases_eq, cases_lt, eqb-true}
+use Rattle.std.proofs.lemmas.List.{ext_get_or, map-set, length-set, get_or-set_same, get_or-set_other, length-replicate, get_or-replicate, drop-drop, get_or-take, get_or-drop, length-take-le, length-drop, length-map, take_all, get_or-map}
+use Rattle.std.proofs.lemmas.List.FromFn.{length-map-range_with_len, get_or-map-range_with_len}
+use Rattle.std.proofs.lemmas.Nat.{div-add-mod', div_below, mod_below, le-div, div-mul-add, mod-mul-add, row_fits}
+use Rattle.std.proofs.Math.ListN.{set}
+use Rattle.std.proofs.Math.Nat.{div-one, div-div-eq-div-mul, pow-suc, mod-eq_of_lt, mul-le-mul_right, mul_comm, mul-div_cancel, zero-div}
+use Rattle.tiff_base.specs.declared.tags.ByteOrder.TheVariants.{LittleEndian}
+use Rattle.tiff_base.specs.Number.{number}
+use Rattle.tiff_base.specs.Told.{AreOctets, bytes_at}
+use Rattle.tiff_page.specs.NumberBytes.{byte_of, all_bytes, bytes_in, IsPut, IsPlaced}
+use Rattle.tiff_page.specs.Pixels.{each_to, width_of, numbers_in}
+use Rattle.tiff_page.specs.Place.{Writes}
+use Rattle.tiff_page.specs.Row.{IsSize, row_number}
+use Rattle.tiff_page.proofs.Rects.{writes_more, writes_as, writes_same, writes_none}
+use Rattle.tiff_page.proofs.RowLaws.{power_pos, bytes_of_numbers}
+use Rattle.tiff_page.proofs.Rows.{each_same, each_at, digits, by_size, little_digits, number_lt}
+
+-- ---- the bytes of a number
+
+low_digits : (n k : ℕ) → digits (λ j. n / 256 ^ j % 256) k + 256 ^ k * (n / 256 ^ k) ≡ n
+low_digits n zero = omega (arith, div-one n)
+low_digits n (suc k) =
+    let q : ℕ = n / 256 ^ k in
+    let e : n / 256 ^ suc k ≡ q / 256 = ap (λ (m : ℕ). n / m) (pow-suc 256 k) ∙ sym (div-div-eq-div-mul n (256 ^ k) 256) in
+    let d : 256 ^ k * (q / 256 * 256 + q % 256) ≡ 256 ^ k * q = ap (λ (m : ℕ). 256 ^ k * m) (div-add-mod' q 256) in
+    let p : 256 ^ suc k * (n / 256 ^ suc k) ≡ 256 ^ k * 256 * (q / 256) = (λ i. pow-suc 256 k i * e i) in
+    omega (arith, low_digits n k, d, p)
+
+-- a number is what its bytes are together
+pub of_bytes : (size n : ℕ) → IsSize size → digits (byte_of size n) size ≡ n
+of_bytes size n z = by_size (λ s. digits (byte_of s n) s ≡ n) size (low_digits n 0) (low_digits n 1) (low_digits n 3) (low_digits n 7) z
+
+-- the bytes of a number that so many bytes hold
+byte_is : (size n j : ℕ) → n < 256 ^ size → byte_of size n j ≡ n / 256 ^ j % 256
+byte_is size n j h =
+    ⊎_elim
+    (λ (t : (j + 1 == size) ≡ true).
+    let e : j + 1 ≡ size = eqb-true (j + 1) size t in
+    let p : 256 ^ size ≡ 256 * 256 ^ j = ap (λ (m : ℕ). 256 ^ m) (sym e) ∙ (let s : j + 1 ≡ suc j = omega arith in ap (λ (m : ℕ). 256 ^ m) s) ∙ pow-suc 256 j ∙ mul_comm (256 ^ j) 256 in
+    let b : n / 256 ^ j < 256 = div_below n (256 ^ j) 256 (power_pos j) (omega (arith, h, p)) in
+    rw t (sym (mod-eq_of_lt b)))
+    (λ (f : (j + 1 == size) ≡ false). rw f refl)
+    (cases_Bool (j + 1 == size))
+
+-- a byte of a number that bytes are is that byte
+pub byte_back : (size : ℕ) (row : List ℕ) (k j : ℕ) → IsSize size → AreOctets row → j < size → byte_of size (row_number LittleEndian size row k) j ≡ get_or row (k * size + j) 0
+byte_back size row k j z o h =
+    byte_is size (row_number LittleEndian size row k) j (number_lt size row k z o) ∙ sym (bytes_of_numbers size row k j z o h)
+
+pub bytes_1 : (n : ℕ) (r : List ℕ) → n < 2 ^ 8 → r ≡ to_le_bytes w8 n → r ≡ all_bytes 1 n
+bytes_1 n r h e = e ∙ (λ i. sym (byte_is 1 n 0 h ∙ ap (λ (m : ℕ). m % 256) (div-one n)) i ∷ [])
+
+pub bytes_2 : (n : ℕ) (r : List ℕ) → n < 2 ^ 16 → r ≡ to_le_bytes w16 n → r ≡ all_bytes 2 n
+bytes_2 n r h e = e ∙ (λ i. sym (byte_is 2 n 0 h ∙ ap (λ (m : ℕ). m % 256) (div-one n)) i ∷ sym (byte_is 2 n 1 h) i ∷ [])
+
+pub bytes_4 : (n : ℕ) (r : List ℕ) → n < 2 ^ 32 → r ≡ to_le_bytes w32 n → r ≡ all_bytes 4 n
+bytes_4 n r h e = e ∙ (λ i. sym (byte_is 4 n 0 h ∙ ap (λ (m : ℕ). m % 256) (div-one n)) i ∷ sym (byte_is 4 n 1 h) i ∷ sym (byte_is 4 n 2 h) i ∷ sym (byte_is 4 n 3 h) i ∷ [])
+
+pub bytes_8 : (n : ℕ) (r : List ℕ) → n < 2 ^ 64 → r ≡ to_le_bytes w64 n → r ≡ all_bytes 8 n
+bytes_8 n r h e =
+    e
+    ∙ (λ i.
+    sym (byte_is 8 n 0 h ∙ ap (λ (m : ℕ). m % 256) (div-one n)) i ∷ sym (byte_is 8 n 1 h) i ∷ sym (byte_is 8 n 2 h) i ∷ sym (byte_is 8 n 3 h) i ∷ sym (byte_is 8 n 4 h) i ∷ sym (byte_is 8 n 5 h) i ∷ sym (byte_is 8 n 6 h) i ∷ sym (byte_is 8 n 7 h) i ∷ [])
+
+-- ---- the bytes of a list of numbers
+
+pub length_bytes : (size : ℕ) (ns : List ℕ) → length (bytes_in size ns) ≡ length ns * size
+unfolding bytes_in
+length_bytes size ns = length-map-range_with_len (λ i. byte_of size (get_or ns (i / size) 0) (i % size)) 0 (length ns * size)
+
+pub byte_at : (size : ℕ) (ns : List ℕ) (i : ℕ) → i < length ns * size → get_or (bytes_in size ns) i 0 ≡ byte_of size (get_or ns (i / size) 0) (i % size)
+unfolding bytes_in
+byte_at size ns i h = get_or-map-range_with_len (λ i. byte_of size (get_or ns (i / size) 0) (i % size)) 0 (length ns * size) i i 0 h (omega arith)
+
+pub some_size : (size : ℕ) → IsSize size → 0 < size
+some_size size z = by_size (λ n. 0 < n) size (omega arith) (omega arith) (omega arith) (omega arith) z
+
+-- the numbers that a list's bytes hold are the list
+pub numbers_again : (size : ℕ) (ns : List ℕ) → IsSize size → numbers_in size (bytes_in size ns) ≡ ns
+unfolding numbers_in
+numbers_again size ns z =
+    let s : 0 < size = some_size size z in
+    let bytes : List ℕ = bytes_in size ns in
+    let f : ℕ → ℕ = λ n. number LittleEndian (width_of size) (each_to size (λ j. get_or bytes (n * size + j) 0)) in
+    let count : div_ceil (length ns * size) size ≡ length ns = by_size (λ m. div_ceil (length ns * m) m ≡ length ns) size (omega arith) (omega arith) (omega arith) (omega arith) z in
+    let l : length (each_to (div_ceil (length bytes) size) f) ≡ length ns = length-map-range_with_len f 0 (div_ceil (length bytes) size) ∙ (ap (λ (m : ℕ). div_ceil m size) (length_bytes size ns) ∙ count) in
+    ext_get_or 0 (each_to (div_ceil (length bytes) size) f) ns l
+    (λ k b.
+    let h : k < length ns = omega (arith, b, l) in
+    let c : k < div_ceil (length bytes) size = omega (arith, h, ap (λ (m : ℕ). div_ceil m size) (length_bytes size ns), count) in
+    get_or-map-range_with_len f 0 (div_ceil (length bytes) size) k k 0 c (omega arith)
+    ∙ ap (number LittleEndian (width_of size)) (each_same size (λ j. get_or bytes (k * size + j) 0) (byte_of size (get_or ns k 0))
+    (λ j w.
+    let r : k * size + j < length ns * size = omega (arith, row_fits k size (length ns) size h (omega arith), w) in
+    byte_at size ns (k * size + j) r ∙ (λ i. byte_of size (get_or ns (div-mul-add k size j w i) 0) (mod-mul-add k size j w i))))
+    ∙ little_digits size (byte_of size (get_or ns k 0)) z ∙ of_bytes size (get_or ns k 0) z)
+
+-- the number that a byte is of is there
+pub number_there : {X : Type 0} (bits : X → ℕ) (size at : ℕ) (xs : List X) → 0 < size → at < length (bytes_in size (map bits xs)) → at / size < length xs
+number_there bits size at xs s h = div_below at size (length xs) s (omega (arith, h, length_bytes size (map bits xs), ap (λ (m : ℕ). m * size) (length-map xs bits)))
+
+-- zeros
+pub zeros_in : (size n : ℕ) (ns : List ℕ) → IsSize size → ns ≡ replicate n 0 → bytes_in size ns ≡ replicate (n * size) 0
+zeros_in size n ns z e =
+    let s : 0 < size = some_size size z in
+    let count : length ns ≡ n = ap (λ (xs : List ℕ). length xs) e ∙ length-replicate n 0 in
+    let m : length ns * size ≡ n * size = ap (λ (k : ℕ). k * size) count in
+    let l : length (bytes_in size ns) ≡ n * size = length_bytes size ns ∙ m in
+    ext_get_or 0 (bytes_in size ns) (replicate (n * size) 0) (l ∙ sym (length-replicate (n * size) 0))
+    (λ i b.
+    let h : i < n * size = omega (arith, b, l) in
+    byte_at size ns i (omega (arith, h, m))
+    ∙ ap (λ (x : ℕ). byte_of size x (i % size)) (ap (λ (xs : List ℕ). get_or xs (i / size) 0) e ∙ get_or-replicate n (i / size) 0 0 (div_below i size n s h))
+    ∙ byte_is size 0 (i % size) (power_pos size) ∙ ap (λ (m : ℕ). m % 256) (zero-div (256 ^ (i % size)))
+    ∙ sym (get_or-replicate (n * size) i 0 0 h))
+
+-- ---- whole numbers are put
+
+whole_front : (size : ℕ) (bytes : List ℕ) → length bytes ≡ size → bytes_at bytes (0 * size) size ≡ bytes
+whole_front size bytes e = (let z : 0 * size ≡ 0 = omega arith in ap (λ (m : ℕ). take size (drop m bytes)) z) ∙ take_all size bytes (omega (arith, e))
+
+-- where a byte of such numbers stands
+in_numbers : (size first count at len i : ℕ) → 0 < size → at ≡ first * size → len ≡ count * size → (first ≤ i / size) × (i / size < first + count) → (at ≤ i) × (i < at + len)
+in_numbers size first count at len i s a l w =
+    let d : i / size * size + i % size ≡ i = div-add-mod' i size in
+    let x : first * size ≤ i / size * size = mul-le-mul_right size w.0 in
+    let y : (i / size + 1) * size ≤ (first + count) * size = mul-le-mul_right size (omega (arith, w.1)) in
+    (omega (arith, d, x, a), omega (arith, d, y, a, l, mod_below i size s))
+
+of_numbers : (size first count at len i : ℕ) → 0 < size → at ≡ first * size → len ≡ count * size → (at ≤ i) × (i < at + len) → (first ≤ i / size) × (i / size < first + count)
+of_numbers size first count at len i s a l w =
+    (le-div first i size s (omega (arith, w.0, a)), div_below i size (first + count) s (omega (arith, w.1, a, l)))
+
+pub placed_put : (size first count at : ℕ) (row old new : List ℕ) → IsSize size → AreOctets row → at ≡ first * size → length row ≡ count * size
+    → IsPlaced size first row count old new → IsPut at row (bytes_in size old) (bytes_in size new)
+placed_put size first count at row old new z o a l w =
+    let s : 0 < size = some_size size z in
+    let same : length new * size ≡ length old * size = ap (λ (m : ℕ). m * size) w.0 in (
+      length_bytes size new ∙ (same ∙ sym (length_bytes size old)),
+      λ i b.
+          let h : i < length old * size = omega (arith, b, length_bytes size old) in
+          let k : i / size < length old = div_below i size (length old) s h in
+          let now : get_or (bytes_in size new) i 0 ≡ byte_of size (get_or new (i / size) 0) (i % size) = byte_at size new i (omega (arith, h, same)) in
+          ⊎_elim
+          (λ t.
+          let p : (at ≤ i) × (i < at + length row) = in_numbers size first count at (length row) i s a l t.0 in
+          let d : i / size * size + i % size ≡ i = div-add-mod' i size in
+          let m : (first + (i / size - first)) * size ≡ i / size * size = (let e : first + (i / size - first) ≡ i / size = omega (arith, t.0.0) in ap (λ (x : ℕ). x * size) e) in
+          let e : (i / size - first) * size + i % size ≡ i - at = omega (arith, d, m, a) in
+          inl (p, now ∙ (ap (λ (x : ℕ). byte_of size x (i % size)) t.1 ∙ (byte_back size row (i / size - first) (i % size) z o (mod_below i size s) ∙ ap (λ (x : ℕ). get_or row x 0) e))))
+          (λ t.
+          inr (λ p. t.0 (of_numbers size first count at (length row) i s a l p), now ∙ (ap (λ (x : ℕ). byte_of size x (i % size)) t.1 ∙ sym (byte_at size old i h))))
+          (w.1 (i / size) k),
+    )
+
+of_whole : (n size : ℕ) → n % size ≡ 0 → n ≡ n / size * size
+of_whole n size h = omega (arith, h, div-add-mod' n size)
+
+pub row_put_whole : (size at : ℕ) (row old new : List ℕ) → IsSize size → AreOctets row → at % size ≡ 0 → length row % size ≡ 0
+    → IsPlaced size (at / size) row (length row / size) old new → IsPut at row (bytes_in size old) (bytes_in size new)
+row_put_whole size at row old new z o a l w = placed_put size (at / size) (length row / size) at row old new z o (of_whole at size a) (of_whole (length row) size l) w
+
+-- they are in the list
+pub numbers_fit : {X : Type 0} (bits : X → ℕ) (size at len : ℕ) (xs : List X) → 0 < size → at % size ≡ 0 → len % size ≡ 0 → at + len ≤ length (bytes_in size (map bits xs))
+    → at / size + len / size ≤ length xs
+numbers_fit bits size at len xs s a l h =
+    let e : length (bytes_in size (map bits xs)) ≡ length xs * size = length_bytes size (map bits xs) ∙ ap (λ (m : ℕ). m * size) (length-map xs bits) in
+    let b : (at / size + len / size) * size ≤ length xs * size = omega (arith, h, e, of_whole at size a, of_whole len size l) in
+    let c : at / size + len / size ≤ length xs * size / size = le-div (at / size + len / size) (length xs * size) size s b in
+    omega (arith, c, mul-div_cancel (length xs) s)
+
+-- one place of a list
+pub set_one : (xs : List ℕ) (i v : ℕ) → i < length xs → Writes (λ k. k ≡ i) (λ k. v) xs (set xs i v)
+set_one xs i v h = (
+  length-set xs i v,
+  λ k l.
+      ⊎_elim
+      (λ (e : k ≡ i). inl (e, ap (λ (m : ℕ). get_or (set xs i v) m 0) e ∙ get_or-set_same xs i v 0 h))
+      (λ (n : k ≡ i → ⊥). inr (n, get_or-set_other xs i k v 0 n))
+      (cases_eq k i),
+)
+
+piece_at : (size count : ℕ) (bytes : List ℕ) (n : ℕ) (d : List ℕ) → n < count → get_or (first_chunks size count bytes) n d ≡ take size (drop (n * size) bytes)
+piece_at size zero bytes n d h = absurd (omega arith)
+piece_at size (suc count) bytes zero d h = let e : 0 * size ≡ 0 = omega arith in ap (λ (k : ℕ). take size (drop k bytes)) (sym e)
+piece_at size (suc count) bytes (suc n) d h =
+    let e : size + n * size ≡ suc n * size = omega arith in
+    piece_at size count (drop size bytes) n d (omega arith) ∙ ap (take size) (drop-drop (n * size) size bytes ∙ ap (λ (k : ℕ). drop k bytes) e)
+
+within : (size len n : ℕ) → n < len / size → (n + 1) * size ≤ len
+within size len n h =
+    let a : (n + 1) * size ≤ len / size * size = mul-le-mul_right size (omega (arith, h)) in
+    omega (arith, a, div-add-mod' len size)
+
+pub none_placed : (size first : ℕ) (row old : List ℕ) → IsPlaced size first row 0 old old
+none_placed size first row old = writes_none (λ i. (first ≤ i) × (i < first + 0)) (λ i. row_number LittleEndian size row (i - first)) old (λ i p. absurd (omega (arith, p.0, p.1)))
+
+-- one more number
+pub placed_more : {X : Type 0} (bits : X → ℕ) (size first k : ℕ) (row : List ℕ) (old mid new : List X) (x : X) (pieces : List (List ℕ)) (piece d : List ℕ)
+    → pieces ≡ first_chunks size (length row / size) row → k < length row / size → piece ≡ get_or pieces k d → bits x ≡ number LittleEndian (width_of size) piece
+    → first + k < length mid → new ≡ set mid (first + k) x → IsPlaced size first row k (map bits old) (map bits mid)
+    → IsPlaced size first row (k + 1) (map bits old) (map bits new)
+placed_more bits size first k row old mid new x pieces piece d are h here is in_list more w =
+    let found : piece ≡ each_to size (λ j. get_or row (k * size + j) 0) =
+    here ∙ (ap (λ (ps : List (List ℕ)). get_or ps k d) are ∙ (piece_at size (length row / size) row k d h ∙ sym (each_at size k row (within size (length row) k h)))) in
+    let value : ℕ → ℕ = λ i. row_number LittleEndian size row (i - first) in
+    let e : map bits new ≡ set (map bits mid) (first + k) (bits x) = ap (map bits) more ∙ map-set bits mid (first + k) x in
+    let one : Writes (λ i. i ≡ first + k) value (map bits mid) (map bits new) =
+    subst (λ (xs : List ℕ). Writes (λ i. i ≡ first + k) value (map bits mid) xs) (sym e)
+    (writes_as (λ i. i ≡ first + k) (λ i. bits x) value (map bits mid) (set (map bits mid) (first + k) (bits x))
+    (λ i q. is ∙ (ap (number LittleEndian (width_of size)) found ∙ (let s : k ≡ i - first = omega (arith, q) in ap (row_number LittleEndian size row) s)))
+    (set_one (map bits mid) (first + k) (bits x) (omega (arith, in_list, length-map mid bits)))) in
+    writes_more (λ i. (first ≤ i) × (i < first + k)) (λ i. i ≡ first + k) (λ i. (first ≤ i) × (i < first + (k + 1))) value (map bits old) (map bits mid) (map bits new)
+    (λ i p. (p.0, omega (arith, p.1)))
+    (λ i q. (omega (arith, q), omega (arith, q)))
+    (λ i r. ⊎_elim (λ (a : i < first + k). inl (r.0, a)) (λ (a : first + k ≤ i). inr (omega (arith, a, r.1))) (cases_lt i (first + k)))
+    w one
+
+-- ---- single bytes are put
+
+pub set_octets : (xs : List ℕ) (i b : ℕ) → AreOctets xs → b < 256 → AreOctets (set xs i b)
+set_octets [] i b o h k = o k
+set_octets (x ∷ xs) zero b o h zero = h
+set_octets (x ∷ xs) zero b o h (suc k) = o (suc k)
+set_octets (x ∷ xs) (suc i) b o h zero = o zero
+set_octets (x ∷ xs) (suc i) b o h (suc k) = set_octets xs i b (λ j. o (suc j)) h k
+
+pub byte_put : {X : Type 0} (bits : X → ℕ) (size at byte : ℕ) (bytes : List ℕ) (old new : List X) (y d x : X) (all : List ℕ) → IsSize size → AreOctets bytes → at / size < length old
+    → y ≡ get_or old (at / size) d → all ≡ all_bytes size (bits y) → bytes ≡ set all (at % size) byte → bits x ≡ number LittleEndian (width_of size) bytes
+    → new ≡ set old (at / size) x → IsPut at (byte ∷ []) (bytes_in size (map bits old)) (bytes_in size (map bits new))
+byte_put bits size at byte bytes old new y d x given z o in_list found told set_in is more =
+    let s : 0 < size = some_size size z in
+    let n : ℕ = bits y in
+    let was : n ≡ get_or (map bits old) (at / size) 0 = ap bits found ∙ sym (get_or-map bits old (at / size) d 0 in_list) in
+    let made : bytes ≡ set (all_bytes size n) (at % size) byte = set_in ∙ ap (λ (xs : List ℕ). set xs (at % size) byte) told in
+    let ns : List ℕ = map bits old in
+    let ms : List ℕ = map bits new in
+    let all : length (all_bytes size n) ≡ size = length-map-range_with_len (byte_of size n) 0 size in
+    let full : length bytes ≡ size = ap (λ (xs : List ℕ). length xs) made ∙ (length-set (all_bytes size n) (at % size) byte ∙ all) in
+    let l : at / size < length ns = omega (arith, in_list, length-map old bits) in
+    let e : ms ≡ set ns (at / size) (bits x) = ap (map bits) more ∙ map-set bits old (at / size) x in
+    let same : length ms ≡ length ns = ap (λ (xs : List ℕ). length xs) e ∙ length-set ns (at / size) (bits x) in
+    let wide : length ms * size ≡ length ns * size = ap (λ (m : ℕ). m * size) same in
+    let b : bits x ≡ row_number LittleEndian size bytes 0 = is ∙ ap (number LittleEndian (width_of size)) (sym (each_at size 0 bytes (omega (arith, full)) ∙ whole_front size bytes full)) in
+    let set_is : (j : ℕ) → j < size → byte_of size (bits x) j ≡ get_or (set (all_bytes size n) (at % size) byte) j 0 =
+    λ j h.
+    ap (λ (m : ℕ). byte_of size m j) b ∙ (byte_back size bytes 0 j z o h ∙ ((let q : 0 * size + j ≡ j = omega arith in ap (λ (m : ℕ). get_or bytes m 0) q) ∙ ap (λ (xs : List ℕ). get_or xs j 0) made)) in
+    let here : get_or ms (at / size) 0 ≡ bits x = ap (λ (xs : List ℕ). get_or xs (at / size) 0) e ∙ get_or-set_same ns (at / size) (bits x) 0 l in (
+      length_bytes size ms ∙ (wide ∙ sym (length_bytes size ns)),
+      λ i d.
+          let h : i < length ns * size = omega (arith, d, length_bytes size ns) in
+          let now : get_or (bytes_in size ms) i 0 ≡ byte_of size (get_or ms (i / size) 0) (i % size) = byte_at size ms i (omega (arith, h, wide)) in
+          let r : i % size < size = mod_below i size s in
+          ⊎_elim
+          (λ (q : i ≡ at).
+          let quotient : i / size ≡ at / size = ap (λ (m : ℕ). m / size) q in
+          let rest : i % size ≡ at % size = ap (λ (m : ℕ). m % size) q in
+          let zero_off : i - at ≡ 0 = omega (arith, q) in
+          inl (
+            (omega (arith, q), omega (arith, q)),
+            now ∙ ((λ t. byte_of size (get_or ms (quotient t) 0) (i % size)) ∙ (ap (λ (m : ℕ). byte_of size m (i % size)) here
+                ∙ (set_is (i % size) r ∙ (ap (λ (m : ℕ). get_or (set (all_bytes size n) (at % size) byte) m 0) rest
+                ∙ (get_or-set_same (all_bytes size n) (at % size) byte 0 (omega (arith, all, mod_below at size s)) ∙ sym (ap (λ (m : ℕ). get_or (byte ∷ []) m 0) zero_off)))))),
+          ))
+          (λ (q : i ≡ at → ⊥).
+          inr (
+            λ p. q (omega (arith, p.0, p.1)),
+            now ∙ (⊎_elim
+                (λ (quotient : i / size ≡ at / size).
+                let other : i % size ≡ at % size → ⊥ = λ rest. q (omega (arith, div-add-mod' i size, div-add-mod' at size, rest, ap (λ (m : ℕ). m * size) quotient)) in
+                (λ t. byte_of size (get_or ms (quotient t) 0) (i % size)) ∙ (ap (λ (m : ℕ). byte_of size m (i % size)) here
+                ∙ (set_is (i % size) r ∙ (get_or-set_other (all_bytes size n) (at % size) (i % size) byte 0 other
+                ∙ (get_or-map-range_with_len (byte_of size n) 0 size (i % size) (i % size) 0 r (omega arith)
+                ∙ (ap (λ (m : ℕ). byte_of size m (i % size)) was ∙ (λ t. byte_of size (get_or ns (sym quotient t) 0) (i % size))))))))
+                (λ (far : i / size ≡ at / size → ⊥).
+                ap (λ (m : ℕ). byte_of size m (i % size)) (ap (λ (xs : List ℕ). get_or xs (i / size) 0) e ∙ get_or-set_other ns (at / size) (i / size) (bits x) 0 far))
+                (cases_eq (i / size) (at / size))
+                ∙ sym (byte_at size ns i h)),
+          ))
+          (cases_eq i at),
+    )
+
+-- none yet
+pub none_put : (at : ℕ) (row old : List ℕ) → Writes (λ i. (at ≤ i) × (i < at + 0)) (λ i. slice_index row (i - at)) old old
+none_put at row old = writes_none (λ i. (at ≤ i) × (i < at + 0)) (λ i. slice_index row (i - at)) old (λ i p. absurd (omega (arith, p.0, p.1)))
+
+-- one more byte
+pub put_more : (at k byte : ℕ) (row old mid new : List ℕ) → byte ≡ get_or row k 0 → Writes (λ i. (at ≤ i) × (i < at + k)) (λ i. slice_index row (i - at)) old mid
+    → IsPut (at + k) (byte ∷ []) mid new → Writes (λ i. (at ≤ i) × (i < at + (k + 1))) (λ i. slice_index row (i - at)) old new
+put_more at k byte row old mid new e w v =
+    writes_more (λ i. (at ≤ i) × (i < at + k)) (λ i. (at + k ≤ i) × (i < at + k + 1)) (λ i. (at ≤ i) × (i < at + (k + 1))) (λ i. get_or row (i - at) 0) old mid new
+    (λ i p. (p.0, omega (arith, p.1)))
+    (λ i q. (omega (arith, q.0), omega (arith, q.1)))
+    (λ i r. ⊎_elim (λ (a : i < at + k). inl (r.0, a)) (λ (a : at + k ≤ i). inr (a, omega (arith, r.1))) (cases_lt i (at + k)))
+    w
+    (writes_as (λ i. (at + k ≤ i) × (i < at + k + 1)) (λ i. get_or (byte ∷ []) (i - (at + k)) 0) (λ i. get_or row (i - at) 0) mid new
+    (λ i q.
+    let a : i - (at + k) ≡ 0 = omega (arith, q.0, q.1) in
+    let b : k ≡ i - at = omega (arith, q.0, q.1) in
+    ap (λ (m : ℕ). get_or (byte ∷ []) m 0) a ∙ (e ∙ ap (λ (m : ℕ). get_or row m 0) b)) v)
+
+-- ---- lists of numbers as they are handed out
+
+map_replicate : {A : Type 0} (f : A → ℕ) (x : A) (n : ℕ) → map f (replicate n x) ≡ replicate n (f x)
+map_replicate f x zero = refl
+map_replicate f x (suc n) = ap (λ (ys : List ℕ). f x ∷ ys) (map_replicate f x n)
+
+-- numbers that are all 0
+pub zeros_mapped : {A : Type 0} (f : A → ℕ) (x : A) (xs : List A) (n : ℕ) → f x ≡ 0 → xs ≡ replicate n x → map f xs ≡ replicate n 0
+zeros_mapped f x xs n z e = ap (map f) e ∙ map_replicate f x n ∙ ap (replicate n) z

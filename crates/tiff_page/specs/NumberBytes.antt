@@ -1,0 +1,37 @@
+-- Numbers as the bytes that they stand for, the lowest first.
+use Rattle.std.proofs.Common.{ap, sym, ◌∙◌}
+use Rattle.std.proofs.lemmas.List.{length-map}
+use Rattle.std.proofs.lemmas.List.FromFn.{length-map-range_with_len}
+use Rattle.std.specs.Prelude.{◌≡◌, map, ℕ, ◌+◌, ◌-◌, ◌*◌, ◌/◌, ◌%◌, ◌^◌, ◌<◌, ◌≤◌, ◌==◌, if◌then◌else◌, List, length, slice_index}
+use Rattle.tiff_base.specs.declared.tags.ByteOrder.TheVariants.{LittleEndian}
+use Rattle.tiff_page.specs.Pixels.{each_to}
+use Rattle.tiff_page.specs.Place.{Writes}
+use Rattle.tiff_page.specs.Row.{IsSize, row_number}
+
+-- byte j of a number of so many bytes: the last is what is left
+abbrev pub byte_of : ℕ → ℕ → ℕ → ℕ
+byte_of size n j = if j + 1 == size then n / 256 ^ j else n / 256 ^ j % 256
+
+-- all its bytes
+abbrev pub all_bytes : ℕ → ℕ → List ℕ
+all_bytes size n = each_to size (byte_of size n)
+
+-- those of all numbers of a list
+unfoldable pub bytes_in : ℕ → List ℕ → List ℕ
+bytes_in size numbers = each_to (length numbers * size) (λ i. byte_of size (slice_index numbers (i / size)) (i % size))
+
+-- a row is put at a place, and each other byte stays
+abbrev pub IsPut : ℕ → List ℕ → List ℕ → List ℕ → Type 0
+IsPut at row old new = Writes (λ i. (at ≤ i) × (i < at + length row)) (λ i. slice_index row (i - at)) old new
+
+-- so many numbers of a row are put from one on, and each other stays
+abbrev pub IsPlaced : ℕ → ℕ → List ℕ → ℕ → List ℕ → List ℕ → Type 0
+IsPlaced size first row count old new = Writes (λ i. (first ≤ i) × (i < first + count)) (λ i. row_number LittleEndian size row (i - first)) old new
+
+-- numbers of lists of one length have as many bytes
+pub same_bytes : {X : Type 0} (size : ℕ) (bits : X → ℕ) (xs ys : List X) → length xs ≡ length ys → length (bytes_in size (map bits xs)) ≡ length (bytes_in size (map bits ys))
+unfolding bytes_in
+same_bytes size bits xs ys e =
+    let count : length (map bits xs) * size ≡ length (map bits ys) * size = ap (λ (n : ℕ). n * size) (length-map xs bits ∙ (e ∙ sym (length-map ys bits))) in
+    let f : List ℕ → ℕ → ℕ = λ ns i. byte_of size (slice_index ns (i / size)) (i % size) in
+    length-map-range_with_len (f (map bits xs)) 0 (length (map bits xs) * size) ∙ (count ∙ sym (length-map-range_with_len (f (map bits ys)) 0 (length (map bits ys) * size)))

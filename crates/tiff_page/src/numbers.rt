@@ -1,0 +1,340 @@
+//! Lists of numbers that rows of bytes are put into.
+
+ghost use Rattle.std.proofs.Common.{refl, inl, inr};
+ghost use Rattle.std.specs.Int.{w8, w16, w32, w64, cast_unsigned};
+ghost use Rattle.std.specs.Prelude.{◌≡◌, ℕ, ◌+◌, ◌*◌, ◌/◌, ◌^◌, ◌≤◌, ◌<◌, length, map, replicate, ◌∷◌, [], IfOk};
+ghost use Rattle.tiff_base.specs.Number.{number};
+ghost use Rattle.tiff_base.specs.declared.tags.ByteOrder.TheVariants.{LittleEndian};
+ghost use Rattle.tiff_page.specs.NumberBytes.{all_bytes, bytes_in, IsPut, IsPlaced};
+ghost use Rattle.tiff_page.specs.Pixels.{width_of};
+ghost use Rattle.tiff_page.specs.Row.{IsSize};
+
+use std::alloc::{AllocError, Global};
+use tiff_base::tags::{Bits16, Bits32, Bits64};
+
+/// A number of so many bytes.
+pub trait Number<const N: usize>: Copy {
+    /// Its bits.
+    ghost bits: { Self → ℕ };
+
+    /// So many zeros.
+    fn zeros(alloc: Global, count: usize) -> Result<Vec<Self>, AllocError>
+        ensures { IfOk result (λ v. map bits v.items ≡ replicate count 0) };
+
+    /// The number of some bytes, the lowest first.
+    fn of(bytes: [u8; N]) -> Self
+        ensures { bits result ≡ number LittleEndian (width_of N) bytes.entry };
+
+    /// Its bytes, the lowest first.
+    fn bytes(self) -> [u8; N]
+        ensures { result ≡ all_bytes N (bits self) };
+
+    /// It has one, two, four or eight bytes.
+    ghost sized: { IsSize N };
+}
+
+impl Number<1> for u8 {
+    ghost bits = { λ n. n };
+
+    #[tactic(auto, using(crate::proofs::NumberBytes::zeros_mapped))]
+    fn zeros(alloc: Global, count: usize) -> Result<Vec<u8>, AllocError> {
+        vec![in alloc; 0; count]
+    }
+
+    #[tactic(auto, unfolding(tiff_base::specs::Number::number))]
+    fn of(bytes: [u8; 1]) -> u8
+        ensures { result ≡ number LittleEndian w8 bytes }
+    {
+        u8::from_le_bytes(bytes)
+    }
+
+    #[tactic(auto, using(crate::proofs::NumberBytes::bytes_1))]
+    fn bytes(self) -> [u8; 1] {
+        self.to_le_bytes()
+    }
+
+    ghost sized = { inl refl };
+}
+
+impl Number<2> for u16 {
+    ghost bits = { λ n. n };
+
+    #[tactic(auto, using(crate::proofs::NumberBytes::zeros_mapped))]
+    fn zeros(alloc: Global, count: usize) -> Result<Vec<u16>, AllocError> {
+        vec![in alloc; 0; count]
+    }
+
+    #[tactic(auto, unfolding(tiff_base::specs::Number::number))]
+    fn of(bytes: [u8; 2]) -> u16
+        ensures { result ≡ number LittleEndian w16 bytes }
+    {
+        u16::from_le_bytes(bytes)
+    }
+
+    #[tactic(auto, using(crate::proofs::NumberBytes::bytes_2))]
+    fn bytes(self) -> [u8; 2] {
+        self.to_le_bytes()
+    }
+
+    ghost sized = { inr (inl refl) };
+}
+
+impl Number<4> for u32 {
+    ghost bits = { λ n. n };
+
+    #[tactic(auto, using(crate::proofs::NumberBytes::zeros_mapped))]
+    fn zeros(alloc: Global, count: usize) -> Result<Vec<u32>, AllocError> {
+        vec![in alloc; 0; count]
+    }
+
+    #[tactic(auto, unfolding(tiff_base::specs::Number::number))]
+    fn of(bytes: [u8; 4]) -> u32
+        ensures { result ≡ number LittleEndian w32 bytes }
+    {
+        u32::from_le_bytes(bytes)
+    }
+
+    #[tactic(auto, using(crate::proofs::NumberBytes::bytes_4))]
+    fn bytes(self) -> [u8; 4] {
+        self.to_le_bytes()
+    }
+
+    ghost sized = { inr (inr (inl refl)) };
+}
+
+impl Number<8> for u64 {
+    ghost bits = { λ n. n };
+
+    #[tactic(auto, using(crate::proofs::NumberBytes::zeros_mapped))]
+    fn zeros(alloc: Global, count: usize) -> Result<Vec<u64>, AllocError> {
+        vec![in alloc; 0; count]
+    }
+
+    #[tactic(auto, unfolding(tiff_base::specs::Number::number))]
+    fn of(bytes: [u8; 8]) -> u64
+        ensures { result ≡ number LittleEndian w64 bytes }
+    {
+        u64::from_le_bytes(bytes)
+    }
+
+    #[tactic(auto, using(crate::proofs::NumberBytes::bytes_8))]
+    fn bytes(self) -> [u8; 8] {
+        self.to_le_bytes()
+    }
+
+    ghost sized = { inr (inr (inr refl)) };
+}
+
+impl Number<2> for Bits16 {
+    ghost bits = { λ b. b.0 };
+
+    #[tactic(auto, using(crate::proofs::NumberBytes::zeros_mapped))]
+    fn zeros(alloc: Global, count: usize) -> Result<Vec<Bits16>, AllocError> {
+        vec![in alloc; Bits16(0); count]
+    }
+
+    #[tactic(auto, unfolding(tiff_base::specs::Number::number))]
+    fn of(bytes: [u8; 2]) -> Bits16
+        ensures { result.0 ≡ number LittleEndian w16 bytes }
+    {
+        Bits16(u16::from_le_bytes(bytes))
+    }
+
+    #[tactic(auto, using(crate::proofs::NumberBytes::bytes_2))]
+    fn bytes(self) -> [u8; 2] {
+        self.0.to_le_bytes()
+    }
+
+    ghost sized = { inr (inl refl) };
+}
+
+impl Number<4> for Bits32 {
+    ghost bits = { λ b. b.0 };
+
+    #[tactic(auto, using(crate::proofs::NumberBytes::zeros_mapped))]
+    fn zeros(alloc: Global, count: usize) -> Result<Vec<Bits32>, AllocError> {
+        vec![in alloc; Bits32(0); count]
+    }
+
+    #[tactic(auto, unfolding(tiff_base::specs::Number::number))]
+    fn of(bytes: [u8; 4]) -> Bits32
+        ensures { result.0 ≡ number LittleEndian w32 bytes }
+    {
+        Bits32(u32::from_le_bytes(bytes))
+    }
+
+    #[tactic(auto, using(crate::proofs::NumberBytes::bytes_4))]
+    fn bytes(self) -> [u8; 4] {
+        self.0.to_le_bytes()
+    }
+
+    ghost sized = { inr (inr (inl refl)) };
+}
+
+impl Number<8> for Bits64 {
+    ghost bits = { λ b. b.0 };
+
+    #[tactic(auto, using(crate::proofs::NumberBytes::zeros_mapped))]
+    fn zeros(alloc: Global, count: usize) -> Result<Vec<Bits64>, AllocError> {
+        vec![in alloc; Bits64(0); count]
+    }
+
+    #[tactic(auto, unfolding(tiff_base::specs::Number::number))]
+    fn of(bytes: [u8; 8]) -> Bits64
+        ensures { result.0 ≡ number LittleEndian w64 bytes }
+    {
+        Bits64(u64::from_le_bytes(bytes))
+    }
+
+    #[tactic(auto, using(crate::proofs::NumberBytes::bytes_8))]
+    fn bytes(self) -> [u8; 8] {
+        self.0.to_le_bytes()
+    }
+
+    ghost sized = { inr (inr (inr refl)) };
+}
+
+impl Number<1> for i8 {
+    ghost bits = { cast_unsigned w8 };
+
+    #[tactic(auto, using(crate::proofs::NumberBytes::zeros_mapped))]
+    fn zeros(alloc: Global, count: usize) -> Result<Vec<i8>, AllocError> {
+        vec![in alloc; 0; count]
+    }
+
+    #[tactic(auto, unfolding(tiff_base::specs::Number::number))]
+    fn of(bytes: [u8; 1]) -> i8
+        ensures { cast_unsigned w8 result ≡ number LittleEndian w8 bytes }
+    {
+        u8::from_le_bytes(bytes).cast_signed()
+    }
+
+    #[tactic(auto, using(crate::proofs::NumberBytes::bytes_1))]
+    fn bytes(self) -> [u8; 1] {
+        self.cast_unsigned().to_le_bytes()
+    }
+
+    ghost sized = { inl refl };
+}
+
+impl Number<2> for i16 {
+    ghost bits = { cast_unsigned w16 };
+
+    #[tactic(auto, using(crate::proofs::NumberBytes::zeros_mapped))]
+    fn zeros(alloc: Global, count: usize) -> Result<Vec<i16>, AllocError> {
+        vec![in alloc; 0; count]
+    }
+
+    #[tactic(auto, unfolding(tiff_base::specs::Number::number))]
+    fn of(bytes: [u8; 2]) -> i16
+        ensures { cast_unsigned w16 result ≡ number LittleEndian w16 bytes }
+    {
+        u16::from_le_bytes(bytes).cast_signed()
+    }
+
+    #[tactic(auto, using(crate::proofs::NumberBytes::bytes_2))]
+    fn bytes(self) -> [u8; 2] {
+        self.cast_unsigned().to_le_bytes()
+    }
+
+    ghost sized = { inr (inl refl) };
+}
+
+impl Number<4> for i32 {
+    ghost bits = { cast_unsigned w32 };
+
+    #[tactic(auto, using(crate::proofs::NumberBytes::zeros_mapped))]
+    fn zeros(alloc: Global, count: usize) -> Result<Vec<i32>, AllocError> {
+        vec![in alloc; 0; count]
+    }
+
+    #[tactic(auto, unfolding(tiff_base::specs::Number::number))]
+    fn of(bytes: [u8; 4]) -> i32
+        ensures { cast_unsigned w32 result ≡ number LittleEndian w32 bytes }
+    {
+        u32::from_le_bytes(bytes).cast_signed()
+    }
+
+    #[tactic(auto, using(crate::proofs::NumberBytes::bytes_4))]
+    fn bytes(self) -> [u8; 4] {
+        self.cast_unsigned().to_le_bytes()
+    }
+
+    ghost sized = { inr (inr (inl refl)) };
+}
+
+impl Number<8> for i64 {
+    ghost bits = { cast_unsigned w64 };
+
+    #[tactic(auto, using(crate::proofs::NumberBytes::zeros_mapped))]
+    fn zeros(alloc: Global, count: usize) -> Result<Vec<i64>, AllocError> {
+        vec![in alloc; 0; count]
+    }
+
+    #[tactic(auto, unfolding(tiff_base::specs::Number::number))]
+    fn of(bytes: [u8; 8]) -> i64
+        ensures { cast_unsigned w64 result ≡ number LittleEndian w64 bytes }
+    {
+        u64::from_le_bytes(bytes).cast_signed()
+    }
+
+    #[tactic(auto, using(crate::proofs::NumberBytes::bytes_8))]
+    fn bytes(self) -> [u8; 8] {
+        self.cast_unsigned().to_le_bytes()
+    }
+
+    ghost sized = { inr (inr (inr refl)) };
+}
+
+// Puts the numbers of a row of whole numbers from number `first` on.
+#[tactic(auto, using(crate::proofs::NumberBytes::none_placed, crate::proofs::NumberBytes::placed_more))]
+fn put_numbers<T: Number<N>, const N: usize>(numbers: &mut [T], first: usize, row: &[u8])
+    requires some { 0 < N }
+    requires room { first + length row.now / N ≤ length numbers.old }
+    ensures { IsPlaced N first row.now (length row.now / N) (map T.bits numbers.old) (map T.bits numbers.new) }
+{
+    let (pieces, _) = row.as_chunks::<N>();
+    for k in 0..pieces.len() {
+        numbers[first + k] = T::of(pieces[k]);
+    }
+}
+
+// Puts a byte at a place of the bytes of numbers.
+#[tactic(auto, using(crate::proofs::NumberBytes::number_there, crate::proofs::NumberBytes::byte_put))]
+fn put_byte<T: Number<N>, const N: usize>(numbers: &mut [T], at: usize, byte: u8)
+    requires some { 0 < N }
+    requires room { at < length (bytes_in N (map T.bits numbers.old)) }
+    ensures { IsPut at (byte ∷ []) (bytes_in N (map T.bits numbers.old)) (bytes_in N (map T.bits numbers.new)) }
+{
+    let mut bytes = numbers[at / N].bytes();
+    bytes[at % N] = byte;
+    numbers[at / N] = T::of(bytes);
+}
+
+// Puts the bytes of a row one by one.
+#[tactic(auto, using(crate::proofs::NumberBytes::none_put, crate::proofs::NumberBytes::put_more))]
+fn put_bytes<T: Number<N>, const N: usize>(numbers: &mut [T], at: usize, row: &[u8])
+    requires some { 0 < N }
+    requires room { at + length row.now ≤ length (bytes_in N (map T.bits numbers.old)) }
+    requires fits { at + length row.now < 2 ^ 64 }
+    ensures { IsPut at row.now (bytes_in N (map T.bits numbers.old)) (bytes_in N (map T.bits numbers.new)) }
+{
+    for k in 0..row.len() {
+        put_byte(numbers, at + k, row[k]);
+    }
+}
+
+/// Puts a row at a place of the bytes of numbers, whole numbers at once.
+#[tactic(auto, using(crate::proofs::NumberBytes::row_put_whole, crate::proofs::NumberBytes::numbers_fit))]
+pub fn put_row<T: Number<N>, const N: usize>(numbers: &mut [T], at: usize, row: &[u8])
+    requires some { 0 < N }
+    requires room { at + length row.now ≤ length (bytes_in N (map T.bits numbers.old)) }
+    requires fits { at + length row.now < 2 ^ 64 }
+    ensures { IsPut at row.now (bytes_in N (map T.bits numbers.old)) (bytes_in N (map T.bits numbers.new)) }
+{
+    if at % N == 0 && row.len() % N == 0 {
+        put_numbers(numbers, at / N, row);
+    } else {
+        put_bytes(numbers, at, row);
+    }
+}

@@ -1,0 +1,30 @@
+//! Samples by their number type, and what they are read of.
+
+use crate::layout::PlaneLayout;
+use tiff_base::color::ColorType;
+use tiff_base::tags::{Bits16, Bits32, Bits64};
+
+/// Samples, row by row, by their number type.
+#[derive(Debug, Drop)]
+pub enum Samples {
+    U8(Vec<u8>),
+    U16(Vec<u16>),
+    U32(Vec<u32>),
+    U64(Vec<u64>),
+    F16(Vec<Bits16>),
+    F32(Vec<Bits32>),
+    F64(Vec<Bits64>),
+    I8(Vec<i8>),
+    I16(Vec<i16>),
+    I32(Vec<i32>),
+    I64(Vec<i64>),
+}
+
+/// What samples are read of.
+#[derive(Clone, Copy, Debug)]
+pub enum Portion {
+    /// An image of a layout, in so many planes.
+    Image(PlaneLayout, u16),
+    /// A chunk in a colour, by its index, its rows so many bytes apart.
+    Chunk(ColorType, u32, usize),
+}
