@@ -12,4 +12,3 @@ pub mod result;
 pub mod script;
 pub mod tag_iter;
 pub mod tags;
-mod typed;

@@ -6,7 +6,6 @@ ghost use Rattle.tiff_decode.specs.Result.{decoded_as};
 
 use crate::decoder::Decoder;
 use crate::result::DecodingResult;
-use crate::typed::typed;
 use tiff_base::error::TiffResult;
 use tiff_base::io::Source;
 use tiff_page::layout::{BufferLayoutPreference, TiffCodingUnit};
@@ -28,7 +27,7 @@ impl<R: Source> Decoder<R> {
         let (alloc, order) = (self.alloc, self.tags.order);
         let source = &mut self.tags.source;
         match pixels::read_image(alloc, source, order, &self.page, &self.tags.limits) {
-            Ok(read) => Ok(typed(alloc, read.sample_type, read.bytes)?),
+            Ok(samples) => Ok(DecodingResult::of(samples)),
             Err(fault) => Err(fault),
         }
     }
@@ -48,7 +47,7 @@ impl<R: Source> Decoder<R> {
         let source = &mut self.tags.source;
         match pixels::read_image_to_buffer(alloc, source, order, &self.page, &self.tags.limits) {
             Ok((layout, read)) => {
-                *samples = typed(alloc, read.sample_type, read.bytes)?;
+                *samples = DecodingResult::of(read);
                 Ok(layout)
             }
             Err(fault) => Err(fault),
@@ -75,7 +74,7 @@ impl<R: Source> Decoder<R> {
         let (alloc, order) = (self.alloc, self.tags.order);
         let (source, limits) = (&mut self.tags.source, &self.tags.limits);
         match pixels::read_chunk(alloc, source, order, &self.page, limits, chunk_index) {
-            Ok(read) => Ok(typed(alloc, read.sample_type, read.bytes)?),
+            Ok(samples) => Ok(DecodingResult::of(samples)),
             Err(fault) => Err(fault),
         }
     }
@@ -124,7 +123,7 @@ impl<R: Source> Decoder<R> {
             output_width,
         ) {
             Ok(read) => {
-                *buffer = typed(alloc, read.sample_type, read.bytes)?;
+                *buffer = DecodingResult::of(read);
                 Ok(())
             }
             Err(fault) => Err(fault),

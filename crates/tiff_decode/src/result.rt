@@ -3,6 +3,7 @@
 ghost use Rattle.std.specs.Prelude.{◌≡◌, ◌≤◌, length, drop, replicate, IfOk, OnErr};
 ghost use Rattle.tiff_base.specs.Sparing.{GivesSparingly};
 ghost use Rattle.tiff_page.specs.Buffers.{resized};
+ghost use Rattle.tiff_page.specs.Samples.{samples_as};
 ghost use Rattle.tiff_decode.specs.Result.{buffered_as, decoded_as};
 
 use crate::buffer::DecodingBuffer;
@@ -12,6 +13,7 @@ use tiff_base::tags::{Bits16, Bits32, Bits64};
 use tiff_ifd::limits::Limits;
 use tiff_page::faults::samples_fault;
 use tiff_page::layout::{BufferLayoutPreference, DecodingSampleType, size_of};
+use tiff_page::samples::Samples;
 
 /// Decoded samples, row by row, by their number type.
 #[derive(Debug, Drop)]
@@ -54,6 +56,25 @@ fn zeros(
 }
 
 impl DecodingResult {
+    /// Samples as they were read; their lists are moved.
+    pub(crate) fn of(samples: Samples) -> Self
+        ensures { decoded_as result ≡ samples_as samples }
+    {
+        match samples {
+            Samples::U8(list) => DecodingResult::U8(list),
+            Samples::U16(list) => DecodingResult::U16(list),
+            Samples::U32(list) => DecodingResult::U32(list),
+            Samples::U64(list) => DecodingResult::U64(list),
+            Samples::F16(list) => DecodingResult::F16(list),
+            Samples::F32(list) => DecodingResult::F32(list),
+            Samples::F64(list) => DecodingResult::F64(list),
+            Samples::I8(list) => DecodingResult::I8(list),
+            Samples::I16(list) => DecodingResult::I16(list),
+            Samples::I32(list) => DecodingResult::I32(list),
+            Samples::I64(list) => DecodingResult::I64(list),
+        }
+    }
+
     // What its memory is taken from.
     fn allocator(&self) -> Global {
         match self {
