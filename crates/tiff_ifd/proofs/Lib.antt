@@ -10,5 +10,6 @@ mod Sames
 pub mod Followed
 pub mod Begun
 pub mod Unpacking
+pub mod Ahead
 pub mod Within
 mod Unsigned

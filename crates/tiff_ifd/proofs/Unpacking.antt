@@ -41,14 +41,14 @@ same_byte s t at byte e h = subst (λ (l : List ℕ). (at < length l) × (byte �
 
 -- ---- the packed bytes from a later place on
 
-early_next : (s : List ℕ) (at len k : ℕ) → k ≤ len → k ≤ length s - at → ltb (length s - (at + k)) (len - k) ≡ ltb (length s - at) len
+pub early_next : (s : List ℕ) (at len k : ℕ) → k ≤ len → k ≤ length s - at → ltb (length s - (at + k)) (len - k) ≡ ltb (length s - at) len
 early_next s at len k a b =
     ⊎_elim
     (λ h. lt-ltb (length s - (at + k)) (len - k) (omega (arith, h, a, b)) ∙ sym (lt-ltb (length s - at) len h))
     (λ h. le-ltb (length s - (at + k)) (len - k) (omega (arith, h, a, b)) ∙ sym (le-ltb (length s - at) len h))
     (cases_lt (length s - at) len)
 
-packed_next : (s : List ℕ) (at len k : ℕ) → k ≤ len → bytes_at s (at + k) (len - k) ≡ drop k (bytes_at s at len)
+pub packed_next : (s : List ℕ) (at len k : ℕ) → k ≤ len → bytes_at s (at + k) (len - k) ≡ drop k (bytes_at s at len)
 packed_next s at len k a =
     let e : k + (len - k) ≡ len = omega (arith, a) in
     sym (ap (λ (m : ℕ). drop k (take m (drop at s))) (sym e) ∙ (drop-take k (len - k) (drop at s) ∙ ap (λ (x : List ℕ). take (len - k) x) (drop-drop k at s)))
@@ -67,7 +67,7 @@ packed_nil s at len (inr a) = nil_from_length (bytes_at s at len) (omega (arith,
 
 -- ---- at a header
 
-before_before : (xs ys : List ℕ) (u : Unpacked) → before xs (before ys u) ≡ before (xs ++ ys) u
+pub before_before : (xs ys : List ℕ) (u : Unpacked) → before xs (before ys u) ≡ before (xs ++ ys) u
 before_before xs ys u = ap (λ (zs : List ℕ). let r : Unpacked = record { out = zs; end = u.end } in r) (sym (append_assoc xs ys u.out))
 
 runs_nil : (early : Bool) → runs early [] ≡ ended (cond early Broken Plain)
@@ -210,7 +210,7 @@ run_gives s old part place value count n e a b o p =
 -- ---- reads in a row
 
 -- what a buffer's front holds after a read into the part from done on
-read_behind : (buf part : List ℕ) (done k n : ℕ) → done ≤ length buf → n ≤ length part → take (done + n) (put_mid done k buf part) ≡ take done buf ++ take n part
+pub read_behind : (buf part : List ℕ) (done k n : ℕ) → done ≤ length buf → n ≤ length part → take (done + n) (put_mid done k buf part) ≡ take done buf ++ take n part
 read_behind buf part done k n h g =
     let l : length (take done buf) ≡ done = length-take-le done buf h in
     ap (λ (m : ℕ). take (m + n) (put_mid done k buf part)) (sym l)

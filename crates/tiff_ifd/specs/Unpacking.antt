@@ -1,5 +1,5 @@
 -- A reader of a packed list, and what it reads (TIFF 6.0 section 9).
-use Rattle.std.specs.Prelude.{◌≡◌, ℕ, ◌-◌, ◌≤◌, ◌<◌, Bool, nat_lt, List, [], length, take, drop, replicate, slice_index, Option, Some, None, Result, Ok, Err}
+use Rattle.std.specs.Prelude.{◌≡◌, ℕ, ◌-◌, ◌≤◌, ◌<◌, Bool, nat_lt, List, [], ◌++◌, length, take, drop, replicate, slice_index, Option, Some, None, Result, Ok, Err}
 use Rattle.tiff_base.specs.declared.error.TiffError.{TiffError}
 use Rattle.tiff_base.specs.declared.error.TiffError.TheVariants.{IoError}
 use Rattle.tiff_base.specs.declared.io.IoKind.TheVariants.{UnexpectedEof}
@@ -88,3 +88,11 @@ Finds bytes left failed (Err e) = IsCause ⊥ failed e (IsBroken left 1 e)
 abbrev pub ReadsBlock : List ℕ → PackedPlace → Type 0 → List ℕ → List ℕ → Result (ℕ × PackedPlace) TiffError → Type 0
 ReadsBlock bytes place failed old new (Ok r) = GivesNext (left_at bytes place) old r.0 new (left_at bytes r.1)
 ReadsBlock bytes place failed old new (Err e) = IsCause ⊥ failed e ⊥
+
+-- So many bytes at the front of a list of packed ones were unpacked to n bytes at the front of a buffer that held old and
+-- holds new, whatever follows.
+pub record UnpacksFront (packed old : List ℕ) (used n : ℕ) (new : List ℕ) : Type 0 where
+  pub in_packed : used ≤ length packed
+  pub in_buffer : n ≤ length old
+  pub next : (early : Bool) (rest : List ℕ) → runs early (packed ++ rest) ≡ before (take n new) (runs early (drop used packed ++ rest))
+  pub behind : drop n new ≡ drop n old

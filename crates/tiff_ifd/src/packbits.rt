@@ -1,15 +1,18 @@
 //! A packed list is unpacked, in pieces of any size.
 
-ghost use Rattle.std.specs.Prelude.{◌≡◌, ℕ, ◌<◌, ◌≤◌, List, length, Ok, OnOk, IfErr};
+ghost use Rattle.std.specs.Prelude.{◌≡◌, ℕ, ◌<◌, ◌≤◌, List, length, Ok, OnOk, IfErr, IfSome, IfNone};
 ghost use Rattle.tiff_base.specs.Answers.{IsCause, IsKept};
 ghost use Rattle.tiff_base.specs.Runs.{before};
-ghost use Rattle.tiff_ifd.specs.Unpacking.{unpacked_at, left_at, unpacking, count_of, GivesNext, IsShort, ReadsByte, Finds, ReadsBlock, PieceReads, Fills};
+ghost use Rattle.tiff_ifd.specs.Unpacking.{unpacked_at, left_at, unpacking, count_of, GivesNext, IsShort, ReadsByte, Finds, ReadsBlock, PieceReads, Fills, UnpacksFront};
 ghost use Rattle.tiff_ifd.specs.declared.packbits.Block.TheVariants.{Literal, Run};
 
 use std::marker::Model;
 use tiff_base::error::{TiffError, TiffResult};
 use tiff_base::io::{IoKind, Source};
 use tiff_base::read::read_exact_at;
+
+// How many packed bytes are read ahead at once: more than a block has.
+const AHEAD: usize = 256;
 
 // What is left of a block: so many bytes as they stand, or one byte so many times.
 #[derive(Clone, Copy, Debug)]
@@ -163,6 +166,53 @@ fn read_block<R: Source>(
     }
 }
 
+// Unpacks the first block of packed bytes to the front of a buffer, and answers how many bytes it took and how many it gave:
+// `None` where the block isn't whole in the one, or has no room in the other.
+#[tactic(auto, using(crate::proofs::Ahead::front_literal, crate::proofs::Ahead::front_nothing))]
+fn unpack_block(packed: &[u8], buf: &mut [u8]) -> Option<(usize, usize)>
+    requires { 1 < length packed.now }
+    ensures some { IfSome result (λ r. (0 < r.0) × UnpacksFront packed.now buf.old r.0 r.1 buf.new) }
+    ensures none { IfNone result (buf.new ≡ buf.old) }
+{
+    let header = packed[0];
+    if header == 128 {
+        return Some((1, 0));
+    }
+    if header < 128 {
+        let n = usize::from(header) + 1;
+        if n >= packed.len() || n > buf.len() {
+            return None;
+        }
+        buf[..n].copy_from_slice(&packed[1..n + 1]);
+        return Some((n + 1, n));
+    }
+    let n = 257 - usize::from(header);
+    if n > buf.len() {
+        return None;
+    }
+    buf[..n].fill(packed[1]);
+    Some((2, n))
+}
+
+// Unpacks blocks of packed bytes to the front of a buffer, as many as `unpack_block` does one after another.
+#[tactic(auto, using(crate::proofs::Ahead::front_none))]
+fn unpack_blocks(packed: &[u8], buf: &mut [u8]) -> (usize, usize)
+    ensures { UnpacksFront packed.now buf.old result.0 result.1 buf.new }
+{
+    let mut used = 0;
+    let mut done = 0;
+    while used + 1 < packed.len() {
+        match unpack_block(&packed[used..], &mut buf[done..]) {
+            Some((more, n)) => {
+                used += more;
+                done += n;
+            }
+            None => return (used, done),
+        }
+    }
+    (used, done)
+}
+
 impl PackedPlace {
     /// Before the `length` packed bytes from `at` on; a source may end before them.
     pub fn new(at: u64, length: u64) -> Self
@@ -198,6 +248,30 @@ impl PackedPlace {
         }
     }
 
+    // Reads as `read` does, but all blocks at once that are whole in some packed bytes that are read ahead.
+    fn read_blocks<R: Source>(&mut self, source: &mut R, buf: &mut [u8]) -> TiffResult<usize>
+        ensures kept { IsKept R.bytes R.failures source.old source.new }
+        ensures piece { PieceReads result (unpacking R.bytes R.failures source.old self.old) (unpacking R.bytes R.failures source.new self.new) buf.old buf.new }
+    {
+        if self.block.count() > 0 {
+            return self.read(source, buf);
+        }
+        let mut ahead = [0u8; AHEAD];
+        let wanted = AHEAD.min(buf.len().saturating_add(2));
+        let most = (wanted as u64).min(self.len) as usize;
+        let held = match source.read_at(self.at, &mut ahead[..most]) {
+            Ok(held) => held,
+            Err(fault) => return Err(fault.into()),
+        };
+        let (used, n) = unpack_blocks(&ahead[..held], buf);
+        if n == 0 {
+            return self.read(source, buf);
+        }
+        self.at += used as u64;
+        self.len -= used as u64;
+        Ok(n)
+    }
+
     // Fills the buffer with the next bytes; after a fault some of them may have been passed.
     #[tactic(auto, using(crate::proofs::Unpacking::short_by, crate::proofs::Unpacking::short_cause))]
     fn fill<R: Source>(&mut self, source: &mut R, buf: &mut [u8]) -> TiffResult<()>
@@ -207,7 +281,7 @@ impl PackedPlace {
     {
         let mut done = 0;
         while done < buf.len() {
-            let n = match self.read(source, &mut buf[done..]) {
+            let n = match self.read_blocks(source, &mut buf[done..]) {
                 Ok(n) => n,
                 Err(fault) => return Err(fault),
             };
