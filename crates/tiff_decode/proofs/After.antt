@@ -14,7 +14,7 @@ use Rattle.tiff_decode.specs.declared.script.Call.{Call}
 use Rattle.tiff_decode.specs.declared.script.Call.TheVariants as call
 use Rattle.tiff_decode.specs.declared.script.Reply.{Reply}
 use Rattle.tiff_decode.specs.declared.script.Reply.TheVariants as reply
-use Rattle.tiff_decode.specs.Machine.{State, Decoding, Outcome, StandsAt, FollowsBut, FollowsHereBut, IsFault, Tells}
+use Rattle.tiff_decode.specs.Machine.{State, Decoding, Outcome, StandsAt, FollowsBut, FollowsHereBut, IsFault}
 use Rattle.tiff_decode.specs.Outcome as outcome
 use Rattle.tiff_decode.specs.Failures.{fault_of, device_count, failed_items, failed_list}
 use Rattle.tiff_decode.specs.Result.{decoded_as}
