@@ -89,7 +89,7 @@ fn read_whole_row<R: Source>(
 
 /// Reads the next row of a chunk into a buffer, as it is handed out.
 #[tactic(auto, using(crate::proofs::RowRead::row_taken, crate::proofs::RowRead::row_cause))]
-pub fn read_row<R: Source>(
+pub(crate) fn read_row<R: Source>(
     source: &mut R,
     order: ByteOrder,
     page: &Page,

@@ -1,6 +1,4 @@
-use Rattle.std.proofs.Common.{arith, ◌≡◌, ℕ, ◌<◌, ◌∙◌, ◌+◌, ◌-◌, ◌*◌, length, refl, drop, ap, sym, subst}
-use Rattle.std.proofs.lemmas.List.Edits.{length-between}
-use borrow.Rule.Slice.PartMut.{put_mid}
+use Rattle.std.proofs.Common.{arith, ◌≡◌, ℕ, ◌<◌, ◌∙◌, ◌+◌, ◌-◌, ◌*◌, length, refl, drop, ap, subst}
 use Rattle.tiff_page.specs.declared.page.Page.{Page}
 use Rattle.std.specs.Prelude.{slice_index}
 use Rattle.tiff_page.specs.Pixels.{data_by, chunk_data, stored_row_bytes}
