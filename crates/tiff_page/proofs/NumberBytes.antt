@@ -1,10 +1,10 @@
 -- Rows of bytes that are put into lists of numbers.
-use Rattle.std.proofs.Common.{◌≡◌, ℕ, zero, suc, ◌+◌, ◌-◌, ◌*◌, ◌/◌, ◌%◌, ◌^◌, ◌<◌, ◌≤◌, ◌⊎◌, Bool, true, false, inl, inr, ⊎_elim, List, [], ◌∷◌, length, map, take, drop, get_or, refl, ap, sym, subst, ◌∙◌, arith}
-use Rattle.std.specs.Prelude.{◌==◌, slice_index, slice_set, replicate}
+use Rattle.std.proofs.Common.{◌≡◌, ℕ, zero, suc, ◌+◌, ◌-◌, ◌*◌, ◌/◌, ◌%◌, ◌^◌, ◌<◌, ◌≤◌, true, false, inl, inr, ⊎_elim, List, [], ◌∷◌, length, map, take, drop, get_or, refl, ap, sym, subst, ◌∙◌, arith}
+use Rattle.std.specs.Prelude.{◌==◌, slice_index, replicate}
 use Rattle.std.specs.Int.{div_ceil, w8, w16, w32, w64, to_le_bytes}
 use Rattle.std.specs.Simd.{first_chunks}
 use Rattle.std.proofs.lemmas.Bool.{cases_Bool, cases_eq, cases_lt, eqb-true}
-use Rattle.std.proofs.lemmas.List.{ext_get_or, map-set, length-set, get_or-set_same, get_or-set_other, length-replicate, get_or-replicate, drop-drop, get_or-take, get_or-drop, length-take-le, length-drop, length-map, take_all, get_or-map}
+use Rattle.std.proofs.lemmas.List.{ext_get_or, map-set, length-set, get_or-set_same, get_or-set_other, length-replicate, get_or-replicate, drop-drop, length-map, take_all, get_or-map}
 use Rattle.std.proofs.lemmas.List.FromFn.{length-map-range_with_len, get_or-map-range_with_len}
 use Rattle.std.proofs.lemmas.Nat.{div-add-mod', div_below, mod_below, le-div, div-mul-add, mod-mul-add, row_fits}
 use Rattle.std.proofs.Math.ListN.{set}
@@ -16,7 +16,7 @@ use Rattle.tiff_page.specs.NumberBytes.{byte_of, all_bytes, bytes_in, IsPut, IsP
 use Rattle.tiff_page.specs.Pixels.{each_to, width_of, numbers_in}
 use Rattle.tiff_page.specs.Place.{Writes}
 use Rattle.tiff_page.specs.Row.{IsSize, row_number}
-use Rattle.tiff_page.proofs.Rects.{writes_more, writes_as, writes_same, writes_none}
+use Rattle.tiff_page.proofs.Rects.{writes_more, writes_as, writes_none}
 use Rattle.tiff_page.proofs.RowLaws.{power_pos, bytes_of_numbers}
 use Rattle.tiff_page.proofs.Rows.{each_same, each_at, digits, by_size, little_digits, number_lt}
 

@@ -1,6 +1,6 @@
 -- The samples of an image or a chunk, whose bytes are put into a list of numbers.
-use Rattle.std.proofs.Common.{◌≡◌, ℕ, zero, suc, ◌+◌, ◌-◌, ◌*◌, ◌/◌, ◌%◌, ◌<◌, ◌≤◌, true, false, List, ◌++◌, map, take, drop, length, get_or, Some, None, Result, Ok, Err, Vec, refl, ap, sym, subst, ◌∙◌, arith, ⊎_elim}
-use Rattle.std.specs.Prelude.{slice_index, replicate, unwrap_or, nat_lt, ◌&&◌}
+use Rattle.std.proofs.Common.{◌≡◌, ℕ, zero, suc, ◌+◌, ◌*◌, ◌/◌, ◌%◌, ◌<◌, ◌≤◌, true, false, List, ◌++◌, map, take, drop, length, get_or, None, Ok, Err, refl, ap, sym, subst, ◌∙◌, arith, ⊎_elim}
+use Rattle.std.specs.Prelude.{replicate, unwrap_or, nat_lt}
 use Rattle.std.specs.Int.{div_ceil}
 use Rattle.std.proofs.lemmas.Bool.{cases_Bool, cases_lt, le-ltb}
 use Rattle.std.proofs.lemmas.Grind.{div_ceil_times}
@@ -21,9 +21,8 @@ use Rattle.tiff_page.specs.declared.layout.DecodingSampleType.{DecodingSampleTyp
 use Rattle.tiff_page.specs.declared.samples.Portion.{Portion}
 use Rattle.tiff_page.specs.declared.samples.Portion.TheVariants.{Image, Chunk}
 use Rattle.tiff_page.specs.Early.{early_fault}
-use Rattle.tiff_page.specs.Image.{Decoded, decoded}
 use Rattle.tiff_page.specs.Laws.{HasSides}
-use Rattle.tiff_page.specs.Layout.{LayoutRecord, layout_of, row_bytes, sample_type_of, size_of}
+use Rattle.tiff_page.specs.Layout.{LayoutRecord, row_bytes, sample_type_of, size_of}
 use Rattle.tiff_page.specs.NumberBytes.{bytes_in}
 use Rattle.tiff_page.specs.Page.{PageRecord}
 use Rattle.tiff_page.specs.PixelCalls.{Part, part_fault, placed, filled, samples}
@@ -33,7 +32,7 @@ use Rattle.tiff_page.specs.Rect.{rect}
 use Rattle.tiff_page.specs.Row.{IsSize}
 use Rattle.tiff_page.specs.Samples.{colour_in, first_in, part_of, IsLaid, room_of}
 use Rattle.tiff_page.proofs.Cut.{image_early, chunk_early}
-use Rattle.tiff_page.proofs.NumberBytes.{some_size, length_bytes, numbers_again, zeros_in}
+use Rattle.tiff_page.proofs.NumberBytes.{some_size, numbers_again, zeros_in}
 use Rattle.tiff_page.proofs.Placing.{chunks_within, cases_fault}
 use Rattle.tiff_page.proofs.Planes.{layout_gives}
 use Rattle.tiff_page.proofs.Rows.{each_same, by_size}

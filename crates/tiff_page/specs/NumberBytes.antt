@@ -6,7 +6,7 @@ use Rattle.std.specs.Prelude.{◌≡◌, map, ℕ, ◌+◌, ◌-◌, ◌*◌, �
 use Rattle.tiff_base.specs.declared.tags.ByteOrder.TheVariants.{LittleEndian}
 use Rattle.tiff_page.specs.Pixels.{each_to}
 use Rattle.tiff_page.specs.Place.{Writes}
-use Rattle.tiff_page.specs.Row.{IsSize, row_number}
+use Rattle.tiff_page.specs.Row.{row_number}
 
 -- byte j of a number of so many bytes: the last is what is left
 abbrev pub byte_of : ℕ → ℕ → ℕ → ℕ

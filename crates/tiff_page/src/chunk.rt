@@ -92,7 +92,7 @@ fn read_whole_row<R: Source>(
 
 /// Reads the next bytes of a chunk into a buffer, as they are handed out, where no whole rows have to be read for them.
 #[tactic(auto, using(crate::proofs::RowRead::row_taken, crate::proofs::RowRead::row_cause))]
-pub fn read_handed<R: Source>(
+pub(crate) fn read_handed<R: Source>(
     source: &mut R,
     order: ByteOrder,
     page: &Page,
@@ -115,7 +115,7 @@ pub fn read_handed<R: Source>(
 }
 
 /// Reads the next row of a chunk into a buffer, as it is handed out.
-pub fn read_row<R: Source>(
+pub(crate) fn read_row<R: Source>(
     source: &mut R,
     order: ByteOrder,
     page: &Page,

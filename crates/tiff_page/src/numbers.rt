@@ -326,7 +326,7 @@ fn put_bytes<T: Number<N>, const N: usize>(numbers: &mut [T], at: usize, row: &[
 
 /// Puts a row at a place of the bytes of numbers, whole numbers at once.
 #[tactic(auto, using(crate::proofs::NumberBytes::row_put_whole, crate::proofs::NumberBytes::numbers_fit))]
-pub fn put_row<T: Number<N>, const N: usize>(numbers: &mut [T], at: usize, row: &[u8])
+pub(crate) fn put_row<T: Number<N>, const N: usize>(numbers: &mut [T], at: usize, row: &[u8])
     requires some { 0 < N }
     requires room { at + length row.now ≤ length (bytes_in N (map T.bits numbers.old)) }
     requires fits { at + length row.now < 2 ^ 64 }

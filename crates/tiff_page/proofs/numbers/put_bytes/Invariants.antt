@@ -1,4 +1,4 @@
-use Rattle.std.proofs.Common.{ℕ, ◌+◌, ◌-◌, ◌<◌, ◌≤◌, map}
+use Rattle.std.proofs.Common.{◌+◌, ◌-◌, ◌<◌, ◌≤◌, map}
 use Rattle.std.specs.Prelude.{slice_index}
 use Rattle.tiff_page.specs.NumberBytes.{bytes_in}
 use Rattle.tiff_page.specs.Place.{Writes}

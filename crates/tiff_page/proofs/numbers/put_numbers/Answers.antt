@@ -1,5 +1,4 @@
-use Rattle.std.proofs.Common.{rules, ◌≡◌, ◌<◌, ◌/◌, ◌+◌, length, map, refl}
-use Rattle.std.specs.Simd.{first_chunks}
+use Rattle.std.proofs.Common.{rules, ◌<◌, ◌/◌, ◌+◌, length, refl}
 use Rattle.tiff_page.proofs.NumberBytes.{placed_more}
 use Rattle.tiff_page.proofs.numbers.put_numbers.Goals as goal
 

@@ -1,4 +1,4 @@
-use Rattle.std.proofs.Common.{rules, Ok, ◌≡◌, ◌∙◌, ◌++◌, map, take, drop, length, ap, sym}
+use Rattle.std.proofs.Common.{rules, Ok, ◌≡◌, ◌∙◌, ◌++◌, map, take, drop, length, ap}
 use Rattle.tiff_page.specs.Laws.{HasSides}
 use Rattle.tiff_page.specs.Samples.{room_of}
 use Rattle.tiff_page.specs.View as view
