@@ -30,7 +30,7 @@ use Rattle.tiff_page.specs.Reading.{needed_of_row, TakesRow}
 use Rattle.tiff_page.specs.Stored.{IsTooShort}
 use Rattle.tiff_page.specs.Together.{LieTogether}
 use Rattle.tiff_page.proofs.ChunkRows.{row_handed, bits_are, number_in_row, none_dropped}
-use Rattle.tiff_page.proofs.Rects.{holds_put_mid, copied, writes_more, writes_as}
+use Rattle.tiff_page.proofs.Rects.{writes_more, writes_as}
 use Rattle.tiff_page.proofs.Rows.{each_same}
 
 -- ---- what is handed out of one row of several

@@ -1,4 +1,4 @@
-use Rattle.std.proofs.Common.{arith, ◌≡◌, ℕ, ◌<◌, ◌∙◌, ◌+◌, ◌-◌, ◌*◌, length, refl, drop, ap, sym, subst}
+use Rattle.std.proofs.Common.{arith, ◌≡◌, ℕ, ◌<◌, ◌∙◌, ◌+◌, ◌-◌, ◌*◌, length, refl, drop, ap, subst}
 use Rattle.tiff_page.specs.declared.page.Page.{Page}
 use Rattle.tiff_page.specs.Pixels.{chunk_data, stored_row_bytes}
 use Rattle.tiff_page.specs.Counts.{all_chunks}
