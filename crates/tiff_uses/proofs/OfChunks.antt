@@ -1,6 +1,6 @@
 -- An image that was read is made of the chunks of its page.
-use Rattle.std.proofs.Common.{◌≡◌, ℕ, List, length, Result, Ok, Err, OnOk, ap, sym, ◌∙◌}
-use Rattle.std.specs.Result.{is_ok, IsOk}
+use Rattle.std.proofs.Common.{◌≡◌, ℕ, List, Result, Ok, Err, OnOk, ap}
+use Rattle.std.specs.Result.{is_ok}
 use Rattle.tiff_base.specs.declared.error.TiffError.{TiffError}
 use Rattle.tiff_page.specs.Laws.{HasSides}
 use Rattle.tiff_decode.specs.Machine.{Decoding, Follows}

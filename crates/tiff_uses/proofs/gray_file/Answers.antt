@@ -1,4 +1,4 @@
-use Rattle.std.proofs.Common.{◌≡◌, ℕ, ◌<◌, List, length, map, ap, sym, subst, refl, ◌∙◌, arith}
+use Rattle.std.proofs.Common.{◌≡◌, ℕ, ◌<◌, List, length, ap, sym, subst, refl, ◌∙◌, arith}
 use Rattle.tiff.specs.Model.{IsLink, Stands, header_model}
 use Rattle.tiff.specs.Shows.{ShowsGray}
 use Rattle.tiff_base.specs.declared.tags.FileKind.TheVariants.{Classic}
