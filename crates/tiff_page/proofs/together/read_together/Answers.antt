@@ -91,7 +91,7 @@ loop-row-preserved g c =
       same_bytes = told;
       count = omega (arith, c.in-Ok.ensures.kept.failures, c.loop-row.invariant.count);
       place = next_band bytes order p colour k corner.left corner.stride sides stored listed together row more ahead rest c.read_handed.new.out out from given;
-      enough = band_held bytes order p colour k corner.left corner.stride sides stored listed together row more ahead rest c.read_handed.new.out c.requires.some (omega (arith, c.loop-row-test.true, c.min-more.ensures, c.max-band.ensures)) out from given;
+      enough = band_held bytes order p colour k corner.left corner.stride sides stored listed together row more ahead rest c.read_handed.new.out c.requires.some (omega (arith, c.loop-row-test.true, c.min-more.ensures, c.rows_at_once-band.ensures)) out from given;
       written = band_put (chunk_byte bytes order p colour k) corner.stride corner.top row more corner.left len at (more * corner.stride) c.read_handed.new.out c.args.buf.now c.loop-row.buf c.requires.some
           together.from_edge together.in_buffer refl refl (omega (arith, f.1, c.loop-row.auto.buf)) out
           (λ i il. band_bytes_are bytes order p colour k corner.left corner.stride sides stored listed together row more i ahead rest c.read_handed.new.out c.requires.some rl out from given il)
