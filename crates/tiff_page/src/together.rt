@@ -9,14 +9,13 @@ ghost use Rattle.tiff_page.specs.PixelFault.{unless};
 ghost use Rattle.tiff_page.specs.Pixels.{chunk_data, is_short, needs_whole_rows};
 ghost use Rattle.tiff_page.specs.Place.{Writes, IsIn, in_rect, chunk_byte};
 ghost use Rattle.tiff_page.specs.Read.{IsRead};
-ghost use Rattle.tiff_page.specs.Reading.{RowRead};
 ghost use Rattle.tiff_page.specs.Rect.{rect};
 ghost use Rattle.tiff_page.specs.Stored.{left_of};
 ghost use Rattle.tiff_page.specs.Together.{LieTogether};
 ghost use Rattle.tiff_page.specs.View as view;
 
 use crate::chunk::Corner;
-use crate::handed::{needs_whole_rows, row_len, stored_row_bytes};
+use crate::handed::{needs_whole_rows, stored_row_bytes};
 use crate::layout::chunk_data_dimensions;
 use crate::page::Page;
 use crate::stored::Stored;
@@ -26,8 +25,12 @@ use tiff_base::error::TiffResult;
 use tiff_base::io::Source;
 use tiff_base::tags::{ByteOrder, Predictor};
 
-// How many bytes of rows are read at once, where a row has no more: what is turned in them is still in the processor's cache.
-const BAND: usize = 65536;
+// How many bytes of rows are read at once, where a row has no more: they are copied fast, and what is turned in them is still
+// in the processor's nearest cache.
+const BAND: usize = 8192;
+
+// The same of longer rows, and of packed data, of which a block may be cut at the end of each band.
+const WIDE_BAND: usize = 65536;
 
 /// Whether rows of which so many bytes are handed out lie one behind another, in the data of a chunk and in a buffer, and
 /// no byte is summed with others of its row.
@@ -39,6 +42,18 @@ pub(crate) fn lies_together(page: &Page, colour: ColorType, len: usize, corner: 
         && stored_row_bytes(page) == len
         && !needs_whole_rows(page, colour)
         && matches!(page.predictor, Predictor::None)
+}
+
+// How many rows of so many bytes are read at once. What is read doesn't depend on it.
+fn rows_at_once(front: Stored, len: usize) -> usize
+    requires { 0 < len }
+    ensures { 0 < result }
+{
+    let bytes = match front {
+        Stored::Plain(_) if len <= BAND => BAND,
+        _ => WIDE_BAND,
+    };
+    (bytes / len).max(1)
 }
 
 /// Reads the rows of a chunk that lie together, from the front of its data on.
@@ -66,7 +81,7 @@ pub(crate) fn read_together<R: Source, T, W: RowWriter<T>>(
 {
     let (_, height) = chunk_data_dimensions(page, index);
     let rows = height as usize;
-    let band = (BAND / corner.stride).max(1);
+    let band = rows_at_once(front, corner.stride);
     let mut place = front;
     let mut row = 0;
     while row < rows {
