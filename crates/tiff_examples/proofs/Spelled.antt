@@ -169,3 +169,18 @@ corner_at_chunk = refl
 pub corner_at_image : s.corner_at_image
 unfolding row_bits rect
 corner_at_image = refl
+
+pub corner_found : s.corner_found
+unfolding row_bits
+corner_found = refl
+
+pub plane_found : s.plane_found
+unfolding row_bits
+plane_found = refl
+
+pub edge_found : s.edge_found
+unfolding row_bits
+edge_found = refl
+
+pub corner_unit : s.corner_unit
+corner_unit = refl

@@ -18,6 +18,8 @@ use Rattle.tiff_value.specs.Values.{values_in, IsValue, IsWritable, byte_count, 
 use Rattle.tiff_value.specs.Written.{Written}
 use Rattle.tiff_page.specs.Layout.{LayoutRecord}
 use Rattle.tiff_laws.specs.Whole.{chunks_used, chunk_row, at_chunk, at_image, chunk_bytes}
+use Rattle.tiff_laws.specs.Bytes.{chunk_of, row_of, byte_of}
+use Rattle.tiff_laws.specs.Units.{unit_chunk}
 use Rattle.tiff_encode.specs.Kind.{WritesWithin}
 use Rattle.tiff_examples.specs.Pages.{planar_tiles}
 use Rattle.tiff_examples.specs.Lists.{Never}
@@ -173,3 +175,21 @@ corner_at_chunk = at_chunk planar_tiles two_bands 7 1 2 ≡ 6
 
 abbrev pub corner_at_image : Type 0
 corner_at_image = at_image planar_tiles two_bands 7 1 2 ≡ 758
+
+-- which byte of which row of which chunk a byte of the two planes is
+abbrev pub found_at : ℕ → ℕ × ℕ × ℕ
+found_at at = (chunk_of planar_tiles two_bands at, row_of planar_tiles two_bands at, byte_of planar_tiles two_bands at)
+
+-- that byte again, by its position; the first of the second plane; and the first behind the first tile's first row
+abbrev pub corner_found : Type 0
+corner_found = found_at 758 ≡ (7, 1, 2)
+
+abbrev pub plane_found : Type 0
+plane_found = found_at 400 ≡ (4, 0, 0)
+
+abbrev pub edge_found : Type 0
+edge_found = found_at 16 ≡ (1, 0, 0)
+
+-- the last tile of the first plane, in the second
+abbrev pub corner_unit : Type 0
+corner_unit = unit_chunk planar_tiles 3 1 ≡ 7

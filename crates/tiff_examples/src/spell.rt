@@ -20,5 +20,6 @@ pub fn rows()
 
 /// Where chunks stand in an image.
 pub fn chunks()
-    ensures { s.eight_chunks × s.four_chunks × s.corner_row × s.corner_bytes × s.corner_at_chunk × s.corner_at_image }
+    ensures { s.eight_chunks × s.four_chunks × s.corner_row × s.corner_bytes × s.corner_at_chunk × s.corner_at_image ×
+        s.corner_found × s.plane_found × s.edge_found × s.corner_unit }
 {}

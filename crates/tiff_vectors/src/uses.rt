@@ -1,11 +1,11 @@
-//! The five uses of `tiff_uses`, run on tiny files.
+//! The six uses of `tiff_uses`, run on tiny files.
 
 use std::alloc::Global;
 use std::test::Fail;
 use tiff::TiffResult;
 use tiff::decoder::{Decoder, DecodingResult};
 use tiff::io::MemorySource;
-use tiff_uses::{first_image, geo_key, gray_file, page_chunk, page_sides};
+use tiff_uses::{first_image, geo_key, gray_file, image_of_chunks, page_chunk, page_sides};
 
 // A file of one page, 1 by 1, of 8 bits and gray: its one strip is the last byte. Its directory of keys, at place 98, holds two: 1024
 // (GTModelType) is 2, and 2048 (GeographicType) is 4326.
@@ -47,6 +47,11 @@ fn key_of(alloc: Global, file: Vec<u8>, id: u16) -> TiffResult<Option<u16>> {
     geo_key(&mut decoder, id)
 }
 
+fn image_in(alloc: Global, file: Vec<u8>, buffer: &mut [u8]) -> TiffResult<()> {
+    let mut decoder = Decoder::new(alloc, MemorySource::new(file))?;
+    image_of_chunks(&mut decoder, buffer)
+}
+
 #[test]
 fn uses(rt: HostRuntime) -> Result<(), Fail> {
     let alloc = rt.alloc();
@@ -55,6 +60,9 @@ fn uses(rt: HostRuntime) -> Result<(), Fail> {
     assert!(rt; sides.as_slice() == [(3, 1)].as_slice());
     assert!(rt; image_is(alloc, gray_file(alloc, 3, 1, samples)?, samples)?);
     assert!(rt; chunk_is(alloc, gray_file(alloc, 3, 1, samples)?, samples)?);
+    let mut buffer = [9; 4];
+    image_in(alloc, gray_file(alloc, 3, 1, samples)?, &mut buffer)?;
+    assert!(rt; buffer.as_slice() == [5, 6, 7, 9].as_slice());
     assert_eq!(rt;
         key_of(alloc, Vec::from_slice(alloc, WITH_KEYS)?, 2048)?,
         Some(4326)

@@ -10,4 +10,8 @@ returns c = (
   p.corner_bytes,
   p.corner_at_chunk,
   p.corner_at_image,
+  p.corner_found,
+  p.plane_found,
+  p.edge_found,
+  p.corner_unit,
 )
