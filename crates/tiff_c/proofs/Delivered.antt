@@ -15,7 +15,7 @@ use Rattle.tiff_encode.specs.Shows.{ShowsFirst}
 use Rattle.tiff_c.specs.declared.writer.NewImage.{NewImage}
 use Rattle.tiff_c.specs.declared.writer.Settings.{Settings}
 use Rattle.tiff_c.specs.Status.{fault_number, format_number, unsupported_number, usage_number, io_number}
-use Rattle.tiff_c.specs.Writer.{Delivers, IsShown, Puts, Tells, Writes, WritesBy, WritesBytes, WritesNew, image_by, samples_of, settings_of}
+use Rattle.tiff_c.specs.Writer.{Delivers, IsShown, Tells, WritesBy, WritesBytes, WritesNew, image_by, samples_of, settings_of}
 
 -- no fault has the number 0
 some_format : (e : TiffFormatError) → 0 < format_number e

@@ -1,5 +1,5 @@
 -- Samples that bytes are.
-use Rattle.std.proofs.Common.{◌≡◌, ℕ, suc, ◌%◌, ◌^◌, ◌<◌, List, [], ◌∷◌, map, get_or, Fits, w8, refl, sym, ◌∙◌, subst, ap, arith}
+use Rattle.std.proofs.Common.{◌≡◌, ℕ, suc, ◌%◌, ◌^◌, ◌<◌, List, [], ◌∷◌, map, get_or, Fits, w8, refl, sym, ◌∙◌, arith}
 use Rattle.std.proofs.Math.Nat.{mod-eq_of_lt}
 use Rattle.tiff_value.specs.ColorType.{sample_number}
 use Rattle.tiff_page.specs.Pixels.{numbers_in}

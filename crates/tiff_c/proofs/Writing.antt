@@ -15,17 +15,16 @@ use Rattle.tiff_value.specs.ColorType.{ColorTypeRecord, sample_number}
 use Rattle.tiff_value.specs.ColorTypes.{colour_type, inner_size, inner_type}
 use Rattle.tiff_page.specs.Pixels.{numbers_in}
 use Rattle.tiff_encode.specs.Written.{header_bytes, header_mark}
-use Rattle.tiff_encode.specs.Causes.{end_of}
 use Rattle.tiff_encode.specs.Model.{Model, IsLink, Stands, header_link, header_model}
 use Rattle.tiff_encode.specs.Machine.{FileState, begun}
-use Rattle.tiff_encode.specs.Calls.{image_in, with_compression, with_predictor}
+use Rattle.tiff_encode.specs.Calls.{with_compression, with_predictor}
 use Rattle.tiff_encode.specs.Shows.{ShowsFirst}
 use Rattle.tiff_encode.specs.ImageData.{WritesImage, LeavesImage, LeavesNewImage, whole_image}
 use Rattle.tiff_encode.proofs.DataBegun.{new_is}
 use Rattle.tiff_encode.proofs.GrayShown.{first_shown}
 use Rattle.tiff_encode.proofs.Header.{header_stands}
 use Rattle.tiff_c.specs.declared.writer.Settings.{Settings}
-use Rattle.tiff_c.specs.Writer.{IsWritten, Writes, WritesBytes, file_by, image_by, samples_of, seen}
+use Rattle.tiff_c.specs.Writer.{IsWritten, Writes, WritesBytes, file_by, image_by, samples_of}
 use Rattle.tiff_c.proofs.Octets.{octets_are}
 
 -- an encoder that begins on nothing, by its settings
