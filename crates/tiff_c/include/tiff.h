@@ -8,7 +8,7 @@ DESCRIPTION
     PAGE is the number of a page from 0, along the file's chain of directories.
 
     A call that answers TIFF_DONE has written its answer. One that answers anything else has left a struct or a number as it was; what it leaves
-    in a buffer of bytes isn't told.
+    in a buffer of bytes isn't told. tiff_write_image tells more.
 
     A file may claim any size: ask for the layout, and judge it, before you take memory for an image. A file whose chunks are past
     128 MiB in the file answers TIFF_LIMITS_EXCEEDED.
