@@ -1,5 +1,5 @@
 /* Times tiff_c beside libtiff and memcpy. Its words are three for each file: a name, the file's path, and `both` where libtiff reads it
-   too, else `alone`. A name that begins with `open` times the opening alone. */
+   too, else `alone`. A name that begins with `open` times the opening alone. Then it times writing, of images that it makes. */
 #include <stdio.h>
 #include <stdlib.h>
 #include <string.h>
@@ -16,6 +16,15 @@ struct load {
     int both;
     /* the rows of chunks: how many bytes each has, how many chunks lie side by side, and how high they are */
     size_t row, across, height;
+};
+
+/* An image that is written: its samples, and its files. */
+struct work {
+    const char *name;
+    struct tiff_image image;
+    struct drawn drawn;
+    uint8_t *samples, *ours, *theirs;
+    size_t len, size, our_len, their_len;
 };
 
 static double now(void) {
@@ -132,6 +141,83 @@ static void print_reading(struct load *l) {
     printf("%s |\n", l->both ? "yes" : "-");
 }
 
+/* ---- writing */
+
+static void write_ours(struct work *w) {
+    if (tiff_write_image(&w->image, w->samples, w->len, w->ours, w->size, &w->our_len)) stop("refused by tiff_c", w->name);
+}
+
+static void write_theirs(struct work *w) {
+    w->their_len = write_by_libtiff(&w->drawn, w->samples, w->theirs, w->size);
+    if (!w->their_len) stop("refused by libtiff", w->name);
+}
+
+static void copy_samples(struct work *w) { memcpy(w->theirs, w->samples, w->len); }
+
+static void best_work(double *least, void (*work)(struct work *), struct work *w) {
+    double begun = now();
+    work(w);
+    double took = now() - begun;
+    if (*least == 0 || took < *least) *least = took;
+}
+
+/* Pieces of 16 bytes as they are and a run of 48, again and again, or bytes without runs. */
+static void draw(struct work *w) {
+    uint32_t n = 7;
+    for (size_t i = 0; i < w->len; i++) {
+        if (!w->drawn.packed || i % 64 < 17) n = n * 1664525u + 1013904223u;
+        w->samples[i] = (uint8_t)(n >> 24);
+    }
+}
+
+/* Has libtiff write strips of as many rows as tiff_c does, and each read what the other wrote. */
+static void match(struct work *w) {
+    struct tiff_chunks chunks;
+    uint8_t *back = room(w->len);
+    write_ours(w);
+    if (tiff_page_chunks(w->ours, w->our_len, 0, &chunks)) stop("refused by tiff_c", w->name);
+    w->drawn.rows = chunks.height;
+    write_theirs(w);
+    if (tiff_read_image_bytes(w->theirs, w->their_len, 0, back, w->len) || memcmp(back, w->samples, w->len)) stop("other samples in libtiff's file", w->name);
+    memset(back, 0, w->len);
+    if (!by_libtiff(w->ours, w->our_len, back) || memcmp(back, w->samples, w->len)) stop("other samples in tiff_c's file", w->name);
+    free(back);
+}
+
+static void print_writing(const char *name, uint32_t color, struct drawn drawn) {
+    struct work w = {.name = name, .drawn = drawn};
+    w.image = (struct tiff_image){color, drawn.width, drawn.height, TIFF_CLASSIC, drawn.packed ? TIFF_PACKBITS : TIFF_UNCOMPRESSED, TIFF_NO_PREDICTOR};
+    w.len = (size_t)drawn.width * drawn.height * drawn.samples * drawn.bits / 8;
+    w.size = w.len + w.len / 64 + (1 << 20);
+    w.samples = room(w.len);
+    w.ours = room(w.size);
+    w.theirs = room(w.size);
+    draw(&w);
+    match(&w);
+    double ours = 0, theirs = 0, copied = 0, mega = (double)w.len / 1e6;
+    for (int i = 0; i < ROUNDS; i++) {
+        best_work(&ours, write_ours, &w);
+        best_work(&theirs, write_theirs, &w);
+        best_work(&copied, copy_samples, &w);
+    }
+    printf("| %s | %.0f | %.0f | %.0f | %.2f | %.2f | %zu | %zu |\n", name, mega / ours, mega / theirs, mega / copied, theirs / ours, copied / ours,
+           w.our_len, w.their_len);
+    free(w.samples);
+    free(w.ours);
+    free(w.theirs);
+}
+
+static void print_writings(void) {
+    printf("\n| Written | tiff_c, MB/s | libtiff, MB/s | memcpy, MB/s | to libtiff | to memcpy | bytes of tiff_c's file | of libtiff's |\n"
+           "|---|---|---|---|---|---|---|---|\n");
+    print_writing("gray8", TIFF_GRAY8, (struct drawn){4096, 4096, 1, 8, 0, 0});
+    print_writing("rgb8", TIFF_RGB8, (struct drawn){2048, 2048, 3, 8, 0, 0});
+    print_writing("rgb16", TIFF_RGB16, (struct drawn){2048, 1024, 3, 16, 0, 0});
+    print_writing("gray8, PackBits", TIFF_GRAY8, (struct drawn){4096, 4096, 1, 8, 1, 0});
+    print_writing("rgb8, PackBits", TIFF_RGB8, (struct drawn){2048, 2048, 3, 8, 1, 0});
+    print_writing("rgb16, PackBits", TIFF_RGB16, (struct drawn){2048, 1024, 3, 16, 1, 0});
+}
+
 int main(int argc, char **argv) {
     printf("| Load | tiff_c, MB/s | libtiff, MB/s | memcpy, MB/s | memcpy by rows, MB/s | to libtiff | to memcpy | to rows | Same bytes |\n"
            "|---|---|---|---|---|---|---|---|---|\n");
@@ -144,5 +230,6 @@ int main(int argc, char **argv) {
         free(l.ours);
         free(l.theirs);
     }
+    print_writings();
     return 0;
 }

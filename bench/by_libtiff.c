@@ -1,4 +1,4 @@
-/* Reads a file that lies in memory by libtiff. */
+/* Reads and writes files that lie in memory by libtiff. */
 #include <stdlib.h>
 #include <string.h>
 #include <tiffio.h>
@@ -91,4 +91,62 @@ uint32_t width_by_libtiff(const uint8_t *file, size_t len) {
     TIFFGetField(t, TIFFTAG_IMAGEWIDTH, &width);
     TIFFClose(t);
     return width;
+}
+
+/* A file that is written: its room, and how much of that it has. */
+struct paper {
+    uint8_t *bytes;
+    size_t size, len, at;
+};
+
+static tmsize_t write_some(thandle_t handle, void *in, tmsize_t size) {
+    struct paper *p = handle;
+    if (p->at > p->size || p->size - p->at < (size_t)size) return 0;
+    memcpy(p->bytes + p->at, in, (size_t)size);
+    p->at += (size_t)size;
+    if (p->len < p->at) p->len = p->at;
+    return size;
+}
+
+static tmsize_t read_back(thandle_t handle, void *out, tmsize_t size) {
+    struct paper *p = handle;
+    size_t left = p->at < p->len ? p->len - p->at : 0, n = (size_t)size < left ? (size_t)size : left;
+    memcpy(out, p->bytes + p->at, n);
+    p->at += n;
+    return (tmsize_t)n;
+}
+
+static toff_t seek_paper(thandle_t handle, toff_t to, int from) {
+    struct paper *p = handle;
+    p->at = from == SEEK_SET ? to : from == SEEK_CUR ? p->at + to : p->len + to;
+    return p->at;
+}
+
+static toff_t size_of_paper(thandle_t handle) { return ((struct paper *)handle)->len; }
+
+static void describe(TIFF *t, const struct drawn *image) {
+    TIFFSetField(t, TIFFTAG_IMAGEWIDTH, image->width);
+    TIFFSetField(t, TIFFTAG_IMAGELENGTH, image->height);
+    TIFFSetField(t, TIFFTAG_BITSPERSAMPLE, image->bits);
+    TIFFSetField(t, TIFFTAG_SAMPLESPERPIXEL, image->samples);
+    TIFFSetField(t, TIFFTAG_PHOTOMETRIC, image->samples == 3 ? PHOTOMETRIC_RGB : PHOTOMETRIC_MINISBLACK);
+    TIFFSetField(t, TIFFTAG_PLANARCONFIG, PLANARCONFIG_CONTIG);
+    TIFFSetField(t, TIFFTAG_COMPRESSION, image->packed ? COMPRESSION_PACKBITS : COMPRESSION_NONE);
+    TIFFSetField(t, TIFFTAG_ROWSPERSTRIP, image->rows);
+}
+
+size_t write_by_libtiff(const struct drawn *image, const uint8_t *samples, uint8_t *buffer, size_t size) {
+    struct paper p = {buffer, size, 0, 0};
+    TIFF *t = TIFFClientOpen("bench", "wl", &p, read_back, write_some, seek_paper, close_it, size_of_paper, NULL, NULL);
+    if (!t) return 0;
+    describe(t, image);
+    size_t row = (size_t)image->width * image->samples * image->bits / 8, whole = row * image->height, strip = row * image->rows;
+    int well = 1;
+    for (size_t i = 0; well && i * strip < whole; i++) {
+        size_t left = whole - i * strip, n = left < strip ? left : strip;
+        well = TIFFWriteEncodedStrip(t, (uint32_t)i, (void *)(samples + i * strip), (tmsize_t)n) >= 0;
+    }
+    well = well && TIFFFlush(t);
+    TIFFClose(t);
+    return well ? p.len : 0;
 }

@@ -1,4 +1,4 @@
-/* What libtiff reads, for a comparison. */
+/* What libtiff reads and writes, for a comparison. */
 #ifndef BY_LIBTIFF_H
 #define BY_LIBTIFF_H
 
@@ -10,5 +10,14 @@ int by_libtiff(const uint8_t *file, size_t len, uint8_t *buffer);
 
 /* The width of the first page, or 0. */
 uint32_t width_by_libtiff(const uint8_t *file, size_t len);
+
+/* An image: its sides, the samples of a pixel, one or three, and the bits of each; whether it is packed by PackBits, and the rows of its
+   strips. */
+struct drawn {
+    uint32_t width, height, samples, bits, packed, rows;
+};
+
+/* Writes a file of an image into BUFFER, of SIZE bytes. Answers how many bytes it has, or 0 where it fails. */
+size_t write_by_libtiff(const struct drawn *image, const uint8_t *samples, uint8_t *buffer, size_t size);
 
 #endif

@@ -1,13 +1,14 @@
-"""Reads the first page of a TIFF file and writes it as PGM (gray) or PPM (RGB), of 8 bits a sample.
+"""Reads the first page of a TIFF file and writes it as PGM (gray) or PPM (RGB), of 8 bits a sample; or as a TIFF file packed by PackBits.
 
   cc -shared -o libtiff_c.so -Wl,--whole-archive ../../crates/tiff_c/out/libtiff_c.a -Wl,--no-whole-archive "$KIT/c/liblibc_c.a"
   python3 tiff.py page.tif > page.pgm
+  python3 tiff.py page.tif packed.tif
 
 First build the library by `rt lib` in crates/tiff_c; KIT is the folder of the toolchain.
 """
 import ctypes
 import sys
-from ctypes import POINTER, Structure, byref, c_char_p, c_size_t, c_uint32
+from ctypes import POINTER, Structure, byref, c_char_p, c_size_t, c_uint16, c_uint32
 from pathlib import Path
 
 try:
@@ -17,6 +18,11 @@ except ImportError:
 
 LIBRARY = ctypes.CDLL(str(Path(__file__).resolve().parent / "libtiff_c.so"))
 GRAY, RGB = 0, 1
+GRAY8, RGB8 = 0, 10
+CLASSIC, BIG = 42, 43
+UNCOMPRESSED, PACKBITS = 1, 32773
+NO_PREDICTOR, HORIZONTAL = 1, 2
+INSUFFICIENT_OUTPUT_BUFFER_SIZE = 67
 
 
 class Sides(Structure):
@@ -29,6 +35,11 @@ class Color(Structure):
 
 class Layout(Structure):
     _fields_ = [("len", c_size_t), ("complete_len", c_size_t)]
+
+
+class Image(Structure):
+    _fields_ = [("color", c_uint32), ("width", c_uint32), ("height", c_uint32),
+                ("version", c_uint16), ("method", c_uint16), ("predictor", c_uint16)]
 
 
 class TiffError(Exception):
@@ -47,6 +58,9 @@ PAGE_SIDES = declare("tiff_page_sides", POINTER(Sides))
 PAGE_COLOR = declare("tiff_page_color", POINTER(Color))
 PAGE_LAYOUT = declare("tiff_page_layout", POINTER(Layout))
 READ_IMAGE = declare("tiff_read_image_bytes", ctypes.c_void_p, c_size_t)
+WRITE_IMAGE = LIBRARY.tiff_write_image
+WRITE_IMAGE.argtypes = [POINTER(Image), c_char_p, c_size_t, ctypes.c_void_p, c_size_t, POINTER(c_size_t)]
+WRITE_IMAGE.restype = c_uint32
 LIBRARY.tiff_fault_text.argtypes = [c_uint32, ctypes.c_void_p, c_size_t]
 LIBRARY.tiff_fault_text.restype = c_size_t
 
@@ -75,6 +89,18 @@ def read_image(file, page=0):
     return sides, color, pixels.raw[:size]
 
 
+def write_image(samples, width, height, color, version=CLASSIC, method=UNCOMPRESSED, predictor=NO_PREDICTOR):
+    """Returns a file of an image of these samples: bytes, the lowest of each sample first, row by row and pixel by pixel."""
+    image, length = Image(color, width, height, version, method, predictor), c_size_t()
+    file = ctypes.create_string_buffer(1)
+    status = WRITE_IMAGE(byref(image), samples, len(samples), file, 0, byref(length))
+    if status == INSUFFICIENT_OUTPUT_BUFFER_SIZE:
+        file = ctypes.create_string_buffer(length.value)
+        status = WRITE_IMAGE(byref(image), samples, len(samples), file, length, byref(length))
+    check(status)
+    return file.raw
+
+
 def as_array(sides, color, pixels):
     """Returns the samples of a chunky page of 8 or 16 bits as an array of rows and columns, and of samples where there are several."""
     shape = (sides.height, sides.width) + ((color.samples,) if color.samples > 1 else ())
@@ -85,6 +111,10 @@ def main():
     sides, color, pixels = read_image(Path(sys.argv[1]).read_bytes())
     if color.kind not in (GRAY, RGB) or color.bits != 8:
         sys.exit("not 8 bits of gray or RGB")
+    if len(sys.argv) > 2:
+        kind = RGB8 if color.kind == RGB else GRAY8
+        Path(sys.argv[2]).write_bytes(write_image(pixels, sides.width, sides.height, kind, method=PACKBITS))
+        return
     if numpy:
         pixels = as_array(sides, color, pixels).tobytes()
     head = f"P{6 if color.kind == RGB else 5}\n{sides.width} {sides.height}\n255\n"

@@ -1,14 +1,14 @@
-/* tiff.h - pages of TIFF files, read from memory
+/* tiff.h - pages of TIFF files, read from memory; files of one image, written into memory
 
 DESCRIPTION
     A file is FILE, LEN bytes of the caller's memory that hold all of it. Nothing of it is copied, and nothing is kept between calls:
-    each call opens the file anew, reads the header and the directories up to the page that is asked for, and lets go of all memory
+    each call that reads opens the file anew, reads the header and the directories up to the page that is asked for, and lets go of all memory
     that it took. Calls of several threads at once don't disturb each other.
 
     PAGE is the number of a page from 0, along the file's chain of directories.
 
     A call that answers TIFF_DONE has written its answer. One that answers anything else has left a struct or a number as it was; what it leaves
-    in a buffer of bytes isn't told.
+    in a buffer of bytes isn't told. tiff_write_image tells more.
 
     A file may claim any size: ask for the layout, and judge it, before you take memory for an image. A file whose chunks are past
     128 MiB in the file answers TIFF_LIMITS_EXCEEDED.
@@ -174,6 +174,89 @@ tiff_status tiff_tag_field(const uint8_t *file, size_t len, size_t page, uint16_
 /* The number of a tag of a page, which has to have one value: a compression by tag 259 (1: none, 32773: PackBits; no such tag: none), or
    any other. No such tag: TIFF_REQUIRED_TAG_NOT_FOUND. */
 tiff_status tiff_tag_number(const uint8_t *file, size_t len, size_t page, uint16_t tag, uint64_t *number);
+
+/* Copies the bytes of the values of a tag of a page from byte AT on into BUFFER, as many as SIZE takes, and tells in *WRITTEN how many:
+   as the file has them, so numbers are in its byte order. AT is 0 for the first of them; from the end of the values on, none are copied. The
+   other bytes of BUFFER stay. All of them are as many as tiff_tag_field counts, each of the bytes of its type. No such tag:
+   TIFF_REQUIRED_TAG_NOT_FOUND. */
+tiff_status tiff_tag_bytes(const uint8_t *file, size_t len, size_t page, uint16_t tag, uint64_t at, uint8_t *buffer, size_t size,
+                           size_t *written);
+
+/* The byte order of a file. */
+enum {
+    TIFF_LITTLE_ENDIAN = 0, /* II */
+    TIFF_BIG_ENDIAN = 1,    /* MM */
+};
+tiff_status tiff_byte_order(const uint8_t *file, size_t len, uint32_t *order);
+
+/* What an image is written as: its colour type; its sides, in pixels; the version that the header of its file has; the values of its
+   tags Compression and Predictor. */
+enum {
+    /* the colour types: how samples are read, and the bits of each; I: signed, FLOAT: floating numbers, else unsigned */
+    TIFF_GRAY8 = 0,
+    TIFF_GRAY16 = 1,
+    TIFF_GRAY32 = 2,
+    TIFF_GRAY64 = 3,
+    TIFF_GRAY_I8 = 4,
+    TIFF_GRAY_I16 = 5,
+    TIFF_GRAY_I32 = 6,
+    TIFF_GRAY_I64 = 7,
+    TIFF_GRAY32_FLOAT = 8,
+    TIFF_GRAY64_FLOAT = 9,
+    TIFF_RGB8 = 10,
+    TIFF_RGB16 = 11,
+    TIFF_RGB32 = 12,
+    TIFF_RGB64 = 13,
+    TIFF_RGB32_FLOAT = 14,
+    TIFF_RGB64_FLOAT = 15,
+    TIFF_RGBA8 = 16,
+    TIFF_RGBA16 = 17,
+    TIFF_RGBA32 = 18,
+    TIFF_RGBA64 = 19,
+    TIFF_RGBA32_FLOAT = 20,
+    TIFF_RGBA64_FLOAT = 21,
+    TIFF_CMYK8 = 22,
+    TIFF_CMYK16 = 23,
+    TIFF_CMYK32 = 24,
+    TIFF_CMYK64 = 25,
+    TIFF_CMYK32_FLOAT = 26,
+    TIFF_CMYK64_FLOAT = 27,
+    TIFF_YCBCR8 = 28, /* chroma not subsampled */
+    TIFF_CMYKA8 = 29,
+    /* the kinds of files */
+    TIFF_CLASSIC = 42,
+    TIFF_BIG = 43,
+    /* the methods */
+    TIFF_UNCOMPRESSED = 1,
+    TIFF_PACKBITS = 32773,
+    /* the predictors */
+    TIFF_NO_PREDICTOR = 1,
+    TIFF_HORIZONTAL = 2, /* differences; not of floating numbers. Many readers don't undo them without LZW or Deflate */
+};
+struct tiff_image {
+    uint32_t color;
+    uint32_t width;
+    uint32_t height;
+    uint16_t version;
+    uint16_t method;
+    uint16_t predictor;
+};
+
+/* Writes a file whose one page is an image, in strips, into BUFFER, of SIZE bytes, and tells in *LEN how many bytes the file has. SAMPLES, of
+   SAMPLES_LEN bytes, are row by row from the top, the samples of a pixel side by side, each with its lowest byte first, as
+   tiff_read_image_bytes reads them; samples behind those of the image are not looked at. The bytes of BUFFER behind the file stay.
+
+   A BUFFER that is too short: TIFF_INSUFFICIENT_OUTPUT_BUFFER_SIZE, and *LEN is told all the same; so a first call with a SIZE of 0 asks
+   for the length. It takes as long as one that writes.
+
+   Any status but TIFF_DONE leaves BUFFER as it was, and any but these two *LEN. Faults, the first of them: a version that is none,
+   TIFF_SIGNATURE_INVALID; a colour type that is none, TIFF_INVALID_INPUT; a method that isn't written,
+   TIFF_UNSUPPORTED_COMPRESSION_METHOD; a predictor that is none, TIFF_UNKNOWN_PREDICTOR; SAMPLES_LEN that is no whole number of samples,
+   TIFF_MISMATCHED_ENTRY_LENGTH; a side of 0, TIFF_INVALID_DIMENSIONS; the horizontal predictor of floating numbers,
+   TIFF_PREDICTOR_INCOMPATIBLE, and predictor 3, TIFF_PREDICTOR_UNAVAILABLE; 2^64 samples or more, TIFF_INVALID_INPUT; too few
+   samples, TIFF_INVALID_DATA; a file that its kind can't hold, TIFF_INT_SIZE_ERROR. */
+tiff_status tiff_write_image(const struct tiff_image *image, const uint8_t *samples, size_t samples_len, uint8_t *buffer, size_t size,
+                             size_t *len);
 
 /* Writes the text of a status into BUFFER, of SIZE bytes, as much of it as fits, with no zero behind it. Answers how many bytes the
    text has. */

@@ -1,2 +1,5 @@
 pub mod Slices
 pub mod Told
+pub mod Octets
+pub mod Writing
+pub mod Delivered

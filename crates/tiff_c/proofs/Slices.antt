@@ -1,10 +1,13 @@
 -- A decoder whose reads never fail: its answers are those that the file gives, but for want of memory.
-use Rattle.std.proofs.Common.{◌≡◌, ℕ, ◌<◌, Result, Ok, Err, sym, ◌∙◌, ap, arith, OnOk}
+use Rattle.std.proofs.Common.{◌≡◌, ℕ, ◌<◌, List, Option, None, Result, Ok, Err, sym, subst, ◌∙◌, ap, arith, OnOk}
 use Rattle.tiff_base.specs.declared.error.TiffError.{TiffError}
 use Rattle.tiff_base.specs.declared.error.TiffError.TheVariants.{FormatError, UnsupportedError, IoError, UsageError, LimitsExceeded, IntSizeError, OutOfMemory}
 use Rattle.tiff_base.specs.declared.io.IoKind.TheVariants.{UnexpectedEof, InvalidData, InvalidInput, WriteZero, Device}
-use Rattle.tiff_base.specs.Answers.{Answers, AnswersHere}
-use Rattle.tiff_decode.specs.Reader.{TagsRead}
+use Rattle.tiff_base.specs.Answers.{Answers, AnswersExactly, AnswersHere}
+use Rattle.tiff_base.specs.declared.tags.Tag.{Tag}
+use Rattle.tiff_base.specs.Field.{DirectoryRecord}
+use Rattle.tiff_decode.specs.Outcome.{find_tag_bytes}
+use Rattle.tiff_decode.specs.Reader.{TagsRead, reading}
 use Rattle.tiff_decode.specs.Machine.{Decoding, Follows, Outcome, Refused}
 
 not_more : (m n : ℕ) → m ≡ 0 → n ≡ 0 → m < n → ⊥
@@ -56,3 +59,34 @@ answer_here view given (Err e) m n r a b = tag_refused view given e m n r a b
 pub read_here : {X Y : Type 0} → (view : X → Y) → (o : Outcome Y) → (result : Result X TiffError) → (old new : Decoding) → TagsRead view o result old new
     → old.failures ≡ 0 → new.failures ≡ 0 → AnswersHere view result o.answer
 read_here view o result old new r a b = answer_here view o.answer result old.failures new.failures r.answer a b
+
+-- an answer that takes no memory
+exact : {X Y : Type 0} → (view : X → Y) → (given : Result Y TiffError) → (e : TiffError) → (m n : ℕ) → AnswersExactly view (Err e) given m n
+    → m ≡ 0 → n ≡ 0 → AnswersHere view (Err e) given
+exact view given OutOfMemory m n r a b = tt
+exact view given (IoError Device) m n r a b = not_more m n a b r
+exact view given (IoError UnexpectedEof) m n r a b = r
+exact view given (IoError InvalidData) m n r a b = r
+exact view given (IoError InvalidInput) m n r a b = r
+exact view given (IoError WriteZero) m n r a b = r
+exact view given (FormatError x) m n r a b = r
+exact view given (UnsupportedError x) m n r a b = r
+exact view given (UsageError x) m n r a b = r
+exact view given LimitsExceeded m n r a b = r
+exact view given IntSizeError m n r a b = r
+
+pub exactly_here : {X Y : Type 0} → (view : X → Y) → (given : Result Y TiffError) → (result : Result X TiffError) → (m n : ℕ) → AnswersExactly view result given m n
+    → m ≡ 0 → n ≡ 0 → AnswersHere view result given
+exactly_here view given (Ok x) m n r a b = r
+exactly_here view given (Err e) m n r a b = exact view given e m n r a b
+
+-- bytes of a tag that a decoder read in its page's directory
+pub part_read : (tag : Tag) (old_bytes new_bytes : List ℕ) (at : ℕ) (result : Result (Option ℕ) TiffError) (d e : Decoding) (other : Option DirectoryRecord) (m n : ℕ)
+    → e ≡ d → other ≡ None
+    → AnswersExactly (λ count. (count, new_bytes)) result (find_tag_bytes (reading e other) tag old_bytes at).answer e.failures n → m ≡ n
+    → AnswersExactly (λ count. (count, new_bytes)) result (find_tag_bytes d tag old_bytes at).answer d.failures m
+part_read tag old_bytes new_bytes at result d e other m n same none r is =
+    let there = subst (λ o. AnswersExactly (λ count. (count, new_bytes)) result (find_tag_bytes (reading e o) tag old_bytes at).answer e.failures n) none r in
+    let here : AnswersExactly (λ count. (count, new_bytes)) result (find_tag_bytes d tag old_bytes at).answer d.failures n =
+    subst (λ (x : Decoding). AnswersExactly (λ count. (count, new_bytes)) result (find_tag_bytes (reading x None) tag old_bytes at).answer x.failures n) same there in
+    subst (λ k. AnswersExactly (λ count. (count, new_bytes)) result (find_tag_bytes d tag old_bytes at).answer d.failures k) (sym is) here

@@ -1,5 +1,5 @@
 -- A status tells the answer of which it is the number.
-use Rattle.std.proofs.Common.{◌≡◌, ℕ, Result, Ok, Err, IfOk, inl, inr, subst, sym}
+use Rattle.std.proofs.Common.{◌≡◌, ℕ, Result, Ok, Err, IfOk, inl, inr, subst, sym, ap}
 use Rattle.tiff_base.specs.declared.error.TiffError.{TiffError}
 use Rattle.tiff_base.specs.declared.error.TiffError.TheVariants.{FormatError, UnsupportedError, IoError, UsageError, LimitsExceeded, IntSizeError, OutOfMemory}
 use Rattle.tiff_base.specs.declared.io.IoKind.TheVariants.{UnexpectedEof, InvalidData, InvalidInput, WriteZero, Device}
@@ -32,3 +32,9 @@ pub tells_left : {X Y : Type 0} → (view : X → Y) → (answer : Result X Tiff
     → AnswersHere view answer given → n ≡ status answer → IfOk answer (λ x. left ≡ view x) → Tells given n left
 tells_left view (Ok x) given n left h e l = subst (λ g. Tells g n left) (sym h) (inl (e, l))
 tells_left view (Err f) given n left h e l = refused view f given n left h e
+
+-- what a call leaves in a place of its own and in a slice
+pub tells_both : {X Z : Type 0} → (answer : Result X TiffError) → (given : Result (X × Z) TiffError) → (n : ℕ) → (left : X) → (slice : Z)
+    → AnswersHere (λ x. (x, slice)) answer given → n ≡ status answer → IfOk answer (λ x. left ≡ x) → Tells given n (left, slice)
+tells_both (Ok x) given n left slice h e l = subst (λ g. Tells g n (left, slice)) (sym h) (inl (e, ap (λ y. (y, slice)) l))
+tells_both (Err f) given n left slice h e l = refused (λ x. (x, slice)) f given n (left, slice) h e

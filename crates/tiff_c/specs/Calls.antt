@@ -11,6 +11,8 @@ use Rattle.tiff_decode.specs.Machine.{Decoding}
 use Rattle.tiff_decode.specs.Outcome as outcome
 use Rattle.tiff_base.specs.declared.error.TiffError.TheVariants.{FormatError}
 use Rattle.tiff_base.specs.declared.error.TiffFormatError.TheVariants.{RequiredTagNotFound}
+use Rattle.tiff_base.specs.declared.tags.ByteOrder.{ByteOrder}
+use Rattle.tiff_base.specs.declared.tags.ByteOrder.TheVariants.{LittleEndian, BigEndian}
 use Rattle.tiff_base.specs.declared.tags.Tag.{Tag}
 use Rattle.tiff_base.specs.Tags.{tag_of, type_number}
 use Rattle.tiff_ifd.specs.Look.{known}
@@ -123,3 +125,26 @@ abbrev pub tag_number_at : List ℕ → ℕ → ℕ → Result ℕ TiffError
 tag_number_at file page number = do
   d ← at_page file page
   (outcome.get_tag_u64 d (tag_of number)).answer
+
+-- bytes of the values of a tag of a page, from one on, in a slice, and how many of them were copied
+abbrev pub bytes_of_tag : Decoding → Tag → ℕ → List ℕ → Result (ℕ × List ℕ) TiffError
+bytes_of_tag d tag at slice = do
+  found ← (outcome.find_tag_bytes d tag slice at).answer
+  count ← known found.0 (FormatError (RequiredTagNotFound tag))
+  Ok (count, found.1)
+
+abbrev pub tag_bytes : List ℕ → ℕ → ℕ → ℕ → List ℕ → Result (ℕ × List ℕ) TiffError
+tag_bytes file page number at slice = do
+  d ← at_page file page
+  bytes_of_tag d (tag_of number) at slice
+
+-- little-endian is 0, big-endian 1
+abbrev pub order_number : ByteOrder → ℕ
+order_number LittleEndian = 0
+order_number BigEndian = 1
+
+-- the byte order of a file
+abbrev pub byte_order : List ℕ → Result ℕ TiffError
+byte_order file = do
+  d ← outcome.begun file 0
+  Ok (order_number d.order)

@@ -2,15 +2,18 @@
 //! caller's, or want of memory.
 
 ghost use Rattle.std.specs.Prelude.{◌≡◌, IfOk, OnOk};
-ghost use Rattle.tiff_base.specs.Answers.{AnswersHere};
+ghost use Rattle.tiff_base.specs.Answers.{AnswersExactly, AnswersHere, Gives};
+ghost use Rattle.tiff_base.specs.declared.error.TiffError.TheVariants.{FormatError};
+ghost use Rattle.tiff_base.specs.declared.error.TiffFormatError.TheVariants.{RequiredTagNotFound};
+ghost use Rattle.tiff_ifd.specs.Look.{known};
 ghost use Rattle.tiff_decode.specs.Outcome as outcome;
 ghost use Rattle.tiff_c.specs.Calls as calls;
 
 use std::alloc::Global;
 use tiff_base::color::{ChunkType, ColorType};
 use tiff_base::error::{TiffFormatError, TiffResult};
-use tiff_base::io::SliceSource;
-use tiff_base::tags::Tag;
+use tiff_base::io::{SliceSource, Source};
+use tiff_base::tags::{ByteOrder, Tag};
 use tiff_decode::decoder::Decoder;
 use tiff_page::layout::TiffCodingUnit;
 
@@ -320,4 +323,93 @@ pub fn tag_number(alloc: Global, file: &[u8], page: usize, number: u16) -> TiffR
         &mut open_at(alloc, file, page)?,
         Tag::from_u16_exhaustive(number),
     )
+}
+
+// A field's bytes that were copied: how many, where there is the field.
+fn copied(tag: Tag, found: Option<usize>) -> TiffResult<usize>
+    ensures { Gives (λ n. n) result (known found (FormatError (RequiredTagNotFound tag))) }
+{
+    match found {
+        Some(count) => Ok(count),
+        None => Err(TiffFormatError::RequiredTagNotFound(tag).into()),
+    }
+}
+
+// Copies bytes of the values of a tag of a decoder's page, where there is the tag.
+#[tactic(auto, using(crate::proofs::Slices::part_read))]
+fn part_of_tag<R: Source>(
+    decoder: &mut Decoder<R>,
+    tag: Tag,
+    at: u64,
+    buffer: &mut [u8],
+) -> TiffResult<Option<usize>>
+    ensures { AnswersExactly (λ n. (n, buffer.new)) result (outcome.find_tag_bytes decoder.old tag buffer.old at).answer decoder.old.failures decoder.new.failures }
+{
+    decoder.image_ifd().find_tag_bytes(tag, buffer, at)
+}
+
+// The same of a decoder whose reads never fail.
+#[tactic(auto, using(crate::proofs::Slices::exactly_here))]
+fn part_here(
+    decoder: &mut Decoder<SliceSource<'_>>,
+    tag: Tag,
+    at: u64,
+    buffer: &mut [u8],
+) -> TiffResult<Option<usize>>
+    ensures { AnswersHere (λ n. (n, buffer.new)) result (outcome.find_tag_bytes decoder.old tag buffer.old at).answer }
+{
+    never_failed(decoder);
+    let answer = part_of_tag(decoder, tag, at, buffer);
+    never_failed(decoder);
+    answer
+}
+
+// The same, and how many bytes they are.
+fn bytes_here(
+    decoder: &mut Decoder<SliceSource<'_>>,
+    tag: Tag,
+    at: u64,
+    buffer: &mut [u8],
+) -> TiffResult<usize>
+    ensures { AnswersHere (λ n. (n, buffer.new)) result (calls.bytes_of_tag decoder.old tag at buffer.old) }
+{
+    let found = part_here(decoder, tag, at, buffer)?;
+    copied(tag, found)
+}
+
+/// Copies the bytes of the values of a tag of a page from a byte on, by the tag's number, in the file's order, as many as fit,
+/// and answers how many.
+pub fn tag_bytes(
+    alloc: Global,
+    file: &[u8],
+    page: usize,
+    number: u16,
+    at: u64,
+    buffer: &mut [u8],
+) -> TiffResult<usize>
+    ensures { AnswersHere (λ n. (n, buffer.new)) result (calls.tag_bytes file.now page number at buffer.old) }
+{
+    bytes_here(
+        &mut open_at(alloc, file, page)?,
+        Tag::from_u16_exhaustive(number),
+        at,
+        buffer,
+    )
+}
+
+// A byte order, as C is told of it.
+fn order_number(order: ByteOrder) -> u32
+    ensures { result ≡ calls.order_number order }
+{
+    match order {
+        ByteOrder::LittleEndian => 0,
+        ByteOrder::BigEndian => 1,
+    }
+}
+
+/// The byte order of a file.
+pub fn byte_order(alloc: Global, file: &[u8]) -> TiffResult<u32>
+    ensures { AnswersHere (λ n. n) result (calls.byte_order file.now) }
+{
+    Ok(order_number(open_first(alloc, file)?.byte_order()))
 }

@@ -1,19 +1,26 @@
-//! A static library for C: the pages of a TIFF file that lies in memory are read. `include/tiff.h` tells each call to C.
+//! A static library for C: the pages of a TIFF file that lies in memory are read, and files of one image are written into memory.
+//! `include/tiff.h` tells each call to C.
 #![tactic(auto)]
 
+ghost use Rattle.std.specs.Prelude.{◌≡◌, ◌⊎◌};
 ghost use Rattle.tiff_c.specs.Calls as calls;
 ghost use Rattle.tiff_c.specs.Status.{Tells};
+ghost use Rattle.tiff_c.specs.Writer as writer;
+ghost use Rattle.tiff_c.specs.Writer.{IsShown};
 
 use std::alloc::Global;
 
 mod calls;
+mod samples;
 mod status;
+mod writer;
 
 use crate::calls::{
-    Chunks, Color, FieldSize, Layout, Sides, chunk_bytes, image_bytes, page_chunks, page_color,
-    page_count, page_layout, page_sides, tag_field, tag_number, unit_bytes,
+    Chunks, Color, FieldSize, Layout, Sides, byte_order, chunk_bytes, image_bytes, page_chunks,
+    page_color, page_count, page_layout, page_sides, tag_bytes, tag_field, tag_number, unit_bytes,
 };
 use crate::status::{done, given, text_of};
+use crate::writer::{NewImage, deliver, write_new};
 
 /// The width and the height of a page.
 #[unsafe(no_mangle)]
@@ -135,10 +142,55 @@ pub extern "C" fn tiff_tag_number(
     given(tag_number(alloc, file, page, number), value)
 }
 
+/// Copies the bytes of the values of a tag of a page from a byte on, by the tag's number.
+#[unsafe(no_mangle)]
+#[tactic(auto, using(crate::proofs::Told::tells_both))]
+pub extern "C" fn tiff_tag_bytes(
+    alloc: Global,
+    file: &[u8],
+    page: usize,
+    number: u16,
+    at: u64,
+    buffer: &mut [u8],
+    written: &mut usize,
+) -> u32
+    ensures { Tells (calls.tag_bytes file.now page number at buffer.old) result (written.new, buffer.new) }
+{
+    given(tag_bytes(alloc, file, page, number, at, buffer), written)
+}
+
+/// The byte order of a file.
+#[unsafe(no_mangle)]
+#[tactic(auto, using(crate::proofs::Told::tells_left))]
+pub extern "C" fn tiff_byte_order(alloc: Global, file: &[u8], order: &mut u32) -> u32
+    ensures { Tells (calls.byte_order file.now) result order.new }
+{
+    given(byte_order(alloc, file), order)
+}
+
 /// How many pages a file has.
 #[unsafe(no_mangle)]
 pub extern "C" fn tiff_page_count(alloc: Global, file: &[u8], pages: &mut u32) -> u32 {
     given(page_count(alloc, file), pages)
+}
+
+/// Writes a file of one image into a slice, and tells how many bytes it has.
+#[unsafe(no_mangle)]
+#[tactic(auto, using(crate::proofs::Delivered::told_new, crate::proofs::Delivered::told_shown, crate::proofs::Delivered::told_kept))]
+pub extern "C" fn tiff_write_image(
+    alloc: Global,
+    image: &NewImage,
+    samples: &[u8],
+    buffer: &mut [u8],
+    len: &mut usize,
+) -> u32
+    ensures answer { writer.Tells image.now samples.now result buffer.old buffer.new len.old len.new }
+
+    // What is done is shown, and what is not done is not begun.
+    ensures shows { result ≡ 0 → IsShown image.now samples.now buffer.old buffer.new len.new }
+    ensures stays { (result ≡ 0) ⊎ (buffer.new ≡ buffer.old) }
+{
+    deliver(write_new(alloc, image, samples), buffer, len)
 }
 
 /// Writes the text of a status into a slice, as much of it as fits, and answers how many bytes it has.

@@ -1,0 +1,93 @@
+//! Samples are made of little-endian bytes.
+
+ghost use Rattle.std.specs.Prelude.{◌≡◌, ◌^◌, ◌%◌, ◌<◌, length, map, IfOk};
+ghost use Rattle.std.specs.Int.{w8, w16, w32, w64};
+ghost use Rattle.tiff_base.specs.declared.tags.ByteOrder.TheVariants.{LittleEndian};
+ghost use Rattle.tiff_base.specs.Number.{number};
+ghost use Rattle.tiff_base.specs.Types.{type_size};
+ghost use Rattle.tiff_value.specs.ColorType.{sample_number};
+ghost use Rattle.tiff_page.specs.Pixels.{numbers_in, width_of};
+
+use std::alloc::{AllocError, Global};
+use tiff_value::encoder::differences::Sample;
+
+/// A number of so many bytes.
+pub trait Number<const N: usize> {
+    ghost use Rattle.std.specs.Prelude.{◌≡◌, ◌^◌, ◌<◌};
+    ghost use Rattle.tiff_base.specs.declared.tags.ByteOrder.TheVariants.{LittleEndian};
+    ghost use Rattle.tiff_base.specs.Number.{number};
+    ghost use Rattle.tiff_page.specs.Pixels.{width_of};
+
+    /// The number that bytes are, the lowest first.
+    fn of(bytes: [u8; N]) -> u64
+        ensures value { result ≡ number LittleEndian (width_of N) bytes.entry }
+        ensures small { result < 256 ^ N };
+}
+
+impl Number<1> for u8 {
+    #[tactic(auto, unfolding(tiff_base::specs::Number::number))]
+    fn of(bytes: [u8; 1]) -> u64
+        ensures value { result ≡ number LittleEndian w8 bytes }
+        ensures small { result < 256 ^ 1 }
+    {
+        u64::from(u8::from_le_bytes(bytes))
+    }
+}
+
+impl Number<2> for u16 {
+    #[tactic(auto, unfolding(tiff_base::specs::Number::number))]
+    fn of(bytes: [u8; 2]) -> u64
+        ensures value { result ≡ number LittleEndian w16 bytes }
+        ensures small { result < 256 ^ 2 }
+    {
+        u64::from(u16::from_le_bytes(bytes))
+    }
+}
+
+impl Number<4> for u32 {
+    #[tactic(auto, unfolding(tiff_base::specs::Number::number))]
+    fn of(bytes: [u8; 4]) -> u64
+        ensures value { result ≡ number LittleEndian w32 bytes }
+        ensures small { result < 256 ^ 4 }
+    {
+        u64::from(u32::from_le_bytes(bytes))
+    }
+}
+
+impl Number<8> for u64 {
+    #[tactic(auto, unfolding(tiff_base::specs::Number::number))]
+    fn of(bytes: [u8; 8]) -> u64
+        ensures value { result ≡ number LittleEndian w64 bytes }
+        ensures small { result < 256 ^ 8 }
+    {
+        u64::from_le_bytes(bytes)
+    }
+}
+
+// The sample of some bytes.
+#[tactic(auto, using(crate::proofs::Octets::cut_whole))]
+fn sample_of<S: Sample, U: Number<N>, const N: usize>(bytes: [u8; N]) -> S
+    requires { type_size S.value_type ≡ N }
+    ensures { sample_number (type_size S.value_type) S.bits result ≡ number LittleEndian (width_of N) bytes.entry }
+{
+    S::cut(U::of(bytes))
+}
+
+/// The samples of so many bytes that some bytes are; none is left over. Room for all is taken once.
+#[tactic(auto, using(tiff_decode::proofs::Pieces::next_number, tiff_decode::proofs::Pieces::all_whole))]
+pub fn samples_of<S: Sample, U: Number<N>, const N: usize>(
+    alloc: Global,
+    bytes: &[u8],
+) -> Result<Vec<S>, AllocError>
+    requires some { 0 < N }
+    requires size { type_size S.value_type ≡ N }
+    requires whole { length bytes.now % N ≡ 0 }
+    ensures { IfOk result (λ v. map (sample_number (type_size S.value_type) S.bits) v.items ≡ numbers_in N bytes.now) }
+{
+    let mut samples = Vec::with_capacity(alloc, bytes.len() / N)?;
+    let (pieces, _) = bytes.as_chunks::<N>();
+    for piece in pieces {
+        samples.push(sample_of::<S, U, N>(*piece))?;
+    }
+    Ok(samples)
+}
