@@ -74,7 +74,7 @@ fn sample_of<S: Sample, U: Number<N>, const N: usize>(bytes: [u8; N]) -> S
 }
 
 /// The samples of so many bytes that some bytes are; none is left over. Room for all is taken once.
-#[tactic(auto, using(tiff_decode::proofs::Pieces::next_number, tiff_decode::proofs::Pieces::all_whole))]
+#[tactic(auto, using(crate::proofs::PieceNumbers::next_number, crate::proofs::PieceNumbers::all_whole))]
 pub fn samples_of<S: Sample, U: Number<N>, const N: usize>(
     alloc: Global,
     bytes: &[u8],
