@@ -38,10 +38,17 @@ abbrev pub ◌>>=◌ : {A B : Type 0} → Result A TiffError → (A → Result B
 (Ok x) >>= f = f x
 (Err e) >>= f = Err e
 
--- What a call leaves of a source that it is lent: it tells the same, and no fewer failures.
-pub record IsKept {S W : Type 0} (told_of : S → W) (failures_of : S → ℕ) (old new : S) : Type 0 where
+-- A read failed only where a fault of the device is answered: no failed read is passed over.
+abbrev pub NoneSwallowed : {X : Type 0} → Result X TiffError → ℕ → ℕ → Type 0
+NoneSwallowed (Err (IoError Device)) before after = Unit {0}
+NoneSwallowed result before after = after ≡ before
+
+-- What a call leaves of a source that it is lent, with its answer: it tells the same, and no fewer failures; more only with
+-- a fault of the device.
+pub record IsKept {S W X : Type 0} (told_of : S → W) (failures_of : S → ℕ) (result : Result X TiffError) (old new : S) : Type 0 where
   pub told : told_of new ≡ told_of old
   pub failures : failures_of old ≤ failures_of new
+  pub swallowed : NoneSwallowed result (failures_of old) (failures_of new)
 
 -- A source or a sink that was handed over failed: some state that it came to tells the same, and has more failures.
 pub record FailsFrom {S W : Type 0} (told_of : S → W) (failures_of : S → ℕ) (old : S) : Type 0 where

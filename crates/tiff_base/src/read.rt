@@ -15,7 +15,7 @@ use std::alloc::Global;
 /// Fills the buffer with the bytes at a place. Fewer bytes there: `IoError(UnexpectedEof)`.
 #[tactic(auto, using(crate::proofs::Bytes::next_read))]
 pub fn read_exact_at<R: Source>(source: &mut R, at: u64, buf: &mut [u8]) -> TiffResult<()>
-    ensures kept { IsKept R.bytes R.failures source.old source.new }
+    ensures kept { IsKept R.bytes R.failures result source.old source.new }
     ensures answer { AnswersExactly (λ _. buf.new) result (exactly_at (R.bytes source.old) at (length buf.old)) (R.failures source.old) (R.failures source.new) }
 {
     let mut done = 0;
@@ -41,7 +41,7 @@ pub fn read_bytes_at<R: Source>(
     at: u64,
     len: usize,
 ) -> TiffResult<Vec<u8>>
-    ensures kept { IsKept R.bytes R.failures source.old source.new }
+    ensures kept { IsKept R.bytes R.failures result source.old source.new }
     ensures answer { AnswersSparingly (λ v. v.items) result (exactly_at (R.bytes source.old) at len) (R.failures source.old) (R.failures source.new) }
 {
     if len > 0 {
@@ -143,7 +143,7 @@ pub fn u64_in(order: ByteOrder, bytes: &[u8], at: usize) -> u64
 
 /// The two bytes at a place as a number.
 pub fn read_u16_at<R: Source>(source: &mut R, at: u64, order: ByteOrder) -> TiffResult<u16>
-    ensures kept { IsKept R.bytes R.failures source.old source.new }
+    ensures kept { IsKept R.bytes R.failures result source.old source.new }
     ensures answer { AnswersExactly (λ n. n) result (number_at order w16 (R.bytes source.old) at) (R.failures source.old) (R.failures source.new) }
 {
     let mut bytes = [0u8; 2];
@@ -153,7 +153,7 @@ pub fn read_u16_at<R: Source>(source: &mut R, at: u64, order: ByteOrder) -> Tiff
 
 /// The four bytes at a place as a number.
 pub fn read_u32_at<R: Source>(source: &mut R, at: u64, order: ByteOrder) -> TiffResult<u32>
-    ensures kept { IsKept R.bytes R.failures source.old source.new }
+    ensures kept { IsKept R.bytes R.failures result source.old source.new }
     ensures answer { AnswersExactly (λ n. n) result (number_at order w32 (R.bytes source.old) at) (R.failures source.old) (R.failures source.new) }
 {
     let mut bytes = [0u8; 4];
@@ -163,7 +163,7 @@ pub fn read_u32_at<R: Source>(source: &mut R, at: u64, order: ByteOrder) -> Tiff
 
 /// The eight bytes at a place as a number.
 pub fn read_u64_at<R: Source>(source: &mut R, at: u64, order: ByteOrder) -> TiffResult<u64>
-    ensures kept { IsKept R.bytes R.failures source.old source.new }
+    ensures kept { IsKept R.bytes R.failures result source.old source.new }
     ensures answer { AnswersExactly (λ n. n) result (number_at order w64 (R.bytes source.old) at) (R.failures source.old) (R.failures source.new) }
 {
     let mut bytes = [0u8; 8];

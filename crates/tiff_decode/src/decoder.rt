@@ -63,7 +63,7 @@ fn read_first_directory<R: Source>(
     alloc: Global,
     source: &mut R,
 ) -> TiffResult<(FileHeader, Walk, Directory)>
-    ensures kept { IsKept R.bytes R.failures source.old source.new }
+    ensures kept { IsKept R.bytes R.failures result source.old source.new }
     ensures answer { Answers (λ r. (record { order = r.0.order; kind = r.0.kind; first = r.0.first }, r.0.first, r.2)) result (first_directory (R.bytes source.old)) (R.failures source.old) (R.failures source.new) }
     ensures walk { IfOk result (λ r. IsAlong r.0.kind r.0.order (R.bytes source.old) r.0.first r.1 (Some (record { 0 = r.0.first })) 0 (is_some r.2.next)) }
 {
@@ -149,7 +149,7 @@ fn replace_directory<R: Source>(
     tags: &mut ValueReader<R>,
     directory: Directory,
 ) -> TiffResult<Page>
-    ensures kept { IsKept R.bytes R.failures tags.old.source tags.new.source }
+    ensures kept { IsKept R.bytes R.failures result tags.old.source tags.new.source }
     ensures kind { tags.new.kind ≡ tags.old.kind }
     ensures order { tags.new.order ≡ tags.old.order }
     ensures limits { tags.new.limits ≡ tags.old.limits }
@@ -179,7 +179,7 @@ fn enter_directory<R: Source>(
     place: u64,
     directory: Directory,
 ) -> TiffResult<()>
-    ensures kept { IsKept R.bytes R.failures tags.old.source tags.new.source }
+    ensures kept { IsKept R.bytes R.failures result tags.old.source tags.new.source }
     ensures kind { tags.new.kind ≡ tags.old.kind }
     ensures order { tags.new.order ≡ tags.old.order }
     ensures follows { (first here : ℕ) → Follows (λ x. x) (outcome.entered (decoding (R.bytes tags.old.source) tags.old.kind tags.old.order first (R.failures tags.old.source) standing.old.pointer standing.old.more (page_record page.old) tags.old.directory here tags.old.limits) place (Ok directory)) result (decoding (R.bytes tags.old.source) tags.old.kind tags.old.order first (R.failures tags.old.source) standing.old.pointer standing.old.more (page_record page.old) tags.old.directory here tags.old.limits) (decoding (R.bytes tags.new.source) tags.new.kind tags.new.order first (R.failures tags.new.source) standing.new.pointer standing.new.more (page_record page.new) tags.new.directory here tags.new.limits) }
@@ -212,7 +212,7 @@ fn enter_place<R: Source>(
     at: usize,
     place: u64,
 ) -> TiffResult<()>
-    ensures kept { IsKept R.bytes R.failures tags.old.source tags.new.source }
+    ensures kept { IsKept R.bytes R.failures result tags.old.source tags.new.source }
     ensures kind { tags.new.kind ≡ tags.old.kind }
     ensures order { tags.new.order ≡ tags.old.order }
     ensures follows { (first here : ℕ) → Follows (λ x. x) (outcome.enter (decoding (R.bytes tags.old.source) tags.old.kind tags.old.order first (R.failures tags.old.source) standing.old.pointer standing.old.more (page_record page.old) tags.old.directory here tags.old.limits) place) result (decoding (R.bytes tags.old.source) tags.old.kind tags.old.order first (R.failures tags.old.source) standing.old.pointer standing.old.more (page_record page.old) tags.old.directory here tags.old.limits) (decoding (R.bytes tags.new.source) tags.new.kind tags.new.order first (R.failures tags.new.source) standing.new.pointer standing.new.more (page_record page.new) tags.new.directory here tags.new.limits) }
@@ -235,7 +235,7 @@ fn enter_behind<R: Source>(
     kind: FileKind,
     order: ByteOrder,
 ) -> TiffResult<Option<(u64, Directory)>>
-    ensures kept { IsKept R.bytes R.failures source.old source.new }
+    ensures kept { IsKept R.bytes R.failures result source.old source.new }
     ensures begins { (first : ℕ) → Begins kind order (R.bytes source.old) first walk.old → Begins kind order (R.bytes source.old) first walk.new }
     ensures entered { IfOk result (λ found. IfSome found (λ f. (walk.new.places ≡ walk.old.places ++ f.0 ∷ []) × (directory_at kind order (R.bytes source.old) f.0 ≡ Ok f.1))) }
     ensures end { IfOk result (λ found. IfNone found ((walk.new ≡ walk.old) × ((first : ℕ) → Begins kind order (R.bytes source.old) first walk.old

@@ -20,7 +20,7 @@ use tiff_ifd::read_value::read_text_at;
 // The byte at a place.
 #[tactic(auto, unfolding(tiff_base::specs::Number::number))]
 fn read_u8_at<R: Source>(source: &mut R, at: u64, order: ByteOrder) -> TiffResult<u8>
-    ensures kept { IsKept R.bytes R.failures source.old source.new }
+    ensures kept { IsKept R.bytes R.failures result source.old source.new }
     ensures answer { AnswersExactly (λ n. n) result (number_at order w8 (R.bytes source.old) at) (R.failures source.old) (R.failures source.new) }
 {
     let mut bytes = [0u8; 1];

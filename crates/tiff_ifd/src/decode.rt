@@ -72,7 +72,7 @@ fn read_entry_at<R: Source>(
     kind: FileKind,
     order: ByteOrder,
 ) -> TiffResult<Option<(u16, Entry)>>
-    ensures kept { IsKept R.bytes R.failures source.old source.new }
+    ensures kept { IsKept R.bytes R.failures result source.old source.new }
     ensures answer { AnswersExactly (λ e. e) result (entry_at kind order (R.bytes source.old) at) (R.failures source.old) (R.failures source.new) }
 {
     let mut buf = [0u8; 20];
@@ -88,7 +88,7 @@ fn read_count_at<R: Source>(
     kind: FileKind,
     order: ByteOrder,
 ) -> TiffResult<u64>
-    ensures kept { IsKept R.bytes R.failures source.old source.new }
+    ensures kept { IsKept R.bytes R.failures result source.old source.new }
     ensures answer { AnswersExactly (λ n. n) result (number_at order (count_width kind) (R.bytes source.old) at) (R.failures source.old) (R.failures source.new) }
 {
     match kind {
@@ -104,7 +104,7 @@ pub fn read_link_at<R: Source>(
     kind: FileKind,
     order: ByteOrder,
 ) -> TiffResult<u64>
-    ensures kept { IsKept R.bytes R.failures source.old source.new }
+    ensures kept { IsKept R.bytes R.failures result source.old source.new }
     ensures answer { AnswersExactly (λ n. n) result (number_at order (place_width kind) (R.bytes source.old) at) (R.failures source.old) (R.failures source.new) }
 {
     match kind {
@@ -123,7 +123,7 @@ fn read_entries<R: Source>(
     kind: FileKind,
     order: ByteOrder,
 ) -> TiffResult<(Directory, u64)>
-    ensures kept { IsKept R.bytes R.failures source.old source.new }
+    ensures kept { IsKept R.bytes R.failures result source.old source.new }
     ensures fields { IfOk result (λ r. r.0 ≡ record { entries = last_of_each (entries_from kind order (R.bytes source.old) first count); next = None }) }
     ensures place { IfOk result (λ r. r.1 ≡ first + entry_len kind * count) }
     ensures cut { IfErr result (λ e. IsCause (Unit {0}) (R.failures source.old < R.failures source.new) e
@@ -150,7 +150,7 @@ pub fn read_directory<R: Source>(
     kind: FileKind,
     order: ByteOrder,
 ) -> TiffResult<Directory>
-    ensures kept { IsKept R.bytes R.failures source.old source.new }
+    ensures kept { IsKept R.bytes R.failures result source.old source.new }
     ensures answer { Answers (λ d. d) result (directory_at kind order (R.bytes source.old) at) (R.failures source.old) (R.failures source.new) }
 {
     let count = read_count_at(source, at, kind, order)?;

@@ -19,7 +19,7 @@ pub struct FileHeader {
 }
 
 fn read_order<R: Source>(source: &mut R) -> TiffResult<ByteOrder>
-    ensures kept { IsKept R.bytes R.failures source.old source.new }
+    ensures kept { IsKept R.bytes R.failures result source.old source.new }
     ensures answer { AnswersExactly (λ o. o) result (order_at (R.bytes source.old)) (R.failures source.old) (R.failures source.new) }
 {
     let mark = match read_u16_at(source, 0, ByteOrder::LittleEndian) {
@@ -40,7 +40,7 @@ fn read_order<R: Source>(source: &mut R) -> TiffResult<ByteOrder>
 /// `TiffSignatureInvalid`; a number cut: `IoError(UnexpectedEof)`; the first place 0: `ImageFileDirectoryNotFound`.
 #[tactic(auto, unfolding(tiff_base::specs::Header::header_at))]
 pub fn read_header<R: Source>(source: &mut R) -> TiffResult<FileHeader>
-    ensures kept { IsKept R.bytes R.failures source.old source.new }
+    ensures kept { IsKept R.bytes R.failures result source.old source.new }
     ensures answer { AnswersExactly (λ h. record { order = h.order; kind = h.kind; first = h.first }) result (header_at (R.bytes source.old)) (R.failures source.old) (R.failures source.new) }
 {
     let order = read_order(source)?;

@@ -44,7 +44,7 @@ impl Block {
 // The byte at a place.
 #[tactic(auto, using(crate::proofs::Unpacking::byte_there, crate::proofs::Unpacking::byte_missing))]
 fn read_byte<R: Source>(source: &mut R, at: u64) -> TiffResult<u8>
-    ensures kept { IsKept R.bytes R.failures source.old source.new }
+    ensures kept { IsKept R.bytes R.failures result source.old source.new }
     ensures byte { ReadsByte (R.bytes source.old) at (R.failures source.old < R.failures source.new) result }
 {
     let mut byte = [0u8; 1];
@@ -56,7 +56,7 @@ fn read_byte<R: Source>(source: &mut R, at: u64) -> TiffResult<u8>
 
 // The next block of packed bytes. Headers that stand for nothing are passed.
 fn next_block<R: Source>(source: &mut R, at: u64, len: u64) -> TiffResult<Option<PackedPlace>>
-    ensures kept { IsKept R.bytes R.failures source.old source.new }
+    ensures kept { IsKept R.bytes R.failures result source.old source.new }
     ensures block { Finds (R.bytes source.old) (unpacked_at (R.bytes source.old) at len) (R.failures source.old < R.failures source.new) result }
 {
     let mut at = at;
@@ -93,7 +93,7 @@ fn next_block<R: Source>(source: &mut R, at: u64, len: u64) -> TiffResult<Option
 // The block of the next byte: that of the place, or the next one where none of it is left.
 #[tactic(auto, using(crate::proofs::Unpacking::used_up))]
 fn begun_block<R: Source>(source: &mut R, place: PackedPlace) -> TiffResult<Option<PackedPlace>>
-    ensures kept { IsKept R.bytes R.failures source.old source.new }
+    ensures kept { IsKept R.bytes R.failures result source.old source.new }
     ensures block { Finds (R.bytes source.old) (left_at (R.bytes source.old) place) (R.failures source.old < R.failures source.new) result }
 {
     if place.block.count() > 0 {
@@ -112,7 +112,7 @@ fn read_literal<R: Source>(
     requires literal { place.block ≡ Literal count }
     requires begun { 0 < count }
     requires some { 0 < length buf.old }
-    ensures kept { IsKept R.bytes R.failures source.old source.new }
+    ensures kept { IsKept R.bytes R.failures result source.old source.new }
     ensures bytes { ReadsBlock (R.bytes source.old) place (R.failures source.old < R.failures source.new) buf.old buf.new result }
 {
     let most = (count.min(buf.len()) as u64).min(place.len) as usize;
@@ -157,7 +157,7 @@ fn read_block<R: Source>(
 ) -> TiffResult<(usize, PackedPlace)>
     requires begun { 0 < count_of place.block }
     requires some { 0 < length buf.old }
-    ensures kept { IsKept R.bytes R.failures source.old source.new }
+    ensures kept { IsKept R.bytes R.failures result source.old source.new }
     ensures bytes { ReadsBlock (R.bytes source.old) place (R.failures source.old < R.failures source.new) buf.old buf.new result }
 {
     match place.block {
@@ -228,7 +228,7 @@ impl PackedPlace {
     /// What [`PackBitsReader::read`] reads, from a source that is lent.
     pub fn read<R: Source>(&mut self, source: &mut R, buf: &mut [u8]) -> TiffResult<usize>
         ensures empty { length buf.old ≡ 0 → (result ≡ Ok 0) × ((self.new ≡ self.old) × (source.new ≡ source.old)) }
-        ensures kept { IsKept R.bytes R.failures source.old source.new }
+        ensures kept { IsKept R.bytes R.failures result source.old source.new }
         ensures piece { PieceReads result (unpacking R.bytes R.failures source.old self.old) (unpacking R.bytes R.failures source.new self.new) buf.old buf.new }
     {
         if buf.is_empty() {
@@ -250,7 +250,7 @@ impl PackedPlace {
 
     // Reads as `read` does, but all blocks at once that are whole in some packed bytes that are read ahead.
     fn read_blocks<R: Source>(&mut self, source: &mut R, buf: &mut [u8]) -> TiffResult<usize>
-        ensures kept { IsKept R.bytes R.failures source.old source.new }
+        ensures kept { IsKept R.bytes R.failures result source.old source.new }
         ensures piece { PieceReads result (unpacking R.bytes R.failures source.old self.old) (unpacking R.bytes R.failures source.new self.new) buf.old buf.new }
     {
         if self.block.count() > 0 {
@@ -275,7 +275,7 @@ impl PackedPlace {
     // Fills the buffer with the next bytes; after a fault some of them may have been passed.
     #[tactic(auto, using(crate::proofs::Unpacking::short_by, crate::proofs::Unpacking::short_cause))]
     fn fill<R: Source>(&mut self, source: &mut R, buf: &mut [u8]) -> TiffResult<()>
-        ensures kept { IsKept R.bytes R.failures source.old source.new }
+        ensures kept { IsKept R.bytes R.failures result source.old source.new }
         ensures ok { OnOk result (left_at (R.bytes source.old) self.old ≡ before buf.new (left_at (R.bytes source.old) self.new)) }
         ensures err { IfErr result (λ e. IsCause ⊥ (R.failures source.old < R.failures source.new) e (IsShort (left_at (R.bytes source.old) self.old) (length buf.old) e)) }
     {
@@ -295,7 +295,7 @@ impl PackedPlace {
 
     /// What [`PackBitsReader::read_exact`] reads, from a source that is lent.
     pub fn read_exact<R: Source>(&mut self, source: &mut R, buf: &mut [u8]) -> TiffResult<()>
-        ensures kept { IsKept R.bytes R.failures source.old source.new }
+        ensures kept { IsKept R.bytes R.failures result source.old source.new }
         ensures filled { Fills result (unpacking R.bytes R.failures source.old self.old) (unpacking R.bytes R.failures source.new self.new) buf.new }
     {
         let mut place = *self;

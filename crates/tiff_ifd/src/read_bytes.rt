@@ -50,7 +50,7 @@ pub fn read_field_bytes<R: Source>(
     limits: &Limits,
     entry: &Entry,
 ) -> TiffResult<Vec<u8>>
-    ensures kept { IsKept R.bytes R.failures source.old source.new }
+    ensures kept { IsKept R.bytes R.failures result source.old source.new }
     ensures answer { AnswersSparingly (λ v. record { order = order; data_type = entry.now.field_type; bytes = v.items }) result
         (buffer_of kind order (R.bytes source.old) limits.now entry.now) (R.failures source.old) (R.failures source.new) }
 {
@@ -82,7 +82,7 @@ pub fn read_part<R: Source>(
     at: u64,
     buf: &mut [u8],
 ) -> TiffResult<usize>
-    ensures kept { IsKept R.bytes R.failures source.old source.new }
+    ensures kept { IsKept R.bytes R.failures result source.old source.new }
     ensures answer { AnswersExactly (λ n. take n buf.new) result (part_of_field kind order (R.bytes source.old) entry.now (length buf.old) at)
         (R.failures source.old) (R.failures source.new) }
     ensures rest { IfOk result (λ n. (n ≤ length buf.old) × (drop n buf.new ≡ drop n buf.old)) }

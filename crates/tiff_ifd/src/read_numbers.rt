@@ -88,7 +88,7 @@ fn read_placed<R: Source>(
     requires numbers { IsUnsigned entry.now.field_type }
     requires len { len ≡ field_len entry.now }
     requires elsewhere { byte_len (place_width kind) < len }
-    ensures kept { IsKept R.bytes R.failures source.old source.new }
+    ensures kept { IsKept R.bytes R.failures result source.old source.new }
     ensures answer { Answers (λ v. v.items) result (placed_numbers kind order (R.bytes source.old) limits.now entry.now) (R.failures source.old) (R.failures source.new) }
 {
     let (field_type, count) = (entry.field_type(), entry.count());
@@ -111,7 +111,7 @@ pub fn read_numbers<R: Source>(
     limits: &Limits,
     entry: &Entry,
 ) -> TiffResult<Vec<u64>>
-    ensures kept { IsKept R.bytes R.failures source.old source.new }
+    ensures kept { IsKept R.bytes R.failures result source.old source.new }
     ensures answer { Answers (λ v. v.items) result (field_numbers kind order (R.bytes source.old) limits.now entry.now) (R.failures source.old) (R.failures source.new) }
 {
     let field_type = entry.field_type();
@@ -135,7 +135,7 @@ pub fn find_numbers<R: Source>(
     directory: &Directory,
     tag: Tag,
 ) -> TiffResult<Option<Vec<u64>>>
-    ensures kept { IsKept R.bytes R.failures source.old source.new }
+    ensures kept { IsKept R.bytes R.failures result source.old source.new }
     ensures answer { Answers (λ o. option_map (λ v. v.items) o) result (find into_u64_vec (look_in kind order (R.bytes source.old) limits.now directory.now.entries) tag) (R.failures source.old) (R.failures source.new) }
 {
     match directory.get(tag) {

@@ -280,7 +280,7 @@ pub fn read_text_at<R: Source>(
     at: u64,
     len: usize,
 ) -> TiffResult<String>
-    ensures kept { IsKept R.bytes R.failures source.old source.new }
+    ensures kept { IsKept R.bytes R.failures result source.old source.new }
     ensures answer { AnswersWithin string_bytes result (value.text_at (R.bytes source.old) at len) (R.failures source.old) (R.failures source.new) }
 {
     let bytes = read_bytes_at(alloc, source, at, len)?;
@@ -310,7 +310,7 @@ pub fn read_value<R: Source>(
     limits: &Limits,
     entry: &Entry,
 ) -> TiffResult<Value>
-    ensures kept { IsKept R.bytes R.failures source.old source.new }
+    ensures kept { IsKept R.bytes R.failures result source.old source.new }
     ensures answer { AnswersWithin datum result (value.field_value kind order (R.bytes source.old) limits.now entry.now) (R.failures source.old) (R.failures source.new) }
 {
     let count = entry.count();
@@ -351,7 +351,7 @@ pub fn find_value<R: Source>(
     directory: &Directory,
     tag: Tag,
 ) -> TiffResult<Option<Value>>
-    ensures kept { IsKept R.bytes R.failures source.old source.new }
+    ensures kept { IsKept R.bytes R.failures result source.old source.new }
     ensures none { get directory.now.entries (tag_number tag) ≡ None → result ≡ Ok None }
     ensures answer { AnswersWithin (λ v. option_map datum v) result ((look_in kind order (R.bytes source.old) limits.now directory.now.entries).value tag) (R.failures source.old) (R.failures source.new) }
 {

@@ -27,19 +27,19 @@ pub trait Tags {
 
     /// The value of a tag.
     fn find(&mut self, alloc: Global, tag: Tag) -> TiffResult<Option<Value>>
-        ensures kept { IsKept told failures self.old self.new }
+        ensures kept { IsKept told failures result self.old self.new }
         ensures answer { Answers (λ v. option_map datum v) result ((told self.old).look.value tag) (failures self.old) (failures self.new) };
 
     /// A tag's numbers, as `Value::into_u64_vec` gives them, if there is the tag.
     fn find_u64_vec(&mut self, alloc: Global, tag: Tag) -> TiffResult<Option<Vec<u64>>>
-        ensures kept { IsKept told failures self.old self.new }
+        ensures kept { IsKept told failures result self.old self.new }
         ensures answer { Answers (λ o. option_map (λ v. v.items) o) result (find into.into_u64_vec (told self.old).look tag) (failures self.old) (failures self.new) };
 }
 
 /// A tag's number below 2^16, if there is the tag.
 #[tactic(auto, unfolding(crate::specs::Look::find))]
 pub fn find_u16<T: Tags>(tags: &mut T, alloc: Global, tag: Tag) -> TiffResult<Option<u16>>
-    ensures kept { IsKept T.told T.failures tags.old tags.new }
+    ensures kept { IsKept T.told T.failures result tags.old tags.new }
     ensures answer { Answers (λ n. n) result (find into.into_u16 (T.told tags.old).look tag) (T.failures tags.old) (T.failures tags.new) }
 {
     match tags.find(alloc, tag)? {
@@ -51,7 +51,7 @@ pub fn find_u16<T: Tags>(tags: &mut T, alloc: Global, tag: Tag) -> TiffResult<Op
 /// A tag's number below 2^32, if there is the tag.
 #[tactic(auto, unfolding(crate::specs::Look::find))]
 pub fn find_u32<T: Tags>(tags: &mut T, alloc: Global, tag: Tag) -> TiffResult<Option<u32>>
-    ensures kept { IsKept T.told T.failures tags.old tags.new }
+    ensures kept { IsKept T.told T.failures result tags.old tags.new }
     ensures answer { Answers (λ n. n) result (find into.into_u32 (T.told tags.old).look tag) (T.failures tags.old) (T.failures tags.new) }
 {
     match tags.find(alloc, tag)? {
@@ -63,7 +63,7 @@ pub fn find_u32<T: Tags>(tags: &mut T, alloc: Global, tag: Tag) -> TiffResult<Op
 /// A tag's numbers below 2^16, if there is the tag.
 #[tactic(auto, unfolding(crate::specs::Look::find))]
 pub fn find_u16_vec<T: Tags>(tags: &mut T, alloc: Global, tag: Tag) -> TiffResult<Option<Vec<u16>>>
-    ensures kept { IsKept T.told T.failures tags.old tags.new }
+    ensures kept { IsKept T.told T.failures result tags.old tags.new }
     ensures answer { Answers (λ o. option_map (λ v. v.items) o) result (find into.into_u16_vec (T.told tags.old).look tag) (T.failures tags.old) (T.failures tags.new) }
 {
     match tags.find(alloc, tag)? {
@@ -75,7 +75,7 @@ pub fn find_u16_vec<T: Tags>(tags: &mut T, alloc: Global, tag: Tag) -> TiffResul
 /// A required tag's number below 2^32. No such tag: `RequiredTagNotFound`.
 #[tactic(auto, unfolding(crate::specs::Look::require))]
 pub fn require_u32<T: Tags>(tags: &mut T, alloc: Global, tag: Tag) -> TiffResult<u32>
-    ensures kept { IsKept T.told T.failures tags.old tags.new }
+    ensures kept { IsKept T.told T.failures result tags.old tags.new }
     ensures answer { Answers (λ n. n) result (require into.into_u32 (T.told tags.old).look tag) (T.failures tags.old) (T.failures tags.new) }
 {
     match find_u32(tags, alloc, tag)? {
@@ -87,7 +87,7 @@ pub fn require_u32<T: Tags>(tags: &mut T, alloc: Global, tag: Tag) -> TiffResult
 /// A required tag's numbers. No such tag: `RequiredTagNotFound`.
 #[tactic(auto, unfolding(crate::specs::Look::require))]
 pub fn require_u64_vec<T: Tags>(tags: &mut T, alloc: Global, tag: Tag) -> TiffResult<Vec<u64>>
-    ensures kept { IsKept T.told T.failures tags.old tags.new }
+    ensures kept { IsKept T.told T.failures result tags.old tags.new }
     ensures answer { Answers (λ v. v.items) result (require into.into_u64_vec (T.told tags.old).look tag) (T.failures tags.old) (T.failures tags.new) }
 {
     match tags.find_u64_vec(alloc, tag)? {

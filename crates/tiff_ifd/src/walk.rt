@@ -130,7 +130,7 @@ impl Walk {
         kind: FileKind,
         order: ByteOrder,
     ) -> TiffResult<Option<Directory>>
-        ensures kept { IsKept R.bytes R.failures source.old source.new }
+        ensures kept { IsKept R.bytes R.failures result source.old source.new }
         ensures ok { IfOk result (λ entered. Steps kind order (R.bytes source.old) self.old (Ok entered) self.new) }
         ensures err { IfErr result (λ e. IsCause (self.new ≡ self.old) ((R.failures source.old < R.failures source.new) × (self.new ≡ self.old)) e
             (Steps kind order (R.bytes source.old) self.old (Err e) self.new)) }
@@ -159,7 +159,7 @@ impl Walk {
         order: ByteOrder,
         index: usize,
     ) -> TiffResult<Option<u64>>
-        ensures kept { IsKept R.bytes R.failures source.old source.new }
+        ensures kept { IsKept R.bytes R.failures result source.old source.new }
         ensures there { IfOk result (λ place. place ≡ slice_get self.new.places index) }
         ensures short { OnErr result (length self.new.places ≤ index) }
         ensures no_further { length self.old.places ≤ index → length self.new.places ≤ index + 1 }

@@ -25,7 +25,7 @@ use tiff_ifd::tags::{Tags, find_u16, find_u16_vec, find_u32, require_u32, requir
 /// The width and the height.
 #[tactic(auto, unfolding(crate::specs::Checks::size_of))]
 pub fn read_size<T: Tags>(tags: &mut T, alloc: Global) -> TiffResult<(u32, u32)>
-    ensures kept { IsKept T.told T.failures tags.old tags.new }
+    ensures kept { IsKept T.told T.failures result tags.old tags.new }
     ensures answer { Answers (λ s. s) result (checks.size_of (T.told tags.old).look) (T.failures tags.old) (T.failures tags.new) }
     ensures some { IfOk result (λ s. (0 < s.0) × (0 < s.1)) }
 {
@@ -43,7 +43,7 @@ pub fn read_interpretation<T: Tags>(
     tags: &mut T,
     alloc: Global,
 ) -> TiffResult<PhotometricInterpretation>
-    ensures kept { IsKept T.told T.failures tags.old tags.new }
+    ensures kept { IsKept T.told T.failures result tags.old tags.new }
     ensures answer { Answers (λ s. s) result (checks.interpretation_of (T.told tags.old).look) (T.failures tags.old) (T.failures tags.new) }
 {
     let Some(number) = find_u16(tags, alloc, Tag::PhotometricInterpretation)? else {
@@ -58,7 +58,7 @@ pub fn read_interpretation<T: Tags>(
 /// How chunks are packed.
 #[tactic(auto, unfolding(crate::specs::Checks::method_of))]
 pub fn read_method<T: Tags>(tags: &mut T, alloc: Global) -> TiffResult<CompressionMethod>
-    ensures kept { IsKept T.told T.failures tags.old tags.new }
+    ensures kept { IsKept T.told T.failures result tags.old tags.new }
     ensures answer { Answers (λ s. s) result (checks.method_of (T.told tags.old).look) (T.failures tags.old) (T.failures tags.new) }
 {
     let number = find_u16(tags, alloc, Tag::Compression)?.unwrap_or(1);
@@ -68,7 +68,7 @@ pub fn read_method<T: Tags>(tags: &mut T, alloc: Global) -> TiffResult<Compressi
 /// How many samples a pixel has.
 #[tactic(auto, unfolding(crate::specs::Checks::samples_of))]
 pub fn read_samples<T: Tags>(tags: &mut T, alloc: Global) -> TiffResult<u16>
-    ensures kept { IsKept T.told T.failures tags.old tags.new }
+    ensures kept { IsKept T.told T.failures result tags.old tags.new }
     ensures answer { Answers (λ s. s) result (checks.samples_of (T.told tags.old).look) (T.failures tags.old) (T.failures tags.new) }
     ensures some { IfOk result (λ n. 0 < n) }
 {
@@ -91,7 +91,7 @@ fn extras(alloc: Global, numbers: &[u16]) -> Result<Vec<ExtraSamples>, AllocErro
 /// What the extra samples are.
 #[tactic(auto, unfolding(crate::specs::Checks::extra_of))]
 pub fn read_extra<T: Tags>(tags: &mut T, alloc: Global, samples: u16) -> TiffResult<ExtraSampleList>
-    ensures kept { IsKept T.told T.failures tags.old tags.new }
+    ensures kept { IsKept T.told T.failures result tags.old tags.new }
     ensures answer { Answers (λ s. s) result (checks.extra_of (T.told tags.old).look samples) (T.failures tags.old) (T.failures tags.new) }
     ensures few { IfOk result (λ e. length e ≤ samples) }
 {
@@ -172,7 +172,7 @@ fn one_format(alloc: Global, numbers: &[u16]) -> TiffResult<SampleFormat>
 /// What the numbers of samples are.
 #[tactic(auto, unfolding(crate::specs::Checks::format_of))]
 pub fn read_format<T: Tags>(tags: &mut T, alloc: Global) -> TiffResult<SampleFormat>
-    ensures kept { IsKept T.told T.failures tags.old tags.new }
+    ensures kept { IsKept T.told T.failures result tags.old tags.new }
     ensures answer { Answers (λ s. s) result (checks.format_of (T.told tags.old).look) (T.failures tags.old) (T.failures tags.new) }
 {
     match tags.find_u64_vec(alloc, Tag::SampleFormat)? {
@@ -205,7 +205,7 @@ fn one_depth(samples: u16, bits: Vec<u8>) -> TiffResult<u8>
 /// How many bits a sample has.
 #[tactic(auto, unfolding(crate::specs::Checks::depth_of))]
 pub fn read_depth<T: Tags>(tags: &mut T, alloc: Global, samples: u16) -> TiffResult<u8>
-    ensures kept { IsKept T.told T.failures tags.old tags.new }
+    ensures kept { IsKept T.told T.failures result tags.old tags.new }
     ensures answer { Answers (λ s. s) result (checks.depth_of (T.told tags.old).look samples) (T.failures tags.old) (T.failures tags.new) }
     ensures some { IfOk result (λ d. 0 < d) }
 {
@@ -218,7 +218,7 @@ pub fn read_depth<T: Tags>(tags: &mut T, alloc: Global, samples: u16) -> TiffRes
 /// How stored samples differ from those before them.
 #[tactic(auto, unfolding(crate::specs::Checks::predictor_of))]
 pub fn read_predictor<T: Tags>(tags: &mut T, alloc: Global) -> TiffResult<Predictor>
-    ensures kept { IsKept T.told T.failures tags.old tags.new }
+    ensures kept { IsKept T.told T.failures result tags.old tags.new }
     ensures answer { Answers (λ s. s) result (checks.predictor_of (T.told tags.old).look) (T.failures tags.old) (T.failures tags.new) }
 {
     let Some(number) = find_u16(tags, alloc, Tag::Predictor)? else {
@@ -233,7 +233,7 @@ pub fn read_predictor<T: Tags>(tags: &mut T, alloc: Global) -> TiffResult<Predic
 /// Whether each plane of samples has its chunks.
 #[tactic(auto, unfolding(crate::specs::Checks::planar_of))]
 pub fn read_planar<T: Tags>(tags: &mut T, alloc: Global) -> TiffResult<PlanarConfiguration>
-    ensures kept { IsKept T.told T.failures tags.old tags.new }
+    ensures kept { IsKept T.told T.failures result tags.old tags.new }
     ensures answer { Answers (λ s. s) result (checks.planar_of (T.told tags.old).look) (T.failures tags.old) (T.failures tags.new) }
 {
     let Some(number) = find_u16(tags, alloc, Tag::PlanarConfiguration)? else {
@@ -257,7 +257,7 @@ fn two(sizes: &[u16]) -> TiffResult<(u16, u16)>
 /// How many pixels share a chroma sample.
 #[tactic(auto, unfolding(crate::specs::Checks::subsampling_of))]
 pub fn read_subsampling<T: Tags>(tags: &mut T, alloc: Global) -> TiffResult<(u16, u16)>
-    ensures kept { IsKept T.told T.failures tags.old tags.new }
+    ensures kept { IsKept T.told T.failures result tags.old tags.new }
     ensures answer { Answers (λ s. s) result (checks.subsampling_of (T.told tags.old).look) (T.failures tags.old) (T.failures tags.new) }
 {
     match tags.find_u64_vec(alloc, Tag::ChromaSubsampling)? {
@@ -342,7 +342,7 @@ pub fn read_strips<T: Tags>(
     planes: u16,
 ) -> TiffResult<ChunkTable>
     requires wide { 0 < width }
-    ensures kept { IsKept T.told T.failures tags.old tags.new }
+    ensures kept { IsKept T.told T.failures result tags.old tags.new }
     ensures answer { Answers view.chunks result (checks.strips_of (T.told tags.old).look width height planes) (T.failures tags.old) (T.failures tags.new) }
     ensures wide { IfOk result (λ c. 0 < c.chunk_width) }
     ensures high { IfOk result (λ c. 0 < c.chunk_height) }
@@ -378,7 +378,7 @@ pub fn read_tiles<T: Tags>(
     height: u32,
     planes: u16,
 ) -> TiffResult<ChunkTable>
-    ensures kept { IsKept T.told T.failures tags.old tags.new }
+    ensures kept { IsKept T.told T.failures result tags.old tags.new }
     ensures answer { Answers view.chunks result (checks.tiles_of (T.told tags.old).look width height planes) (T.failures tags.old) (T.failures tags.new) }
     ensures wide { IfOk result (λ c. 0 < c.chunk_width) }
     ensures high { IfOk result (λ c. 0 < c.chunk_height) }
@@ -421,7 +421,7 @@ fn planes_of(planar: PlanarConfiguration, samples: u16) -> u16
 /// The page that the tags tell.
 #[tactic(auto, unfolding(crate::specs::Checks::page_of))]
 pub fn read_page<T: Tags>(tags: &mut T, alloc: Global) -> TiffResult<Page>
-    ensures kept { IsKept T.told T.failures tags.old tags.new }
+    ensures kept { IsKept T.told T.failures result tags.old tags.new }
     ensures answer { Answers view.page result (checks.page_of (T.told tags.old).look) (T.failures tags.old) (T.failures tags.new) }
 {
     let (width, height) = read_size(tags, alloc)?;

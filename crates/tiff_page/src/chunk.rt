@@ -68,7 +68,7 @@ fn read_whole_row<R: Source>(
     requires whole { needs_whole_rows (view.page page.now) colour ≡ true }
     requires width { width ≤ page.now.chunk_width }
     requires out { length out.old ≡ row_bytes (view.page page.now) colour width }
-    ensures kept { IsKept R.bytes R.failures source.old source.new }
+    ensures kept { IsKept R.bytes R.failures result source.old source.new }
     ensures row { RowRead (R.bytes source.old) order (view.page page.now) colour place (Unit {0}) (R.failures source.old < R.failures source.new) out.new result }
 {
     let rest = match place.read_grown(source, &mut room.row, stored_row_bytes(page)) {
@@ -103,7 +103,7 @@ pub(crate) fn read_handed<R: Source>(
     requires read { IsRead (view.page page.now) colour }
     requires in_place { needs_whole_rows (view.page page.now) colour ≡ false }
     requires whole { (page.now.depth < 8) ⊎ (length out.old / (page.now.depth / 8) * (page.now.depth / 8) ≡ length out.old) }
-    ensures kept { IsKept R.bytes R.failures source.old source.new }
+    ensures kept { IsKept R.bytes R.failures result source.old source.new }
     ensures row { RowRead (R.bytes source.old) order (view.page page.now) colour place (Unit {0}) (R.failures source.old < R.failures source.new) out.new result }
 {
     let rest = match place.read(source, out) {
@@ -128,7 +128,7 @@ pub(crate) fn read_row<R: Source>(
     requires read { IsRead (view.page page.now) colour }
     requires width { width ≤ page.now.chunk_width }
     requires out { length out.old ≡ row_bytes (view.page page.now) colour width }
-    ensures kept { IsKept R.bytes R.failures source.old source.new }
+    ensures kept { IsKept R.bytes R.failures result source.old source.new }
     ensures row { RowRead (R.bytes source.old) order (view.page page.now) colour place (Unit {0}) (R.failures source.old < R.failures source.new) out.new result }
 {
     if needs_whole_rows(page, colour) {
@@ -190,7 +190,7 @@ fn read_each<R: Source, T, W: RowWriter<T>>(
     requires columns { corner.left + row_bytes (view.page page.now) colour (rect (view.page page.now) index).width ≤ corner.stride }
     requires rows { (corner.top + (rect (view.page page.now) index).height) * corner.stride ≤ length (W.bytes buf.old) }
     requires few { (corner.top + (rect (view.page page.now) index).height) * corner.stride < 2 ^ 64 }
-    ensures kept { IsKept R.bytes R.failures source.old source.new }
+    ensures kept { IsKept R.bytes R.failures result source.old source.new }
     ensures ok { OnOk result (Writes (IsIn corner.stride corner.top (rect (view.page page.now) index).height corner.left (row_bytes (view.page page.now) colour (rect (view.page page.now) index).width)) (in_rect (chunk_byte (R.bytes source.old) order (view.page page.now) colour index) corner.stride corner.top corner.left) (W.bytes buf.old) (W.bytes buf.new)) }
     ensures answer { Answers (λ _. tt) result (unless (is_short (R.bytes source.old) order (view.page page.now) colour index) (tiff.IoError io.UnexpectedEof)) (R.failures source.old) (R.failures source.new) }
 {
@@ -236,7 +236,7 @@ pub(crate) fn read_rows<R: Source, T, W: RowWriter<T>>(
     requires columns { corner.left + row_bytes (view.page page.now) colour (rect (view.page page.now) index).width ≤ corner.stride }
     requires rows { (corner.top + (rect (view.page page.now) index).height) * corner.stride ≤ length (W.bytes buf.old) }
     requires few { (corner.top + (rect (view.page page.now) index).height) * corner.stride < 2 ^ 64 }
-    ensures kept { IsKept R.bytes R.failures source.old source.new }
+    ensures kept { IsKept R.bytes R.failures result source.old source.new }
     ensures ok { OnOk result (Writes (IsIn corner.stride corner.top (rect (view.page page.now) index).height corner.left (row_bytes (view.page page.now) colour (rect (view.page page.now) index).width)) (in_rect (chunk_byte (R.bytes source.old) order (view.page page.now) colour index) corner.stride corner.top corner.left) (W.bytes buf.old) (W.bytes buf.new)) }
     ensures answer { Answers (λ _. tt) result (unless (is_short (R.bytes source.old) order (view.page page.now) colour index) (tiff.IoError io.UnexpectedEof)) (R.failures source.old) (R.failures source.new) }
 {

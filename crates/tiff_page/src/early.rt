@@ -55,7 +55,7 @@ fn needed_bytes(page: &Page, colour: ColorType, index: u32) -> u128
 #[tactic(auto, using(crate::proofs::Cut::reached, crate::proofs::Cut::past_all))]
 fn reach<R: Source>(source: &mut R, at: u64, len: u128) -> TiffResult<()>
     requires few { len < 2 ^ 89 }
-    ensures kept { IsKept R.bytes R.failures source.old source.new }
+    ensures kept { IsKept R.bytes R.failures result source.old source.new }
     ensures answer { AnswersExactly (λ _. tt) result (unless (nat_lt (length (R.bytes source.old) - at) len) (tiff.IoError io.UnexpectedEof)) (R.failures source.old) (R.failures source.new) }
 {
     if len == 0 {
@@ -71,7 +71,7 @@ fn reach<R: Source>(source: &mut R, at: u64, len: u128) -> TiffResult<()>
 #[tactic(auto, using(crate::proofs::Cut::counted_few, crate::proofs::Cut::counted_all, crate::proofs::Cut::least_few))]
 fn reach_packed<R: Source>(source: &mut R, at: u64, count: u64, needed: u128) -> TiffResult<()>
     requires few { needed < 2 ^ 89 }
-    ensures kept { IsKept R.bytes R.failures source.old source.new }
+    ensures kept { IsKept R.bytes R.failures result source.old source.new }
     ensures answer { AnswersExactly (λ _. tt) result (unless (nat_lt (min count (length (R.bytes source.old) - at)) (div_ceil needed 64)) (tiff.IoError io.UnexpectedEof)) (R.failures source.old) (R.failures source.new) }
 {
     let least = needed.div_ceil(64);
@@ -89,7 +89,7 @@ fn cut_fault<R: Source>(
     index: u32,
 ) -> TiffResult<()>
     requires listed { index < length page.now.offsets }
-    ensures kept { IsKept R.bytes R.failures source.old source.new }
+    ensures kept { IsKept R.bytes R.failures result source.old source.new }
     ensures answer { AnswersExactly (λ _. tt) result (unless (spec.is_cut (R.bytes source.old) (view.page page.now) colour index) (tiff.IoError io.UnexpectedEof)) (R.failures source.old) (R.failures source.new) }
 {
     let chunk = index as usize;
@@ -111,7 +111,7 @@ pub(crate) fn early_fault<R: Source>(
     colour: ColorType,
     index: u32,
 ) -> TiffResult<()>
-    ensures kept { IsKept R.bytes R.failures source.old source.new }
+    ensures kept { IsKept R.bytes R.failures result source.old source.new }
     ensures answer { AnswersExactly (λ _. tt) result (chunk_fault (view.page page.now) limits.now (spec.is_cut (R.bytes source.old) (view.page page.now) colour) colour index) (R.failures source.old) (R.failures source.new) }
 {
     form_fault(page, limits, colour, index as usize)?;

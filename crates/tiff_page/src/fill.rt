@@ -55,7 +55,7 @@ fn fill_chunk<R: Source, T, W: RowWriter<T>>(
     requires room { planes * layout.plane_stride ≤ length (W.bytes buf.old) }
     requires few { planes * layout.plane_stride < 2 ^ 64 }
     requires chunk { chunk < chunks_of_plane (view.page page.now) }
-    ensures kept { IsKept R.bytes R.failures source.old source.new }
+    ensures kept { IsKept R.bytes R.failures result source.old source.new }
     ensures ok { OnOk result ((before : List ℕ) → Writes (IsBefore (view.page page.now) layout.colour layout.row_bytes planes chunk 0) (image_byte (view.page page.now) layout.colour layout.row_bytes (R.bytes source.old) order) before (W.bytes buf.old) → Writes (IsBefore (view.page page.now) layout.colour layout.row_bytes planes chunk planes) (image_byte (view.page page.now) layout.colour layout.row_bytes (R.bytes source.old) order) before (W.bytes buf.new)) }
     ensures answer { Answers (λ _. tt) result (each_below (λ plane. chunk_fault (view.page page.now) limits.now (is_short (R.bytes source.old) order (view.page page.now) layout.colour) layout.colour (plane * chunks_of_plane (view.page page.now) + (0 + chunk))) planes) (R.failures source.old) (R.failures source.new) }
 {
@@ -102,7 +102,7 @@ pub fn fill_image<R: Source, T, W: RowWriter<T>>(
     requires some { 0 < planes }
     requires room { planes * layout.plane_stride ≤ length (W.bytes buf.old) }
     requires few { planes * layout.plane_stride < 2 ^ 64 }
-    ensures kept { IsKept R.bytes R.failures source.old source.new }
+    ensures kept { IsKept R.bytes R.failures result source.old source.new }
     ensures answer { Answers (λ _. W.bytes buf.new) result (filled (R.bytes source.old) order (view.page page.now) limits.now layout.colour (image_part (R.bytes source.old) order (view.page page.now) planes layout.row_bytes) (W.bytes buf.old)) (R.failures source.old) (R.failures source.new) }
 {
     for chunk in 0..chunks_of_plane(page) {
@@ -137,7 +137,7 @@ pub fn fill_unit<R: Source, T, W: RowWriter<T>>(
     requires room { planes * ((rect (view.page page.now) index).height * stride) ≤ length (W.bytes buf.old) }
     requires few { planes * ((rect (view.page page.now) index).height * stride) < 2 ^ 64 }
     requires which { (planes ≡ 1) ⊎ (index < chunks_of_plane (view.page page.now)) }
-    ensures kept { IsKept R.bytes R.failures source.old source.new }
+    ensures kept { IsKept R.bytes R.failures result source.old source.new }
     ensures answer { Answers (λ _. W.bytes buf.new) result (filled (R.bytes source.old) order (view.page page.now) limits.now colour (chunk_part (R.bytes source.old) order (view.page page.now) index planes stride) (W.bytes buf.old)) (R.failures source.old) (R.failures source.new) }
 {
     let (_, height) = chunk_data_dimensions(page, index);

@@ -134,7 +134,7 @@ fn zeros<R: Source, T: Number<N>, const N: usize>(
     len: usize,
 ) -> TiffResult<Vec<T>>
     requires { 0 < N }
-    ensures kept { IsKept R.bytes R.failures source.old source.new }
+    ensures kept { IsKept R.bytes R.failures result source.old source.new }
     ensures answer { AnswersSparingly (λ _. tt) result (early_fault (R.bytes source.old) (view.page page.now) limits.now colour sample_type first len) (R.failures source.old) (R.failures source.new) }
     ensures zeros { IfOk result (λ v. map T.bits v.items ≡ replicate (div_ceil len N) 0) }
 {
@@ -179,7 +179,7 @@ fn fill<R: Source, T, W: RowWriter<T>>(
     requires laid { IsLaid (view.page page.now) portion }
     requires room { room_of (view.page page.now) portion ≤ length (W.bytes out.old) }
     requires few { room_of (view.page page.now) portion < 2 ^ 64 }
-    ensures kept { IsKept R.bytes R.failures source.old source.new }
+    ensures kept { IsKept R.bytes R.failures result source.old source.new }
     ensures answer { Answers (λ _. W.bytes out.new) result (filled (R.bytes source.old) order (view.page page.now) limits.now (colour_in portion) (part_of (R.bytes source.old) order (view.page page.now) portion) (W.bytes out.old)) (R.failures source.old) (R.failures source.new) }
 {
     match portion {
@@ -205,7 +205,7 @@ fn bytes_of<R: Source>(
     requires laid { IsLaid (view.page page.now) portion }
     requires room { room_of (view.page page.now) portion ≤ len }
     requires typed { layouts.sample_type_of (view.page page.now) ≡ Ok type.U8 }
-    ensures kept { IsKept R.bytes R.failures source.old source.new }
+    ensures kept { IsKept R.bytes R.failures result source.old source.new }
     ensures answer { Answers (λ v. record { sample_type = type.U8; numbers = v.items }) result (calls.samples (R.bytes source.old) order (view.page page.now) limits.now (colour_in portion) (part_of (R.bytes source.old) order (view.page page.now) portion) len) (R.failures source.old) (R.failures source.new) }
 {
     let (colour, first) = (portion.colour(), portion.first());
@@ -255,7 +255,7 @@ fn numbers_of<R: Source, T: Number<N>, const N: usize>(
     requires room { room_of (view.page page.now) portion ≤ len }
     requires typed { layouts.sample_type_of (view.page page.now) ≡ Ok sample_type }
     requires size { layouts.size_of sample_type ≡ N }
-    ensures kept { IsKept R.bytes R.failures source.old source.new }
+    ensures kept { IsKept R.bytes R.failures result source.old source.new }
     ensures answer { Answers (λ v. record { sample_type = sample_type; numbers = map T.bits v.items }) result (calls.samples (R.bytes source.old) order (view.page page.now) limits.now (colour_in portion) (part_of (R.bytes source.old) order (view.page page.now) portion) len) (R.failures source.old) (R.failures source.new) }
 {
     let (colour, first) = (portion.colour(), portion.first());
@@ -301,7 +301,7 @@ fn samples_of<R: Source>(
 ) -> TiffResult<Samples>
     requires laid { IsLaid (view.page page.now) portion }
     requires room { room_of (view.page page.now) portion ≤ len }
-    ensures kept { IsKept R.bytes R.failures source.old source.new }
+    ensures kept { IsKept R.bytes R.failures result source.old source.new }
     ensures answer { Answers samples_as result (calls.samples (R.bytes source.old) order (view.page page.now) limits.now (colour_in portion) (part_of (R.bytes source.old) order (view.page page.now) portion) len) (R.failures source.old) (R.failures source.new) }
 {
     let sample_type = sample_type_of(page, alloc)?;
@@ -431,7 +431,7 @@ pub fn read_image<R: Source>(
     page: &Page,
     limits: &Limits,
 ) -> TiffResult<Samples>
-    ensures kept { IsKept R.bytes R.failures source.old source.new }
+    ensures kept { IsKept R.bytes R.failures result source.old source.new }
     ensures answer { Answers samples_as result (image_of (R.bytes source.old) order (view.page page.now) limits.now) (R.failures source.old) (R.failures source.new) }
 {
     let layout = planes_layout(page, alloc, page.width, page.height)?;
@@ -457,7 +457,7 @@ pub fn read_image_to_buffer<R: Source>(
     page: &Page,
     limits: &Limits,
 ) -> TiffResult<(BufferLayoutPreference, Samples)>
-    ensures kept { IsKept R.bytes R.failures source.old source.new }
+    ensures kept { IsKept R.bytes R.failures result source.old source.new }
     ensures answer { Answers (λ r. (r.0, samples_as r.1)) result (calls.read_image_to_buffer (R.bytes source.old) order (view.page page.now) limits.now) (R.failures source.old) (R.failures source.new) }
 {
     let layout = planes_layout(page, alloc, page.width, page.height)?;
@@ -482,7 +482,7 @@ pub fn read_image_bytes<R: Source>(
     limits: &Limits,
     buf: &mut [u8],
 ) -> TiffResult<()>
-    ensures kept { IsKept R.bytes R.failures source.old source.new }
+    ensures kept { IsKept R.bytes R.failures result source.old source.new }
     ensures answer { Answers (λ _. buf.new) result (calls.read_image_bytes (R.bytes source.old) order (view.page page.now) limits.now buf.old) (R.failures source.old) (R.failures source.new) }
 {
     let layout = planes_layout(page, alloc, page.width, page.height)?;
@@ -512,7 +512,7 @@ pub fn read_chunk<R: Source>(
     limits: &Limits,
     index: u32,
 ) -> TiffResult<Samples>
-    ensures kept { IsKept R.bytes R.failures source.old source.new }
+    ensures kept { IsKept R.bytes R.failures result source.old source.new }
     ensures answer { Answers samples_as result (calls.read_chunk (R.bytes source.old) order (view.page page.now) limits.now index) (R.failures source.old) (R.failures source.new) }
 {
     let layout = chunk_layout(page, alloc, index)?;
@@ -540,7 +540,7 @@ pub fn read_chunk_bytes<R: Source>(
     index: u32,
     buf: &mut [u8],
 ) -> TiffResult<()>
-    ensures kept { IsKept R.bytes R.failures source.old source.new }
+    ensures kept { IsKept R.bytes R.failures result source.old source.new }
     ensures answer { Answers (λ _. buf.new) result (calls.read_chunk_bytes (R.bytes source.old) order (view.page page.now) limits.now index buf.old) (R.failures source.old) (R.failures source.new) }
 {
     let layout = chunk_layout(page, alloc, index)?;
@@ -573,7 +573,7 @@ pub fn read_chunk_to_buffer<R: Source>(
     index: u32,
     stride: usize,
 ) -> TiffResult<Samples>
-    ensures kept { IsKept R.bytes R.failures source.old source.new }
+    ensures kept { IsKept R.bytes R.failures result source.old source.new }
     ensures answer { Answers samples_as result (calls.read_chunk_to_buffer (R.bytes source.old) order (view.page page.now) limits.now index stride) (R.failures source.old) (R.failures source.new) }
 {
     let layout = chunk_layout(page, alloc, index)?;
@@ -597,7 +597,7 @@ pub fn read_coding_unit_bytes<R: Source>(
     unit: u32,
     buf: &mut [u8],
 ) -> TiffResult<()>
-    ensures kept { IsKept R.bytes R.failures source.old source.new }
+    ensures kept { IsKept R.bytes R.failures result source.old source.new }
     ensures answer { Answers (λ _. buf.new) result (calls.read_coding_unit_bytes (R.bytes source.old) order (view.page page.now) limits.now unit buf.old) (R.failures source.old) (R.failures source.new) }
 {
     let layout = chunk_layout(page, alloc, unit)?;

@@ -28,7 +28,7 @@ const PIECE: usize = 65536;
 
 // Passes so many bytes of packed data, or all that are left.
 fn pass_packed<R: Source>(source: &mut R, place: PackedPlace, n: u64) -> TiffResult<Stored>
-    ensures kept { IsKept R.bytes R.failures source.old source.new }
+    ensures kept { IsKept R.bytes R.failures result source.old source.new }
     ensures passed { Passes (R.bytes source.old) (Packed place) (R.failures source.old < R.failures source.new) n result }
 {
     let mut piece = [0u8; 512];
@@ -61,7 +61,7 @@ impl Stored {
 
     /// Fills a buffer with the next bytes, and answers the place behind them. Fewer are left: `IoError(UnexpectedEof)`.
     pub fn read<R: Source>(self, source: &mut R, buf: &mut [u8]) -> TiffResult<Stored>
-        ensures kept { IsKept R.bytes R.failures source.old source.new }
+        ensures kept { IsKept R.bytes R.failures result source.old source.new }
         ensures taken { Takes (R.bytes source.old) self ⊥ (R.failures source.old < R.failures source.new) (length buf.old) buf.new result }
     {
         match self {
@@ -90,7 +90,7 @@ impl Stored {
         row: &mut Vec<u8>,
         len: usize,
     ) -> TiffResult<Stored>
-        ensures kept { IsKept R.bytes R.failures source.old source.new }
+        ensures kept { IsKept R.bytes R.failures result source.old source.new }
         ensures taken { Takes (R.bytes source.old) self (Unit {0}) (R.failures source.old < R.failures source.new) len row.new.items result }
     {
         row.clear();
@@ -109,7 +109,7 @@ impl Stored {
     /// Passes so many bytes, or all that are left where there are fewer.
     #[tactic(auto, using(crate::proofs::Data::passed_end))]
     pub fn pass<R: Source>(self, source: &mut R, n: u64) -> TiffResult<Stored>
-        ensures kept { IsKept R.bytes R.failures source.old source.new }
+        ensures kept { IsKept R.bytes R.failures result source.old source.new }
         ensures passed { Passes (R.bytes source.old) self (R.failures source.old < R.failures source.new) n result }
     {
         match self {

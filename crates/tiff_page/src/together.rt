@@ -75,7 +75,7 @@ pub(crate) fn read_together<R: Source, T, W: RowWriter<T>>(
     requires together { LieTogether (view.page page.now) colour (row_bytes (view.page page.now) colour (rect (view.page page.now) index).width) corner.left corner.stride }
     requires rows { (corner.top + (rect (view.page page.now) index).height) * corner.stride ≤ length (W.bytes buf.old) }
     requires few { (corner.top + (rect (view.page page.now) index).height) * corner.stride < 2 ^ 64 }
-    ensures kept { IsKept R.bytes R.failures source.old source.new }
+    ensures kept { IsKept R.bytes R.failures result source.old source.new }
     ensures ok { OnOk result (Writes (IsIn corner.stride corner.top (rect (view.page page.now) index).height corner.left (row_bytes (view.page page.now) colour (rect (view.page page.now) index).width)) (in_rect (chunk_byte (R.bytes source.old) order (view.page page.now) colour index) corner.stride corner.top corner.left) (W.bytes buf.old) (W.bytes buf.new)) }
     ensures answer { Answers (λ _. tt) result (unless (is_short (R.bytes source.old) order (view.page page.now) colour index) (tiff.IoError io.UnexpectedEof)) (R.failures source.old) (R.failures source.new) }
 {

@@ -43,7 +43,7 @@ pub trait RowWriter<T> {
         requires len { len ≡ row_bytes (view.page page.now) colour width }
         requires room { at + len ≤ length (bytes out.old) }
         requires fits { at + len < 2 ^ 64 }
-        ensures kept { IsKept R.bytes R.failures source.old source.new }
+        ensures kept { IsKept R.bytes R.failures result source.old source.new }
         ensures row { RowPut (R.bytes source.old) order (view.page page.now) colour place (R.failures source.old < R.failures source.new) at len (bytes out.old) (bytes out.new) result };
 
     /// Reads the next `len` bytes of a chunk, as they are handed out, into the bytes of a list from `at` on, where no whole rows
@@ -64,7 +64,7 @@ pub trait RowWriter<T> {
         requires whole { (page.now.depth < 8) ⊎ (len / (page.now.depth / 8) * (page.now.depth / 8) ≡ len) }
         requires room { at + len ≤ length (bytes out.old) }
         requires fits { at + len < 2 ^ 64 }
-        ensures kept { IsKept R.bytes R.failures source.old source.new }
+        ensures kept { IsKept R.bytes R.failures result source.old source.new }
         ensures row { RowPut (R.bytes source.old) order (view.page page.now) colour place (R.failures source.old < R.failures source.new) at len (bytes out.old) (bytes out.new) result };
 
     /// Lists of one length have as many bytes.

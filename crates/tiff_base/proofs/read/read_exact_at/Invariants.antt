@@ -7,7 +7,7 @@ invariant-loop-done g l =
     let bytes = g.R.Source.bytes l.fn.source in
     record {
       same_bytes : g.R.Source.bytes l.source ≡ bytes;
-      count : g.R.Source.failures l.fn.source ≤ g.R.Source.failures l.source;
+      count : g.R.Source.failures l.source ≡ g.R.Source.failures l.fn.source;
       in_buffer : l.done ≤ length l.buf;
       in_bytes : l.done ≤ length bytes - l.at;
       so_far : take l.done l.buf ≡ bytes_at bytes l.at l.done;
