@@ -35,103 +35,6 @@ at_state state old new a = ap (λ (d : Decoding). d.state) a.stands
 at_file : (state : State) (old new : Decoding) → StandsAt state old new → new ≡ record old { failures = new.failures; state = new.state }
 at_file state old new a = a.stands ∙ ap (λ (s : State). record old { failures = new.failures; state = s }) (sym (at_state state old new a))
 
-pub told : {X Y : Type 0} (wanting : Type 0) (view : X → Y) (outcome : Outcome Y) (r : Result X TiffError) (old new : Decoding)
-    → FollowsBut wanting view outcome r old new → IsTold view outcome r old new
-told wanting view outcome (Ok x) old new h = record {
-  file = at_file outcome.next old new h.at;
-  failed = omega (arith, h.at.failures);
-  next = λ _. (sym h.answer, at_state outcome.next old new h.at);
-  stays = λ no. absurd (no tt);
-}
-told wanting view outcome (Err (FormatError e)) old new h = record {
-  file = at_file outcome.next old new h.at;
-  failed = omega (arith, h.at.failures);
-  next = λ _. (sym h.answer, at_state outcome.next old new h.at);
-  stays = λ no. absurd (no tt);
-}
-told wanting view outcome (Err (UnsupportedError e)) old new h = record {
-  file = at_file outcome.next old new h.at;
-  failed = omega (arith, h.at.failures);
-  next = λ _. (sym h.answer, at_state outcome.next old new h.at);
-  stays = λ no. absurd (no tt);
-}
-told wanting view outcome (Err (IoError UnexpectedEof)) old new h = record {
-  file = at_file outcome.next old new h.at;
-  failed = omega (arith, h.at.failures);
-  next = λ _. (sym h.answer, at_state outcome.next old new h.at);
-  stays = λ no. absurd (no tt);
-}
-told wanting view outcome (Err (IoError InvalidData)) old new h = record {
-  file = at_file outcome.next old new h.at;
-  failed = omega (arith, h.at.failures);
-  next = λ _. (sym h.answer, at_state outcome.next old new h.at);
-  stays = λ no. absurd (no tt);
-}
-told wanting view outcome (Err (IoError InvalidInput)) old new h = record {
-  file = at_file outcome.next old new h.at;
-  failed = omega (arith, h.at.failures);
-  next = λ _. (sym h.answer, at_state outcome.next old new h.at);
-  stays = λ no. absurd (no tt);
-}
-told wanting view outcome (Err (IoError WriteZero)) old new h = record {
-  file = at_file outcome.next old new h.at;
-  failed = omega (arith, h.at.failures);
-  next = λ _. (sym h.answer, at_state outcome.next old new h.at);
-  stays = λ no. absurd (no tt);
-}
-told wanting view outcome (Err LimitsExceeded) old new h = record {
-  file = at_file outcome.next old new h.at;
-  failed = omega (arith, h.at.failures);
-  next = λ _. (sym h.answer, at_state outcome.next old new h.at);
-  stays = λ no. absurd (no tt);
-}
-told wanting view outcome (Err IntSizeError) old new h = record {
-  file = at_file outcome.next old new h.at;
-  failed = omega (arith, h.at.failures);
-  next = λ _. (sym h.answer, at_state outcome.next old new h.at);
-  stays = λ no. absurd (no tt);
-}
-told wanting view outcome (Err (UsageError e)) old new h = record {
-  file = at_file outcome.next old new h.at;
-  failed = omega (arith, h.at.failures);
-  next = λ _. (sym h.answer, at_state outcome.next old new h.at);
-  stays = λ no. absurd (no tt);
-}
-told wanting view outcome (Err (IoError Device)) old new h = record {
-  file = at_file old.state old new h.at;
-  failed = omega (arith, h.grew);
-  next = λ no. absurd no;
-  stays = λ _. at_state old.state old new h.at;
-}
-told wanting view outcome (Err OutOfMemory) old new h = record {
-  file = at_file old.state old new h.1;
-  failed = omega (arith, h.1.failures);
-  next = λ no. absurd no;
-  stays = λ _. at_state old.state old new h.1;
-}
-
--- a read of tags follows its outcome, where this moves nothing
-moved_nowhere : (state : State) (old new : Decoding) → state ≡ old.state → new ≡ record old { failures = new.failures } → old.failures ≤ new.failures → StandsAt state old new
-moved_nowhere state old new same p l = record {
-  stands = p ∙ ap (λ (s : State). record old { failures = new.failures; state = s }) (sym same);
-  failures = l;
-}
-
-pub tags_follow : {X Y : Type 0} (view : X → Y) (outcome : Outcome Y) (r : Result X TiffError) (old new : Decoding)
-    → outcome.next ≡ old.state → TagsRead view outcome r old new → FollowsBut (Unit {0}) view outcome r old new
-tags_follow view outcome (Ok x) old new same h = record { answer = h.answer; at = moved_nowhere outcome.next old new same h.state h.failures }
-tags_follow view outcome (Err (FormatError e)) old new same h = record { answer = h.answer; at = moved_nowhere outcome.next old new same h.state h.failures }
-tags_follow view outcome (Err (UnsupportedError e)) old new same h = record { answer = h.answer; at = moved_nowhere outcome.next old new same h.state h.failures }
-tags_follow view outcome (Err (IoError UnexpectedEof)) old new same h = record { answer = h.answer; at = moved_nowhere outcome.next old new same h.state h.failures }
-tags_follow view outcome (Err (IoError InvalidData)) old new same h = record { answer = h.answer; at = moved_nowhere outcome.next old new same h.state h.failures }
-tags_follow view outcome (Err (IoError InvalidInput)) old new same h = record { answer = h.answer; at = moved_nowhere outcome.next old new same h.state h.failures }
-tags_follow view outcome (Err (IoError WriteZero)) old new same h = record { answer = h.answer; at = moved_nowhere outcome.next old new same h.state h.failures }
-tags_follow view outcome (Err LimitsExceeded) old new same h = record { answer = h.answer; at = moved_nowhere outcome.next old new same h.state h.failures }
-tags_follow view outcome (Err IntSizeError) old new same h = record { answer = h.answer; at = moved_nowhere outcome.next old new same h.state h.failures }
-tags_follow view outcome (Err (UsageError e)) old new same h = record { answer = h.answer; at = moved_nowhere outcome.next old new same h.state h.failures }
-tags_follow view outcome (Err (IoError Device)) old new same h = record { grew = h.answer; at = moved_nowhere old.state old new refl h.state h.failures }
-tags_follow view outcome (Err OutOfMemory) old new same h = (tt, moved_nowhere old.state old new refl h.state h.failures)
-
 here_state : (state : State) (old new : Decoding) → new ≡ record old { state = state } → new.state ≡ state
 here_state state old new p = ap (λ (d : Decoding). d.state) p
 
@@ -141,6 +44,113 @@ here_count state old new p = ap (λ (d : Decoding). d.failures) p
 here_file : (state : State) (old new : Decoding) → new ≡ record old { state = state } → new ≡ record old { failures = new.failures; state = new.state }
 here_file state old new p =
     p ∙ (λ i. record old { failures = sym (here_count state old new p) i; state = sym (here_state state old new p) i })
+
+same_file : (old new : Decoding) → new ≡ old → new ≡ record old { failures = new.failures; state = new.state }
+same_file old new p = p ∙ (λ i. record old { failures = sym (ap (λ (d : Decoding). d.failures) p) i; state = sym (ap (λ (d : Decoding). d.state) p) i })
+
+same_count : (old new : Decoding) → new ≡ old → old.failures + 0 ≤ new.failures
+same_count old new p = let q : new.failures ≡ old.failures = ap (λ (d : Decoding). d.failures) p in omega (arith, q)
+
+pub told : {X Y : Type 0} (wanting : Type 0) (view : X → Y) (outcome : Outcome Y) (r : Result X TiffError) (old new : Decoding)
+    → FollowsBut wanting view outcome r old new → IsTold view outcome r old new
+told wanting view outcome (Ok x) old new h = record {
+  file = here_file outcome.next old new h.at;
+  failed = omega (arith, here_count outcome.next old new h.at);
+  next = λ _. (sym h.answer, here_state outcome.next old new h.at);
+  stays = λ no. absurd (no tt);
+}
+told wanting view outcome (Err (FormatError e)) old new h = record {
+  file = here_file outcome.next old new h.at;
+  failed = omega (arith, here_count outcome.next old new h.at);
+  next = λ _. (sym h.answer, here_state outcome.next old new h.at);
+  stays = λ no. absurd (no tt);
+}
+told wanting view outcome (Err (UnsupportedError e)) old new h = record {
+  file = here_file outcome.next old new h.at;
+  failed = omega (arith, here_count outcome.next old new h.at);
+  next = λ _. (sym h.answer, here_state outcome.next old new h.at);
+  stays = λ no. absurd (no tt);
+}
+told wanting view outcome (Err (IoError UnexpectedEof)) old new h = record {
+  file = here_file outcome.next old new h.at;
+  failed = omega (arith, here_count outcome.next old new h.at);
+  next = λ _. (sym h.answer, here_state outcome.next old new h.at);
+  stays = λ no. absurd (no tt);
+}
+told wanting view outcome (Err (IoError InvalidData)) old new h = record {
+  file = here_file outcome.next old new h.at;
+  failed = omega (arith, here_count outcome.next old new h.at);
+  next = λ _. (sym h.answer, here_state outcome.next old new h.at);
+  stays = λ no. absurd (no tt);
+}
+told wanting view outcome (Err (IoError InvalidInput)) old new h = record {
+  file = here_file outcome.next old new h.at;
+  failed = omega (arith, here_count outcome.next old new h.at);
+  next = λ _. (sym h.answer, here_state outcome.next old new h.at);
+  stays = λ no. absurd (no tt);
+}
+told wanting view outcome (Err (IoError WriteZero)) old new h = record {
+  file = here_file outcome.next old new h.at;
+  failed = omega (arith, here_count outcome.next old new h.at);
+  next = λ _. (sym h.answer, here_state outcome.next old new h.at);
+  stays = λ no. absurd (no tt);
+}
+told wanting view outcome (Err LimitsExceeded) old new h = record {
+  file = here_file outcome.next old new h.at;
+  failed = omega (arith, here_count outcome.next old new h.at);
+  next = λ _. (sym h.answer, here_state outcome.next old new h.at);
+  stays = λ no. absurd (no tt);
+}
+told wanting view outcome (Err IntSizeError) old new h = record {
+  file = here_file outcome.next old new h.at;
+  failed = omega (arith, here_count outcome.next old new h.at);
+  next = λ _. (sym h.answer, here_state outcome.next old new h.at);
+  stays = λ no. absurd (no tt);
+}
+told wanting view outcome (Err (UsageError e)) old new h = record {
+  file = here_file outcome.next old new h.at;
+  failed = omega (arith, here_count outcome.next old new h.at);
+  next = λ _. (sym h.answer, here_state outcome.next old new h.at);
+  stays = λ no. absurd (no tt);
+}
+told wanting view outcome (Err (IoError Device)) old new h = record {
+  file = at_file old.state old new h.at;
+  failed = omega (arith, h.grew);
+  next = λ no. absurd no;
+  stays = λ _. at_state old.state old new h.at;
+}
+told wanting view outcome (Err OutOfMemory) old new h = record {
+  file = same_file old new h.1;
+  failed = same_count old new h.1;
+  next = λ no. absurd no;
+  stays = λ _. ap (λ (d : Decoding). d.state) h.1;
+}
+
+-- a read of tags follows its outcome, where this moves nothing
+moved_nowhere : (state : State) (old new : Decoding) → state ≡ old.state → new ≡ record old { failures = new.failures } → old.failures ≤ new.failures → StandsAt state old new
+moved_nowhere state old new same p l = record {
+  stands = p ∙ ap (λ (s : State). record old { failures = new.failures; state = s }) (sym same);
+  failures = l;
+}
+
+none_failed : (state : State) (old new : Decoding) → state ≡ old.state → new ≡ record old { failures = new.failures } → new.failures ≡ old.failures
+    → new ≡ record old { state = state }
+none_failed state old new same p q = p ∙ (λ i. record old { failures = q i; state = sym same i })
+
+pub tags_follow : {X Y : Type 0} (view : X → Y) (outcome : Outcome Y) (r : Result X TiffError) (old new : Decoding)
+    → outcome.next ≡ old.state → TagsRead view outcome r old new → FollowsBut (Unit {0}) view outcome r old new
+tags_follow view outcome (Ok x) old new same h = record { answer = h.answer; at = none_failed outcome.next old new same h.state h.swallowed }
+tags_follow view outcome (Err (FormatError e)) old new same h = record { answer = h.answer; at = none_failed outcome.next old new same h.state h.swallowed }
+tags_follow view outcome (Err (UnsupportedError e)) old new same h = record { answer = h.answer; at = none_failed outcome.next old new same h.state h.swallowed }
+tags_follow view outcome (Err (IoError UnexpectedEof)) old new same h = record { answer = h.answer; at = none_failed outcome.next old new same h.state h.swallowed }
+tags_follow view outcome (Err (IoError InvalidData)) old new same h = record { answer = h.answer; at = none_failed outcome.next old new same h.state h.swallowed }
+tags_follow view outcome (Err (IoError InvalidInput)) old new same h = record { answer = h.answer; at = none_failed outcome.next old new same h.state h.swallowed }
+tags_follow view outcome (Err (IoError WriteZero)) old new same h = record { answer = h.answer; at = none_failed outcome.next old new same h.state h.swallowed }
+tags_follow view outcome (Err LimitsExceeded) old new same h = record { answer = h.answer; at = none_failed outcome.next old new same h.state h.swallowed }
+tags_follow view outcome (Err IntSizeError) old new same h = record { answer = h.answer; at = none_failed outcome.next old new same h.state h.swallowed }
+tags_follow view outcome (Err (UsageError e)) old new same h = record { answer = h.answer; at = none_failed outcome.next old new same h.state h.swallowed }
+tags_follow view outcome (Err (IoError Device)) old new same h = record { grew = h.answer; at = moved_nowhere old.state old new refl h.state h.failures }
+tags_follow view outcome (Err OutOfMemory) old new same h = (tt, none_failed old.state old new refl h.state h.swallowed)
 
 pub told_here : {X Y : Type 0} (wanting : Type 0) (view : X → Y) (outcome : Outcome Y) (r : Result X TiffError) (old new : Decoding)
     → (outcome.next ≡ old.state ⊎ (wanting → ⊥)) → FollowsHereBut wanting view outcome r old new → IsTold view outcome r old new
@@ -245,12 +255,6 @@ list_along given (Err e) old new h = (h.1, omega (arith, h.1.failures, wanting_c
 
 -- ---- each step is along its call
 
-same_file : (old new : Decoding) → new ≡ old → new ≡ record old { failures = new.failures; state = new.state }
-same_file old new p = p ∙ (λ i. record old { failures = sym (ap (λ (d : Decoding). d.failures) p) i; state = sym (ap (λ (d : Decoding). d.state) p) i })
-
-same_count : (old new : Decoding) → new ≡ old → old.failures + 0 ≤ new.failures
-same_count old new p = let q : new.failures ≡ old.failures = ap (λ (d : Decoding). d.failures) p in omega (arith, q)
-
 pub along : (old : Decoding) (which : Call) (reply : Reply) (new : Decoding) → Step old which reply new → IsAlong old which reply new
 unfolding outcome.dimensions outcome.colortype outcome.read_directory outcome.strip_count outcome.tile_count outcome.image_buffer_layout outcome.image_chunk_buffer_layout outcome.image_coding_unit_layout outcome.read_image outcome.read_image_to_buffer outcome.read_image_bytes outcome.read_chunk outcome.read_chunk_bytes outcome.read_chunk_to_buffer outcome.read_coding_unit_bytes outcome.find_tag outcome.find_tag_unsigned outcome.find_tag_unsigned_vec outcome.get_tag outcome.get_tag_unsigned outcome.get_tag_u32 outcome.get_tag_u64 outcome.get_tag_f32 outcome.get_tag_f64 outcome.get_tag_u32_vec outcome.get_tag_u16_vec outcome.get_tag_u64_vec outcome.get_tag_f32_vec outcome.get_tag_f64_vec outcome.get_tag_u8_vec outcome.get_tag_ascii_string outcome.find_tag_buf outcome.find_tag_bytes
 along old (call.SetLimits limits) reply.SetLimits new h = record {
@@ -275,7 +279,7 @@ along old (call.SeekToImage k) (reply.SeekToImage r) new h =
     let t : IsTold (λ x. x) (outcome.seek_to_image old k) r old new = told (Unit {0}) (λ x. x) (outcome.seek_to_image old k) r old new h in
     record { file = t.file; failed = t.failed; next = λ n. (t.next n).1; stays = t.stays }
 along old call.NextImage (reply.NextImage r) new h =
-    let t : IsTold (λ x. x) (outcome.next_image old) r old new = told (Unit {0}) (λ x. x) (outcome.next_image old) r old new h in
+    let t : IsTold (λ x. x) (outcome.next_image old) r old new = told (old.state.more ≡ true) (λ x. x) (outcome.next_image old) r old new h in
     record { file = t.file; failed = t.failed; next = λ n. (t.next n).1; stays = t.stays }
 along old call.MoreImages (reply.MoreImages r) new h = record {
   file = same_file old new h.1;

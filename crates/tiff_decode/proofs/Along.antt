@@ -11,7 +11,7 @@ use Rattle.tiff_base.specs.declared.io.IoKind.TheVariants.{UnexpectedEof, Invali
 use Rattle.tiff_base.specs.declared.tags.ByteOrder.{ByteOrder}
 use Rattle.tiff_base.specs.declared.tags.FileKind.{FileKind}
 use Rattle.tiff_base.specs.declared.tags.IfdPointer.{IfdPointer}
-use Rattle.tiff_base.specs.Answers.{IsCause}
+use Rattle.tiff_base.specs.Answers.{IsCause, NoneSwallowed}
 use Rattle.tiff_base.specs.Directory.{directory_at}
 use Rattle.tiff_base.specs.Field.{DirectoryRecord}
 use Rattle.tiff_ifd.specs.Chain.{Chain, chain}
@@ -19,7 +19,7 @@ use Rattle.tiff_ifd.specs.Walk.{Walked, Begins, Ends}
 use Rattle.tiff_ifd.proofs.Chain.{apart_chain}
 use Rattle.tiff_ifd.proofs.Begun.{place_begun}
 use Rattle.tiff_decode.specs.Along.{IsAt, IsAlong}
-use Rattle.tiff_decode.specs.Machine.{State, Decoding, Outcome, StandsAt, Gives, ReadFailed, Refused, Follows, keeps_state}
+use Rattle.tiff_decode.specs.Machine.{State, Decoding, Outcome, StandsAt, Gives, ReadFailed, Refused, FollowsBut, Follows, keeps_state}
 use Rattle.tiff_decode.specs.Outcome.{chain_of, place_after, next_place, next_entered, next_image, enter, entered, seek_to_image, sought, closed, past, not_found}
 
 -- ---- where the pointer is
@@ -113,89 +113,55 @@ closed_is : (d : Decoding) (places : List ℕ) (end : Option TiffError) → chai
     → closed d ≡ record { answer = Err (past end); next = record d.state { more = false } }
 closed_is d places end h = ap (λ (c : Chain). record { answer = Err (past c.end); next = record d.state { more = false } }) h
 
--- ---- the same, from an earlier decoder on
+-- ---- the same, of a decoder that was left as it was
 
 abbrev Call : Type 0
 Call = Outcome (Unit {0})
-
-stands_later : (s : State) (old mid new : Decoding) → mid ≡ record old { failures = mid.failures } → old.failures ≤ mid.failures → StandsAt s mid new → StandsAt s old new
-stands_later s old mid new e l h = record {
-  stands = h.stands ∙ ap (λ (d : Decoding). record d { failures = new.failures; state = s }) e;
-  failures = omega (arith, l, h.failures);
-}
-
-stays_later : (old mid new : Decoding) → mid ≡ record old { failures = mid.failures } → old.failures ≤ mid.failures → StandsAt mid.state mid new → StandsAt old.state old new
-stays_later old mid new e l h =
-    let P : State → Type 0 = λ s. StandsAt s old new in
-    let same : mid.state ≡ old.state = ap (λ (d : Decoding). d.state) e in
-    subst P same (stands_later mid.state old mid new e l h)
-
-given_later : (r : Result (Unit {0}) TiffError) (o : Call) (old mid new : Decoding) → mid ≡ record old { failures = mid.failures } → old.failures ≤ mid.failures
-    → Gives r o mid new → Gives r o old new
-given_later r o old mid new e l h = record { answer = h.answer; at = stands_later o.next old mid new e l h.at }
-
-failed_later : (old mid new : Decoding) → mid ≡ record old { failures = mid.failures } → old.failures ≤ mid.failures → ReadFailed mid new → ReadFailed old new
-failed_later old mid new e l h = record { grew = omega (arith, l, h.grew); at = stays_later old mid new e l h.at }
-
-refused_later : (f : TiffError) (o : Call) (old mid new : Decoding) → mid ≡ record old { failures = mid.failures } → old.failures ≤ mid.failures
-    → Refused (Unit {0}) f o mid new → Refused (Unit {0}) f o old new
-refused_later OutOfMemory o old mid new e l h = (tt, stays_later old mid new e l h.1)
-refused_later (IoError Device) o old mid new e l h = failed_later old mid new e l h
-refused_later (IoError UnexpectedEof) o old mid new e l h = given_later _ o old mid new e l h
-refused_later (IoError InvalidData) o old mid new e l h = given_later _ o old mid new e l h
-refused_later (IoError InvalidInput) o old mid new e l h = given_later _ o old mid new e l h
-refused_later (IoError WriteZero) o old mid new e l h = given_later _ o old mid new e l h
-refused_later (FormatError x) o old mid new e l h = given_later _ o old mid new e l h
-refused_later (UnsupportedError x) o old mid new e l h = given_later _ o old mid new e l h
-refused_later LimitsExceeded o old mid new e l h = given_later _ o old mid new e l h
-refused_later IntSizeError o old mid new e l h = given_later _ o old mid new e l h
-refused_later (UsageError x) o old mid new e l h = given_later _ o old mid new e l h
-
--- what follows a decoder of which only the count of failed reads grew
-pub follows_later : (r : Result (Unit {0}) TiffError) (o : Call) (old mid new : Decoding) → mid ≡ record old { failures = mid.failures } → old.failures ≤ mid.failures
-    → Follows (λ x. x) o r mid new → Follows (λ x. x) o r old new
-follows_later (Ok u) o old mid new e l h = given_later _ o old mid new e l h
-follows_later (Err f) o old mid new e l h = refused_later f o old mid new e l h
-
-entered_same : (old mid : Decoding) (place : ℕ) (r : Result DirectoryRecord TiffError) → mid ≡ record old { failures = mid.failures } → entered mid place r ≡ entered old place r
-entered_same old mid place (Ok d) e = ap (λ (x : Decoding). entered x place (Ok d)) e
-entered_same old mid place (Err f) e = ap (λ (x : Decoding). entered x place (Err f)) e
-
-enter_same : (old mid : Decoding) (place : ℕ) → mid ≡ record old { failures = mid.failures } → enter mid place ≡ enter old place
-unfolding enter
-enter_same old mid place e =
-    entered_same old mid place (directory_at mid.kind mid.order mid.bytes place) e
-    ∙ ap (λ (x : Decoding). entered old place (directory_at x.kind x.order x.bytes place)) e
 
 same_outcome : (r : Result (Unit {0}) TiffError) (o o' : Call) (old new : Decoding) → o ≡ o' → Follows (λ x. x) o r old new → Follows (λ x. x) o' r old new
 same_outcome r o o' old new e h = (let P : Call → Type 0 = λ x. Follows (λ y. y) x r old new in subst P e h)
 
 -- a place that is known
-pub enters : (r : Result (Unit {0}) TiffError) (o : Call) (place : ℕ) (old mid new : Decoding) → mid ≡ record old { failures = mid.failures } → old.failures ≤ mid.failures
+pub enters : (r : Result (Unit {0}) TiffError) (o : Call) (place : ℕ) (old mid new : Decoding) → mid ≡ old
     → o ≡ enter old place → Follows (λ x. x) (enter mid place) r mid new → Follows (λ x. x) o r old new
-enters r o place old mid new e l h f =
-    follows_later r o old mid new e l (same_outcome r (enter mid place) o mid new (enter_same old mid place e ∙ sym h) f)
+enters r o place old mid new e h f =
+    let P : Decoding → Type 0 = λ d. Follows (λ y. y) (enter d place) r d new in
+    same_outcome r (enter old place) o old new (sym h) (subst P e f)
 
 -- a directory that was read
-pub enters_read : (r : Result (Unit {0}) TiffError) (o : Call) (place : ℕ) (d : DirectoryRecord) (old mid new : Decoding) → mid ≡ record old { failures = mid.failures } → old.failures ≤ mid.failures
+pub enters_read : (r : Result (Unit {0}) TiffError) (o : Call) (place : ℕ) (d : DirectoryRecord) (old mid new : Decoding) → mid ≡ old
     → o ≡ enter old place → directory_at old.kind old.order old.bytes place ≡ Ok d
     → Follows (λ x. x) (entered mid place (Ok d)) r mid new → Follows (λ x. x) o r old new
 unfolding enter
-enters_read r o place d old mid new e l h k f =
-    follows_later r o old mid new e l
-    (same_outcome r (entered mid place (Ok d)) o mid new (entered_same old mid place (Ok d) e ∙ sym (h ∙ ap (entered old place) k)) f)
+enters_read r o place d old mid new e h k f =
+    let P : Decoding → Type 0 = λ x. Follows (λ y. y) (entered x place (Ok d)) r x new in
+    same_outcome r (entered old place (Ok d)) o old new (sym (h ∙ ap (entered old place) k)) (subst P e f)
 
 -- ---- faults
 
-gives_by : (e : TiffError) (o : Call) (s : State) (old new : Decoding) → o ≡ record { answer = Err e; next = s } → StandsAt s old new → Gives (Err e) o old new
+gives_by : (e : TiffError) (o : Call) (s : State) (old new : Decoding) → o ≡ record { answer = Err e; next = s } → new ≡ record old { state = s } → Gives (Err e) o old new
 gives_by e o s old new h a = record {
   answer = ap (λ (x : Call). x.answer) h;
-  at = (let P : Call → Type 0 = λ x. StandsAt x.next old new in subst P (sym h) a);
+  at = a ∙ ap (λ (x : Call). record old { state = x.next }) (sym h);
 }
+
+-- no read failed before one that is told
+pub unfailed : (e : TiffError) (before after : ℕ) → keeps_state e ≡ false → NoneSwallowed {X = Unit {0}} (Err e) before after → after ≡ before
+unfailed OutOfMemory before after k h = h
+unfailed (IoError Device) before after k h = absurd (cc)
+unfailed (IoError UnexpectedEof) before after k h = h
+unfailed (IoError InvalidData) before after k h = h
+unfailed (IoError InvalidInput) before after k h = h
+unfailed (IoError WriteZero) before after k h = h
+unfailed (FormatError x) before after k h = h
+unfailed (UnsupportedError x) before after k h = h
+unfailed LimitsExceeded before after k h = h
+unfailed IntSizeError before after k h = h
+unfailed (UsageError x) before after k h = h
 
 -- one that is told
 pub answered : (W F G : Type 0) (e : TiffError) (o : Call) (s : State) (old new : Decoding) → keeps_state e ≡ false → IsCause W F e G
-    → (G → o ≡ record { answer = Err e; next = s }) → StandsAt s old new → Follows (λ x. x) o (Err e) old new
+    → (G → o ≡ record { answer = Err e; next = s }) → new ≡ record old { state = s } → Follows (λ x. x) o (Err e) old new
 answered W F G OutOfMemory o t old new k c g s = absurd (cc)
 answered W F G (IoError Device) o t old new k c g s = absurd (cc)
 answered W F G (IoError UnexpectedEof) o t old new k c g s = gives_by _ o t old new (g c) s
@@ -209,7 +175,7 @@ answered W F G IntSizeError o t old new k c g s = gives_by _ o t old new (g c) s
 answered W F G (UsageError x) o t old new k c g s = gives_by _ o t old new (g c) s
 
 -- there is no such directory
-pub none_found : (e : TiffError) (o : Call) (s : State) (old new : Decoding) → e ≡ not_found → o ≡ record { answer = Err not_found; next = s } → StandsAt s old new
+pub none_found : (e : TiffError) (o : Call) (s : State) (old new : Decoding) → e ≡ not_found → o ≡ record { answer = Err not_found; next = s } → new ≡ record old { state = s }
     → Follows (λ x. x) o (Err e) old new
 none_found e o s old new f h a =
     let P : TiffError → Type 0 = λ x. Follows (λ y. y) o (Err x) old new in
@@ -217,20 +183,38 @@ none_found e o s old new f h a =
 
 -- ---- what is seen of a decoder
 
--- the file tells the same
-pub told_same : (d : Decoding) (told : List ℕ) (failures : ℕ) → told ≡ d.bytes → record d { bytes = told; failures = failures } ≡ record d { failures = failures }
-told_same d told failures e = ap (λ (b : List ℕ). record d { bytes = b; failures = failures }) e
+-- the file tells the same, and no read failed
+pub told_same : (d : Decoding) (told : List ℕ) (failures : ℕ) → told ≡ d.bytes → failures ≡ d.failures → record d { bytes = told; failures = failures } ≡ d
+told_same d told failures e f = λ i. record d { bytes = e i; failures = f i }
 
-pub stands_told : (s : State) (d : Decoding) (told : List ℕ) (failures : ℕ) → told ≡ d.bytes → d.failures ≤ failures
-    → StandsAt s d (record d { bytes = told; failures = failures; state = s })
-stands_told s d told failures e l = record {
-  stands = ap (λ (b : List ℕ). record d { bytes = b; failures = failures; state = s }) e;
-  failures = l;
-}
+pub stands_told : (s : State) (d : Decoding) (told : List ℕ) (failures : ℕ) → told ≡ d.bytes → failures ≡ d.failures
+    → record d { bytes = told; failures = failures; state = s } ≡ record d { state = s }
+stands_told s d told failures e f = λ i. record d { bytes = e i; failures = f i; state = s }
 
 pub shown : (o : Decoding → Call) (r : Result (Unit {0}) TiffError) (seen old new : Decoding) → seen ≡ old → Follows (λ x. x) (o seen) r seen new
     → Follows (λ x. x) (o old) r old new
 shown o r seen old new e h = (let P : Decoding → Type 0 = λ d. Follows (λ x. x) (o d) r d new in subst P e h)
+
+-- a call that may want memory does so of a decoder that has a next page
+open_wanting : (o : Call) (r : Result (Unit {0}) TiffError) (d new : Decoding) → d.state.more ≡ true → Follows (λ x. x) o r d new → FollowsBut (d.state.more ≡ true) (λ x. x) o r d new
+open_wanting o (Ok u) d new m h = h
+open_wanting o (Err OutOfMemory) d new m h = (m, h.1)
+open_wanting o (Err (IoError Device)) d new m h = h
+open_wanting o (Err (IoError UnexpectedEof)) d new m h = h
+open_wanting o (Err (IoError InvalidData)) d new m h = h
+open_wanting o (Err (IoError InvalidInput)) d new m h = h
+open_wanting o (Err (IoError WriteZero)) d new m h = h
+open_wanting o (Err (FormatError x)) d new m h = h
+open_wanting o (Err (UnsupportedError x)) d new m h = h
+open_wanting o (Err LimitsExceeded) d new m h = h
+open_wanting o (Err IntSizeError) d new m h = h
+open_wanting o (Err (UsageError x)) d new m h = h
+
+pub shown_open : (r : Result (Unit {0}) TiffError) (seen old new : Decoding) → seen ≡ old → seen.state.more ≡ true → Follows (λ x. x) (next_image seen) r seen new
+    → FollowsBut (old.state.more ≡ true) (λ x. x) (next_image old) r old new
+shown_open r seen old new e m h =
+    let P : Decoding → Type 0 = λ d. FollowsBut (d.state.more ≡ true) (λ x. x) (next_image d) r d new in
+    subst P e (open_wanting (next_image seen) r seen new m h)
 
 pub along_on : (kind kind' : FileKind) (order order' : ByteOrder) (bytes bytes' : List ℕ) (first : ℕ) (walk : Walked) (pointer : Option IfdPointer) (at : ℕ) (more : Bool)
     → kind' ≡ kind → order' ≡ order → bytes' ≡ bytes → Begins kind order bytes first walk → IsAt walk.places pointer at more
@@ -271,10 +255,10 @@ added_at places longer k p e l m =
 pub next_read : (r : Result (Unit {0}) TiffError) (d mid new : Decoding) (walk longer : Walked) (at k place : ℕ) (directory : DirectoryRecord)
     → Along d walk at → d.state.more ≡ true → k ≡ at + 1 → Begins d.kind d.order d.bytes d.first longer
     → slice_get longer.places k ≡ Some place → directory_at d.kind d.order d.bytes place ≡ Ok directory
-    → mid ≡ record d { failures = mid.failures } → d.failures ≤ mid.failures
+    → mid ≡ d
     → Follows (λ x. x) (entered mid place (Ok directory)) r mid new → Follows (λ x. x) (next_image d) r d new
-next_read r d mid new walk longer at k place directory a m e b h t s l f =
-    enters_read r (next_image d) place directory d mid new s l (behind d walk longer at k place a m e b h) t f
+next_read r d mid new walk longer at k place directory a m e b h t s f =
+    enters_read r (next_image d) place directory d mid new s (behind d walk longer at k place a m e b h) t f
 
 -- a place that isn't there
 pub past_end : (places : List ℕ) (k : ℕ) → slice_get places k ≡ None → length places ≤ k
@@ -296,8 +280,8 @@ next_closed d walk at k end a m e l h =
 -- ---- seek_to_image
 
 pub seek_known : (r : Result (Unit {0}) TiffError) (d mid new : Decoding) (k place : ℕ) → slice_get (chain_of d).places k ≡ Some place
-    → mid ≡ record d { failures = mid.failures } → d.failures ≤ mid.failures → Follows (λ x. x) (enter mid place) r mid new → Follows (λ x. x) (seek_to_image d k) r d new
-seek_known r d mid new k place h e l f = enters r (seek_to_image d k) place d mid new e l (sought_by d k (Some place) h) f
+    → mid ≡ d → Follows (λ x. x) (enter mid place) r mid new → Follows (λ x. x) (seek_to_image d k) r d new
+seek_known r d mid new k place h e f = enters r (seek_to_image d k) place d mid new e (sought_by d k (Some place) h) f
 
 -- a number that isn't there
 pub none_of : (r : Option ℕ) → ((p : ℕ) → r ≡ Some p → ⊥) → r ≡ None

@@ -23,27 +23,16 @@ pub record Taken (old now : Decoding) (last : Option ℕ) (made : List (Result (
 
 pub begun : (d : Decoding) → Taken d d None []
 unfolding tag_iter tag_items
-begun d = record { state = refl; count = omega arith; given = []; is = refl; items = omega arith }
+begun d = record { state = refl; count = omega arith; given = []; is = refl; items = refl }
 
--- an item from an earlier count of failed reads on
-earlier : (g : Result (Tag × Datum) TiffError) (x : Result (Tag × Value) TiffError) (a b c : ℕ) → a ≤ b → ItemIs g x b c → ItemIs g x a c
-earlier g (Ok x) a b c l h = (h.0, omega (arith, h.1))
-earlier g (Err OutOfMemory) a b c l h = omega arith
-earlier g (Err (IoError Device)) a b c l h = omega arith
-earlier g (Err (IoError UnexpectedEof)) a b c l h = (h.0, omega (arith, h.1))
-earlier g (Err (IoError InvalidData)) a b c l h = (h.0, omega (arith, h.1))
-earlier g (Err (IoError InvalidInput)) a b c l h = (h.0, omega (arith, h.1))
-earlier g (Err (IoError WriteZero)) a b c l h = (h.0, omega (arith, h.1))
-earlier g (Err (FormatError e)) a b c l h = (h.0, omega (arith, h.1))
-earlier g (Err (UnsupportedError e)) a b c l h = (h.0, omega (arith, h.1))
-earlier g (Err LimitsExceeded) a b c l h = (h.0, omega (arith, h.1))
-earlier g (Err IntSizeError) a b c l h = (h.0, omega (arith, h.1))
-earlier g (Err (UsageError e)) a b c l h = (h.0, omega (arith, h.1))
+-- an item from a count of failed reads that is the same
+earlier : (g : Result (Tag × Datum) TiffError) (x : Result (Tag × Value) TiffError) (a b c : ℕ) → b ≡ a → ItemIs g x b c → ItemIs g x a c
+earlier g x a b c e h = (let P : ℕ → Type 0 = λ n. ItemIs g x n c in subst P e h)
 
 -- one more item behind the others
 behind : (gs : List (Result (Tag × Datum) TiffError)) (xs : List (Result (Tag × Value) TiffError)) (g : Result (Tag × Datum) TiffError) (x : Result (Tag × Value) TiffError) (a b c : ℕ)
     → ItemsAre gs xs a b → ItemIs g x b c → ItemsAre (gs ++ g ∷ []) (xs ++ x ∷ []) a c
-behind [] [] g x a b c h i = (c, earlier g x a b c h i, omega arith)
+behind [] [] g x a b c h i = (c, earlier g x a b c h i, refl)
 behind [] (y ∷ xs) g x a b c h i = absurd h
 behind (f ∷ gs) [] g x a b c h i = absurd h
 behind (f ∷ gs) (y ∷ xs) g x a b c h i = (h.0, h.1, behind gs xs g x h.0 b c h.2 i)

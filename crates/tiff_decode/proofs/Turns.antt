@@ -6,7 +6,7 @@ use Rattle.tiff_base.specs.declared.error.TiffError.{TiffError}
 use Rattle.tiff_base.specs.declared.error.TiffError.TheVariants.{FormatError, UnsupportedError, IoError, LimitsExceeded, IntSizeError, UsageError, OutOfMemory}
 use Rattle.tiff_base.specs.declared.io.IoKind.TheVariants.{UnexpectedEof, InvalidData, InvalidInput, WriteZero, Device}
 use Rattle.tiff_base.specs.declared.tags.Tag.{Tag}
-use Rattle.tiff_base.specs.Answers.{Answers, AnswersExactly}
+use Rattle.tiff_base.specs.Answers.{Answers, AnswersExactly, NoneSwallowed}
 use Rattle.tiff_decode.specs.declared.script.Call.{Call}
 use Rattle.tiff_decode.specs.declared.script.Reply.{Reply}
 use Rattle.tiff_decode.specs.Failures.{all_failures}
@@ -63,14 +63,14 @@ may_want view (Err OutOfMemory) given before after h = tt
 pub tag_bytes : (old new : Decoding) (tag : Tag) (len at : ℕ) (xs : List ℕ) (r : Result (Option ℕ) TiffError) (b : Vec ℕ Global)
     → xs ≡ replicate len 0
     → AnswersExactly (λ n. (n, items_of b)) r (outcome.find_tag_bytes old tag xs at).answer old.failures new.failures
-    → new ≡ record old { failures = new.failures } → old.failures ≤ new.failures
+    → new ≡ record old { failures = new.failures } → old.failures ≤ new.failures → NoneSwallowed r old.failures new.failures
     → TagsRead (λ n. (n, items_of b)) (outcome.find_tag_bytes old tag (replicate len 0) at) r old new
-tag_bytes old new tag len at xs r b zeros h state l =
+tag_bytes old new tag len at xs r b zeros h state l swallowed =
     let P : List ℕ → Type 0 = λ xs. Answers (λ n. (n, items_of b)) r (outcome.find_tag_bytes old tag xs at).answer old.failures new.failures in
-    record { answer = subst P zeros (may_want _ r _ old.failures new.failures h); state = state; failures = l }
+    record { answer = subst P zeros (may_want _ r _ old.failures new.failures h); state = state; failures = l; swallowed = swallowed }
 
 pub nothing_read : {Y : Type 0} (view : Option ℕ → Y) (given : Outcome Y) (d : Decoding) → TagsRead view given (Err OutOfMemory) d d
-nothing_read view given d = record { answer = tt; state = refl; failures = omega arith }
+nothing_read view given d = record { answer = tt; state = refl; failures = omega arith; swallowed = refl }
 
 -- ---- lists of calls
 

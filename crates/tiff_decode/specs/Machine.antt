@@ -57,10 +57,10 @@ pub record StandsAt (state : State) (old new : Decoding) : Type 0 where
   pub stands : new ≡ record old { failures = new.failures; state = state }
   pub failures : old.failures ≤ new.failures
 
--- The answer that the file gives, with the state that it leaves.
+-- The answer that the file gives, with the state that it leaves; no read failed.
 pub record Gives {Y : Type 0} (result : Result Y TiffError) (outcome : Outcome Y) (old new : Decoding) : Type 0 where
   pub answer : outcome.answer ≡ result
-  pub at : StandsAt outcome.next old new
+  pub at : new ≡ record old { state = outcome.next }
 
 -- A read failed, and the decoder stands where it stood.
 pub record ReadFailed (old new : Decoding) : Type 0 where
@@ -75,7 +75,7 @@ keeps_state e = false
 
 -- what a refused call leaves: want of memory, where that may be, and a fault of the device leave the decoder as it stood
 abbrev pub Refused : {Y : Type 0} → Type 0 → TiffError → Outcome Y → Decoding → Decoding → Type 0
-Refused wanting OutOfMemory outcome old new = wanting × StandsAt old.state old new
+Refused wanting OutOfMemory outcome old new = wanting × (new ≡ old)
 Refused wanting (IoError Device) outcome old new = ReadFailed old new
 Refused wanting e outcome old new = Gives (Err e) outcome old new
 

@@ -6,7 +6,7 @@ use Rattle.tiff_base.specs.declared.error.TiffError.{TiffError}
 use Rattle.tiff_base.specs.declared.error.TiffError.TheVariants.{FormatError}
 use Rattle.tiff_base.specs.declared.error.TiffFormatError.TheVariants.{InvalidTagValueType}
 use Rattle.tiff_base.specs.declared.tags.Tag.{Tag}
-use Rattle.tiff_base.specs.Answers.{Answers, IsCause}
+use Rattle.tiff_base.specs.Answers.{Answers, IsCause, NoneSwallowed}
 use Rattle.tiff_base.specs.Field.{DirectoryRecord}
 use Rattle.tiff_decode.specs.Machine.{Decoding, Outcome}
 
@@ -20,11 +20,12 @@ abbrev pub reading : Decoding → Option DirectoryRecord → Decoding
 reading d other = record d { state = record d.state { directory = chosen d.state.directory other } }
 
 -- A read of tags moves nothing: its answer, seen by view, is the one that is given, but for want of memory and a fault of the
--- device, and of the decoder only the count of failed reads may grow.
+-- device, and of the decoder only the count of failed reads may grow, with a fault of the device alone.
 pub record TagsRead {X Y : Type 0} (view : X → Y) (given : Outcome Y) (result : Result X TiffError) (old new : Decoding) : Type 0 where
   pub answer : Answers view result given.answer old.failures new.failures
   pub state : new ≡ record old { failures = new.failures }
   pub failures : old.failures ≤ new.failures
+  pub swallowed : NoneSwallowed result old.failures new.failures
 
 -- The same decoder is borrowed, in which no more than the count of failed reads changed.
 pub record IsHeld (old new : MutBor Decoding) : Type 0 where

@@ -1,5 +1,5 @@
 -- A call of a decoder, its reply, and the decoder before and after it (this project's).
-use Rattle.std.specs.Prelude.{◌≡◌, ℕ, ◌<◌, ◌≤◌, List, [], ◌∷◌, Option, None, Some, Result, Ok, Err, Vec, map, option_map, string_bytes, replicate}
+use Rattle.std.specs.Prelude.{◌≡◌, ℕ, ◌<◌, List, [], ◌∷◌, Option, None, Some, Bool, true, Result, Ok, Err, Vec, map, option_map, string_bytes, replicate}
 use Rattle.std.specs.declared.alloc.Global.{Global}
 use Rattle.tiff_base.specs.declared.error.TiffError.{TiffError}
 use Rattle.tiff_base.specs.declared.error.TiffError.TheVariants.{IoError, OutOfMemory}
@@ -19,7 +19,7 @@ use Rattle.tiff_decode.specs.declared.script.Call.{Call}
 use Rattle.tiff_decode.specs.declared.script.Call.TheVariants as call
 use Rattle.tiff_decode.specs.declared.script.Reply.{Reply}
 use Rattle.tiff_decode.specs.declared.script.Reply.TheVariants as reply
-use Rattle.tiff_decode.specs.Machine.{Decoding, StandsAt, Follows, FollowsExactly, FollowsHere, FollowsPlainly, FollowsOrFaults, Tells}
+use Rattle.tiff_decode.specs.Machine.{Decoding, StandsAt, Follows, FollowsBut, FollowsExactly, FollowsHere, FollowsPlainly, FollowsOrFaults, Tells}
 use Rattle.tiff_decode.specs.Outcome as outcome
 use Rattle.tiff_decode.specs.Reader.{TagsRead}
 use Rattle.tiff_decode.specs.Result.{decoded_as}
@@ -39,14 +39,14 @@ bits_64 b = b.0
 
 -- an item that is given, or want of memory or a failed read of its own
 abbrev pub ItemIs : Result (Tag × Datum) TiffError → Result (Tag × Value) TiffError → ℕ → ℕ → Type 0
-ItemIs given (Ok x) before after = (given ≡ Ok (x.0, datum x.1)) × (before ≤ after)
-ItemIs given (Err OutOfMemory) before after = before ≤ after
+ItemIs given (Ok x) before after = (given ≡ Ok (x.0, datum x.1)) × (after ≡ before)
+ItemIs given (Err OutOfMemory) before after = after ≡ before
 ItemIs given (Err (IoError Device)) before after = before < after
-ItemIs given (Err e) before after = (given ≡ Err e) × (before ≤ after)
+ItemIs given (Err e) before after = (given ≡ Err e) × (after ≡ before)
 
 -- each item in turn
 abbrev pub ItemsAre : List (Result (Tag × Datum) TiffError) → List (Result (Tag × Value) TiffError) → ℕ → ℕ → Type 0
-ItemsAre [] [] before after = before ≤ after
+ItemsAre [] [] before after = after ≡ before
 ItemsAre [] (x ∷ xs) before after = ⊥
 ItemsAre (g ∷ gs) [] before after = ⊥
 ItemsAre (g ∷ gs) (x ∷ xs) before after = (between : ℕ) × ItemIs g x before between × ItemsAre gs xs between after
@@ -72,7 +72,7 @@ Step old call.Dimensions (reply.Dimensions r) new = FollowsPlainly (λ x. x) (ou
 Step old call.Colortype (reply.Colortype r) new = FollowsOrFaults (λ x. x) (outcome.colortype old) r old new
 Step old call.IfdPointer (reply.IfdPointer r) new = Tells (outcome.ifd_pointer old) r old new
 Step old (call.SeekToImage k) (reply.SeekToImage r) new = Follows (λ x. x) (outcome.seek_to_image old k) r old new
-Step old call.NextImage (reply.NextImage r) new = Follows (λ x. x) (outcome.next_image old) r old new
+Step old call.NextImage (reply.NextImage r) new = FollowsBut (old.state.more ≡ true) (λ x. x) (outcome.next_image old) r old new
 Step old call.MoreImages (reply.MoreImages r) new = Tells (outcome.more_images old) r old new
 Step old call.ByteOrder (reply.ByteOrder r) new = Tells (outcome.byte_order old) r old new
 Step old (call.ReadDirectory pointer) (reply.ReadDirectory r) new = Follows (λ x. x) (outcome.read_directory old pointer) r old new

@@ -9,7 +9,7 @@ ghost use Rattle.tiff_page.specs.Layout.{colour_of};
 ghost use Rattle.tiff_page.specs.View.{page as page_record};
 ghost use Rattle.tiff_ifd.specs.Walk.{Begins, Ends};
 ghost use Rattle.tiff_decode.specs.Along.{IsAlong, IsAt};
-ghost use Rattle.tiff_decode.specs.Machine.{Decoding, Follows, FollowsOrFaults, FollowsPlainly, Tells, decoding, keeps_state};
+ghost use Rattle.tiff_decode.specs.Machine.{Decoding, Follows, FollowsBut, FollowsOrFaults, FollowsPlainly, Tells, decoding, keeps_state};
 ghost use Rattle.tiff_decode.specs.Outcome as outcome;
 ghost use Rattle.tiff_decode.specs.Outcome.{begun, first_directory, page_in};
 
@@ -301,7 +301,7 @@ impl<R: Source + Drop> Decoder<R> {
     /// page is answered.
     pub fn new(alloc: Global, source: R) -> TiffResult<Self>
         ensures answer { AnswersBut (Unit {0}) (FailsFrom R.bytes R.failures source) (λ (d : Decoding). record d { failures = R.failures source }) result (begun (R.bytes source) (R.failures source)) }
-        ensures count { IfOk result (λ d. R.failures source ≤ d.failures) }
+        ensures count { IfOk result (λ d. d.failures ≡ R.failures source) }
     {
         let mut source = source;
         let (header, walk, directory) = match read_first_directory(alloc, &mut source) {
@@ -405,10 +405,11 @@ impl<R: Source> Decoder<R> {
     /// Enters the next directory of the file's chain and reads its page. `ImageFileDirectoryNotFound` where `more_images` is
     /// false. Where the next directory is cut or its link leads back into the chain, that fault, and `more_images` is false
     /// from then on; the rest stays. Where its page has a fault, that fault; the decoder is at the new directory and keeps
-    /// the page that it had. After `OutOfMemory` and `IoError(Device)` all is as it was.
+    /// the page that it had. After `OutOfMemory` and `IoError(Device)` all is as it was; memory is taken only where
+    /// `more_images` is true.
     #[tactic(auto, unfolding(crate::specs::Outcome::next_image))]
     pub fn next_image(&mut self) -> TiffResult<()>
-        ensures { Follows (λ x. x) (outcome.next_image self.old) result self.old self.new }
+        ensures { FollowsBut (self.old.state.more ≡ true) (λ x. x) (outcome.next_image self.old) result self.old self.new }
     {
         if !self.standing.more {
             return Err(TiffFormatError::ImageFileDirectoryNotFound.into());

@@ -1,7 +1,7 @@
 //! The tags of a decoder's page, and of other directories.
 
 ghost use Rattle.std.specs.Prelude.{◌≡◌, ◌<◌, ◌≤◌, ◌^◌, None, Some, Ok, map, option_map, string_bytes};
-ghost use Rattle.tiff_base.specs.Answers.{Answers, AnswersExactly};
+ghost use Rattle.tiff_base.specs.Answers.{Answers, AnswersExactly, NoneSwallowed};
 ghost use Rattle.tiff_ifd.specs.Fitted.{fitted};
 ghost use Rattle.tiff_ifd.specs.View.{datum};
 ghost use Rattle.tiff_decode.specs.Outcome as outcome;
@@ -197,6 +197,7 @@ impl<R: Source> Decoder<R> {
         ensures answer { AnswersExactly (λ n. (n, buf.new)) result (outcome.find_tag_bytes (reading self.old (option_map (λ d. d.now) other.entry)) tag buf.old at).answer self.old.failures self.new.failures }
         ensures state { self.new ≡ record self.old { failures = self.new.failures } }
         ensures count { self.old.failures ≤ self.new.failures }
+        ensures swallowed { NoneSwallowed result self.old.failures self.new.failures }
     {
         let Some(entry) = self.entry_in(other, tag) else {
             return Ok(None);
@@ -272,6 +273,7 @@ impl<R: Source> Decoder<R> {
         ensures answer { NumberIfAs T.try_from_gives (self.old.failures < self.new.failures) tag (outcome.find_tag_unsigned self.old tag).answer result }
         ensures state { self.new ≡ record self.old { failures = self.new.failures } }
         ensures count { self.old.failures ≤ self.new.failures }
+        ensures swallowed { NoneSwallowed result self.old.failures self.new.failures }
     {
         match self.number_in(None, tag) {
             Ok(None) => Ok(None),
@@ -294,6 +296,7 @@ impl<R: Source> Decoder<R> {
         ensures answer { NumbersIfAs T.try_from_gives (self.old.failures < self.new.failures) tag (outcome.find_tag_unsigned_vec self.old tag).answer result }
         ensures state { self.new ≡ record self.old { failures = self.new.failures } }
         ensures count { self.old.failures ≤ self.new.failures }
+        ensures swallowed { NoneSwallowed result self.old.failures self.new.failures }
     {
         let alloc = self.alloc;
         match self.numbers_in(None, tag) {
@@ -314,6 +317,7 @@ impl<R: Source> Decoder<R> {
         ensures answer { NumberAs T.try_from_gives (self.old.failures < self.new.failures) tag (outcome.get_tag_unsigned self.old tag).answer result }
         ensures state { self.new ≡ record self.old { failures = self.new.failures } }
         ensures count { self.old.failures ≤ self.new.failures }
+        ensures swallowed { NoneSwallowed result self.old.failures self.new.failures }
     {
         match self.required_in(None, tag) {
             Ok(n) => as_type(n, tag),
@@ -447,6 +451,7 @@ impl<'a, R: Source> IfdDecoder<'a, R> {
     /// past the end of the source: `IoError(UnexpectedEof)`. After any other fault the buffer has the field's type and no values.
     pub fn find_tag_buf(&mut self, tag: Tag, buf: &mut ValueBuffer) -> TiffResult<Option<Entry>>
         ensures held { IsHeld self.old.decoder self.new.decoder }
+        ensures swallowed { NoneSwallowed result self.old.decoder.now.failures self.new.decoder.now.failures }
         ensures other { self.new.other ≡ self.old.other }
         ensures answer { Answers (λ e. (e, buf.new)) result (outcome.find_tag_buf (reading self.old.decoder.now (option_map (λ d. d.now) self.old.other)) tag buf.old).answer self.old.decoder.now.failures self.new.decoder.now.failures }
         ensures left { BufferLeft self.old.decoder.now.order (outcome.find_entry (reading self.old.decoder.now (option_map (λ d. d.now) self.old.other)) tag) buf.old result buf.new }
@@ -464,6 +469,7 @@ impl<'a, R: Source> IfdDecoder<'a, R> {
         offset: u64,
     ) -> TiffResult<Option<usize>>
         ensures held { IsHeld self.old.decoder self.new.decoder }
+        ensures swallowed { NoneSwallowed result self.old.decoder.now.failures self.new.decoder.now.failures }
         ensures other { self.new.other ≡ self.old.other }
         ensures answer { AnswersExactly (λ n. (n, buf.new)) result (outcome.find_tag_bytes (reading self.old.decoder.now (option_map (λ d. d.now) self.old.other)) tag buf.old offset).answer self.old.decoder.now.failures self.new.decoder.now.failures }
     {
@@ -473,6 +479,7 @@ impl<'a, R: Source> IfdDecoder<'a, R> {
     /// The value of a tag, if there is the tag. The faults are those of `Decoder::find_tag`.
     pub fn find_tag(&mut self, tag: Tag) -> TiffResult<Option<Value>>
         ensures held { IsHeld self.old.decoder self.new.decoder }
+        ensures swallowed { NoneSwallowed result self.old.decoder.now.failures self.new.decoder.now.failures }
         ensures other { self.new.other ≡ self.old.other }
         ensures answer { Answers (option_map datum) result (outcome.find_tag (reading self.old.decoder.now (option_map (λ d. d.now) self.old.other)) tag).answer self.old.decoder.now.failures self.new.decoder.now.failures }
         ensures none { outcome.find_entry (reading self.old.decoder.now (option_map (λ d. d.now) self.old.other)) tag ≡ None → result ≡ Ok None }
@@ -487,6 +494,7 @@ impl<'a, R: Source> IfdDecoder<'a, R> {
         T::Error: Drop,
         ensures answer { NumberIfAs T.try_from_gives (self.old.decoder.now.failures < self.new.decoder.now.failures) tag (outcome.find_tag_unsigned (reading self.old.decoder.now (option_map (λ d. d.now) self.old.other)) tag).answer result }
         ensures held { IsHeld self.old.decoder self.new.decoder }
+        ensures swallowed { NoneSwallowed result self.old.decoder.now.failures self.new.decoder.now.failures }
         ensures other { self.new.other ≡ self.old.other }
     {
         match self.decoder.number_in(self.other, tag) {
@@ -509,6 +517,7 @@ impl<'a, R: Source> IfdDecoder<'a, R> {
         T::Error: Drop,
         ensures answer { NumbersIfAs T.try_from_gives (self.old.decoder.now.failures < self.new.decoder.now.failures) tag (outcome.find_tag_unsigned_vec (reading self.old.decoder.now (option_map (λ d. d.now) self.old.other)) tag).answer result }
         ensures held { IsHeld self.old.decoder self.new.decoder }
+        ensures swallowed { NoneSwallowed result self.old.decoder.now.failures self.new.decoder.now.failures }
         ensures other { self.new.other ≡ self.old.other }
     {
         let alloc = self.alloc;
@@ -529,6 +538,7 @@ impl<'a, R: Source> IfdDecoder<'a, R> {
         T::Error: Drop,
         ensures answer { NumberAs T.try_from_gives (self.old.decoder.now.failures < self.new.decoder.now.failures) tag (outcome.get_tag_unsigned (reading self.old.decoder.now (option_map (λ d. d.now) self.old.other)) tag).answer result }
         ensures held { IsHeld self.old.decoder self.new.decoder }
+        ensures swallowed { NoneSwallowed result self.old.decoder.now.failures self.new.decoder.now.failures }
         ensures other { self.new.other ≡ self.old.other }
     {
         match self.decoder.required_in(self.other, tag) {
@@ -541,6 +551,7 @@ impl<'a, R: Source> IfdDecoder<'a, R> {
     #[tactic(auto, unfolding(crate::specs::Outcome::get_tag, crate::specs::Outcome::find_tag, tiff_ifd::specs::Look::require, tiff_ifd::specs::Look::find))]
     pub fn get_tag(&mut self, tag: Tag) -> TiffResult<Value>
         ensures held { IsHeld self.old.decoder self.new.decoder }
+        ensures swallowed { NoneSwallowed result self.old.decoder.now.failures self.new.decoder.now.failures }
         ensures other { self.new.other ≡ self.old.other }
         ensures answer { Answers datum result (outcome.get_tag (reading self.old.decoder.now (option_map (λ d. d.now) self.old.other)) tag).answer self.old.decoder.now.failures self.new.decoder.now.failures }
     {
@@ -554,6 +565,7 @@ impl<'a, R: Source> IfdDecoder<'a, R> {
     #[tactic(auto, using(crate::proofs::Required::unconverted, crate::proofs::Required::required_by), unfolding(crate::specs::Outcome::get_tag_u32, crate::specs::Outcome::get_tag))]
     pub fn get_tag_u32(&mut self, tag: Tag) -> TiffResult<u32>
         ensures held { IsHeld self.old.decoder self.new.decoder }
+        ensures swallowed { NoneSwallowed result self.old.decoder.now.failures self.new.decoder.now.failures }
         ensures other { self.new.other ≡ self.old.other }
         ensures answer { Answers (λ n. n) result (outcome.get_tag_u32 (reading self.old.decoder.now (option_map (λ d. d.now) self.old.other)) tag).answer self.old.decoder.now.failures self.new.decoder.now.failures }
     {
@@ -564,6 +576,7 @@ impl<'a, R: Source> IfdDecoder<'a, R> {
     #[tactic(auto, using(crate::proofs::Required::unconverted, crate::proofs::Required::required_by), unfolding(crate::specs::Outcome::get_tag_u64, crate::specs::Outcome::get_tag))]
     pub fn get_tag_u64(&mut self, tag: Tag) -> TiffResult<u64>
         ensures held { IsHeld self.old.decoder self.new.decoder }
+        ensures swallowed { NoneSwallowed result self.old.decoder.now.failures self.new.decoder.now.failures }
         ensures other { self.new.other ≡ self.old.other }
         ensures answer { Answers (λ n. n) result (outcome.get_tag_u64 (reading self.old.decoder.now (option_map (λ d. d.now) self.old.other)) tag).answer self.old.decoder.now.failures self.new.decoder.now.failures }
     {
@@ -574,6 +587,7 @@ impl<'a, R: Source> IfdDecoder<'a, R> {
     #[tactic(auto, using(crate::proofs::Required::unconverted, crate::proofs::Required::required_by), unfolding(crate::specs::Outcome::get_tag_f32, crate::specs::Outcome::get_tag))]
     pub fn get_tag_f32(&mut self, tag: Tag) -> TiffResult<Bits32>
         ensures held { IsHeld self.old.decoder self.new.decoder }
+        ensures swallowed { NoneSwallowed result self.old.decoder.now.failures self.new.decoder.now.failures }
         ensures other { self.new.other ≡ self.old.other }
         ensures answer { Answers (bits_32) result (outcome.get_tag_f32 (reading self.old.decoder.now (option_map (λ d. d.now) self.old.other)) tag).answer self.old.decoder.now.failures self.new.decoder.now.failures }
     {
@@ -584,6 +598,7 @@ impl<'a, R: Source> IfdDecoder<'a, R> {
     #[tactic(auto, using(crate::proofs::Required::unconverted, crate::proofs::Required::required_by), unfolding(crate::specs::Outcome::get_tag_f64, crate::specs::Outcome::get_tag))]
     pub fn get_tag_f64(&mut self, tag: Tag) -> TiffResult<Bits64>
         ensures held { IsHeld self.old.decoder self.new.decoder }
+        ensures swallowed { NoneSwallowed result self.old.decoder.now.failures self.new.decoder.now.failures }
         ensures other { self.new.other ≡ self.old.other }
         ensures answer { Answers (bits_64) result (outcome.get_tag_f64 (reading self.old.decoder.now (option_map (λ d. d.now) self.old.other)) tag).answer self.old.decoder.now.failures self.new.decoder.now.failures }
     {
@@ -594,6 +609,7 @@ impl<'a, R: Source> IfdDecoder<'a, R> {
     #[tactic(auto, using(crate::proofs::Required::unconverted, crate::proofs::Required::required_by), unfolding(crate::specs::Outcome::get_tag_u32_vec, crate::specs::Outcome::get_tag))]
     pub fn get_tag_u32_vec(&mut self, tag: Tag) -> TiffResult<Vec<u32>>
         ensures held { IsHeld self.old.decoder self.new.decoder }
+        ensures swallowed { NoneSwallowed result self.old.decoder.now.failures self.new.decoder.now.failures }
         ensures other { self.new.other ≡ self.old.other }
         ensures answer { Answers (λ v. v.items) result (outcome.get_tag_u32_vec (reading self.old.decoder.now (option_map (λ d. d.now) self.old.other)) tag).answer self.old.decoder.now.failures self.new.decoder.now.failures }
     {
@@ -605,6 +621,7 @@ impl<'a, R: Source> IfdDecoder<'a, R> {
     #[tactic(auto, using(crate::proofs::Required::unconverted, crate::proofs::Required::required_by), unfolding(crate::specs::Outcome::get_tag_u16_vec, crate::specs::Outcome::get_tag))]
     pub fn get_tag_u16_vec(&mut self, tag: Tag) -> TiffResult<Vec<u16>>
         ensures held { IsHeld self.old.decoder self.new.decoder }
+        ensures swallowed { NoneSwallowed result self.old.decoder.now.failures self.new.decoder.now.failures }
         ensures other { self.new.other ≡ self.old.other }
         ensures answer { Answers (λ v. v.items) result (outcome.get_tag_u16_vec (reading self.old.decoder.now (option_map (λ d. d.now) self.old.other)) tag).answer self.old.decoder.now.failures self.new.decoder.now.failures }
     {
@@ -616,6 +633,7 @@ impl<'a, R: Source> IfdDecoder<'a, R> {
     #[tactic(auto, using(crate::proofs::Required::unconverted, crate::proofs::Required::required_by), unfolding(crate::specs::Outcome::get_tag_u64_vec, crate::specs::Outcome::get_tag))]
     pub fn get_tag_u64_vec(&mut self, tag: Tag) -> TiffResult<Vec<u64>>
         ensures held { IsHeld self.old.decoder self.new.decoder }
+        ensures swallowed { NoneSwallowed result self.old.decoder.now.failures self.new.decoder.now.failures }
         ensures other { self.new.other ≡ self.old.other }
         ensures answer { Answers (λ v. v.items) result (outcome.get_tag_u64_vec (reading self.old.decoder.now (option_map (λ d. d.now) self.old.other)) tag).answer self.old.decoder.now.failures self.new.decoder.now.failures }
     {
@@ -627,6 +645,7 @@ impl<'a, R: Source> IfdDecoder<'a, R> {
     #[tactic(auto, using(crate::proofs::Required::unconverted, crate::proofs::Required::required_by), unfolding(crate::specs::Outcome::get_tag_f32_vec, crate::specs::Outcome::get_tag))]
     pub fn get_tag_f32_vec(&mut self, tag: Tag) -> TiffResult<Vec<Bits32>>
         ensures held { IsHeld self.old.decoder self.new.decoder }
+        ensures swallowed { NoneSwallowed result self.old.decoder.now.failures self.new.decoder.now.failures }
         ensures other { self.new.other ≡ self.old.other }
         ensures answer { Answers (λ v. map bits_32 v.items) result (outcome.get_tag_f32_vec (reading self.old.decoder.now (option_map (λ d. d.now) self.old.other)) tag).answer self.old.decoder.now.failures self.new.decoder.now.failures }
     {
@@ -638,6 +657,7 @@ impl<'a, R: Source> IfdDecoder<'a, R> {
     #[tactic(auto, using(crate::proofs::Required::unconverted, crate::proofs::Required::required_by), unfolding(crate::specs::Outcome::get_tag_f64_vec, crate::specs::Outcome::get_tag))]
     pub fn get_tag_f64_vec(&mut self, tag: Tag) -> TiffResult<Vec<Bits64>>
         ensures held { IsHeld self.old.decoder self.new.decoder }
+        ensures swallowed { NoneSwallowed result self.old.decoder.now.failures self.new.decoder.now.failures }
         ensures other { self.new.other ≡ self.old.other }
         ensures answer { Answers (λ v. map bits_64 v.items) result (outcome.get_tag_f64_vec (reading self.old.decoder.now (option_map (λ d. d.now) self.old.other)) tag).answer self.old.decoder.now.failures self.new.decoder.now.failures }
     {
@@ -649,6 +669,7 @@ impl<'a, R: Source> IfdDecoder<'a, R> {
     #[tactic(auto, using(crate::proofs::Required::unconverted, crate::proofs::Required::required_by), unfolding(crate::specs::Outcome::get_tag_u8_vec, crate::specs::Outcome::get_tag))]
     pub fn get_tag_u8_vec(&mut self, tag: Tag) -> TiffResult<Vec<u8>>
         ensures held { IsHeld self.old.decoder self.new.decoder }
+        ensures swallowed { NoneSwallowed result self.old.decoder.now.failures self.new.decoder.now.failures }
         ensures other { self.new.other ≡ self.old.other }
         ensures answer { Answers (λ v. v.items) result (outcome.get_tag_u8_vec (reading self.old.decoder.now (option_map (λ d. d.now) self.old.other)) tag).answer self.old.decoder.now.failures self.new.decoder.now.failures }
     {
@@ -660,6 +681,7 @@ impl<'a, R: Source> IfdDecoder<'a, R> {
     #[tactic(auto, using(crate::proofs::Required::unconverted, crate::proofs::Required::required_by), unfolding(crate::specs::Outcome::get_tag_ascii_string, crate::specs::Outcome::get_tag))]
     pub fn get_tag_ascii_string(&mut self, tag: Tag) -> TiffResult<String>
         ensures held { IsHeld self.old.decoder self.new.decoder }
+        ensures swallowed { NoneSwallowed result self.old.decoder.now.failures self.new.decoder.now.failures }
         ensures other { self.new.other ≡ self.old.other }
         ensures answer { Answers (string_bytes) result (outcome.get_tag_ascii_string (reading self.old.decoder.now (option_map (λ d. d.now) self.old.other)) tag).answer self.old.decoder.now.failures self.new.decoder.now.failures }
     {

@@ -5,7 +5,7 @@ use Rattle.tiff_base.specs.declared.error.TiffError.{TiffError}
 use Rattle.tiff_base.specs.declared.tags.ByteOrder.{ByteOrder}
 use Rattle.tiff_base.specs.declared.tags.Bits32.{Bits32}
 use Rattle.tiff_base.specs.declared.tags.Bits64.{Bits64}
-use Rattle.tiff_base.specs.Answers.{AnswersExactly, ◌>>=◌}
+use Rattle.tiff_base.specs.Answers.{AnswersExactly, NoneSwallowed, ◌>>=◌}
 use Rattle.tiff_base.specs.Number.{number_at}
 
 -- the bytes of its source, how many reads of it failed so far, the byte order, and the place of the next number
@@ -25,6 +25,7 @@ pub record NumberRead {X : Type 0} (w : Width) (as_number : ℕ → X) (result :
   pub answer : AnswersExactly (λ x. x) result (number_at old.order w old.bytes old.place >>= λ n. Ok (as_number n)) old.failures new.failures
   pub stands : new ≡ record old { failures = new.failures; place = place_behind result (byte_len w) old.place }
   pub failures : old.failures ≤ new.failures
+  pub swallowed : NoneSwallowed result old.failures new.failures
 
 -- the floating number of these bits
 abbrev pub of_bits_32 : ℕ → Bits32

@@ -1,7 +1,7 @@
 //! A packed list is unpacked, in pieces of any size.
 
 ghost use Rattle.std.specs.Prelude.{◌≡◌, ℕ, ◌<◌, ◌≤◌, List, length, Ok, OnOk, IfErr, IfSome, IfNone};
-ghost use Rattle.tiff_base.specs.Answers.{IsCause, IsKept};
+ghost use Rattle.tiff_base.specs.Answers.{IsCause, IsKept, NoneSwallowed};
 ghost use Rattle.tiff_base.specs.Runs.{before};
 ghost use Rattle.tiff_ifd.specs.Unpacking.{unpacked_at, left_at, unpacking, count_of, GivesNext, IsShort, ReadsByte, Finds, ReadsBlock, PieceReads, Fills, UnpacksFront};
 ghost use Rattle.tiff_ifd.specs.declared.packbits.Block.TheVariants.{Literal, Run};
@@ -343,6 +343,7 @@ impl<R: Source> PackBitsReader<R> {
         ensures empty { length buf.old ≡ 0 → (result ≡ Ok 0) × (self.new ≡ self.old) }
         ensures bytes { self.new.bytes ≡ self.old.bytes }
         ensures failures { self.old.failures ≤ self.new.failures }
+        ensures swallowed { NoneSwallowed result self.old.failures self.new.failures }
         ensures piece { PieceReads result self.old self.new buf.old buf.new }
     {
         self.place.read(&mut self.source, buf)
@@ -353,6 +354,7 @@ impl<R: Source> PackBitsReader<R> {
     pub fn read_exact(&mut self, buf: &mut [u8]) -> TiffResult<()>
         ensures bytes { self.new.bytes ≡ self.old.bytes }
         ensures failures { self.old.failures ≤ self.new.failures }
+        ensures swallowed { NoneSwallowed result self.old.failures self.new.failures }
         ensures filled { Fills result self.old self.new buf.new }
     {
         self.place.read_exact(&mut self.source, buf)

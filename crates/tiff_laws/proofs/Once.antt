@@ -96,7 +96,7 @@ seek_to_image_once old k first second new other s t n m = absurd s
 
 next_image_once : (old : Decoding) (first second : Reply) (new other : Decoding)
     → Step old call.NextImage first new → Step old call.NextImage second other → IsNamed first → IsNamed second → SameAnswer first second
-next_image_once old (reply.NextImage r) (reply.NextImage q) new other s t n m = sym (seen_same r) ∙ (((told (Unit {0}) (λ x. x) (outcome.next_image old) r old new s).next n).0 ∙ sym ((told (Unit {0}) (λ x. x) (outcome.next_image old) q old other t).next m).0) ∙ seen_same q
+next_image_once old (reply.NextImage r) (reply.NextImage q) new other s t n m = sym (seen_same r) ∙ (((told (old.state.more ≡ true) (λ x. x) (outcome.next_image old) r old new s).next n).0 ∙ sym ((told (old.state.more ≡ true) (λ x. x) (outcome.next_image old) q old other t).next m).0) ∙ seen_same q
 next_image_once old (reply.NextImage r) second new other s t n m = absurd t
 next_image_once old first second new other s t n m = absurd s
 

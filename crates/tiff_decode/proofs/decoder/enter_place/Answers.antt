@@ -10,5 +10,5 @@ returns-in-Ok-clause-follows g c = λ first here.
     (g.R.Source.failures c.args.tags.now.source) c.args.standing.now.pointer c.args.standing.now.more (view.page c.args.page.now)
     c.args.tags.now.directory here c.args.tags.now.limits in
     let mid : Decoding = record old { bytes = g.R.Source.bytes c.read_directory.new.source; failures = g.R.Source.failures c.read_directory.new.source } in
-    enters_read c.enter_directory.result _ c.args.place c.in-Ok.directory old mid _ (told_same old _ _ c.in-Ok.ensures.kept.told) c.in-Ok.ensures.kept.failures refl
+    enters_read c.enter_directory.result _ c.args.place c.in-Ok.directory old mid _ (told_same old _ _ c.in-Ok.ensures.kept.told c.in-Ok.ensures.kept.swallowed) refl
     c.in-Ok.ensures.answer (c.enter_directory.ensures.follows first here)

@@ -48,7 +48,7 @@ loop-len-preserved g c =
     let b = same_byte (g.R.Source.bytes c.args.source.now) (g.R.Source.bytes c.loop-len.source) c.loop-len.at c.in-Ok.header c.loop-len.invariant.same_bytes c.in-Ok.ensures.byte in
     record {
       same_bytes = c.in-Ok.ensures.kept.told ∙ c.loop-len.invariant.same_bytes;
-      count = omega (arith, c.in-Ok.ensures.kept.failures, c.loop-len.invariant.count);
+      count = omega (arith, c.in-Ok.ensures.kept.swallowed, c.loop-len.invariant.count);
       same_rest = c.loop-len.invariant.same_rest
           ∙ nothing_told (g.R.Source.bytes c.args.source.now) c.loop-len.at c.loop-len.len c.loop-len-test.true b.0 (sym b.1 ∙ omega arith);
     }

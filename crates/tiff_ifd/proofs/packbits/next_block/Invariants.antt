@@ -8,7 +8,7 @@ invariant-loop-len g l =
     let bytes = g.R.Source.bytes l.fn.source in
     record {
       same_bytes : g.R.Source.bytes l.source ≡ bytes;
-      count : g.R.Source.failures l.fn.source ≤ g.R.Source.failures l.source;
+      count : g.R.Source.failures l.source ≡ g.R.Source.failures l.fn.source;
       same_rest : unpacked_at bytes l.fn.at l.fn.len ≡ unpacked_at bytes l.at l.len;
     }
 

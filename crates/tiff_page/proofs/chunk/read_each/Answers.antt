@@ -118,7 +118,7 @@ loop-row-preserved g c =
     c.loop-row.invariant.written given.put in
     record {
       same_bytes = c.in-Ok-pass.ensures.kept.told ∙ told;
-      count = omega (arith, c.in-Ok-pass.ensures.kept.failures, c.in-Ok.ensures.kept.failures, c.loop-row.invariant.count);
+      count = omega (arith, c.in-Ok-pass.ensures.kept.swallowed, c.in-Ok.ensures.kept.swallowed, c.loop-row.invariant.count);
       place = λ z. next_row bytes order p colour k sides stored listed row c.gap_behind-behind.result left rest next given.row some z (out ∙ n) from given.takes
           (c.gap_behind-behind.ensures.between (omega (arith, z, h)) ∙ (c.gap_of-gap.ensures ∙ ap (λ (m : ℕ). stored_row_bytes p - needed_of_row p colour m) n)) passed;
       enough = λ z. omega (arith, held, now);

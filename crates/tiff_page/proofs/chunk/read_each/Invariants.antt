@@ -17,7 +17,7 @@ invariant-loop-row g l =
     let len = row_bytes p l.colour (rect p l.index).width in
     record {
       same_bytes : g.R.Source.bytes l.source ≡ bytes;
-      count : g.R.Source.failures l.fn.source ≤ g.R.Source.failures l.source;
+      count : g.R.Source.failures l.source ≡ g.R.Source.failures l.fn.source;
       place : l.row < (rect p l.index).height → left_of bytes l.place ≡ drop (l.row * stored_row_bytes p) stored;
       enough : 0 < l.row → (l.row - 1) * stored_row_bytes p + needed_of_row p l.colour len ≤ length stored;
       written : Writes (IsIn l.corner.stride l.corner.top l.row l.corner.left len) (in_rect (chunk_byte bytes l.order p l.colour l.index) l.corner.stride l.corner.top l.corner.left) (g.W.RowWriter.bytes l.fn.buf) (g.W.RowWriter.bytes l.buf);

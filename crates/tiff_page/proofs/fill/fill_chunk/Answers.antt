@@ -98,7 +98,7 @@ loop-plane-preserved g c =
     same c.image_corner-corner.ensures.stride c.image_corner-corner.ensures.top c.image_corner-corner.ensures.left c.in-Ok-read_rows.ensures.ok in
     record {
       same_bytes = c.in-Ok-read_rows.ensures.kept.told ∙ same;
-      count = omega (arith, c.in-Ok-read_rows.ensures.kept.failures, c.loop-plane.invariant.count);
+      count = omega (arith, c.in-Ok-read_rows.ensures.kept.swallowed, c.loop-plane.invariant.count);
       none = plane_none (g.R.Source.bytes c.args.source.now) c.args.order (view.page p) c.args.limits.now (layout c.args.layout) (sides_of p) p.sampled p.deep c.requires.laid c.args.planes c.args.chunk c.requires.chunk c.loop-plane.plane i q c.loop-plane.invariant.none c.in-Ok.ensures.answer given;
       written = λ before a. plane_written (g.R.Source.bytes c.args.source.now) c.args.order (view.page p) c.args.limits.now (layout c.args.layout) (sides_of p) p.sampled p.deep c.requires.laid c.args.planes c.args.chunk c.requires.chunk c.loop-plane.plane i before (g.W.RowWriter.bytes c.loop-plane.buf) (g.W.RowWriter.bytes c.read_rows.new.buf) q c.loop-plane-test.true c.in-Ok.ensures.answer
           (c.loop-plane.invariant.written before a) wrote;

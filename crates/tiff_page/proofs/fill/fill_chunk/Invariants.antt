@@ -15,7 +15,7 @@ invariant-loop-plane g l =
     let stride = l.layout.row_bytes in
     record {
       same_bytes : g.R.Source.bytes l.source ≡ bytes;
-      count : g.R.Source.failures l.fn.source ≤ g.R.Source.failures l.source;
+      count : g.R.Source.failures l.source ≡ g.R.Source.failures l.fn.source;
       none : each_below (λ plane. chunk_fault p l.limits (is_short bytes l.order p colour) colour (plane * chunks_of_plane p + (0 + l.chunk))) l.plane ≡ Ok tt;
       written : (before : List ℕ) → Writes (IsBefore p colour stride l.planes l.chunk 0) (image_byte p colour stride bytes l.order) before (g.W.RowWriter.bytes l.fn.buf)
           → Writes (IsBefore p colour stride l.planes l.chunk l.plane) (image_byte p colour stride bytes l.order) before (g.W.RowWriter.bytes l.buf);

@@ -49,7 +49,7 @@ loop-chunk-preserved g c =
     same c.in-Ok.ensures.ok in
     record {
       same_bytes = c.in-Ok.ensures.kept.told ∙ same;
-      count = omega (arith, c.in-Ok.ensures.kept.failures, c.loop-chunk.invariant.count);
+      count = omega (arith, c.in-Ok.ensures.kept.swallowed, c.loop-chunk.invariant.count);
       none = one_more (of_chunk file c.args.order (view.page p) c.args.limits.now (layout c.args.layout) (sides_of p) p.sampled p.deep c.requires.laid c.args.planes) c.loop-chunk.chunk c.loop-chunk.invariant.none given;
       written = planes_written (view.page p) colour stride c.args.planes c.loop-chunk.chunk (image_byte (view.page p) colour stride file c.args.order) (g.W.RowWriter.bytes c.args.buf.now) (g.W.RowWriter.bytes c.fill_chunk.new.buf)
           (wrote (g.W.RowWriter.bytes c.args.buf.now) c.loop-chunk.invariant.written);

@@ -15,7 +15,7 @@ invariant-loop-chunk g l =
     let stride = l.layout.row_bytes in
     record {
       same_bytes : g.R.Source.bytes l.source ≡ bytes;
-      count : g.R.Source.failures l.fn.source ≤ g.R.Source.failures l.source;
+      count : g.R.Source.failures l.source ≡ g.R.Source.failures l.fn.source;
       none : each_below (λ j. each_below (λ plane. chunk_fault p l.limits (is_short bytes l.order p colour) colour (plane * chunks_of_plane p + (0 + j))) l.planes) l.chunk ≡ Ok tt;
       written : Writes (IsBefore p colour stride l.planes l.chunk 0) (image_byte p colour stride bytes l.order) (g.W.RowWriter.bytes l.fn.buf) (g.W.RowWriter.bytes l.buf);
     }

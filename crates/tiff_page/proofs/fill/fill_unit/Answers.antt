@@ -92,7 +92,7 @@ loop-plane-preserved g c =
     let given = subst (λ (bytes : List ℕ). unless (is_short bytes c.args.order (view.page p) c.args.colour i) (IoError UnexpectedEof) ≡ Ok tt) same c.in-Ok-read_rows.ensures.answer in
     record {
       same_bytes = c.in-Ok-read_rows.ensures.kept.told ∙ same;
-      count = omega (arith, c.in-Ok-read_rows.ensures.kept.failures, c.loop-plane.invariant.count);
+      count = omega (arith, c.in-Ok-read_rows.ensures.kept.swallowed, c.loop-plane.invariant.count);
       none = unit_none (g.R.Source.bytes c.args.source.now) c.args.order (view.page p) c.args.limits.now c.args.colour (sides_of p) p.sampled p.deep c.requires.coloured c.args.stride c.args.index c.args.planes c.requires.which c.loop-plane.plane i q c.loop-plane.invariant.none c.in-Ok.ensures.answer given;
       written = unit_more (g.R.Source.bytes c.args.source.now) c.args.order (view.page p) c.args.limits.now c.args.colour (sides_of p) p.sampled p.deep c.requires.coloured c.args.stride c.args.index c.args.planes c.requires.which c.loop-plane.plane i (c.from-in-loop-plane.result * c.chunk_data_dimensions-height.result.1) (g.R.Source.bytes c.loop-plane.source) (g.W.RowWriter.bytes c.args.buf.now) (g.W.RowWriter.bytes c.loop-plane.buf) (g.W.RowWriter.bytes c.read_rows.new.buf) q c.loop-plane-test.true t same
           c.loop-plane.invariant.written c.in-Ok-read_rows.ensures.ok;

@@ -13,7 +13,7 @@ invariant-loop-plane g l =
     let p = view.page l.page in
     record {
       same_bytes : g.R.Source.bytes l.source ≡ bytes;
-      count : g.R.Source.failures l.fn.source ≤ g.R.Source.failures l.source;
+      count : g.R.Source.failures l.source ≡ g.R.Source.failures l.fn.source;
       none : each_below (λ plane. chunk_fault p l.limits (is_short bytes l.order p l.colour) l.colour (plane * chunks_of_plane p + (l.index + 0))) l.plane ≡ Ok tt;
       written : Writes (IsInUnit p l.colour l.stride l.index l.plane) (unit_byte bytes l.order p l.colour l.stride l.index) (g.W.RowWriter.bytes l.fn.buf) (g.W.RowWriter.bytes l.buf);
     }

@@ -15,6 +15,6 @@ loop-left-preserved g c =
       within = omega (arith, c.loop-left.invariant.within);
       room = omega (arith, c.loop-left.invariant.room, len, length-append c.read_exact.new.buf (drop c.min-len.result c.loop-left.piece), length-drop c.min-len.result c.loop-left.piece);
       same_bytes = told;
-      count = omega (arith, c.in-Ok.ensures.kept.failures, c.loop-left.invariant.count);
+      count = omega (arith, c.in-Ok.ensures.kept.swallowed, c.loop-left.invariant.count);
       passed = more_passed (left_at bytes c.args.place) (left_at bytes c.loop-left.place) (left_at bytes c.read_exact.new.self) c.read_exact.new.buf c.args.n c.loop-left.left c.min-len.result c.loop-left.invariant.within (omega arith) len c.loop-left.invariant.passed given;
     }

@@ -10,7 +10,7 @@ invariant-loop-left g l =
       within : l.left ≤ l.fn.n;
       room : length l.piece ≡ 512;
       same_bytes : g.R.Source.bytes l.source ≡ bytes;
-      count : g.R.Source.failures l.fn.source ≤ g.R.Source.failures l.source;
+      count : g.R.Source.failures l.source ≡ g.R.Source.failures l.fn.source;
       passed : (left_at bytes l.place).out ≡ drop (l.fn.n - l.left) (left_at bytes l.fn.place).out;
     }
 

@@ -86,7 +86,7 @@ loop-row-preserved g c =
     record {
       within = rl;
       same_bytes = told;
-      count = omega (arith, c.in-Ok.ensures.kept.failures, c.loop-row.invariant.count);
+      count = omega (arith, c.in-Ok.ensures.kept.swallowed, c.loop-row.invariant.count);
       place = next_band bytes order p colour k corner.left corner.stride sides stored listed together row more ahead rest given.row out from given.takes;
       enough = band_held bytes order p colour k corner.left corner.stride sides stored listed together row more ahead rest given.row c.requires.some (omega (arith, c.loop-row-test.true, c.min-more.ensures, c.rows_at_once-band.ensures)) out from given.takes;
       written = band_put (chunk_byte bytes order p colour k) corner.stride corner.top row more corner.left len at given.row old mid new c.requires.some

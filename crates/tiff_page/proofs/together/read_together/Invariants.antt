@@ -17,7 +17,7 @@ invariant-loop-row g l =
     record {
       within : l.row ≤ (rect p l.index).height;
       same_bytes : g.R.Source.bytes l.source ≡ bytes;
-      count : g.R.Source.failures l.fn.source ≤ g.R.Source.failures l.source;
+      count : g.R.Source.failures l.source ≡ g.R.Source.failures l.fn.source;
       place : left_of bytes l.place ≡ drop (l.row * corner.stride) stored;
       enough : l.row * corner.stride ≤ length stored;
       written : Writes (IsIn corner.stride corner.top l.row corner.left (row_bytes p l.colour (rect p l.index).width)) (in_rect (chunk_byte bytes l.order p l.colour l.index) corner.stride corner.top corner.left) (g.W.RowWriter.bytes l.fn.buf) (g.W.RowWriter.bytes l.buf);

@@ -33,4 +33,4 @@ returns-in-Ok-Some g c =
     let h = rw c.in-Ok-Some.field-0-is at c.in-Ok-Some.ensures.place in
     shown (λ x. seek_to_image x c.args.ifd_index) c.enter_place.result d _ _ c.self.view_is
     (seek_known c.enter_place.result d mid _ c.args.ifd_index c.in-Ok-Some.place (h s.first c.self.invariant.begins)
-    (told_same d _ _ c.place_of.ensures.kept.told) c.place_of.ensures.kept.failures (c.enter_place.ensures.follows s.first s.place))
+    (told_same d _ _ c.place_of.ensures.kept.told c.in-Ok-Some.ensures.kept.swallowed) (c.enter_place.ensures.follows s.first s.place))

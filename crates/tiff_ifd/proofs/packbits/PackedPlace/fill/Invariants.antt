@@ -10,7 +10,7 @@ invariant-loop-done g l =
     record {
       within : l.done ≤ length l.buf;
       same_bytes : g.R.Source.bytes l.source ≡ bytes;
-      count : g.R.Source.failures l.fn.source ≤ g.R.Source.failures l.source;
+      count : g.R.Source.failures l.source ≡ g.R.Source.failures l.fn.source;
       read : left_at bytes l.fn.self ≡ before (take l.done l.buf) (left_at bytes l.self);
     }
 

@@ -11,7 +11,7 @@ loop-alloc-preserved g c =
     let both = length-append c.args.self.now.places i.longer.0 in
     record {
       same_bytes = c.enter_next.ensures.kept.told ∙ i.same_bytes;
-      failures = omega (arith, i.failures, c.enter_next.ensures.kept.failures);
+      failures = omega (arith, i.failures, c.in_ok-enter_next.ensures.kept.swallowed);
       longer = grown c.args.kind c.args.order (g.R.Source.bytes c.loop-alloc.source) c.args.self.now.places c.loop-alloc.self c.enter_next.new.self c.in_ok-enter_next.field-0
           (c.is_none.ensures ∙ ap not c.if-is_none.false) c.in_ok-enter_next.ensures.ok i.longer;
       no_further = λ h.

@@ -7,7 +7,7 @@ invariant-loop-alloc g l =
     let bytes = g.R.Source.bytes l.fn.source in
     record {
       same_bytes : g.R.Source.bytes l.source ≡ bytes;
-      failures : g.R.Source.failures l.fn.source ≤ g.R.Source.failures l.source;
+      failures : g.R.Source.failures l.source ≡ g.R.Source.failures l.fn.source;
       longer : (more : List ℕ) × (l.self.places ≡ l.fn.self.places ++ more);
       no_further : length l.fn.self.places ≤ l.index → length l.self.places ≤ l.index + 1;
       known : l.index < length l.fn.self.places → (l.self ≡ l.fn.self) × (l.source ≡ l.fn.source);

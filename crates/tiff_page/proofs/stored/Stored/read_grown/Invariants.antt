@@ -9,7 +9,7 @@ invariant-loop-row g l =
     record {
       within : length l.row.items ≤ l.fn.len;
       same_bytes : g.R.Source.bytes l.source ≡ bytes;
-      count : g.R.Source.failures l.fn.source ≤ g.R.Source.failures l.source;
+      count : g.R.Source.failures l.source ≡ g.R.Source.failures l.fn.source;
       read : left_of bytes l.fn.self ≡ l.row.items ++ left_of bytes l.place;
     }
 
