@@ -85,7 +85,10 @@ pub other_read : s.other_read
 other_read = refl
 
 pub seven_read : s.seven_read
-seven_read = record { answer = refl; state = refl; failures = lit≤ tt }
+seven_read = record { answer = refl; state = refl; failures = lit≤ tt; swallowed = refl }
+
+pub failures_swallowed : s.failures_swallowed
+failures_swallowed = λ t. omega (arith, t.swallowed)
 
 pub eight_read : s.eight_read
 eight_read = λ t. omega (arith, ap number_of t.answer)
@@ -97,10 +100,10 @@ pub place_moved : s.place_moved
 place_moved = λ t. omega (arith, ap (λ d. d.state.place) t.state)
 
 pub seven_wanting : s.seven_wanting
-seven_wanting = record { answer = tt; state = refl; failures = lit≤ tt }
+seven_wanting = record { answer = tt; state = refl; failures = lit≤ tt; swallowed = refl }
 
 pub seven_failed : s.seven_failed
-seven_failed = record { answer = lit< tt; state = refl; failures = lit≤ tt }
+seven_failed = record { answer = lit< tt; state = refl; failures = lit≤ tt; swallowed = tt }
 
 pub seven_not_failed : s.seven_not_failed
 seven_not_failed = λ t. omega (arith, t.answer)

@@ -1,6 +1,7 @@
 -- The worked examples of Lists hold.
 use Rattle.std.specs.Prelude.{refl, ℕ, [], ◌∷◌, false, Result, Ok, Err}
 use Rattle.std.proofs.Common.{ap, arith}
+use Rattle.std.proofs.lemmas.Bool.{false≢true}
 use Rattle.tiff_base.specs.declared.error.TiffError.{TiffError}
 use Rattle.tiff_base.specs.declared.error.TiffError.TheVariants.{LimitsExceeded}
 use Rattle.std.specs.Prelude.{length}
@@ -48,12 +49,22 @@ no_failed_read = λ h. omega (arith, h.grew)
 pub no_read : s.no_read
 no_read = λ h. h.0
 
+failures_of : Decoding → ℕ
+failures_of d = d.failures
+
+pub swallowed : s.swallowed
+unfolding failures_of
+swallowed = λ h. omega (arith, ap failures_of h.at)
+
 pub moved_by_failure : s.moved_by_failure
 unfolding place_of
 moved_by_failure = λ h. omega (arith, ap place_of h.at.stands)
 
 pub wanting : s.wanting
-wanting = (tt, record { stands = refl; failures = omega arith })
+wanting = (refl, refl)
+
+pub none_to_enter : s.none_to_enter
+none_to_enter = λ h. false≢true h.0
 
 pub not_wanting : s.not_wanting
 not_wanting = λ h. h.0
@@ -69,7 +80,7 @@ colour_wanting = λ h. h.0
 pub gray_read : s.gray_read
 unfolding outcome.dimensions outcome.next_image outcome.goto_offset outcome.read_byte number
 gray_read =
-    (gray_decoder, (refl, refl), (gray_decoder, record { answer = refl; at = record { stands = refl; failures = omega arith } }, (gray_decoder, (refl, refl), (record gray_decoder { state = record gray_state { place = 24 } }, (refl, refl), (record gray_decoder { state = record gray_state { place = 25 } }, record { answer = refl; at = record { stands = refl; failures = omega arith } }, (record gray_decoder { state = record gray_state { place = 25 } }, (refl, refl), refl))))))
+    (gray_decoder, (refl, refl), (gray_decoder, record { answer = refl; at = refl }, (gray_decoder, (refl, refl), (record gray_decoder { state = record gray_state { place = 24 } }, (refl, refl), (record gray_decoder { state = record gray_state { place = 25 } }, record { answer = refl; at = refl }, (record gray_decoder { state = record gray_state { place = 25 } }, (refl, refl), refl))))))
 
 pub none_called : s.none_called
 none_called = refl
@@ -85,7 +96,7 @@ unfolding outcome.next_image chain directory_at number
 cycle_steps =
     let d : Decoding = two_decoder (0x19 ∷ 0x00 ∷ 0x00 ∷ 0x00 ∷ []) in
     let closed : Decoding = record d { state = record d.state { more = false } } in
-    (d, (refl, refl), (closed, record { answer = refl; at = record { stands = refl; failures = omega arith } }, (closed, (refl, refl), refl)))
+    (d, (refl, refl), (closed, record { answer = refl; at = refl }, (closed, (refl, refl), refl)))
 
 pub two_failures : s.two_failures
 two_failures = refl
@@ -156,7 +167,7 @@ pub told_of_big : s.told_of_big
 told_of_big = (refl, refl, refl)
 
 pub no_items : s.no_items
-no_items = omega arith
+no_items = refl
 
 pub item_missing : s.item_missing
 item_missing = λ h. h
@@ -165,13 +176,16 @@ pub item_unasked : s.item_unasked
 item_unasked = λ h. h
 
 pub items_told : s.items_told
-items_told = (0, (refl, omega arith), (1, omega arith, (1, omega arith, omega arith)))
+items_told = (0, (refl, refl), (1, omega arith, (1, refl, refl)))
+
+pub item_swallowed : s.item_swallowed
+item_swallowed = λ h. omega (arith, h.1.1, h.2)
 
 pub item_not_failed : s.item_not_failed
 item_not_failed = λ h. omega (arith, h.1, h.2)
 
 pub item_told : s.item_told
-item_told = (0, (refl, omega arith), omega arith)
+item_told = (0, (refl, refl), refl)
 
 fault_number : TiffError → ℕ
 fault_number LimitsExceeded = 1

@@ -29,7 +29,7 @@ behind_refused = refl
 
 pub short_read : s.short_read
 unfolding number
-short_read = record { answer = refl; stands = refl; failures = lit≤ tt }
+short_read = record { answer = refl; stands = refl; failures = lit≤ tt; swallowed = refl }
 
 pub short_turned : s.short_turned
 unfolding number
@@ -37,7 +37,7 @@ short_turned = λ r. omega (arith, ap number_of r.answer)
 
 pub short_little : s.short_little
 unfolding number
-short_little = record { answer = refl; stands = refl; failures = lit≤ tt }
+short_little = record { answer = refl; stands = refl; failures = lit≤ tt; swallowed = refl }
 
 pub short_stays : s.short_stays
 short_stays = λ r. omega (arith, ap (λ x. x.place) r.stands)
@@ -47,7 +47,7 @@ short_reordered = λ r. little_big (ap (λ x. x.order) r.stands)
 
 pub short_cut : s.short_cut
 unfolding number
-short_cut = record { answer = refl; stands = refl; failures = lit≤ tt }
+short_cut = record { answer = refl; stands = refl; failures = lit≤ tt; swallowed = refl }
 
 pub short_cut_moved : s.short_cut_moved
 short_cut_moved = λ r. omega (arith, ap (λ x. x.place) r.stands)
@@ -60,17 +60,20 @@ pub short_wanting : s.short_wanting
 short_wanting = λ r. r.answer
 
 pub short_failed : s.short_failed
-short_failed = record { answer = lit< tt; stands = refl; failures = lit≤ tt }
+short_failed = record { answer = lit< tt; stands = refl; failures = lit≤ tt; swallowed = tt }
 
 pub short_not_failed : s.short_not_failed
 short_not_failed = λ r. omega (arith, r.answer)
+
+pub short_swallowed : s.short_swallowed
+short_swallowed = λ r. omega (arith, r.swallowed)
 
 pub short_forgotten : s.short_forgotten
 short_forgotten = λ r. omega (arith, r.failures)
 
 pub signed_read : s.signed_read
 unfolding number
-signed_read = record { answer = refl; stands = refl; failures = lit≤ tt }
+signed_read = record { answer = refl; stands = refl; failures = lit≤ tt; swallowed = refl }
 
 pub signed_positive : s.signed_positive
 unfolding number
@@ -78,11 +81,11 @@ signed_positive = λ r. omega (arith, ap sign_of r.answer)
 
 pub float_read : s.float_read
 unfolding number
-float_read = record { answer = refl; stands = refl; failures = lit≤ tt }
+float_read = record { answer = refl; stands = refl; failures = lit≤ tt; swallowed = refl }
 
 pub double_read : s.double_read
 unfolding number
-double_read = record { answer = refl; stands = refl; failures = lit≤ tt }
+double_read = record { answer = refl; stands = refl; failures = lit≤ tt; swallowed = refl }
 
 pub bits_32 : s.bits_32
 bits_32 = refl

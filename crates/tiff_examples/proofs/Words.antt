@@ -64,10 +64,13 @@ pub end_given : s.end_given
 end_given = λ h. omega (arith, ap number_of h)
 
 pub kept : s.kept
-kept = record { told = refl; failures = omega arith }
+kept = (record { told = refl; failures = omega arith; swallowed = refl }, record { told = refl; failures = omega arith; swallowed = tt })
 
 pub not_kept : s.not_kept
 not_kept = (λ h. omega (arith, h.told), λ h. omega (arith, h.failures))
+
+pub swallowed : s.swallowed
+swallowed = (λ h. omega (arith, h.swallowed), λ h. omega (arith, h.swallowed), λ h. omega (arith, h.swallowed))
 
 pub fails_from : s.fails_from
 fails_from = record { last = (7, 2); told = refl; grew = omega arith }

@@ -43,9 +43,12 @@ failed n = record gray_decoder { failures = n }
 abbrev pub Reads7 : Result ℕ TiffError → Decoding → Decoding → Type 0
 Reads7 result old new = TagsRead (λ (n : ℕ). n) (stays old (Ok 7)) result old new
 
--- it answered, after two reads that failed
+-- it answered, after a read that failed before it; two reads that failed meanwhile aren't passed over
 abbrev pub seven_read : Type 0
-seven_read = Reads7 (Ok 7) (failed 1) (failed 3)
+seven_read = Reads7 (Ok 7) (failed 1) (failed 1)
+
+abbrev pub failures_swallowed : Type 0
+failures_swallowed = Reads7 (Ok 7) (failed 1) (failed 3) → ⊥
 
 abbrev pub eight_read : Type 0
 eight_read = Reads7 (Ok 8) (failed 1) (failed 1) → ⊥

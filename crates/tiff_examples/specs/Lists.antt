@@ -59,6 +59,10 @@ no_failed_read = Never (Step gray_decoder call.ReadByte (reply.ReadByte (Err (Io
 abbrev pub no_read : Type 0
 no_read = Never (Step gray_decoder call.Dimensions (reply.Dimensions (Err (IoError Device))) (record gray_decoder { failures = 1 }))
 
+-- a read that was made again after it failed
+abbrev pub swallowed : Type 0
+swallowed = Never (Step gray_decoder call.ReadByte (reply.ReadByte (Ok 0x2a)) (record gray_decoder { failures = 1; state = record gray_state { place = 9 } }))
+
 -- a failed read that moved the place
 abbrev pub moved_by_failure : Type 0
 moved_by_failure =
@@ -67,7 +71,12 @@ moved_by_failure =
 
 -- want of memory of a call that takes memory, and of one that takes none
 abbrev pub wanting : Type 0
-wanting = Step gray_decoder call.NextImage (reply.NextImage (Err OutOfMemory)) gray_decoder
+wanting =
+    let two = two_decoder (0x19 ∷ 0x00 ∷ 0x00 ∷ 0x00 ∷ []) in
+    Step two call.NextImage (reply.NextImage (Err OutOfMemory)) two
+
+abbrev pub none_to_enter : Type 0
+none_to_enter = Never (Step gray_decoder call.NextImage (reply.NextImage (Err OutOfMemory)) gray_decoder)
 
 abbrev pub not_wanting : Type 0
 not_wanting = Never (Step gray_decoder call.ReadByte (reply.ReadByte (Err OutOfMemory)) gray_decoder)
@@ -207,6 +216,10 @@ items_told =
 -- a failed read that isn't counted
 abbrev pub item_not_failed : Type 0
 item_not_failed = Never (ItemsAre (Err LimitsExceeded ∷ []) (Err (IoError Device) ∷ []) 1 1)
+
+-- an item with its value, after a failed read
+abbrev pub item_swallowed : Type 0
+item_swallowed = Never (ItemsAre (Ok (tag.Compression, d.short 1) ∷ []) (Ok (tag.Compression, v.Short 1) ∷ []) 0 1)
 
 -- an item with its value
 abbrev pub item_told : Type 0

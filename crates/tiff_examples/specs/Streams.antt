@@ -67,6 +67,10 @@ short_failed = Reads16 (Err (IoError Device)) (at 0) (record (at 0) { failures =
 abbrev pub short_not_failed : Type 0
 short_not_failed = Reads16 (Err (IoError Device)) (at 0) (at 0) → ⊥
 
+-- no failed read is passed over
+abbrev pub short_swallowed : Type 0
+short_swallowed = Reads16 (Ok 0xfffe) (at 0) (record (at 2) { failures = 1 }) → ⊥
+
 -- no failed read is forgotten
 abbrev pub short_forgotten : Type 0
 short_forgotten = Reads16 (Ok 0xfffe) (record (at 0) { failures = 1 }) (at 2) → ⊥

@@ -1,6 +1,7 @@
 -- Worked words: what a call may answer, what a source is left as, and what a writer does.
-use Rattle.std.specs.Prelude.{◌≡◌, ℕ, List, [], ◌∷◌, Some, None, true, false, Ok, Err}
+use Rattle.std.specs.Prelude.{◌≡◌, ℕ, List, [], ◌∷◌, Some, None, true, false, Result, Ok, Err}
 use Rattle.std.specs.FinMap.{empty, insert}
+use Rattle.tiff_base.specs.declared.error.TiffError.{TiffError}
 use Rattle.tiff_base.specs.declared.error.TiffError.TheVariants.{IoError, UsageError, LimitsExceeded, IntSizeError, OutOfMemory}
 use Rattle.tiff_base.specs.declared.error.UsageError.TheVariants.{WriterFailed}
 use Rattle.tiff_base.specs.declared.io.IoKind.TheVariants.{UnexpectedEof, Device}
@@ -71,12 +72,32 @@ bytes_of s = s.0
 abbrev pub failures_of : ℕ × ℕ → ℕ
 failures_of s = s.1
 
+-- an answer, and faults of the device, of its end and of memory
+abbrev pub answered : Result ℕ TiffError
+answered = Ok 1
+
+abbrev pub device_failed : Result ℕ TiffError
+device_failed = Err (IoError Device)
+
+abbrev pub ended : Result ℕ TiffError
+ended = Err (IoError UnexpectedEof)
+
+abbrev pub memory_wanted : Result ℕ TiffError
+memory_wanted = Err OutOfMemory
+
 abbrev pub kept : Type 0
-kept = IsKept bytes_of failures_of (7, 1) (7, 2)
+kept = IsKept bytes_of failures_of answered (7, 1) (7, 1) × IsKept bytes_of failures_of device_failed (7, 1) (7, 2)
 
 -- other bytes, and a failure that is forgotten
 abbrev pub not_kept : Type 0
-not_kept = Never (IsKept bytes_of failures_of (7, 1) (8, 1)) × Never (IsKept bytes_of failures_of (7, 1) (7, 0))
+not_kept = Never (IsKept bytes_of failures_of answered (7, 1) (8, 1)) × Never (IsKept bytes_of failures_of device_failed (7, 1) (7, 0))
+
+-- a read failed, and that isn't what is answered
+abbrev pub swallowed : Type 0
+swallowed =
+    Never (IsKept bytes_of failures_of answered (7, 1) (7, 2))
+    × Never (IsKept bytes_of failures_of ended (7, 1) (7, 2))
+    × Never (IsKept bytes_of failures_of memory_wanted (7, 1) (7, 2))
 
 -- a source that came to fail, and one that can't
 abbrev pub fails_from : Type 0

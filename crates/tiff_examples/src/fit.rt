@@ -5,7 +5,7 @@ ghost use Rattle.tiff_examples.specs.Fits as s;
 /// The directory whose tags are read, and reads that move nothing.
 pub fn directories()
     ensures { s.own_chosen × s.other_chosen × s.own_read × s.other_read × s.seven_read × s.eight_read ×
-        s.failures_forgotten × s.place_moved × s.seven_wanting × s.seven_failed × s.seven_not_failed ×
+        s.failures_swallowed × s.failures_forgotten × s.place_moved × s.seven_wanting × s.seven_failed × s.seven_not_failed ×
         s.held × s.held_moved × s.held_forgotten }
 {}
 

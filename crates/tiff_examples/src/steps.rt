@@ -5,7 +5,7 @@ ghost use Rattle.tiff_examples.specs.Lists as s;
 /// One call with its reply.
 pub fn one_call()
     ensures { s.sides_told × s.sides_wrong × s.other_call × s.left_elsewhere × s.failed_read × s.no_failed_read × s.no_read ×
-        s.moved_by_failure × s.wanting × s.not_wanting × s.colour_told × s.colour_wanting }
+        s.swallowed × s.moved_by_failure × s.wanting × s.none_to_enter × s.not_wanting × s.colour_told × s.colour_wanting }
 {}
 
 /// Several calls with their replies.
@@ -22,6 +22,6 @@ pub fn replies()
 
 /// Items of tags, and the buffers that refused reads leave.
 pub fn items()
-    ensures { s.no_items × s.item_missing × s.item_unasked × s.items_told × s.item_not_failed × s.item_told × s.no_list ×
+    ensures { s.no_items × s.item_missing × s.item_unasked × s.items_told × s.item_not_failed × s.item_swallowed × s.item_told × s.no_list ×
         s.buffer_held × s.buffer_emptied × s.buffer_changed }
 {}

@@ -6,7 +6,7 @@ ghost use Rattle.tiff_examples.specs.Streams as s;
 pub fn numbers()
     ensures { s.behind_read × s.behind_refused × s.short_read × s.short_turned × s.short_little × s.short_stays ×
         s.short_reordered × s.short_cut × s.short_cut_moved × s.short_refused × s.short_wanting ×
-        s.short_failed × s.short_not_failed × s.short_forgotten }
+        s.short_failed × s.short_not_failed × s.short_swallowed × s.short_forgotten }
 {}
 
 /// Signed and floating numbers.

@@ -10,6 +10,7 @@ returns c = (
   p.other_read,
   p.seven_read,
   p.eight_read,
+  p.failures_swallowed,
   p.failures_forgotten,
   p.place_moved,
   p.seven_wanting,

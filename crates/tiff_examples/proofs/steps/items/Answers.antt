@@ -9,6 +9,7 @@ returns c = (
   p.item_unasked,
   p.items_told,
   p.item_not_failed,
+  p.item_swallowed,
   p.item_told,
   p.no_list,
   p.buffer_held,

@@ -17,5 +17,6 @@ returns c = (
   p.short_wanting,
   p.short_failed,
   p.short_not_failed,
+  p.short_swallowed,
   p.short_forgotten,
 )

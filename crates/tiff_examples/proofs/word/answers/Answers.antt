@@ -16,6 +16,7 @@ returns c = (
   p.end_given,
   p.kept,
   p.not_kept,
+  p.swallowed,
   p.fails_from,
   p.never_fails,
   p.fails_elsewhere,
