@@ -28,6 +28,11 @@ in_rect value stride top left i = value (i / stride - top) (i % stride - left)
 abbrev pub chunk_byte : List ℕ → ByteOrder → PageRecord → ColorType → ℕ → ℕ → ℕ → ℕ
 chunk_byte file order p colour k row b = region_byte file order p colour (chunk_region file order p k) (rect p k).plane row b
 
+-- the rows of a chunk stand in a buffer a stride apart, from a row and a byte of it on, and all else of it stays
+abbrev pub WritesChunk : List ℕ → ByteOrder → PageRecord → ColorType → ℕ → ℕ → ℕ → ℕ → List ℕ → List ℕ → Type 0
+WritesChunk file order p colour k stride top left old new =
+    Writes (IsIn stride top (rect p k).height left (row_bytes p colour (rect p k).width)) (in_rect (chunk_byte file order p colour k) stride top left) old new
+
 -- planes of an image in a buffer
 module _ (p : PageRecord) (colour : ColorType) (stride : ℕ) where
   abbrev pub plane_of : ℕ → ℕ
@@ -63,6 +68,12 @@ module _ (p : PageRecord) (colour : ColorType) (stride : ℕ) where
   -- the byte of the image at a place
   abbrev pub image_byte : List ℕ → ByteOrder → ℕ → ℕ
   image_byte file order i = region_byte file order p colour (whole_image file order p) (plane_of i) (i / stride % p.height) (i % stride)
+
+-- Of the image these chunks stand in a buffer that held something before: of each of n planes those below the j-th, and the
+-- j-th of the planes below another; all else of it stays.
+abbrev pub WritesBefore : List ℕ → ByteOrder → PageRecord → ColorType → ℕ → ℕ → ℕ → ℕ → List ℕ → List ℕ → Type 0
+WritesBefore file order p colour stride n j plane before new =
+    Writes (IsBefore p colour stride n j plane) (image_byte p colour stride file order) before new
 
 -- a chunk in a buffer, and those of further planes behind it, each of so many rows of so many bytes
 pub record IsInPlanes (stride rows len n i : ℕ) : Type 0 where

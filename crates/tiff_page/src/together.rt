@@ -7,7 +7,7 @@ ghost use Rattle.tiff_base.specs.declared.io.IoKind.TheVariants as io;
 ghost use Rattle.tiff_page.specs.Layout.{row_bytes};
 ghost use Rattle.tiff_page.specs.PixelFault.{unless};
 ghost use Rattle.tiff_page.specs.Pixels.{chunk_data, is_short, needs_whole_rows};
-ghost use Rattle.tiff_page.specs.Place.{Writes, IsIn, in_rect, chunk_byte};
+ghost use Rattle.tiff_page.specs.Place.{WritesChunk};
 ghost use Rattle.tiff_page.specs.Read.{IsRead};
 ghost use Rattle.tiff_page.specs.Rect.{rect};
 ghost use Rattle.tiff_page.specs.Stored.{left_of};
@@ -76,7 +76,7 @@ pub(crate) fn read_together<R: Source, T, W: RowWriter<T>>(
     requires rows { (corner.top + (rect (view.page page.now) index).height) * corner.stride ≤ length (W.bytes buf.old) }
     requires few { (corner.top + (rect (view.page page.now) index).height) * corner.stride < 2 ^ 64 }
     ensures kept { IsKept R.bytes R.failures result source.old source.new }
-    ensures ok { OnOk result (Writes (IsIn corner.stride corner.top (rect (view.page page.now) index).height corner.left (row_bytes (view.page page.now) colour (rect (view.page page.now) index).width)) (in_rect (chunk_byte (R.bytes source.old) order (view.page page.now) colour index) corner.stride corner.top corner.left) (W.bytes buf.old) (W.bytes buf.new)) }
+    ensures ok { OnOk result (WritesChunk (R.bytes source.old) order (view.page page.now) colour index corner.stride corner.top corner.left (W.bytes buf.old) (W.bytes buf.new)) }
     ensures answer { Answers (λ _. tt) result (unless (is_short (R.bytes source.old) order (view.page page.now) colour index) (tiff.IoError io.UnexpectedEof)) (R.failures source.old) (R.failures source.new) }
 {
     let (_, height) = chunk_data_dimensions(page, index);
