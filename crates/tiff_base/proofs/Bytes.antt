@@ -7,8 +7,7 @@ use Rattle.tiff_base.specs.declared.io.IoKind.TheVariants.{UnexpectedEof}
 use Rattle.std.proofs.lemmas.List.{take_at, drop-drop, length-take-le}
 use Rattle.std.proofs.Math.Seq.{take-add}
 use borrow.Rule.Slice.PartMut.{put_mid, post_of}
-use Rattle.std.proofs.lemmas.Slice.{between_to_end}
-use Rattle.tiff_base.specs.Told.{bytes_at, exactly_at, Reads, Appends}
+use Rattle.tiff_base.specs.Told.{bytes_at, exactly_at, Reads}
 
 -- A read gives as many bytes as it says.
 pub length-bytes_at : (bytes : List ℕ) (at n : ℕ) → n ≤ length bytes - at → length (bytes_at bytes at n) ≡ n

@@ -60,7 +60,7 @@ pub enum TiffFormatError {
 }
 
 /// The file asks for something that is not supported.
-#[derive(Clone, Debug, Drop, Error)]
+#[derive(Clone, Debug, PartialEq, Eq, Hash, Drop, Error)]
 #[non_exhaustive]
 pub enum TiffUnsupportedError {
     #[error("floating point predictor for {0:?} is unsupported")]

@@ -4,6 +4,13 @@ ghost use Rattle.std.specs.Prelude.{◌≡◌, IfOk, nat_eq};
 ghost use Rattle.std.proofs.Common.{rules};
 ghost use Rattle.std.specs.Cmp.Rules.{comparing, hashing};
 ghost use lib.Pointwise.{pointwise};
+ghost use Rattle.std.specs.Cmp.{partial_equiv_from_equiv};
+ghost use Rattle.std.specs.Cmp.Lexicographic.{lists_equiv};
+ghost use Rattle.std.specs.Hash.{items_Alike};
+ghost use Rattle.tiff_base.specs.contracts.tags.SampleFormatPartialEq.TheImpl as format_eq;
+ghost use Rattle.tiff_base.specs.contracts.tags.SampleFormatEq.TheImpl.Laws as format_same;
+ghost use Rattle.tiff_base.specs.contracts.tags.SampleFormatHash.TheImpl as format_hash;
+ghost use Rattle.tiff_base.specs.contracts.tags.SampleFormatHash.TheImpl.Laws as format_hashed;
 ghost use Rattle.std.specs.Hash as fed;
 
 use crate::tags::SampleFormat;
@@ -134,5 +141,29 @@ impl Clone for SampleFormats {
     fn clone(&self) -> Result<SampleFormats, AllocError> {
         let items = self.items.clone()?;
         Ok(SampleFormats { items })
+    }
+}
+
+impl PartialEq for SampleFormats {
+    ghost eq = { λ x y. pointwise (format_eq.ghosts).eq x y };
+
+    ghost laws = { partial_equiv_from_equiv (lists_equiv format_same.laws-law) };
+
+    fn eq(&self, other: &SampleFormats) -> bool {
+        self.items == other.items
+    }
+}
+
+impl Eq for SampleFormats {
+    ghost laws = { lists_equiv format_same.laws-law };
+}
+
+impl Hash for SampleFormats {
+    ghost hash_input = { λ f. fed.slice (format_hash.ghosts).hash_input f };
+
+    ghost respects_eq = { (items_Alike (record { fed = format_hashed.respects_eq-law })).fed };
+
+    fn hash<H: Hasher>(&self, state: &mut H) {
+        self.items.hash(state);
     }
 }
