@@ -1,9 +1,11 @@
 -- Bytes of values from one byte order into the other (TIFF 6.0 section 2).
-use Rattle.std.specs.Prelude.{◌≡◌, ℕ, zero, suc, ◌/◌, List, ◌++◌, length, take, drop, reverse}
+use Rattle.std.specs.Prelude.{◌≡◌, ℕ, ◌*◌, ◌/◌, List, ◌++◌, length, drop, reverse}
+use Rattle.std.specs.List.{flat_map, range_with_len}
 use Rattle.tiff_base.specs.declared.tags.ByteOrder.{ByteOrder}
 use Rattle.tiff_base.specs.declared.tags.ByteOrder.TheVariants.{LittleEndian, BigEndian}
 use Rattle.tiff_base.specs.declared.tags.«Type».{«Type»}
 use Rattle.tiff_base.specs.declared.tags.«Type».TheVariants.{RATIONAL, SRATIONAL}
+use Rattle.tiff_base.specs.Told.{bytes_at}
 use Rattle.tiff_base.specs.Types.{type_size}
 
 -- how many bytes a number has: a rational is two numbers
@@ -14,8 +16,7 @@ unit_size type = type_size type
 
 -- so many numbers of so many bytes, the bytes of each the other way round, then what follows them as it is
 abbrev pub turned_units : ℕ → ℕ → List ℕ → List ℕ
-turned_units size zero bytes = bytes
-turned_units size (suc count) bytes = reverse (take size bytes) ++ turned_units size count (drop size bytes)
+turned_units size count bytes = flat_map (λ i. reverse (bytes_at bytes (size * i) size)) (range_with_len 0 count) ++ drop (size * count) bytes
 
 -- each whole number the other way round; a ragged end stays
 unfoldable pub turned : «Type» → List ℕ → List ℕ

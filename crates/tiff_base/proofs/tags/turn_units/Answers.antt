@@ -1,9 +1,9 @@
-use Rattle.std.proofs.Common.{refl, arith}
-use Rattle.tiff_base.proofs.Turned.{next_unit, last_unit}
+use Rattle.std.proofs.Common.{sym, arith}
+use Rattle.tiff_base.proofs.Turned.{turned_none, next_unit, last_unit}
 use Rattle.tiff_base.proofs.tags.turn_units.Goals as goal
 
 pub units-init : goal.units-init
-units-init c = refl
+units-init c = sym (turned_none c.args.size c.args.buffer.now)
 
 pub units-preserved : goal.units-preserved
 units-preserved c =
