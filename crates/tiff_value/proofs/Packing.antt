@@ -1,85 +1,16 @@
 -- Blocks, one after another.
-use Rattle.std.proofs.Common.{◌≡◌, ◌≢◌, ℕ, zero, suc, ◌+◌, ◌-◌, ◌*◌, ◌<◌, ◌≤◌, Bool, true, false, not, ◌&&◌, cond, eqb, ltb, ◌==◌, List, [], ◌∷◌, ◌++◌, take, drop, get_or, length, replicate, refl, ap, sym, ◌∙◌, subst, ⊎_elim, append_assoc, append-nil, arith, length-append, length-drop}
-use Rattle.std.proofs.lemmas.Bool.{ne_eqb, eq-eqb, cases_lt, lt-ltb, le-ltb}
+use Rattle.std.proofs.Common.{◌≡◌, ◌≢◌, ℕ, suc, ◌+◌, ◌-◌, ◌*◌, ◌<◌, ◌≤◌, true, false, ◌&&◌, eqb, List, [], ◌∷◌, ◌++◌, take, drop, get_or, length, replicate, flat_map, refl, ap, sym, ◌∙◌, subst, ⊎_elim, append_assoc, append-nil, arith, length-append, length-drop}
+use Rattle.std.proofs.lemmas.Bool.{ne_eqb, eq-eqb, cases_lt}
 use Rattle.std.proofs.lemmas.Bool.Decides.{nat_tests, eqb_tells}
-use Rattle.std.proofs.lemmas.List.{drop_all, length-take-le, take_at, drop_at, take_all, drop-drop}
+use Rattle.std.proofs.lemmas.List.{drop_all, length-take-le, take_all, drop-drop}
+use Rattle.std.proofs.lemmas.List.Concat.{flat_map-append}
+use Rattle.std.proofs.lemmas.List.Folds.{list_all-append}
 use Rattle.std.proofs.Math.Seq.{take-add}
-use Rattle.std.specs.List.{list_all}
-use Rattle.tiff_base.specs.Runs.{Unpacked, Plain, before, repeated, runs, runs_after}
-use Rattle.tiff_value.specs.Packed.{followers, headers_after, literals_after, begins_with_two, holds_three, is_sparing, IsPacked}
-use Rattle.tiff_value.specs.Packing.{IsRun, IsVaried, IsVariedFront, BeginsWithThree, owed, IsUsed, IsSparing, Packs, PacksAtEnd, HasPacked}
-
--- ---- what one block unpacks to
-
-runs_after_drop : (n : ℕ) (P : List ℕ) → n ≤ length P → runs_after n false P ≡ runs false (drop n P)
-unfolding runs_after
-runs_after_drop zero P h = refl
-runs_after_drop (suc n) [] h = absurd (omega (arith, h))
-runs_after_drop (suc n) (b ∷ P) h = runs_after_drop n P (omega (arith, h))
-
-runs_cons : (h : ℕ) (P : List ℕ) → runs false (h ∷ P) ≡ cond (eqb h 128) (runs false P) (cond (ltb h 128) (before (take (h + 1) P) (runs_after (h + 1) false P)) (repeated (257 - h) P (runs_after 1 false P)))
-unfolding runs_after
-runs_cons h P = refl
-
-runs_nil : runs false [] ≡ record { out = []; end = Plain }
-unfolding runs_after
-runs_nil = refl
-
-runs_literal : (h : ℕ) (P : List ℕ) → h < 128 → h + 1 ≤ length P → runs false (h ∷ P) ≡ before (take (h + 1) P) (runs false (drop (h + 1) P))
-runs_literal h P a b = runs_cons h P ∙ grind (arith, nat_tests, runs_after_drop)
-
-runs_run : (h v : ℕ) (P : List ℕ) → 128 < h → runs false (h ∷ v ∷ P) ≡ before (replicate (257 - h) v) (runs false P)
-unfolding runs_after
-runs_run h v P a = runs_cons h (v ∷ P) ∙ grind (arith, nat_tests)
-
-before_before : (xs ys : List ℕ) (u : Unpacked) → before xs (before ys u) ≡ before (xs ++ ys) u
-before_before xs ys u = ap (λ (zs : List ℕ). let r : Unpacked = record { out = zs; end = u.end } in r) (sym (append_assoc xs ys u.out))
-
--- ---- its headers and its literals
-
-headers_behind : (xs tail : List ℕ) → headers_after (length xs) (xs ++ tail) ≡ headers_after 0 tail
-headers_behind [] tail = refl
-headers_behind (x ∷ xs) tail = headers_behind xs tail
-
-literals_behind : (xs tail : List ℕ) → literals_after (length xs) (xs ++ tail) ≡ literals_after 0 tail
-literals_behind [] tail = refl
-literals_behind (x ∷ xs) tail = literals_behind xs tail
-
-both : (a b : Bool) → a ≡ true → b ≡ true → (a && b) ≡ true
-both a b p q = rw (p, q) refl
-
-used_cons : (h : ℕ) (xs tail : List ℕ) → followers h ≡ length xs → h ≢ 128 → IsUsed tail → IsUsed (h ∷ xs ++ tail)
-used_cons h xs tail e a t =
-    both _ _ (ap not (ne_eqb h 128 a))
-    (ap (λ (n : ℕ). list_all (λ header. not (header == 128)) (headers_after n (xs ++ tail))) e
-    ∙ ap (λ (hs : List ℕ). list_all (λ header. not (header == 128)) hs) (headers_behind xs tail) ∙ t)
-
-literals_low : (h : ℕ) (P : List ℕ) → h < 128 → literals_after 0 (h ∷ P) ≡ take (h + 1) P ∷ literals_after (followers h) P
-literals_low h P a = ap (λ (b : Bool). cond b (take (h + 1) P ∷ literals_after (followers h) P) (literals_after (followers h) P)) (lt-ltb h 128 a)
-
-literals_high : (h : ℕ) (P : List ℕ) → 128 < h → literals_after 0 (h ∷ P) ≡ literals_after (followers h) P
-literals_high h P a = ap (λ (b : Bool). cond b (take (h + 1) P ∷ literals_after (followers h) P) (literals_after (followers h) P)) (le-ltb h 128 (omega arith))
-
-followers_low : (h : ℕ) → h < 128 → followers h ≡ h + 1
-followers_low h a = grind (arith, nat_tests)
-
-followers_high : (h : ℕ) → 128 < h → followers h ≡ 1
-followers_high h a = grind (arith, nat_tests)
-
-literals_rest : (h : ℕ) (xs tail : List ℕ) → followers h ≡ length xs → literals_after (followers h) (xs ++ tail) ≡ literals_after 0 tail
-literals_rest h xs tail e = ap (λ (n : ℕ). literals_after n (xs ++ tail)) e ∙ literals_behind xs tail
-
-sparing_literal : (h : ℕ) (xs tail : List ℕ) → h < 128 → length xs ≡ h + 1 → is_sparing xs ≡ true → IsSparing tail → IsSparing (h ∷ xs ++ tail)
-sparing_literal h xs tail a e v t =
-    let l : literals_after 0 (h ∷ xs ++ tail) ≡ xs ∷ literals_after 0 tail =
-    literals_low h (xs ++ tail) a
-    ∙ (λ i. take_at xs tail (h + 1) e i ∷ literals_rest h xs tail (followers_low h a ∙ sym e) i) in
-    ap (λ (ls : List (List ℕ)). list_all is_sparing ls) l ∙ both (is_sparing xs) _ v t
-
-sparing_run : (h v : ℕ) (tail : List ℕ) → 128 < h → IsSparing tail → IsSparing (h ∷ v ∷ tail)
-sparing_run h v tail a t =
-    ap (λ (ls : List (List ℕ)). list_all is_sparing ls)
-    (literals_high h (v ∷ tail) a ∙ literals_rest h (v ∷ []) tail (followers_high h a)) ∙ t
+use Rattle.tiff_base.specs.Runs.{Plain, runs}
+use Rattle.tiff_base.specs.Blocks.{Block, Literal, Repeated, Empty, AreBlocks, packed, plain}
+use Rattle.tiff_base.proofs.Blocks.{one_unpacked}
+use Rattle.tiff_value.specs.Packed.{begins_with_two, holds_three, is_sparing, may_be_written, Packs, IsPacked}
+use Rattle.tiff_value.specs.Packing.{IsRun, IsVaried, IsVariedFront, BeginsWithThree, owed, PacksAtEnd, HasPacked}
 
 -- ---- a literal that is varied is sparing
 
@@ -116,32 +47,52 @@ pub no_two : (bytes : List ℕ) (n : ℕ) → IsRun bytes n → n ≤ 1 → 1 < 
 no_two bytes n r a b e = let d : n ≡ 1 = omega (arith, r.some) in subst (λ (m : ℕ). get_or bytes m 0 ≢ get_or bytes 0 0) d (r.longest (omega arith) (omega arith)) (sym e)
 
 packs_nil : Packs [] []
-packs_nil = record { stands = λ tail. refl; used = λ tail t. t; sparing = λ tail t. t }
+packs_nil = record { blocks = []; are_blocks = tt; written = refl; is_list = refl; stands = refl }
+
+are_appended : (p q : List Block) → AreBlocks p → AreBlocks q → AreBlocks (p ++ q)
+are_appended [] q a b = b
+are_appended (block ∷ p) q a b = (a.0, are_appended p q a.1 b)
 
 packs_append : (w v xs ys : List ℕ) → Packs w xs → Packs v ys → Packs (w ++ v) (xs ++ ys)
 packs_append w v xs ys p q = record {
-  stands = λ tail. ap (runs false) (append_assoc w v tail) ∙ (p.stands (v ++ tail) ∙ (ap (before xs) (q.stands tail) ∙ before_before xs ys (runs false tail)));
-  used = λ tail t. subst IsUsed (sym (append_assoc w v tail)) (p.used (v ++ tail) (q.used tail t));
-  sparing = λ tail t. subst IsSparing (sym (append_assoc w v tail)) (p.sparing (v ++ tail) (q.sparing tail t));
+  blocks = p.blocks ++ q.blocks;
+  are_blocks = are_appended p.blocks q.blocks p.are_blocks q.are_blocks;
+  written = list_all-append may_be_written p.blocks q.blocks ∙ rw (p.written, q.written) refl;
+  is_list = (λ i. p.is_list i ++ q.is_list i) ∙ sym (flat_map-append packed p.blocks q.blocks);
+  stands = (λ i. p.stands i ++ q.stands i) ∙ sym (flat_map-append plain p.blocks q.blocks);
 }
 
 packs_literal : (xs : List ℕ) (h : ℕ) → length xs ≡ h + 1 → h < 128 → IsVaried xs → Packs (h ∷ xs) xs
-packs_literal xs h e a v = record {
-  stands = λ tail. runs_literal h (xs ++ tail) a (omega (arith, e, length-append xs tail))
-      ∙ (λ i. before (take_at xs tail (h + 1) e i) (runs false (drop_at xs tail (h + 1) e i)));
-  used = λ tail t. used_cons h xs tail (followers_low h a ∙ sym e) (omega arith) t;
-  sparing = λ tail t. sparing_literal h xs tail a e (sparing_of xs v) t;
-}
+packs_literal xs h e a v =
+    let l : h ≡ length xs - 1 = omega (arith, e) in
+    record {
+      blocks = Literal xs ∷ [];
+      are_blocks = ((omega (arith, e), omega (arith, e, a)), tt);
+      written = rw (sparing_of xs v) refl;
+      is_list = λ i. l i ∷ sym (append-nil xs) i;
+      stands = sym (append-nil xs);
+    }
 
 packs_run : (n v : ℕ) → 1 < n → n ≤ 128 → Packs ((257 - n) ∷ v ∷ []) (replicate n v)
-packs_run n v a b =
-    let e : 257 - (257 - n) ≡ n = omega arith in
-    let h : 128 < 257 - n = omega arith in
-    record {
-      stands = λ tail. runs_run (257 - n) v tail h ∙ ap (λ (m : ℕ). before (replicate m v) (runs false tail)) e;
-      used = λ tail t. used_cons (257 - n) (v ∷ []) tail (followers_high (257 - n) h) (omega arith) t;
-      sparing = λ tail t. sparing_run (257 - n) v tail h t;
-    }
+packs_run n v a b = record {
+  blocks = Repeated n v ∷ [];
+  are_blocks = ((a, b), tt);
+  written = refl;
+  is_list = refl;
+  stands = sym (append-nil (replicate n v));
+}
+
+-- what was packed unpacks to the bytes
+pub unpacks : (bytes list : List ℕ) → IsPacked bytes list → runs false list ≡ record { out = bytes; end = Plain }
+unpacks bytes list p = one_unpacked list false bytes Plain (record {
+  blocks = p.packs.blocks;
+  are_blocks = p.packs.are_blocks;
+  rest = Empty;
+  is_rest = tt;
+  list = p.packs.is_list ∙ sym (append-nil (flat_map packed p.packs.blocks));
+  gives = p.packs.stands ∙ sym (append-nil (flat_map plain p.packs.blocks));
+  ends = refl;
+})
 
 -- ---- what blocks owe
 
@@ -225,11 +176,7 @@ block_next bytes mid new i n h p =
     subst (λ (xs : List ℕ). HasPacked bytes (i + n) xs) (sym p.at_end) (grown bytes mid p.packed i n h p.within p.packs p.short)
 
 pub all_packed : (bytes new : List ℕ) (i : ℕ) → HasPacked bytes i new → length bytes ≤ i → IsPacked bytes new
-all_packed bytes new i h l =
-    let t : take i bytes ≡ bytes = take_all i bytes l in
-    record {
-      stands = ap (runs false) (sym (append-nil new)) ∙ (h.packs.stands [] ∙ rw (runs_nil, append-nil, t) refl);
-      bound = omega (arith, h.short, h.within, ap owed (drop_all i bytes l));
-      headers = subst IsUsed (append-nil new) (h.packs.used [] refl);
-      literals = subst IsSparing (append-nil new) (h.packs.sparing [] refl);
-    }
+all_packed bytes new i h l = record {
+  packs = subst (Packs new) (take_all i bytes l) h.packs;
+  bound = omega (arith, h.short, h.within, ap owed (drop_all i bytes l));
+}

@@ -1,8 +1,6 @@
 -- How one block is packed after another: what the packer's own functions say.
-use Rattle.std.specs.Prelude.{◌≡◌, ◌≢◌, ℕ, ◌+◌, ◌*◌, ◌<◌, ◌≤◌, ◌⊎◌, true, false, not, ◌==◌, ◌&&◌, if◌then◌else◌, List, [], ◌∷◌, ◌++◌, take, drop, replicate, slice_index, length}
-use Rattle.std.specs.List.{list_all}
-use Rattle.tiff_base.specs.Runs.{before, runs}
-use Rattle.tiff_value.specs.Packed.{headers_after, literals_after, is_sparing}
+use Rattle.std.specs.Prelude.{◌≡◌, ◌≢◌, ℕ, ◌+◌, ◌*◌, ◌<◌, ◌≤◌, ◌⊎◌, ◌==◌, ◌&&◌, if◌then◌else◌, List, [], ◌∷◌, ◌++◌, take, drop, replicate, slice_index, length}
+use Rattle.tiff_value.specs.Packed.{Packs}
 
 -- the first n bytes are one byte, and n is 128 or the byte behind them is another
 pub record IsRun (bytes : List ℕ) (n : ℕ) : Type 0 where
@@ -37,20 +35,6 @@ owed [] = 127
 owed (a ∷ []) = 0
 owed (a ∷ b ∷ []) = 0
 owed (a ∷ b ∷ c ∷ rest) = if (a == b) && (b == c) then 128 else 0
-
--- none of the headers is 128
-abbrev pub IsUsed : List ℕ → Type 0
-IsUsed packed = list_all (λ header. not (header == 128)) (headers_after 0 packed) ≡ true
-
--- each literal is sparing
-abbrev pub IsSparing : List ℕ → Type 0
-IsSparing packed = list_all is_sparing (literals_after 0 packed) ≡ true
-
--- whole blocks that stand for the bytes, whatever follows them
-pub record Packs (packed bytes : List ℕ) : Type 0 where
-  pub stands : (tail : List ℕ) → runs false (packed ++ tail) ≡ before bytes (runs false tail)
-  pub used : (tail : List ℕ) → IsUsed tail → IsUsed (packed ++ tail)
-  pub sparing : (tail : List ℕ) → IsSparing tail → IsSparing (packed ++ tail)
 
 -- new is old with blocks for the first n bytes at its end, and these are short enough
 pub record PacksAtEnd (old bytes : List ℕ) (n : ℕ) (new : List ℕ) : Type 0 where
