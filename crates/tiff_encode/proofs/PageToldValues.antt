@@ -25,6 +25,7 @@ use Rattle.tiff_base.specs.Types.{type_size}
 use Rattle.tiff_ifd.specs.Datum.{Datum, data_of, short, unsigned, unsigned_big}
 use Rattle.tiff_ifd.specs.Datum as f
 use Rattle.tiff_ifd.specs.Item.{item, list_item, items}
+use Rattle.tiff_ifd.proofs.Items.{items-first}
 use Rattle.tiff_ifd.specs.FieldValue.{numbers, value_from, is_allowed, field_value}
 use Rattle.tiff_ifd.specs.Limits.{unlimited}
 use Rattle.tiff_encode.specs.Written.{place_len}
@@ -115,7 +116,7 @@ items_read k limit read one back (n ∷ ns) b =
     let x = ap read (take_at (le k n) rest k l) ∙ back n (b 0) in
     let y = ap (items read k (length ns)) (drop_at (le k n) rest k l)
     ∙ items_read k limit read one back ns (λ i. b (suc i)) in
-    λ i. x i ∷ y i
+    items-first read k (length ns) (flat_map (le k) (n ∷ ns)) ∙ (λ i. x i ∷ y i)
 
 -- a type of numbers from 0 on, of some bytes each, and the value that one of them is
 pub record AreNumbers (type : «Type») (limit : ℕ) (one : ℕ → Datum) : Type 0 where

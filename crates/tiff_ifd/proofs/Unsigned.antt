@@ -1,8 +1,10 @@
 -- Unsigned numbers are converted as they are.
-use Rattle.std.proofs.Common.{◌≡◌, ◌∙◌, inl, inr, ℕ, zero, suc, ◌+◌, ◌*◌, ◌<◌, ◌≤◌, get_or, List, [], ◌∷◌, length, take, drop, Bool, Result, Ok, Err, true, false, ◌==◌, refl, ap, sym, arith}
+use Rattle.std.proofs.Common.{◌≡◌, ◌∙◌, inl, inr, ℕ, zero, suc, ◌+◌, ◌*◌, ◌<◌, ◌≤◌, get_or, List, [], ◌∷◌, length, take, map, Bool, Result, Ok, Err, true, false, ◌==◌, refl, ap, sym, arith}
 use Rattle.std.proofs.lemmas.Bool.{ne_eqb}
-use Rattle.std.proofs.lemmas.List.{drop-drop, ext_get_or, take_all}
-use Rattle.std.proofs.Math.Nat.{mul-le-mul_right, suc-mul}
+use Rattle.std.proofs.lemmas.List.{ext_get_or, take_all}
+use Rattle.std.proofs.lemmas.List.FromFn.{length-map-range_with_len, get_or-map-range_with_len}
+use Rattle.std.specs.List.{range_with_len}
+use Rattle.std.proofs.Math.Nat.{mul-le-mul_right}
 use Rattle.std.specs.Int.{w16, w32, w64}
 use Rattle.std.specs.Prelude.{if◌then◌else◌}
 use Rattle.tiff_base.specs.declared.error.TiffError.{TiffError}
@@ -24,20 +26,22 @@ use Rattle.tiff_ifd.specs.Into.{each, into_u64, into_u64_vec}
 use Rattle.tiff_ifd.specs.Item.{items, list_item}
 use Rattle.tiff_ifd.specs.Unsigned.{IsUnsigned, numbers_from, placed_numbers, unsigned_width}
 
+-- values that are a number each
+each_mapped : (f : ℕ → Datum) (g : ℕ → ℕ) → ((i : ℕ) → into_u64 (f i) ≡ Ok (g i)) → (xs : List ℕ) → each into_u64 (data_of (map f xs)) ≡ Ok (map g xs)
+each_mapped f g h [] = refl
+each_mapped f g h (x ∷ xs) = rw (h x, each_mapped f g h xs) refl
+
 shorts : (order : ByteOrder) (n : ℕ) (bs : List ℕ)
     → each into_u64 (data_of (items (list_item false t.SHORT order) 2 n bs)) ≡ Ok (items (number order w16) 2 n bs)
-shorts order zero bs = refl
-shorts order (suc n) bs = rw (shorts order n (drop 2 bs)) refl
+shorts order n bs = each_mapped _ _ (λ i. refl) (range_with_len 0 n)
 
 longs : (order : ByteOrder) (n : ℕ) (bs : List ℕ)
     → each into_u64 (data_of (items (list_item false t.LONG order) 4 n bs)) ≡ Ok (items (number order w32) 4 n bs)
-longs order zero bs = refl
-longs order (suc n) bs = rw (longs order n (drop 4 bs)) refl
+longs order n bs = each_mapped _ _ (λ i. refl) (range_with_len 0 n)
 
 longs_8 : (order : ByteOrder) (n : ℕ) (bs : List ℕ)
     → each into_u64 (data_of (items (list_item false t.LONG8 order) 8 n bs)) ≡ Ok (items (number order w64) 8 n bs)
-longs_8 order zero bs = refl
-longs_8 order (suc n) bs = rw (longs_8 order n (drop 8 bs)) refl
+longs_8 order n bs = each_mapped _ _ (λ i. refl) (range_with_len 0 n)
 
 several : (n : ℕ) → (suc (suc n) == 1) ≡ false
 several n = ne_eqb (suc (suc n)) 1 (λ e. omega (arith, e))
@@ -98,16 +102,12 @@ pub unit_within : (k n width : ℕ) → k < n → k * width + width ≤ n * widt
 unit_within k n width h = let m : (k + 1) * width ≤ n * width = mul-le-mul_right width (omega (arith, h)) in omega (arith, m)
 
 length-items : (read : List ℕ → ℕ) (width n : ℕ) (bs : List ℕ) → length (items read width n bs) ≡ n
-length-items read width zero bs = refl
-length-items read width (suc n) bs = ap suc (length-items read width n (drop width bs))
+length-items read width n bs = length-map-range_with_len _ 0 n
 
 items_at : (read : List ℕ → ℕ) (width n k : ℕ) (bs : List ℕ) → k < n → get_or (items read width n bs) k 0 ≡ read (bytes_at bs (k * width) width)
-items_at read width zero k bs h = absurd (omega (arith, h))
-items_at read width (suc n) zero bs h = let e : 0 ≡ 0 * width = omega arith in ap (λ (m : ℕ). read (bytes_at bs m width)) e
-items_at read width (suc n) (suc k) bs h =
-    let e : width + k * width ≡ suc k * width = omega (arith, suc-mul k width) in
-    items_at read width n k (drop width bs) (omega (arith, h)) ∙ ap (λ (xs : List ℕ). read (take width xs)) (drop-drop (k * width) width bs)
-    ∙ ap (λ (m : ℕ). read (bytes_at bs m width)) e
+items_at read width n k bs h =
+    let e : width * k ≡ k * width = omega arith in
+    get_or-map-range_with_len (λ i. read (bytes_at bs (width * i) width)) 0 n k k 0 h (omega arith) ∙ ap (λ (m : ℕ). read (bytes_at bs m width)) e
 
 -- numbers that are read one by one are all of them
 pub each_read : (read : List ℕ → ℕ) (width n : ℕ) (bs numbers : List ℕ) → length numbers ≡ n

@@ -1,10 +1,12 @@
 -- The value that some bytes of a type are (TIFF 6.0 section 2; BigTIFF).
-use Rattle.std.specs.Prelude.{ℕ, zero, suc, Bool, if◌then◌else◌, List, [], ◌∷◌, take, drop}
+use Rattle.std.specs.Prelude.{ℕ, ◌*◌, Bool, if◌then◌else◌, List, take, drop, map}
+use Rattle.std.specs.List.{range_with_len}
 use Rattle.std.specs.Int.{w8, w16, w32, w64, cast_signed}
 use Rattle.tiff_base.specs.declared.tags.ByteOrder.{ByteOrder}
 use Rattle.tiff_base.specs.declared.tags.«Type».{«Type»}
 use Rattle.tiff_base.specs.declared.tags.«Type».TheVariants as t
 use Rattle.tiff_base.specs.Number.{number}
+use Rattle.tiff_base.specs.Told.{bytes_at}
 use Rattle.tiff_ifd.specs.Datum.{Datum}
 use Rattle.tiff_ifd.specs.Datum as f
 
@@ -39,5 +41,4 @@ list_item inline type o bs = if inline then inline_item type o bs else item type
 
 -- so many values of so many bytes
 abbrev pub items : {A : Type 0} → (List ℕ → A) → ℕ → ℕ → List ℕ → List A
-items read width zero bs = []
-items read width (suc n) bs = read (take width bs) ∷ items read width n (drop width bs)
+items read width n bs = map (λ i. read (bytes_at bs (width * i) width)) (range_with_len 0 n)
