@@ -34,7 +34,7 @@ here view o (Err e) old new f a b = refused view o e old new f a b
 
 pub gone : {X Y : Type 0} → (view : X → Y) → (o : Outcome Y) → (result : Result X TiffError) → (old new : Decoding) → Follows view o result old new
     → old.failures ≡ 0 → new.failures ≡ 0 → OnOk result (new ≡ record old { state = o.next })
-gone view o (Ok x) old new f a b = f.at.stands ∙ ap (λ n. record old { failures = n; state = o.next }) (b ∙ sym a)
+gone view o (Ok x) old new f a b = f.at
 gone view o (Err e) old new f a b = tt
 
 tag_refused : {X Y : Type 0} → (view : X → Y) → (given : Result Y TiffError) → (e : TiffError) → (m n : ℕ) → Answers view (Err e) given m n

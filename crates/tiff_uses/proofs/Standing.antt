@@ -247,6 +247,9 @@ same_on a b c s same e l = record {
   limits = ap (λ (d : Decoding). d.state.limits) e ∙ l ∙ same.limits;
 }
 
+file_same : (b c : Decoding) (s : State) → c ≡ record b { state = s } → c ≡ record b { failures = c.failures; state = s }
+file_same b c s e = (let n : c.failures ≡ b.failures = ap (λ (d : Decoding). d.failures) e in e ∙ ap (λ (m : ℕ). record b { failures = m; state = s }) (sym n))
+
 -- what a decoder answers of its next page, at the place behind it
 next_at : (file : List ℕ) (sides : List (ℕ × ℕ)) (d : Decoding) (s : Standing file sides d) → d.state.more ≡ true
     → next_image d ≡ next_entered d (slice_get s.rest 0)
@@ -269,8 +272,8 @@ stands_behind : (file : List ℕ) (sides : List (ℕ × ℕ)) (old new : Decodin
     → Standing file (sides ++ (new.state.page.width, new.state.page.height) ∷ []) new
 stands_behind file sides old new s r rs e g =
     let i = was_entered old r (directory_at old.kind old.order old.bytes r) g.answer in
-    let state = ap (λ (d : Decoding). d.state) g.at.stands ∙ i.next in
-    let same = same_on s.opened old new _ s.same g.at.stands (ap (λ (x : State). x.limits) i.next) in
+    let state = ap (λ (d : Decoding). d.state) g.at ∙ i.next in
+    let same = same_on s.opened old new _ s.same (file_same old new _ g.at) (ap (λ (x : State). x.limits) i.next) in
     let is_directory = same_directory s.opened old r i.directory s.same i.is_directory in
     let is_page = same_page s.opened old i.directory i.page s.same i.is_page in
     let places = s.places ∙ ap (λ (xs : List ℕ). s.before ++ s.place ∷ xs) e ∙ sym (append_assoc s.before (s.place ∷ []) (r ∷ rs)) in
@@ -369,6 +372,6 @@ pub fewer_left : (file : List ℕ) (old mid new : Decoding) (s : ℕ × ℕ) (be
 unfolding dimensions
 fewer_left file old mid new s before sides st m g f e =
     let few = few_sides file sides new (next_listed file old mid new s before sides st m g f e) in
-    let same = ap (λ (x : Decoding). length (chain_of x).places) f.1 ∙ ap (λ (x : Decoding). length (chain_of x).places) g.at.stands in
+    let same = ap (λ (x : Decoding). length (chain_of x).places) f.1 ∙ ap (λ (x : Decoding). length (chain_of x).places) g.at in
     let more = ap length e ∙ length-append before (s ∷ []) in
     omega arith
