@@ -8,5 +8,6 @@ pub mod differences;
 mod fractions;
 mod names;
 mod numbers;
+mod octets;
 pub mod tiff_value;
 pub mod writer;

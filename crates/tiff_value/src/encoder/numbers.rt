@@ -7,6 +7,7 @@ ghost use Rattle.tiff_base.specs.declared.tags.«Type».TheVariants.{BYTE, SHORT
 ghost use Rattle.tiff_value.specs.Data.{data_of, signed_le, u8s, i8s, u16s, i16s, u32s, i32s, u64s, i64s, bits32s, bits64s, ifds, ifd8s};
 ghost use Rattle.tiff_value.specs.ValueLaws.{mapped};
 
+use super::octets::push_numbers;
 use super::tiff_value::{Ifd, Ifd8, TiffScalar, TiffValue};
 use std::alloc::Global;
 use tiff_base::error::TiffResult;
@@ -99,6 +100,10 @@ impl TiffScalar for i8 {
         Ok(())
     }
 
+    fn push_all(items: &[i8], out: &mut Vec<u8>) -> TiffResult<()> {
+        push_numbers(items, out)
+    }
+
     ghost alone = { λ n. refl };
 
     ghost one = { λ n. refl };
@@ -141,6 +146,10 @@ impl TiffScalar for u16 {
     fn push_to(&self, out: &mut Vec<u8>) -> TiffResult<()> {
         out.extend_from_slice(&self.to_le_bytes())?;
         Ok(())
+    }
+
+    fn push_all(items: &[u16], out: &mut Vec<u8>) -> TiffResult<()> {
+        push_numbers(items, out)
     }
 
     ghost alone = { λ n. refl };
@@ -187,6 +196,10 @@ impl TiffScalar for i16 {
         Ok(())
     }
 
+    fn push_all(items: &[i16], out: &mut Vec<u8>) -> TiffResult<()> {
+        push_numbers(items, out)
+    }
+
     ghost alone = { λ n. refl };
 
     ghost one = { λ n. refl };
@@ -229,6 +242,10 @@ impl TiffScalar for u32 {
     fn push_to(&self, out: &mut Vec<u8>) -> TiffResult<()> {
         out.extend_from_slice(&self.to_le_bytes())?;
         Ok(())
+    }
+
+    fn push_all(items: &[u32], out: &mut Vec<u8>) -> TiffResult<()> {
+        push_numbers(items, out)
     }
 
     ghost alone = { λ n. refl };
@@ -275,6 +292,10 @@ impl TiffScalar for i32 {
         Ok(())
     }
 
+    fn push_all(items: &[i32], out: &mut Vec<u8>) -> TiffResult<()> {
+        push_numbers(items, out)
+    }
+
     ghost alone = { λ n. refl };
 
     ghost one = { λ n. refl };
@@ -317,6 +338,10 @@ impl TiffScalar for u64 {
     fn push_to(&self, out: &mut Vec<u8>) -> TiffResult<()> {
         out.extend_from_slice(&self.to_le_bytes())?;
         Ok(())
+    }
+
+    fn push_all(items: &[u64], out: &mut Vec<u8>) -> TiffResult<()> {
+        push_numbers(items, out)
     }
 
     ghost alone = { λ n. refl };
@@ -363,6 +388,10 @@ impl TiffScalar for i64 {
         Ok(())
     }
 
+    fn push_all(items: &[i64], out: &mut Vec<u8>) -> TiffResult<()> {
+        push_numbers(items, out)
+    }
+
     ghost alone = { λ n. refl };
 
     ghost one = { λ n. refl };
@@ -407,6 +436,10 @@ impl TiffScalar for Bits32 {
         Ok(())
     }
 
+    fn push_all(items: &[Bits32], out: &mut Vec<u8>) -> TiffResult<()> {
+        push_numbers(items, out)
+    }
+
     ghost alone = { λ n. refl };
 
     ghost one = { λ n. refl };
@@ -449,6 +482,10 @@ impl TiffScalar for Bits64 {
     fn push_to(&self, out: &mut Vec<u8>) -> TiffResult<()> {
         out.extend_from_slice(&self.0.to_le_bytes())?;
         Ok(())
+    }
+
+    fn push_all(items: &[Bits64], out: &mut Vec<u8>) -> TiffResult<()> {
+        push_numbers(items, out)
     }
 
     ghost alone = { λ n. refl };
