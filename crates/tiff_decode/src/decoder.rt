@@ -15,6 +15,7 @@ ghost use Rattle.tiff_decode.specs.Outcome.{begun, first_directory, page_in};
 
 pub use crate::result::DecodingResult;
 use std::alloc::Global;
+use std::fmt;
 use std::marker::Model;
 use tiff_base::color::ColorType;
 use tiff_base::directory::Directory;
@@ -294,6 +295,20 @@ impl<R: Source> Model for Decoder<R> {
     } };
 
     ghost invariant = { λ d. IsAlong d.tags.kind d.tags.order (R.bytes d.tags.source) d.first d.walk d.standing.pointer d.standing.at d.standing.more };
+}
+
+/// What is known of the file and the page without a read of it.
+impl<R: Source> fmt::Debug for Decoder<R> {
+    fn fmt<W: fmt::Write>(&self, f: &mut fmt::Formatter<W>) -> fmt::Result {
+        f.debug_struct("Decoder")
+            .field("kind", &self.tags.kind)
+            .field("byte_order", &self.tags.order)
+            .field("ifd_pointer", &self.standing.pointer)
+            .field("width", &self.page.width)
+            .field("height", &self.page.height)
+            .field("limits", &self.tags.limits)
+            .finish_non_exhaustive()
+    }
 }
 
 impl<R: Source + Drop> Decoder<R> {
