@@ -10,7 +10,7 @@ use Rattle.tiff_base.specs.Runs.{Plain, runs}
 use Rattle.tiff_base.specs.Blocks.{Block, Literal, Repeated, Empty, AreBlocks, packed, plain}
 use Rattle.tiff_base.proofs.Blocks.{one_unpacked}
 use Rattle.tiff_value.specs.Packed.{begins_with_two, holds_three, is_sparing, may_be_written, Packs, IsPacked}
-use Rattle.tiff_value.specs.Packing.{IsRun, IsVaried, IsVariedFront, BeginsWithThree, owed, PacksAtEnd, HasPacked}
+use Rattle.tiff_value.specs.Packing.{IsRun, IsVaried, IsVariedFront, BeginsWithThree, owed, PacksAtEnd}
 
 -- ---- a literal that is varied is sparing
 
@@ -159,6 +159,12 @@ block_literal old bytes new n v d e =
       short = omega (arith, l, literal_owes bytes n v, owed_none bytes (omega (arith, v.some, v.within)) d);
       at_end = e ∙ append_assoc old ((n - 1) ∷ []) (take n bytes);
     }
+
+-- these are blocks for the first n bytes, short enough in all
+pub record HasPacked (bytes : List ℕ) (n : ℕ) (packed : List ℕ) : Type 0 where
+  pub within : n ≤ length bytes
+  pub packs : Packs packed (take n bytes)
+  pub short : 128 * length packed ≤ 129 * n + owed (drop n bytes)
 
 pub none_packed : (bytes new : List ℕ) → new ≡ [] → HasPacked bytes 0 new
 none_packed bytes new e = subst (λ (xs : List ℕ). HasPacked bytes 0 xs) (sym e) (record { within = omega arith; packs = packs_nil; short = omega arith })

@@ -44,9 +44,3 @@ pub record PacksAtEnd (old bytes : List ℕ) (n : ℕ) (new : List ℕ) : Type 0
   pub packs : Packs packed (take n bytes)
   pub short : 128 * length packed + owed bytes ≤ 129 * n + owed (drop n bytes)
   pub at_end : new ≡ old ++ packed
-
--- these are blocks for the first n bytes, short enough in all
-pub record HasPacked (bytes : List ℕ) (n : ℕ) (packed : List ℕ) : Type 0 where
-  pub within : n ≤ length bytes
-  pub packs : Packs packed (take n bytes)
-  pub short : 128 * length packed ≤ 129 * n + owed (drop n bytes)

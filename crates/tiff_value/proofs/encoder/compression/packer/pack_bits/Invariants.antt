@@ -1,5 +1,5 @@
 use Rattle.std.proofs.Common.{length, ◌-◌}
-use Rattle.tiff_value.specs.Packing.{HasPacked}
+use Rattle.tiff_value.proofs.Packing.{HasPacked}
 use Rattle.tiff_value.proofs.encoder.compression.packer.pack_bits.Given as goal
 
 abbrev pub invariant-loop-at : goal.invariant-loop-at
