@@ -19,7 +19,7 @@ use Rattle.tiff_ifd.specs.Walk.{Walked, Begins, Ends}
 use Rattle.tiff_ifd.proofs.Chain.{apart_chain}
 use Rattle.tiff_ifd.proofs.Begun.{place_begun}
 use Rattle.tiff_decode.specs.Along.{IsAt, IsAlong}
-use Rattle.tiff_decode.specs.Machine.{State, Decoding, Outcome, StandsAt, Gives, ReadFailed, Refused, FollowsBut, Follows, keeps_state}
+use Rattle.tiff_decode.specs.Machine.{State, Decoding, Outcome, Gives, FollowsBut, Follows, keeps_state}
 use Rattle.tiff_decode.specs.Outcome.{chain_of, place_after, next_place, next_entered, next_image, enter, entered, seek_to_image, sought, closed, past, not_found}
 
 -- ---- where the pointer is

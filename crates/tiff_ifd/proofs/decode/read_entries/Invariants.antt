@@ -1,4 +1,4 @@
-use Rattle.std.proofs.Common.{◌≡◌, ◌≤◌, ◌+◌, ◌*◌, None}
+use Rattle.std.proofs.Common.{◌≡◌, ◌+◌, ◌*◌, None}
 use Rattle.tiff_base.specs.Directory.{entry_len, entries_from, last_of_each}
 use Rattle.tiff_ifd.proofs.decode.read_entries.Given as goal
 

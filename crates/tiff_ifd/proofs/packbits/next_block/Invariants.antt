@@ -1,4 +1,4 @@
-use Rattle.std.proofs.Common.{◌≡◌, ◌≤◌}
+use Rattle.std.proofs.Common.{◌≡◌}
 use Rattle.tiff_ifd.specs.Unpacking.{unpacked_at}
 use Rattle.tiff_ifd.proofs.packbits.next_block.Given as goal
 

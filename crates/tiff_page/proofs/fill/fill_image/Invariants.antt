@@ -1,4 +1,4 @@
-use Rattle.std.proofs.Common.{◌≡◌, ◌+◌, ◌*◌, ◌≤◌, Ok}
+use Rattle.std.proofs.Common.{◌≡◌, ◌+◌, ◌*◌, Ok}
 use Rattle.tiff_page.specs.Pixels.{is_short}
 use Rattle.tiff_page.specs.PixelFault.{chunk_fault, each_below}
 use Rattle.tiff_page.specs.Place.{Writes, IsBefore, image_byte}
