@@ -18,6 +18,7 @@ use Rattle.tiff_base.specs.Runs.{Unpacked, runs}
 use Rattle.tiff_base.specs.Told.{exactly_at}
 use Rattle.tiff_value.specs.Differences.{kept, differences}
 use Rattle.tiff_value.specs.Packed.{IsStored}
+use Rattle.tiff_value.proofs.Packing.{unpacks}
 use Rattle.tiff_page.specs.Page.{PageRecord}
 use Rattle.tiff_page.specs.Pixels.{each_to, width_of, stored_samples, stored_row_bytes, data_by, chunk_data, raw_number, number_by, stored_number}
 use Rattle.tiff_page.proofs.ChunkRows.{bits_are}
@@ -62,7 +63,7 @@ module _ (file : List ℕ) (order : ByteOrder) (p : PageRecord) (place : ℕ) (s
       let P : CompressionMethod → Type 0 = λ q. IsStored q stored bytes → Begins q in
       elim c as (λ _. P m) [
         | inl e ↦ subst P (sym e) as_they_are
-        | inr e ↦ subst P (sym e) (λ s. unpacked _ s.stands refl)
+        | inr e ↦ subst P (sym e) (λ s. unpacked _ (unpacks bytes stored s) refl)
       ]
 
 -- the bits of a sample are those of its bytes

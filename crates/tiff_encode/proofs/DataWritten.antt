@@ -18,13 +18,22 @@ use Rattle.tiff_encode.specs.Deeds.{Deed, all_appended}
 use Rattle.tiff_encode.specs.Ends.{IsTold, IsCutOff, IsShortOfMemory, HasBegun, Fails, Ends}
 use Rattle.tiff_encode.specs.ImageData.{StopsWithin, WritesChunks, WritesDataBy, WritesImageData}
 use Rattle.tiff_encode.specs.Machine.{FileState, Chunk, OpenImage, Told, Writing, gives, answers, by_cause, going_on, ◌>>=◌}
-use Rattle.tiff_encode.specs.Parts.{next_part, WritesPart, HasWritten}
+use Rattle.tiff_encode.specs.Parts.{next_part, WritesPart}
 use Rattle.tiff_encode.specs.Steps.{grown}
 use Rattle.tiff_encode.specs.Stored.{AreStored, chunk_bytes}
 use Rattle.tiff_encode.proofs.Calling.{uncaused}
 use Rattle.tiff_encode.proofs.Joining.{IsAdding, Adds, adding, answers_adding, appends_adds, appended_len, begun_both, bind_told, bind_ends_adding, bind_adding, bind_adds, caused_adds}
 use Rattle.tiff_encode.proofs.Leaving.{ok_err}
 use Rattle.tiff_encode.proofs.Tagging.{going_alike, going_further}
+
+-- So many of some parts were written as chunks, one after another: the image has them.
+pub record HasWritten (i : OpenImage) (parts : List (List ℕ)) (k : ℕ) (old new : FileState) (next : OpenImage) : Type 0 where
+  pub stored : List (List ℕ)
+  pub are : AreStored i parts stored
+  pub count : length stored ≡ k
+  pub told : IsTold (write_chunks i parts stored old) (Ok next) new
+  pub same : next ≡ record i { chunks = next.chunks }
+  pub chunks : length next.chunks ≡ length i.chunks + k
 
 -- ---- a chunk appends
 

@@ -7,22 +7,29 @@ use Rattle.tiff_base.specs.declared.color.ChunkType.{ChunkType}
 use Rattle.tiff_base.specs.declared.color.ChunkType.TheVariants.{Strip, Tile}
 use Rattle.tiff_base.specs.declared.error.TiffError.{TiffError}
 use Rattle.tiff_base.specs.declared.tags.FileKind.{FileKind}
+use Rattle.tiff_base.specs.declared.tags.FileKind.TheVariants.{Classic, Big}
 use Rattle.tiff_base.specs.declared.tags.SampleFormat.{SampleFormat}
 use Rattle.tiff_base.specs.declared.tags.Tag.{Tag}
 use Rattle.tiff_base.specs.declared.tags.Tag.TheVariants as tag
 use Rattle.tiff_base.specs.Number.{le}
-use Rattle.tiff_value.specs.Data.{FieldData, Scalars, u16s, formats, data_of}
+use Rattle.tiff_value.specs.Data.{FieldData, Scalars, u16s, formats, data_by, data_of}
 use Rattle.tiff_value.specs.Values.{values_in}
 use Rattle.tiff_encode.specs.declared.encoder.endings.Part.TheVariants.{Place, Stored}
 use Rattle.tiff_encode.specs.Calls.{Offsets, repeated, chunk_tags, last_tags, write_tag, write_tags, finish, finish_image}
 use Rattle.tiff_encode.specs.Ends.{IsTold, Fails, Ends}
-use Rattle.tiff_encode.specs.LastTags.{count_tags, bits_tags, samples_tags, part_of, list_tags_of, list_tags, place_type, places_are}
+use Rattle.tiff_encode.specs.LastTags.{count_tags, bits_tags, samples_tags, part_of, list_tags_of, list_tags, place_type}
 use Rattle.tiff_encode.specs.Machine.{Chunk, FileState, OpenDirectory, OpenImage, Writing}
 use Rattle.tiff_encode.specs.Tagging.{write_fields, fields_of}
 use Rattle.tiff_encode.specs.Value.{places}
 use Rattle.tiff_encode.specs.Written.{place_len}
 use Rattle.tiff_encode.proofs.Joining.{Adds, tag_adds, bind_told, bind_ends, bind_fails}
 use Rattle.tiff_encode.proofs.Tagging.{tags_are_fields, fields_adds, fields_end, fields_fail}
+
+-- places are written as their numbers
+places_are : (kind : FileKind) (ns : List ℕ) → data_of (places kind ns) ≡ data_by (place_type kind) (le (place_len kind)) ns
+unfolding data_of
+places_are Classic ns = refl
+places_are Big ns = refl
 
 -- the bytes of places
 pub places_bytes : (k kind : FileKind) (ns empty bytes : List ℕ) → kind ≡ k → empty ≡ [] → bytes ≡ empty ++ flat_map (le (place_len kind)) ns

@@ -1,5 +1,5 @@
 -- What the steps of an image do from a standing of its file: the calls that set what it is and how it is cut.
-use Rattle.std.proofs.Common.{◌≡◌, ℕ, ◌^◌, ◌<◌, Bool, List, [], ◌∷◌, Option, Result, Ok, Err, refl, sym, subst}
+use Rattle.std.proofs.Common.{◌≡◌, ℕ, ◌^◌, ◌<◌, Bool, true, List, [], ◌∷◌, Option, Result, Ok, Err, refl, sym, subst}
 use Rattle.std.specs.Prelude.{OnErr}
 use Rattle.tiff_base.specs.declared.error.TiffError.{TiffError}
 use Rattle.tiff_base.specs.declared.tags.ExtraSamples.{ExtraSamples}
@@ -8,6 +8,7 @@ use Rattle.tiff_base.specs.declared.tags.ResolutionUnit.{ResolutionUnit}
 use Rattle.tiff_base.specs.declared.tags.Tag.{Tag}
 use Rattle.tiff_base.specs.declared.tags.Tag.TheVariants as tag
 use Rattle.tiff_value.specs.Data.{Scalars, u32s, planars, units, extras, rationals}
+use Rattle.tiff_encode.specs.declared.encoder.script.StepReply.{StepReply}
 use Rattle.tiff_encode.specs.Model.{Model, Stands, Grows}
 use Rattle.tiff_encode.specs.Machine.{FileState, OpenDirectory, OpenImage, Writing, gives, by_cause, ◌>>=◌}
 use Rattle.tiff_encode.specs.Causes.{extra_samples_cause, rows_per_strip_cause, tiles_cause, planar_cause, resolution_cause, one_resolution_cause, resolution_unit_cause}
@@ -18,7 +19,7 @@ use Rattle.tiff_encode.specs.Open.{HoldsOpen, KeepsOpen}
 use Rattle.tiff_encode.specs.Jobs as jobs
 use Rattle.tiff_encode.specs.Jobs.{Standing, Drawn, IsDone}
 use Rattle.tiff_encode.specs.Stepping.{Draws}
-use Rattle.tiff_encode.specs.ImageStepping.{reply_to, CallDraws}
+use Rattle.tiff_encode.specs.ImageStepping.{reply_to}
 use Rattle.tiff_encode.proofs.Joining.{IsAdding, Adds, adding, answers_adding, caused_adds, bind_adds}
 use Rattle.tiff_encode.proofs.Moving.{Seen, grows_here, moves_so}
 use Rattle.tiff_encode.proofs.OpenHeld.{grown_open}
@@ -27,6 +28,10 @@ use Rattle.tiff_encode.proofs.OpenSettings.{settings_keep_open}
 use Rattle.tiff_encode.proofs.Settings.{one_tag, one_adds, several_adds, side_tags}
 
 -- ---- a call that gives what is open then
+
+-- such a call, from a standing of its file
+abbrev pub CallDraws : (OpenImage → Writing OpenImage) → OpenImage → Result StepReply TiffError → FileState → FileState → OpenImage → Type 0
+CallDraws call i r = Draws i (λ s before t after. jobs.Draws call before r s t after) true
 
 -- what is told of it is done, or it fails and the image stays
 changed : (call : OpenImage → Writing OpenImage) (i j : OpenImage) (r : Result (Unit {0}) TiffError) (s t : Standing)

@@ -25,12 +25,12 @@ use Rattle.tiff_encode.specs.Open.{HoldsOpen, model_by}
 use Rattle.tiff_encode.specs.Jobs as jobs
 use Rattle.tiff_encode.specs.Jobs.{Standing, IsDone, IsCutShort, IsWithoutMemory}
 use Rattle.tiff_encode.specs.Stepping.{Known}
-use Rattle.tiff_encode.specs.ImageStepping.{reply_to, CallDraws, ResolutionDraws}
+use Rattle.tiff_encode.specs.ImageStepping.{reply_to, ResolutionDraws}
 use Rattle.tiff_encode.proofs.Deeds.{deeds_grow}
 use Rattle.tiff_encode.proofs.ImageFitsCalls.{Fits, Keeps, IsData, AreData, fields_done, fields_fit, viewed_fits}
 use Rattle.tiff_encode.proofs.ImageFitsCalls as fit
 use Rattle.tiff_encode.proofs.ImageFitsEntries.{data_bytes}
-use Rattle.tiff_encode.proofs.ImageSteps.{call_draws, resolution_adding}
+use Rattle.tiff_encode.proofs.ImageSteps.{CallDraws, call_draws, resolution_adding}
 use Rattle.tiff_encode.proofs.ImageStepsDirected.{few_none}
 use Rattle.tiff_encode.proofs.ImageStepsUnrefused.{never_refused}
 use Rattle.tiff_encode.proofs.Joining.{IsAdding, Adds, answers_adding, bind_adding, bind_fails, bind_told, ends_torn}

@@ -17,7 +17,7 @@ use Rattle.tiff_encode.specs.JobValues.{cut_to}
 use Rattle.tiff_encode.specs.Jobs as jobs
 use Rattle.tiff_encode.specs.Jobs.{Standing, Drawn}
 use Rattle.tiff_encode.specs.Stepping.{Known, Draws}
-use Rattle.tiff_encode.specs.ImageStepping.{ChunkDraws, StoresIfFound, StripDraws, reply_to}
+use Rattle.tiff_encode.specs.ImageStepping.{ChunkDraws, StripDraws, reply_to}
 use Rattle.tiff_encode.proofs.Deeds.{deeds_grow}
 use Rattle.tiff_encode.proofs.Joining.{IsAdding, adding, answers_adding, caused_adds, bind_adds, appends_adds}
 use Rattle.tiff_encode.proofs.Moving.{grows_here}
@@ -43,6 +43,13 @@ chunk_within None i next stored file a = omega (arith, length-append file.bytes 
 chunk_within (Some e) i next stored file a = absurd (no_answer a)
 
 -- ---- a call that writes a chunk
+
+-- `write_strip` or `write_chunk`, where memory for its samples is found
+abbrev pub StoresIfFound : (OpenImage → ℕ → List ℕ → Writing OpenImage) → Option TiffError → jobs.Drawn → List ℕ → Result StepReply TiffError
+    → jobs.Standing → jobs.Standing → jobs.Drawn → Type 0
+StoresIfFound call cause i samples r old new t =
+    (t.samples ≡ jobs.samples_after r i samples)
+    × (jobs.StoresBy call cause i.image samples r old new t.image ⊎ jobs.IsUnfound r i.image old new t.image)
 
 -- What is known of one: it appends; the file has the bytes then; and an image that is held is held with it.
 record IsStoring (call : OpenImage → ℕ → List ℕ → Writing OpenImage) : Type 0 where

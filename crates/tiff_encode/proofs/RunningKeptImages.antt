@@ -17,7 +17,7 @@ use Rattle.tiff_encode.specs.Calls as calls
 use Rattle.tiff_encode.specs.Calls.{strips_of, tiles_of, without_field, with_directory_of, with_chunk, with_tags, write_tag, write_tags, appends, appends_chunk, resolution_tags}
 use Rattle.tiff_encode.specs.JobValues.{cut_to}
 use Rattle.tiff_encode.specs.Jobs.{Standing, Drawn, IsDone, Changes, ImageStepped, AllStepped, ResolvesInPart, Resolves, Stores, StoresBy}
-use Rattle.tiff_encode.specs.ImageStepping.{StoresIfFound}
+use Rattle.tiff_encode.proofs.ImageStepsStored.{StoresIfFound}
 use Rattle.tiff_encode.proofs.Slices.{ok_inj}
 use Rattle.tiff_encode.proofs.Joining.{IsAdding, adding, answers_adding, bind_adding, appends_adds, tag_adds}
 use Rattle.tiff_encode.proofs.OpenTags.{tags_adding}

@@ -23,17 +23,6 @@ abbrev pub ChunkDraws : OpenImage → List ℕ → Result StepReply TiffError �
 ChunkDraws i numbers r =
     Draws i (λ s before t after. jobs.ChunksIfFound before (cut_to before.image.size numbers) r s t after) true
 
--- either of them, where memory for its samples is found
-abbrev pub StoresIfFound : (OpenImage → ℕ → List ℕ → Writing OpenImage) → Option TiffError → jobs.Drawn → List ℕ → Result StepReply TiffError
-    → jobs.Standing → jobs.Standing → jobs.Drawn → Type 0
-StoresIfFound call cause i samples r old new t =
-    (t.samples ≡ jobs.samples_after r i samples)
-    × (jobs.StoresBy call cause i.image samples r old new t.image ⊎ jobs.IsUnfound r i.image old new t.image)
-
--- a call that gives what is open then
-abbrev pub CallDraws : (OpenImage → Writing OpenImage) → OpenImage → Result StepReply TiffError → FileState → FileState → OpenImage → Type 0
-CallDraws call i r = Draws i (λ s before t after. jobs.Draws call before r s t after) true
-
 -- `resolution`
 abbrev pub ResolutionDraws : OpenImage → ResolutionUnit → ℕ × ℕ → Result StepReply TiffError → FileState → FileState → OpenImage → Type 0
 ResolutionDraws i u value r =

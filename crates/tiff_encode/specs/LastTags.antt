@@ -65,9 +65,3 @@ pub places_value : (kind : FileKind) (ns : List ℕ) → IsValue (place_type kin
 unfolding data_of
 places_value Classic ns = (refl, refl, each_whole 4 (le 4) (λ n. refl) ns)
 places_value Big ns = (refl, refl, each_whole 8 (le 8) (λ n. refl) ns)
-
--- and these bytes
-pub places_are : (kind : FileKind) (ns : List ℕ) → data_of (places kind ns) ≡ data_by (place_type kind) (le (place_len kind)) ns
-unfolding data_of
-places_are Classic ns = refl
-places_are Big ns = refl

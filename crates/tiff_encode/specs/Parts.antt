@@ -55,12 +55,3 @@ pixel_sample p samples r row n =
 abbrev pub row_sample : PageRecord → List ℕ → RectRecord → ℕ → ℕ → ℕ
 row_sample p samples r row n =
     if nat_lt row r.height && nat_lt (n / stored_samples p) r.width then pixel_sample p samples r row n else 0
-
--- So many of some parts were written as chunks, one after another: the image has them.
-pub record HasWritten (i : OpenImage) (parts : List (List ℕ)) (k : ℕ) (old new : FileState) (next : OpenImage) : Type 0 where
-  pub stored : List (List ℕ)
-  pub are : AreStored i parts stored
-  pub count : length stored ≡ k
-  pub told : IsTold (calls.write_chunks i parts stored old) (Ok next) new
-  pub same : next ≡ record i { chunks = next.chunks }
-  pub chunks : length next.chunks ≡ length i.chunks + k

@@ -7,10 +7,10 @@ use Rattle.tiff_encode.specs.declared.encoder.script.StepReply.{StepReply}
 use Rattle.tiff_encode.specs.declared.encoder.script.StepReply.TheVariants as reply
 use Rattle.tiff_encode.specs.Machine.{FileState, OpenImage}
 use Rattle.tiff_encode.specs.Calls as calls
-use Rattle.tiff_encode.specs.ImageStepping.{CallDraws, ChunkDraws, ResolutionDraws, StripDraws, reply_to}
+use Rattle.tiff_encode.specs.ImageStepping.{ChunkDraws, ResolutionDraws, StripDraws, reply_to}
 use Rattle.tiff_encode.specs.Jobs.{ImageStepped}
 use Rattle.tiff_encode.specs.Stepping.{StepDraws}
-use Rattle.tiff_encode.proofs.ImageSteps.{asked, extra_draws, rows_draws, tiles_draws, planar_draws, x_draws, y_draws, unit_draws}
+use Rattle.tiff_encode.proofs.ImageSteps.{CallDraws, asked, extra_draws, rows_draws, tiles_draws, planar_draws, x_draws, y_draws, unit_draws}
 use Rattle.tiff_encode.proofs.ImageStepsDirected.{directed}
 use Rattle.tiff_encode.proofs.encoder.image_job_steps.DirectoryEncoder+W+K+Drawing+C.image_step.Goals as goal
 
