@@ -1,9 +1,14 @@
 -- The worked examples of Samples compute.
 use Rattle.std.specs.Prelude.{refl, Bool, true, false}
-use Rattle.std.proofs.Common.{arith, subst, sym}
-use Rattle.tiff_base.specs.Runs.{runs_after}
+use Rattle.std.specs.List.{list_all}
+use Rattle.std.proofs.Common.{◌≡◌, ℕ, ◌+◌, ◌-◌, ◌<◌, ◌&&◌, List, [], ◌∷◌, ◌++◌, arith, ap, drop, flat_map, get_or, length, length-append, subst, sym, take, ◌∙◌}
+use Rattle.std.proofs.lemmas.List.{take_all, take_at}
+use Rattle.tiff_base.specs.Runs.{Unpacked, runs_after}
+use Rattle.tiff_base.specs.Blocks.{Block, Nothing, Literal, Repeated, AreBlocks, packed}
 use Rattle.tiff_value.specs.ColorTypes.{colour_type, inner_type}
 use Rattle.tiff_value.specs.Differences.{differences}
+use Rattle.tiff_value.proofs.Packing.{unpacks}
+use Rattle.tiff_value.specs.Packed.{is_sparing, may_be_written, IsPacked}
 use Rattle.tiff_examples.specs.Samples as s
 
 abbrev IsTrue : Bool → Type 0
@@ -109,39 +114,105 @@ pub restored_6 : s.restored_6
 restored_6 = refl
 
 pub pack_one : s.pack_one
-unfolding runs_after
-pack_one = record { stands = refl; bound = omega arith; headers = refl; literals = refl }
+pack_one = record {
+  packs = record { blocks = Literal (0x3f ∷ []) ∷ []; are_blocks = ((omega arith, omega arith), tt); written = refl; is_list = refl; stands = refl };
+  bound = omega arith;
+}
 
 pub pack_pairs : s.pack_pairs
-unfolding runs_after
-pack_pairs = record { stands = refl; bound = omega arith; headers = refl; literals = refl }
+pack_pairs = record {
+  packs = record { blocks = Repeated 2 0x41 ∷ Repeated 2 0x42 ∷ []; are_blocks = ((omega arith, omega arith), ((omega arith, omega arith), tt)); written = refl; is_list = refl; stands = refl };
+  bound = omega arith;
+}
 
 pub pack_literal : s.pack_literal
-unfolding runs_after
-pack_literal = record { stands = refl; bound = omega arith; headers = refl; literals = refl }
+pack_literal = record {
+  packs = record { blocks = Literal (0x41 ∷ 0x42 ∷ 0x42 ∷ []) ∷ []; are_blocks = ((omega arith, omega arith), tt); written = refl; is_list = refl; stands = refl };
+  bound = omega arith;
+}
 
 pub pack_128 : s.pack_128
-unfolding runs_after
-pack_128 = record { stands = refl; bound = omega arith; headers = refl; literals = refl }
+pack_128 = record {
+  packs = record { blocks = Repeated 128 0x41 ∷ []; are_blocks = ((omega arith, omega arith), tt); written = refl; is_list = refl; stands = refl };
+  bound = omega arith;
+}
 
 pub pack_129 : s.pack_129
-unfolding runs_after
-pack_129 = record { stands = refl; bound = omega arith; headers = refl; literals = refl }
+pack_129 = record {
+  packs = record { blocks = Repeated 128 0x41 ∷ Literal (0x41 ∷ []) ∷ []; are_blocks = ((omega arith, omega arith), ((omega arith, omega arith), tt)); written = refl; is_list = refl; stands = refl };
+  bound = omega arith;
+}
+
+first_of : (a b : Bool) → (a && b) ≡ true → a ≡ true
+first_of true b h = refl
+first_of false b h = h
+
+second_of : (a b : Bool) → (a && b) ≡ true → b ≡ true
+second_of true b h = h
+second_of false b h = absurd (cc)
+
+-- a list that begins with a header below 128 begins with a literal, which is whole and sparing
+literal_first : (blocks : List Block) (h : ℕ) (more : List ℕ) → AreBlocks blocks → list_all may_be_written blocks ≡ true → h < 128
+    → h ∷ more ≡ flat_map packed blocks
+    → (xs : List ℕ) × ((rest : List ℕ) × ((length xs ≡ h + 1) × ((more ≡ xs ++ rest) × (is_sparing xs ≡ true))))
+literal_first [] h more a w b e = absurd (cc)
+literal_first (Nothing ∷ blocks) h more a w b e = absurd (cc)
+literal_first (Literal xs ∷ blocks) h more a w b e =
+    let l : h ≡ length xs - 1 = ap (λ (ys : List ℕ). get_or ys 0 0) e in
+    (xs, (flat_map packed blocks, (omega (arith, a.0.0, l), (ap (λ (ys : List ℕ). drop 1 ys) e, first_of (is_sparing xs) (list_all may_be_written blocks) w))))
+literal_first (Repeated n v ∷ blocks) h more a w b e = absurd (omega (arith, a.0.1, b, ap (λ (ys : List ℕ). get_or ys 0 0) e))
+
+-- one above 128, with a run
+run_first : (blocks : List Block) (h v : ℕ) (more : List ℕ) → AreBlocks blocks → list_all may_be_written blocks ≡ true → 128 < h
+    → h ∷ v ∷ more ≡ flat_map packed blocks
+    → (rest : List Block) × (AreBlocks rest × ((list_all may_be_written rest ≡ true) × (more ≡ flat_map packed rest)))
+run_first [] h v more a w b e = absurd (cc)
+run_first (Nothing ∷ blocks) h v more a w b e = absurd (cc)
+run_first (Literal xs ∷ blocks) h v more a w b e = absurd (omega (arith, a.0.1, b, ap (λ (ys : List ℕ). get_or ys 0 0) e))
+run_first (Repeated n x ∷ blocks) h v more a w b e = (blocks, (a.1, (w, ap (λ (ys : List ℕ). drop 2 ys) e)))
+
+-- and none with 128
+no_header_128 : (blocks : List Block) (more : List ℕ) → AreBlocks blocks → list_all may_be_written blocks ≡ true → 128 ∷ more ≡ flat_map packed blocks → ⊥
+no_header_128 [] more a w e = cc
+no_header_128 (Nothing ∷ blocks) more a w e = cc
+no_header_128 (Literal xs ∷ blocks) more a w e = omega (arith, a.0.1, ap (λ (ys : List ℕ). get_or ys 0 0) e)
+no_header_128 (Repeated n v ∷ blocks) more a w e = omega (arith, a.0.0, a.0.1, ap (λ (ys : List ℕ). get_or ys 0 0) e)
+
+-- one literal that isn't sparing
+not_sparing : (bytes xs : List ℕ) (h : ℕ) → h < 128 → length xs ≡ h + 1 → is_sparing xs ≡ false → IsPacked bytes (h ∷ xs) → ⊥
+not_sparing bytes xs h b l s p =
+    let f = literal_first p.packs.blocks h xs p.packs.are_blocks p.packs.written b p.packs.is_list in
+    let e : f.0 ≡ xs = sym (take_at f.0 f.1.0 (h + 1) f.1.1.0) ∙ ap (take (h + 1)) (sym f.1.1.1.0) ∙ take_all (h + 1) xs (omega (arith, l)) in
+    subst IsTrue (sym f.1.1.1.1 ∙ (ap is_sparing e ∙ s)) tt
 
 pub literal_pair : s.literal_pair
-unfolding runs_after
-literal_pair = λ p. subst IsTrue (sym p.literals) tt
+literal_pair = not_sparing _ (0x41 ∷ 0x41 ∷ []) 1 (omega arith) refl refl
 
 pub literal_three : s.literal_three
-unfolding runs_after
-literal_three = λ p. subst IsTrue (sym p.literals) tt
+literal_three = not_sparing _ (0x40 ∷ 0x41 ∷ 0x41 ∷ 0x41 ∷ []) 3 (omega arith) refl refl
 
 pub literals_alone : s.literals_alone
-unfolding runs_after
 literals_alone = λ p. omega (arith, p.bound)
 
 pub with_128 : s.with_128
-with_128 = refl
+with_128 = λ p.
+    let f = run_first p.packs.blocks 0xff 0x41 (0x80 ∷ []) p.packs.are_blocks p.packs.written (omega arith) p.packs.is_list in
+    no_header_128 f.0 [] f.1.0 f.1.1.0 f.1.1.1
+
+pub literal_cut : s.literal_cut
+literal_cut = λ p.
+    let f = literal_first p.packs.blocks 2 (0x41 ∷ 0x42 ∷ []) p.packs.are_blocks p.packs.written (omega arith) p.packs.is_list in
+    omega (arith, f.1.1.0, ap length f.1.1.1.0, length-append f.0 f.1.0)
+
+pub pack_other : s.pack_other
+unfolding runs_after
+pack_other = λ p. absurd (omega (arith, ap (λ (u : Unpacked). get_or u.out 0 0) (unpacks (0x41 ∷ []) (0x00 ∷ 0x42 ∷ []) p)))
+
+pub pack_standard : s.pack_standard
+pack_standard = record {
+  packs = record { blocks = Repeated 3 0xaa ∷ Literal (0x80 ∷ 0x00 ∷ 0x2a ∷ []) ∷ Repeated 4 0xaa ∷ Literal (0x80 ∷ 0x00 ∷ 0x2a ∷ 0x22 ∷ []) ∷ Repeated 10 0xaa ∷ []; are_blocks = ((omega arith, omega arith), ((omega arith, omega arith), ((omega arith, omega arith), ((omega arith, omega arith), ((omega arith, omega arith), tt))))); written = refl; is_list = refl; stands = refl };
+  bound = omega arith;
+}
 
 pub bound_0 : s.bound_0
 bound_0 = refl
@@ -156,8 +227,10 @@ pub stored_plain : s.stored_plain
 stored_plain = refl
 
 pub stored_packed : s.stored_packed
-unfolding runs_after
-stored_packed = record { stands = refl; bound = omega arith; headers = refl; literals = refl }
+stored_packed = record {
+  packs = record { blocks = Repeated 4 0x01 ∷ []; are_blocks = ((omega arith, omega arith), tt); written = refl; is_list = refl; stands = refl };
+  bound = omega arith;
+}
 
 pub stored_else : s.stored_else
 stored_else = λ h. h
@@ -179,9 +252,3 @@ three_literal = refl
 
 pub sparing_literal : s.sparing_literal
 sparing_literal = refl
-
-pub two_headers : s.two_headers
-two_headers = refl
-
-pub two_literals : s.two_literals
-two_literals = refl

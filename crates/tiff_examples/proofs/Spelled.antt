@@ -7,7 +7,7 @@ use Rattle.tiff_base.specs.declared.error.TiffFormatError.TheVariants.{InvalidTa
 use Rattle.tiff_base.specs.declared.error.UsageError.TheVariants.{WriterFailed}
 use Rattle.tiff_base.specs.declared.io.SinkFault.{SinkFault}
 use Rattle.tiff_base.specs.declared.io.SinkFault.TheVariants as fault
-use Rattle.tiff_base.specs.Runs.{runs_after}
+use Rattle.tiff_base.specs.Blocks.{Literal}
 use Rattle.tiff_value.specs.Data.{data_of, text_data}
 use Rattle.tiff_value.specs.Differences.{differences}
 use Rattle.tiff_page.specs.Layout.{row_bits}
@@ -117,12 +117,14 @@ pub stores_miscounted : s.stores_miscounted
 stores_miscounted h = omega (arith, h.1)
 
 pub packs_one : s.packs_one
-unfolding runs_after
 packs_one = record {
   fresh = refl;
   storable = refl;
   stored = 0 ∷ 9 ∷ [];
-  stands = record { stands = refl; bound = lit≤ tt; headers = refl; literals = refl };
+  stands = record {
+    packs = record { blocks = Literal (9 ∷ []) ∷ []; are_blocks = ((lit≤ tt, lit≤ tt), tt); written = refl; is_list = refl; stands = refl };
+    bound = lit≤ tt;
+  };
   state = refl;
 }
 

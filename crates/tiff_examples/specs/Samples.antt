@@ -1,6 +1,5 @@
 -- Worked colour types, differences, and packed lists that are written.
-use Rattle.std.specs.Prelude.{◌≡◌, true, false, not, ◌==◌, [], ◌∷◌, replicate, Some, None, Ok, Err}
-use Rattle.std.specs.List.{list_all}
+use Rattle.std.specs.Prelude.{◌≡◌, true, false, [], ◌∷◌, replicate, Some, None, Ok, Err}
 use Rattle.tiff_base.specs.declared.error.TiffError.TheVariants.{IoError, UsageError}
 use Rattle.tiff_base.specs.declared.error.UsageError.TheVariants.{PredictorIncompatible}
 use Rattle.tiff_base.specs.declared.io.IoKind.TheVariants.{WriteZero}
@@ -12,7 +11,7 @@ use Rattle.tiff_value.specs.declared.encoder.colortype.ColorTypeName.TheVariants
 use Rattle.tiff_value.specs.ColorTypes.{colour_type, inner_size, inner_type}
 use Rattle.tiff_value.specs.Differences.{differences, restored}
 use Rattle.tiff_value.specs.Predicted.{row_of_type}
-use Rattle.tiff_value.specs.Packed.{headers_after, literals_after, is_sparing, packed_bound, IsPacked, IsStored, store_fault}
+use Rattle.tiff_value.specs.Packed.{is_sparing, packed_bound, IsPacked, IsStored, store_fault}
 
 -- what colour types say of their samples
 abbrev pub gray8 : Type 0
@@ -174,7 +173,25 @@ literals_alone =
 -- a header 128 stands for nothing, and may not be written
 abbrev pub with_128 : Type 0
 with_128 =
-    list_all (λ header. not (header == 128)) (headers_after 0 (0xff ∷ 0x41 ∷ 0x80 ∷ [])) ≡ false
+    IsPacked (0x41 ∷ 0x41 ∷ []) (0xff ∷ 0x41 ∷ 0x80 ∷ []) → ⊥
+
+-- a literal is written whole
+abbrev pub literal_cut : Type 0
+literal_cut =
+    IsPacked (0x41 ∷ 0x42 ∷ []) (0x02 ∷ 0x41 ∷ 0x42 ∷ []) → ⊥
+
+-- a list stands for no other bytes
+abbrev pub pack_other : Type 0
+pack_other =
+    IsPacked (0x41 ∷ []) (0x00 ∷ 0x42 ∷ []) → ⊥
+
+-- three runs and two literals (TIFF 6.0 section 9)
+abbrev pub pack_standard : Type 0
+pack_standard =
+    IsPacked
+    (0xaa ∷ 0xaa ∷ 0xaa ∷ 0x80 ∷ 0x00 ∷ 0x2a ∷ 0xaa ∷ 0xaa ∷ 0xaa ∷ 0xaa ∷ 0x80 ∷ 0x00 ∷ 0x2a ∷ 0x22 ∷ 0xaa
+    ∷ 0xaa ∷ 0xaa ∷ 0xaa ∷ 0xaa ∷ 0xaa ∷ 0xaa ∷ 0xaa ∷ 0xaa ∷ 0xaa ∷ [])
+    (0xfe ∷ 0xaa ∷ 0x02 ∷ 0x80 ∷ 0x00 ∷ 0x2a ∷ 0xfd ∷ 0xaa ∷ 0x03 ∷ 0x80 ∷ 0x00 ∷ 0x2a ∷ 0x22 ∷ 0xf7 ∷ 0xaa ∷ [])
 
 -- the most bytes that bytes are packed to
 abbrev pub bound_0 : Type 0
@@ -229,12 +246,3 @@ three_literal =
 abbrev pub sparing_literal : Type 0
 sparing_literal =
     is_sparing (0x40 ∷ 0x41 ∷ 0x41 ∷ 0x42 ∷ []) ≡ true
-
--- the headers and the literals of a packed list
-abbrev pub two_headers : Type 0
-two_headers =
-    headers_after 0 (0xfe ∷ 0xaa ∷ 0x02 ∷ 0x80 ∷ 0x00 ∷ 0x2a ∷ 0xfd ∷ 0xaa ∷ []) ≡ 0xfe ∷ 0x02 ∷ 0xfd ∷ []
-
-abbrev pub two_literals : Type 0
-two_literals =
-    literals_after 0 (0xfe ∷ 0xaa ∷ 0x02 ∷ 0x80 ∷ 0x00 ∷ 0x2a ∷ 0xfd ∷ 0xaa ∷ 0x00 ∷ 0x07 ∷ []) ≡ (0x80 ∷ 0x00 ∷ 0x2a ∷ []) ∷ (0x07 ∷ []) ∷ []

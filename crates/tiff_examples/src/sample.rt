@@ -18,11 +18,12 @@ pub fn rows()
 /// Packed lists that may be written, and lists that may not.
 pub fn packed()
     ensures { s.pack_one × s.pack_pairs × s.pack_literal × s.pack_128 × s.pack_129 × s.literal_pair ×
-        s.literal_three × s.literals_alone × s.with_128 × s.bound_0 × s.bound_128 × s.bound_129 }
+        s.literal_three × s.literals_alone × s.with_128 × s.literal_cut ×
+        s.pack_other × s.pack_standard × s.bound_0 × s.bound_128 × s.bound_129 }
 {}
 
 /// What is stored by a method.
 pub fn stored()
     ensures { s.stored_plain × s.stored_packed × s.stored_else × s.fault_of_none × s.plain_of_none × s.no_fault ×
-        s.plain_literal × s.three_literal × s.sparing_literal × s.two_headers × s.two_literals }
+        s.plain_literal × s.three_literal × s.sparing_literal }
 {}

@@ -13,6 +13,4 @@ returns c = (
   p.plain_literal,
   p.three_literal,
   p.sparing_literal,
-  p.two_headers,
-  p.two_literals,
 )
