@@ -33,7 +33,7 @@ turned_first size count bytes =
     let f : ℕ → List ℕ = λ i. reverse (bytes_at bytes (size * i) size) in
     let g : ℕ → List ℕ = λ i. reverse (bytes_at (drop size bytes) (size * i) size) in
     (λ j. (reverse (take size (drop (z j) bytes)) ++ units_behind f g 0 count (λ i. ap (λ xs. reverse (take size xs)) (drop_next size i bytes)) j)
-        ++ (ap (λ (n : ℕ). drop (size * n) bytes) s ∙ drop_next size count bytes) j)
+    ++ (ap (λ (n : ℕ). drop (size * n) bytes) s ∙ drop_next size count bytes) j)
     ∙ append_assoc (reverse (take size bytes)) (flat_map g (range_with_len 0 count)) (drop (size * count) (drop size bytes))
 
 unit_whole : (size count : ℕ) (bytes : List ℕ) → size * suc count ≤ length bytes → length (reverse (take size bytes)) ≡ size
