@@ -42,6 +42,21 @@ fn opened(alloc: Global) -> TiffResult<Box<Decoder<MemorySource>>> {
     Ok(Box::new(alloc, decoder)?)
 }
 
+fn decoder_text(alloc: Global) -> TiffResult<String> {
+    let decoder = opened(alloc)?;
+    Ok(format!(in alloc; "{decoder:?}")?)
+}
+
+#[test]
+fn a_decoder_is_shown(rt: HostRuntime) {
+    expect_text(
+        &rt,
+        0,
+        decoder_text(rt.alloc()),
+        "Decoder { kind: Classic, byte_order: BigEndian, ifd_pointer: Some(IfdPointer(28)), width: 2, height: 1, limits: Limits { decoding_buffer_size: 268435456, ifd_value_size: 1048576, intermediate_buffer_size: 134217728 }, .. }",
+    );
+}
+
 // Where a copy of a value of eight bytes begins, how many it copies, and the slice of three nines afterwards.
 const COPIES: [(u64, &str); 4] = [
     (3, "Some(3) [2, 0, 0]"),

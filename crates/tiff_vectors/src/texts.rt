@@ -1,9 +1,12 @@
-//! Texts of faults that no list of calls or of jobs is answered.
+//! Texts of faults that no list of calls or of jobs is answered, and faults that are compared.
 
-use crate::expect::expect_text;
+use crate::expect::{expect_text, expect_true};
 use std::alloc::Global;
-use tiff_base::error::{TiffError, TiffResult, UsageError};
+use std::hash::{DefaultHasher, Hash, Hasher};
+use tiff_base::error::{TiffError, TiffResult, TiffUnsupportedError, UsageError};
 use tiff_base::io::IoKind;
+use tiff_base::lists::SampleFormats;
+use tiff_base::tags::SampleFormat;
 
 fn texts(alloc: Global) -> TiffResult<String> {
     let written = TiffError::from(IoKind::WriteZero);
@@ -20,4 +23,41 @@ fn faults_have_texts(rt: HostRuntime) {
         texts(rt.alloc()),
         "write zero; out of memory; usage error: the offset 0 can not point to a valid IFD",
     );
+}
+
+// The fault of samples of two formats.
+fn unsupported(alloc: Global, first: u16, second: u16) -> TiffResult<TiffUnsupportedError> {
+    let formats = [
+        SampleFormat::from_u16_exhaustive(first),
+        SampleFormat::from_u16_exhaustive(second),
+    ];
+    let formats = SampleFormats::from_vec(Vec::from_slice(alloc, &formats)?);
+    Ok(TiffUnsupportedError::UnsupportedSampleFormat(formats))
+}
+
+fn hash_of<T: Hash>(x: &T) -> u64 {
+    let mut state = DefaultHasher::new();
+    x.hash(&mut state);
+    state.finish()
+}
+
+// Whether two such faults are equal, and of one hash.
+fn are_equal(alloc: Global, first: (u16, u16), second: (u16, u16)) -> TiffResult<bool> {
+    let first = unsupported(alloc, first.0, first.1)?;
+    let second = unsupported(alloc, second.0, second.1)?;
+    Ok(first == second && hash_of(&first) == hash_of(&second))
+}
+
+fn are_unequal(alloc: Global, first: (u16, u16), second: (u16, u16)) -> TiffResult<bool> {
+    let first = unsupported(alloc, first.0, first.1)?;
+    let second = unsupported(alloc, second.0, second.1)?;
+    Ok(first != second && hash_of(&first) != hash_of(&second))
+}
+
+#[test]
+fn faults_are_compared(rt: HostRuntime) {
+    let alloc = rt.alloc();
+    expect_true(&rt, 0, are_equal(alloc, (1, 9), (1, 9)));
+    expect_true(&rt, 1, are_unequal(alloc, (1, 9), (1, 8)));
+    expect_true(&rt, 2, are_unequal(alloc, (3, 1), (1, 3)));
 }
