@@ -75,6 +75,11 @@ abbrev pub WritesBefore : List ℕ → ByteOrder → PageRecord → ColorType �
 WritesBefore file order p colour stride n j plane before new =
     Writes (IsBefore p colour stride n j plane) (image_byte p colour stride file order) before new
 
+-- the j-th chunk of each of n planes is put beside those below it
+abbrev pub WritesNext : List ℕ → ByteOrder → PageRecord → ColorType → ℕ → ℕ → ℕ → List ℕ → List ℕ → Type 0
+WritesNext file order p colour stride n j old new =
+    (before : List ℕ) → WritesBefore file order p colour stride n j 0 before old → WritesBefore file order p colour stride n j n before new
+
 -- a chunk in a buffer, and those of further planes behind it, each of so many rows of so many bytes
 pub record IsInPlanes (stride rows len n i : ℕ) : Type 0 where
   pub byte : i % stride < len

@@ -6,7 +6,7 @@ ghost use Rattle.tiff_page.specs.Layout.{colour_of, layout_of, row_bytes};
 ghost use Rattle.tiff_page.specs.PixelCalls.{filled, image_part, chunk_part};
 ghost use Rattle.tiff_page.specs.PixelFault.{chunk_fault, each_below};
 ghost use Rattle.tiff_page.specs.Pixels.{is_short};
-ghost use Rattle.tiff_page.specs.Place.{WritesBefore, top_of, left_of};
+ghost use Rattle.tiff_page.specs.Place.{WritesNext, top_of, left_of};
 ghost use Rattle.tiff_page.specs.Rect.{rect, chunks_of_plane};
 ghost use Rattle.tiff_page.specs.View as view;
 
@@ -56,7 +56,7 @@ fn fill_chunk<R: Source, T, W: RowWriter<T>>(
     requires few { planes * layout.plane_stride < 2 ^ 64 }
     requires chunk { chunk < chunks_of_plane (view.page page.now) }
     ensures kept { IsKept R.bytes R.failures result source.old source.new }
-    ensures ok { OnOk result ((before : List ℕ) → WritesBefore (R.bytes source.old) order (view.page page.now) layout.colour layout.row_bytes planes chunk 0 before (W.bytes buf.old) → WritesBefore (R.bytes source.old) order (view.page page.now) layout.colour layout.row_bytes planes chunk planes before (W.bytes buf.new)) }
+    ensures ok { OnOk result (WritesNext (R.bytes source.old) order (view.page page.now) layout.colour layout.row_bytes planes chunk (W.bytes buf.old) (W.bytes buf.new)) }
     ensures answer { Answers (λ _. tt) result (each_below (λ plane. chunk_fault (view.page page.now) limits.now (is_short (R.bytes source.old) order (view.page page.now) layout.colour) layout.colour (plane * chunks_of_plane (view.page page.now) + (0 + chunk))) planes) (R.failures source.old) (R.failures source.new) }
 {
     let chunks = chunks_of_plane(page) as usize;
