@@ -81,7 +81,7 @@ def asked(call, kind, file, page):
 
 
 def read_image(file, page=0):
-    """Returns the sides and the colour of a page, and the bytes of its image."""
+    """Returns the sides and the color of a page, and the bytes of its image."""
     sides, color = asked(PAGE_SIDES, Sides, file, page), asked(PAGE_COLOR, Color, file, page)
     size = asked(PAGE_LAYOUT, Layout, file, page).complete_len
     pixels = ctypes.create_string_buffer(size + 1)

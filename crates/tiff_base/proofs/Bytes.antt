@@ -7,7 +7,7 @@ use Rattle.tiff_base.specs.declared.io.IoKind.TheVariants.{UnexpectedEof}
 use Rattle.std.proofs.lemmas.List.{take_at, drop-drop, length-take-le}
 use Rattle.std.proofs.Math.Seq.{take-add}
 use borrow.Rule.Slice.PartMut.{put_mid, post_of}
-use Rattle.tiff_base.specs.Told.{bytes_at, exactly_at, Reads}
+use Rattle.tiff_base.specs.SourceAndSink.{bytes_at, exactly_at, Reads}
 
 -- A read gives as many bytes as it says.
 pub length-bytes_at : (bytes : List ℕ) (at n : ℕ) → n ≤ length bytes - at → length (bytes_at bytes at n) ≡ n
@@ -18,15 +18,15 @@ pub bytes_at-add : (bytes : List ℕ) (at m n : ℕ) → bytes_at bytes at (m + 
 bytes_at-add bytes at m n = take-add m n (drop at bytes) ∙ ap (λ l. take m (drop at bytes) ++ take n l) (drop-drop m at bytes)
 
 -- what stands in a buffer after a read into the part from done on
-pub next_read : (bytes buf new old : List ℕ) (at done n k place : ℕ) → place ≡ at + done
+pub next_read : (bytes buf new old : List ℕ) (at done n k offset : ℕ) → offset ≡ at + done
     → take done buf ≡ bytes_at bytes at done → done ≤ length buf
-    → Reads bytes place old n new
+    → Reads bytes offset old n new
     → take (done + n) (put_mid done k buf new) ≡ bytes_at bytes at (done + n)
-next_read bytes buf new old at done n k place p sofar fits r =
-    let part = bytes_at bytes place n in
+next_read bytes buf new old at done n k offset p sofar fits r =
+    let part = bytes_at bytes offset n in
     let post = post_of done k buf in
     let len : length (take done buf ++ part) ≡ done + n =
-    length-append (take done buf) part ∙ omega (arith, length-take-le done buf fits, length-bytes_at bytes place n r.in_bytes) in
+    length-append (take done buf) part ∙ omega (arith, length-take-le done buf fits, length-bytes_at bytes offset n r.in_bytes) in
     let regroup : put_mid done k buf new ≡ (take done buf ++ part) ++ (drop n old ++ post) =
     ap (λ l. take done buf ++ (l ++ post)) r.next
     ∙ ap (λ l. take done buf ++ l) (append_assoc part (drop n old) post)
@@ -51,8 +51,8 @@ missing bytes at len e =
     (cases_Bool (leb len (length bytes - at)))
 
 -- no bytes where the last of them is missing
-pub cut_at_last : (bytes : List ℕ) (at len place : ℕ) (e : TiffError) → place ≡ at + (len - 1) → 0 < len
-    → exactly_at bytes place 1 ≡ Err e → exactly_at bytes at len ≡ Err e
-cut_at_last bytes at len place e there some h =
-    let m : (length bytes - place < 1) × (IoError UnexpectedEof ≡ e) = missing bytes place 1 e h in
+pub cut_at_last : (bytes : List ℕ) (at len offset : ℕ) (e : TiffError) → offset ≡ at + (len - 1) → 0 < len
+    → exactly_at bytes offset 1 ≡ Err e → exactly_at bytes at len ≡ Err e
+cut_at_last bytes at len offset e there some h =
+    let m : (length bytes - offset < 1) × (IoError UnexpectedEof ≡ e) = missing bytes offset 1 e h in
     cut_past bytes at len (omega (arith, m.0)) ∙ ap Err m.1

@@ -6,13 +6,13 @@ use Rattle.std.specs.FinMap.{FinMap, empty, from_entries, insert}
 use Rattle.std.specs.List.{fold}
 use Rattle.std.specs.Ordering.{nat_cmp}
 use Rattle.tiff_base.specs.declared.tags.Tag.{Tag}
-use Rattle.tiff_base.specs.Directory.{extended, last_of_each, LastOfEachStand}
+use Rattle.tiff_base.specs.Directory.{with_entries, last_of_each, LastOfEachStand}
 use Rattle.tiff_base.specs.Field.{Field, DirectoryRecord}
 use Rattle.tiff_base.specs.Tags.{tag_number}
 
 -- to set one more field is to be extended by one more
 pub one_more : (old now new : DirectoryRecord) (seen : List (Tag × Field)) (item : Tag × Field)
-    → now ≡ extended old seen → new ≡ record now { entries = insert now.entries (tag_number item.0) item.1 } → new ≡ extended old (seen ++ item ∷ [])
+    → now ≡ with_entries old seen → new ≡ record now { entries = insert now.entries (tag_number item.0) item.1 } → new ≡ with_entries old (seen ++ item ∷ [])
 one_more old now new seen item is step =
     step
     ∙ ap {A = DirectoryRecord} {B = DirectoryRecord} (λ d. record d { entries = insert d.entries (tag_number item.0) item.1 }) is

@@ -1,7 +1,7 @@
 -- A read of bytes that are held is one of the bytes that they are a part of.
 use Rattle.std.proofs.Common.{◌≡◌, ℕ, zero, suc, ◌+◌, ◌-◌, ◌≤◌, List, ◌++◌, length, take, drop, refl, subst, ap, ◌∙◌, arith, length-drop}
 use Rattle.std.proofs.lemmas.List.{drop-drop, drop-take, length-take, take-take}
-use Rattle.tiff_base.specs.Told.{bytes_at, Holds, Reads}
+use Rattle.tiff_base.specs.SourceAndSink.{bytes_at, HoldsByte, Reads}
 
 same_part : (bytes : List ℕ) (from count k n : ℕ) → n ≤ length (bytes_at bytes from count) - k
     → bytes_at (bytes_at bytes from count) k n ≡ bytes_at bytes (from + k) n
@@ -16,17 +16,17 @@ same_part bytes from count k (suc n) h =
     ∙ ap (take (suc n)) (drop-drop k from bytes)
 
 pub held_read : (bytes held : List ℕ) (from count at : ℕ) (old : List ℕ) (n : ℕ) (new : List ℕ) → held ≡ bytes_at bytes from count
-    → Holds bytes from count at → Reads held (at - from) old n new → Reads bytes at old n new
+    → HoldsByte bytes from count at → Reads held (at - from) old n new → Reads bytes at old n new
 held_read bytes held from count at old n new e h r =
     let f = h.before in
     let long = ap length e ∙ length-take count (drop from bytes) in
     let rest = length-drop from bytes in
-    let place : from + (at - from) ≡ at = omega (arith, f) in
+    let offset : from + (at - from) ≡ at = omega (arith, f) in
     let in_part : n ≤ length (bytes_at bytes from count) - (at - from) = subst (λ l. n ≤ length l - (at - from)) e r.in_bytes in
     record {
       in_buffer = r.in_buffer;
       in_bytes = omega (arith, f, long, rest, r.in_bytes);
       some = λ b a. r.some b (let g = h.behind a in omega (arith, f, a, g, long, rest));
       next = r.next ∙ ap (λ l. l ++ drop n old)
-          (ap (λ l. bytes_at l (at - from) n) e ∙ same_part bytes from count (at - from) n in_part ∙ ap (λ p. bytes_at bytes p n) place);
+          (ap (λ l. bytes_at l (at - from) n) e ∙ same_part bytes from count (at - from) n in_part ∙ ap (λ p. bytes_at bytes p n) offset);
     }

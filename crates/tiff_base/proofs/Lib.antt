@@ -1,7 +1,7 @@
 pub mod Bytes
 pub mod Causes
 pub mod Maps
-pub mod Turned
+pub mod ByteOrders
 pub mod Blocks
 mod Named
 mod Extended

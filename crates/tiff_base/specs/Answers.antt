@@ -21,12 +21,12 @@ abbrev pub Answers : {X Y : Type 0} → (X → Y) → Result X TiffError → Res
 Answers view result given before after = AnswersBut (Unit {0}) (before < after) view result given
 
 -- of one that takes no memory
-abbrev pub AnswersExactly : {X Y : Type 0} → (X → Y) → Result X TiffError → Result Y TiffError → ℕ → ℕ → Type 0
-AnswersExactly view result given before after = AnswersBut ⊥ (before < after) view result given
+abbrev pub AnswersWithoutMemory : {X Y : Type 0} → (X → Y) → Result X TiffError → Result Y TiffError → ℕ → ℕ → Type 0
+AnswersWithoutMemory view result given before after = AnswersBut ⊥ (before < after) view result given
 
 -- of one that reads no source
-abbrev pub AnswersHere : {X Y : Type 0} → (X → Y) → Result X TiffError → Result Y TiffError → Type 0
-AnswersHere view result given = AnswersBut (Unit {0}) ⊥ view result given
+abbrev pub AnswersWithoutSource : {X Y : Type 0} → (X → Y) → Result X TiffError → Result Y TiffError → Type 0
+AnswersWithoutSource view result given = AnswersBut (Unit {0}) ⊥ view result given
 
 -- of one that does neither
 abbrev pub Gives : {X Y : Type 0} → (X → Y) → Result X TiffError → Result Y TiffError → Type 0

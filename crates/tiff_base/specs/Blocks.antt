@@ -15,16 +15,16 @@ IsBlock (Literal bytes) = (0 < length bytes) × (length bytes ≤ 128)
 IsBlock (Repeated n value) = (1 < n) × (n ≤ 128)
 
 -- its header, and what follows that: 128 alone; one less than the number of bytes, and these; 257 less the times, and the byte
-abbrev pub packed : Block → List ℕ
-packed Nothing = 128 ∷ []
-packed (Literal bytes) = (length bytes - 1) ∷ bytes
-packed (Repeated n value) = (257 - n) ∷ value ∷ []
+abbrev pub packed_block : Block → List ℕ
+packed_block Nothing = 128 ∷ []
+packed_block (Literal bytes) = (length bytes - 1) ∷ bytes
+packed_block (Repeated n value) = (257 - n) ∷ value ∷ []
 
 -- the bytes that it stands for
-abbrev pub plain : Block → List ℕ
-plain Nothing = []
-plain (Literal bytes) = bytes
-plain (Repeated n value) = replicate n value
+abbrev pub plain_block : Block → List ℕ
+plain_block Nothing = []
+plain_block (Literal bytes) = bytes
+plain_block (Repeated n value) = replicate n value
 
 -- what is left behind the last whole block: nothing; a literal that is cut short; a header whose byte is missing
 pub data Rest : Type 0 where
@@ -37,17 +37,17 @@ IsRest Empty = Unit {0}
 IsRest (Short header bytes) = (header < 128) × (length bytes ≤ header)
 IsRest (Headless n) = (1 < n) × (n ≤ 128)
 
-abbrev pub left : Rest → List ℕ
-left Empty = []
-left (Short header bytes) = header ∷ bytes
-left (Headless n) = (257 - n) ∷ []
+abbrev pub rest_bytes : Rest → List ℕ
+rest_bytes Empty = []
+rest_bytes (Short header bytes) = header ∷ bytes
+rest_bytes (Headless n) = (257 - n) ∷ []
 
 -- what it stands for, and how the list ends there: a cut literal ends plainly, a missing byte breaks the list, and so does
 -- the end of the source before that of the packed bytes
-abbrev pub ending : Bool → Rest → Unpacked
-ending early Empty = record { out = []; end = if early then Broken else Plain }
-ending early (Short header bytes) = record { out = bytes; end = Plain }
-ending early (Headless n) = record { out = []; end = Broken }
+abbrev pub unpacked_end : Bool → Rest → Unpacked
+unpacked_end early Empty = record { out = []; end = if early then Broken else Plain }
+unpacked_end early (Short header bytes) = record { out = bytes; end = Plain }
+unpacked_end early (Headless n) = record { out = []; end = Broken }
 
 -- each block of a list is one
 abbrev pub AreBlocks : List Block → Type 0
@@ -60,9 +60,9 @@ pub record Unpacks (bytes : List ℕ) (early : Bool) (out : List ℕ) (end : End
   pub are_blocks : AreBlocks blocks
   pub rest : Rest
   pub is_rest : IsRest rest
-  pub list : bytes ≡ flat_map packed blocks ++ left rest
-  pub gives : out ≡ flat_map plain blocks ++ (ending early rest).out
-  pub ends : end ≡ (ending early rest).end
+  pub list : bytes ≡ flat_map packed_block blocks ++ rest_bytes rest
+  pub gives : out ≡ flat_map plain_block blocks ++ (unpacked_end early rest).out
+  pub ends : end ≡ (unpacked_end early rest).end
 
 -- all numbers of a list are bytes
 abbrev pub AreBytes : List ℕ → Type 0

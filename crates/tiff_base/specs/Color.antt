@@ -1,4 +1,4 @@
--- What a colour says of a pixel.
+-- What a color says of a pixel.
 use Rattle.std.specs.Prelude.{ℕ}
 use Rattle.tiff_base.specs.declared.color.ColorType.{ColorType}
 use Rattle.tiff_base.specs.declared.color.ColorType.TheVariants.{Gray, RGB, Palette, GrayA, RGBA, CMYK, CMYKA, YCbCr, Lab, Multiband}

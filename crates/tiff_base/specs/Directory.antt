@@ -13,7 +13,7 @@ use Rattle.tiff_base.specs.declared.tags.«Type».{«Type»}
 use Rattle.tiff_base.specs.declared.tags.FileKind.TheVariants.{Classic, Big}
 use Rattle.tiff_base.specs.Field.{Field, DirectoryRecord}
 use Rattle.tiff_base.specs.Tags.{tag_number, type_of}
-use Rattle.tiff_base.specs.Told.{bytes_at, exactly_at}
+use Rattle.tiff_base.specs.SourceAndSink.{bytes_at, exactly_at}
 use Rattle.tiff_base.specs.Number.{number, number_at}
 use Rattle.tiff_base.specs.Answers.{◌>>=◌}
 
@@ -22,10 +22,10 @@ abbrev pub count_width : FileKind → Width
 count_width Classic = w16
 count_width Big = w64
 
--- the width of each place, link, count of values and value field
-abbrev pub place_width : FileKind → Width
-place_width Classic = w32
-place_width Big = w64
+-- the width of each offset, link, count of values and value field
+abbrev pub offset_width : FileKind → Width
+offset_width Classic = w32
+offset_width Big = w64
 
 -- the bytes of an entry
 abbrev pub entry_len : FileKind → ℕ
@@ -41,7 +41,7 @@ value_of Big entry = bytes_at entry 12 8
 abbrev pub field_of : FileKind → ByteOrder → List ℕ → «Type» → Field
 field_of kind order entry type = record {
   field_type = type;
-  count = number order (place_width kind) (bytes_at entry 4 (byte_len (place_width kind)));
+  count = number order (offset_width kind) (bytes_at entry 4 (byte_len (offset_width kind)));
   value = value_of kind entry;
 }
 
@@ -50,13 +50,13 @@ unfoldable pub entry_of : FileKind → ByteOrder → List ℕ → Option (ℕ ×
 entry_of kind order entry =
     option_map (λ type. (number order w16 (bytes_at entry 0 2), field_of kind order entry type)) (type_of (number order w16 (bytes_at entry 2 2)))
 
--- the entry at a place; none of unknown type
+-- the entry at an offset; none of unknown type
 abbrev pub entry_at : FileKind → ByteOrder → List ℕ → ℕ → Result (Option (ℕ × Field)) TiffError
 entry_at kind order bytes at = do
   entry ← exactly_at bytes at (entry_len kind)
   Ok (entry_of kind order entry)
 
--- the entries of known type among the first `count` from a place on
+-- the entries of known type among the first `count` from an offset on
 unfoldable pub entries_from : FileKind → ByteOrder → List ℕ → ℕ → ℕ → List (ℕ × Field)
 entries_from kind order bytes first count =
     filter_map (λ i. entry_of kind order (bytes_at bytes (first + entry_len kind * i) (entry_len kind))) (range_with_len 0 count)
@@ -66,8 +66,8 @@ unfoldable pub last_of_each : List (ℕ × Field) → FinMap nat_cmp Field
 last_of_each entries = from_entries (reverse entries)
 
 -- a directory with fields set in turn, each under its tag's number: of a number that comes twice the last stands
-abbrev pub extended : DirectoryRecord → List (Tag × Field) → DirectoryRecord
-extended d items = record d { entries = fold (λ m item. insert m (tag_number item.0) item.1) d.entries items }
+abbrev pub with_entries : DirectoryRecord → List (Tag × Field) → DirectoryRecord
+with_entries d items = record d { entries = fold (λ m item. insert m (tag_number item.0) item.1) d.entries items }
 
 -- the fields whose tag numbers are above a number
 abbrev pub fields_after : ℕ → List (ℕ × Field) → List (ℕ × Field)
@@ -75,23 +75,23 @@ fields_after n fields = filter (λ e. nat_lt n e.0) fields
 
 -- a link of 0 is no next directory
 abbrev pub link : ℕ → Option ℕ
-link place = if place == 0 then None else Some place
+link offset = if offset == 0 then None else Some offset
 
 -- where the entries and the link of a directory stand
 abbrev pub first_entry : FileKind → ℕ → ℕ
 first_entry kind at = at + byte_len (count_width kind)
 
-abbrev pub link_place : FileKind → ℕ → ℕ → ℕ
-link_place kind at count = first_entry kind at + entry_len kind * count
+abbrev pub link_offset : FileKind → ℕ → ℕ → ℕ
+link_offset kind at count = first_entry kind at + entry_len kind * count
 
--- the directory at a place: a count, so many entries, a link
+-- the directory at an offset: a count, so many entries, a link
 unfoldable pub directory_at : FileKind → ByteOrder → List ℕ → ℕ → Result DirectoryRecord TiffError
 directory_at kind order bytes at = do
   count ← number_at order (count_width kind) bytes at
-  next ← number_at order (place_width kind) bytes (link_place kind at count)
+  next ← number_at order (offset_width kind) bytes (link_offset kind at count)
   Ok (record { entries = last_of_each (entries_from kind order bytes (first_entry kind at) count); next = link next })
 
 -- The law: of fields that are set in turn in an empty directory, the last of each number stand.
 abbrev pub LastOfEachStand : Type 0
 LastOfEachStand = (items : List (Tag × Field))
-    → (extended (record { entries = empty; next = None }) items).entries ≡ last_of_each (map (λ item. (tag_number item.0, item.1)) items)
+    → (with_entries (record { entries = empty; next = None }) items).entries ≡ last_of_each (map (λ item. (tag_number item.0, item.1)) items)

@@ -3,7 +3,7 @@ use Rattle.std.specs.Prelude.{◌≡◌, ℕ, ◌^◌, ◌<◌, ◌⊎◌, List,
 use Rattle.std.specs.FinMap.{FinMap, entries}
 use Rattle.std.specs.Ordering.{nat_cmp}
 use Rattle.tiff_base.specs.declared.tags.«Type».{«Type»}
-use Rattle.tiff_base.specs.Told.{AreOctets}
+use Rattle.tiff_base.specs.SourceAndSink.{AreOctets}
 
 -- a field: the type of its values, how many there are, and the eight bytes of its value field
 pub record Field : Type 0 where
@@ -11,7 +11,7 @@ pub record Field : Type 0 where
   pub count : ℕ
   pub value : List ℕ
 
--- a field for each of some tag numbers, and the place of the next directory
+-- a field for each of some tag numbers, and the offset of the next directory
 pub record DirectoryRecord : Type 0 where
   pub entries : FinMap nat_cmp Field
   pub next : Option ℕ

@@ -7,24 +7,24 @@ use Rattle.tiff_base.specs.declared.tags.ByteOrder.{ByteOrder}
 use Rattle.tiff_base.specs.declared.tags.FileKind.{FileKind}
 use Rattle.tiff_base.specs.Field.{Field}
 use Rattle.tiff_base.specs.Types.{type_size}
-use Rattle.tiff_base.specs.Told.{exactly_at}
+use Rattle.tiff_base.specs.SourceAndSink.{exactly_at}
 use Rattle.tiff_base.specs.Number.{number}
-use Rattle.tiff_base.specs.Directory.{place_width}
+use Rattle.tiff_base.specs.Directory.{offset_width}
 
 -- how many bytes the values of a field have
 abbrev pub field_len : Field → ℕ
 field_len f = f.count * type_size f.field_type
 
--- the place that a value field holds
-abbrev pub field_place : FileKind → ByteOrder → Field → ℕ
-field_place kind order f = number order (place_width kind) f.value
+-- the offset that a value field holds
+abbrev pub field_offset : FileKind → ByteOrder → Field → ℕ
+field_offset kind order f = number order (offset_width kind) f.value
 
--- the bytes where they stand: in the value field from its front where they fit, else at the place that it holds
+-- the bytes where they stand: in the value field from its front where they fit, else at the offset that it holds
 abbrev pub bytes_of_field : FileKind → ByteOrder → List ℕ → Field → Result (List ℕ) TiffError
 bytes_of_field kind order bytes f =
-    if nat_le (field_len f) (byte_len (place_width kind))
+    if nat_le (field_len f) (byte_len (offset_width kind))
     then Ok (take (field_len f) f.value)
-    else exactly_at bytes (field_place kind order f) (field_len f)
+    else exactly_at bytes (field_offset kind order f) (field_len f)
 
 -- the bytes of a field, whose number is below 2^64
 unfoldable pub field_bytes : FileKind → ByteOrder → List ℕ → Field → Result (List ℕ) TiffError

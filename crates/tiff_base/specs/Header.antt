@@ -8,11 +8,11 @@ use Rattle.tiff_base.specs.declared.tags.ByteOrder.{ByteOrder}
 use Rattle.tiff_base.specs.declared.tags.ByteOrder.TheVariants.{LittleEndian, BigEndian}
 use Rattle.tiff_base.specs.declared.tags.FileKind.{FileKind}
 use Rattle.tiff_base.specs.declared.tags.FileKind.TheVariants.{Classic, Big}
-use Rattle.tiff_base.specs.Told.{bytes_at}
+use Rattle.tiff_base.specs.SourceAndSink.{bytes_at}
 use Rattle.tiff_base.specs.Number.{number, number_at}
 use Rattle.tiff_base.specs.Answers.{◌>>=◌}
 
--- the byte order and the kind of a file, and the place of its first directory
+-- the byte order and the kind of a file, and the offset of its first directory
 pub record Header : Type 0 where
   pub order : ByteOrder
   pub kind : FileKind
@@ -28,10 +28,10 @@ order_at bytes =
     if nat_le 2 (length bytes) then order_of (number LittleEndian w16 (bytes_at bytes 0 2)) else Err (FormatError TiffSignatureNotFound)
 
 -- a number of BigTIFF's header that has to be this one
-abbrev pub wants : ℕ → ℕ → Result ℕ TiffError
-wants n m = if n == m then Ok n else Err (FormatError TiffSignatureNotFound)
+abbrev pub required_number : ℕ → ℕ → Result ℕ TiffError
+required_number n m = if n == m then Ok n else Err (FormatError TiffSignatureNotFound)
 
--- the header with its first place, which isn't 0
+-- the header with its first offset, which isn't 0
 abbrev pub header_of : ByteOrder → FileKind → ℕ → Result Header TiffError
 header_of order kind first =
     if first == 0 then Err (FormatError ImageFileDirectoryNotFound) else Ok (record { order = order; kind = kind; first = first })
@@ -44,9 +44,9 @@ classic_at order bytes = do
 abbrev pub big_at : ByteOrder → List ℕ → Result Header TiffError
 big_at order bytes = do
   size ← number_at order w16 bytes 4
-  _ ← wants size 8
+  _ ← required_number size 8
   zeros ← number_at order w16 bytes 6
-  _ ← wants zeros 0
+  _ ← required_number zeros 0
   first ← number_at order w64 bytes 8
   header_of order Big first
 

@@ -2,7 +2,7 @@ pub mod Depth
 pub mod Color
 pub mod Tags
 pub mod Types
-pub mod Told
+pub mod SourceAndSink
 pub mod Answers
 pub mod Number
 pub mod Memory
@@ -11,7 +11,7 @@ pub mod Directory
 pub mod Header
 pub mod FieldBytes
 pub mod Runs
-pub mod Turned
+pub mod ByteOrders
 pub mod Blocks
 pub mod Named
 pub mod Sparing

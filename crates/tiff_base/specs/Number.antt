@@ -4,7 +4,7 @@ use Rattle.std.specs.Int.{Width, byte_len, from_le_bytes, from_be_bytes, bytes_l
 use Rattle.tiff_base.specs.declared.error.TiffError.{TiffError}
 use Rattle.tiff_base.specs.declared.tags.ByteOrder.{ByteOrder}
 use Rattle.tiff_base.specs.declared.tags.ByteOrder.TheVariants.{LittleEndian, BigEndian}
-use Rattle.tiff_base.specs.Told.{exactly_at}
+use Rattle.tiff_base.specs.SourceAndSink.{exactly_at}
 use Rattle.tiff_base.specs.Answers.{◌>>=◌}
 
 -- the number that bytes of this width are
@@ -12,7 +12,7 @@ unfoldable pub number : ByteOrder → Width → List ℕ → ℕ
 number LittleEndian w bytes = from_le_bytes w bytes
 number BigEndian w bytes = from_be_bytes w bytes
 
--- the number at a place
+-- the number at an offset
 abbrev pub number_at : ByteOrder → Width → List ℕ → ℕ → Result ℕ TiffError
 number_at order w bytes at = do
   found ← exactly_at bytes at (byte_len w)

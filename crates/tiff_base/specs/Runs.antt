@@ -12,13 +12,13 @@ pub record Unpacked : Type 0 where
   pub end : End
 
 -- some bytes, then what the rest unpacks to
-abbrev pub before : List ℕ → Unpacked → Unpacked
-before bytes rest = record { out = bytes ++ rest.out; end = rest.end }
+abbrev pub with_front : List ℕ → Unpacked → Unpacked
+with_front bytes rest = record { out = bytes ++ rest.out; end = rest.end }
 
 -- the next byte repeated, then the rest; with no next byte the list is broken
-abbrev pub repeated : ℕ → List ℕ → Unpacked → Unpacked
-repeated n [] rest = record { out = []; end = Broken }
-repeated n (value ∷ packed) rest = before (replicate n value) rest
+abbrev pub with_repeated : ℕ → List ℕ → Unpacked → Unpacked
+with_repeated n [] rest = record { out = []; end = Broken }
+with_repeated n (value ∷ packed) rest = with_front (replicate n value) rest
 
 -- what a list unpacks to behind its first bytes, which are left out. A header 128 stands for nothing, one below it for
 -- that many bytes and one more as they follow, one above it for 257 less it of the byte that follows. `early` says that
@@ -29,8 +29,8 @@ runs_after (suc n) early (byte ∷ packed) = runs_after n early packed
 runs_after zero early [] = record { out = []; end = if early then Broken else Plain }
 runs_after zero early (header ∷ packed) =
     if header == 128 then runs_after zero early packed
-    else if nat_lt header 128 then before (take (header + 1) packed) (runs_after (header + 1) early packed)
-    else repeated (257 - header) packed (runs_after 1 early packed)
+    else if nat_lt header 128 then with_front (take (header + 1) packed) (runs_after (header + 1) early packed)
+    else with_repeated (257 - header) packed (runs_after 1 early packed)
 
 -- what a packed list unpacks to
 abbrev pub runs : Bool → List ℕ → Unpacked

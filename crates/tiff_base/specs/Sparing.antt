@@ -20,10 +20,10 @@ IsOfRead (IoError UnexpectedEof) = ⊥
 IsOfRead e = Unit {0}
 
 -- no limit refuses what is given, and the source doesn't end before it
-abbrev pub IsWithin : {Y : Type 0} → Result Y TiffError → Type 0
-IsWithin (Ok y) = Unit {0}
-IsWithin (Err e) = IsOfRead e
+abbrev pub IsWithinLimits : {Y : Type 0} → Result Y TiffError → Type 0
+IsWithinLimits (Ok y) = Unit {0}
+IsWithinLimits (Err e) = IsOfRead e
 
 -- of a call that reads a source, and what was read may be refused too: want of memory only within the limits and the source
 abbrev pub AnswersWithin : {X Y : Type 0} → (X → Y) → Result X TiffError → Result Y TiffError → ℕ → ℕ → Type 0
-AnswersWithin view result given before after = AnswersBut (IsWithin given) (before < after) view result given
+AnswersWithin view result given before after = AnswersBut (IsWithinLimits given) (before < after) view result given

@@ -251,7 +251,7 @@ abbrev pub named_format : SampleFormat → Option SampleFormat
 named_format (f.Unknown n) = None
 named_format format = Some format
 
--- What a sample beyond those of the colour is (TIFF 6.0 section 8).
+-- What a sample beyond those of the color is (TIFF 6.0 section 8).
 abbrev pub extra_number : ExtraSamples → ℕ
 extra_number e.Unspecified = 0
 extra_number e.AssociatedAlpha = 1

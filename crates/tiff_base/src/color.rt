@@ -3,7 +3,7 @@
 ghost use Rattle.std.specs.Prelude.{◌≡◌};
 ghost use Rattle.tiff_base.specs.Color.{bit_depth, num_samples};
 
-/// The colour of a page, with the bits of each sample.
+/// The color of a page, with the bits of each sample.
 #[derive(Clone, Copy, Debug, PartialEq, Eq, Hash)]
 #[non_exhaustive]
 pub enum ColorType {
@@ -11,7 +11,7 @@ pub enum ColorType {
     Gray(u8),
     /// Red, green, blue.
     RGB(u8),
-    /// An index of a colour map; never answered.
+    /// An index of a color map; never answered.
     Palette(u8),
     /// Gray and alpha; never answered.
     GrayA(u8),

@@ -6,7 +6,7 @@ ghost use Rattle.std.specs.Iterator.{Drains, ExtendsWithItems, IsFinite, YieldsF
 ghost use Rattle.tiff_base.specs.Tags.{tag_number};
 ghost use Rattle.tiff_base.specs.declared.tags.Tag.{Tag};
 ghost use Rattle.tiff_base.specs.declared.error.TiffError.TheVariants.{OutOfMemory};
-ghost use Rattle.tiff_base.specs.Directory.{extended, fields_after, link};
+ghost use Rattle.tiff_base.specs.Directory.{with_entries, fields_after, link};
 ghost use Rattle.tiff_base.specs.Field.{AreEntries, Field, IsEntry};
 
 use crate::error::TiffResult;
@@ -16,7 +16,7 @@ use std::collections::{BTreeMap, btree_map};
 use std::marker::Model;
 use std::ops::Bound;
 
-/// A field of a directory: the type of its values, how many there are, and their bytes or their place.
+/// A field of a directory: the type of its values, how many there are, and their bytes or their offset.
 #[derive(Clone, Debug, Drop)]
 pub struct Entry {
     field_type: Type,
@@ -27,7 +27,7 @@ pub struct Entry {
 impl Model for Entry {
     ghost use Rattle.std.specs.Prelude.{◌≡◌, ◌^◌, ◌<◌, length};
     ghost use Rattle.tiff_base.specs.Field.{Field};
-    ghost use Rattle.tiff_base.specs.Told.{AreOctets};
+    ghost use Rattle.tiff_base.specs.SourceAndSink.{AreOctets};
 
     ghost Value = { Field };
 
@@ -88,7 +88,7 @@ impl Entry {
     }
 }
 
-/// The fields of a directory by their tags, and the place of the next directory.
+/// The fields of a directory by their tags, and the offset of the next directory.
 #[derive(Debug, Drop)]
 pub struct Directory {
     entries: BTreeMap<u16, Entry>,
@@ -163,7 +163,7 @@ impl Directory {
         let _next = &self.next;
     }
 
-    /// The place of the next directory.
+    /// The offset of the next directory.
     pub fn next(&self) -> Option<IfdPointer>
         ensures { option_map (λ p. p.0) result ≡ self.now.next }
     {
@@ -219,7 +219,7 @@ impl Directory {
     pub fn extend<U: IntoIterator<Item = (Tag, Entry)>>(&mut self, iter: U) -> TiffResult<()>
         requires { (it : U.IntoIter) → U.into_iter_gives iter it
             → U.IntoIter.can_next it × IsFinite (U.IntoIter.remaining it) }
-        ensures ran { ExtendsWithItems U.into_iter_gives U.IntoIter.next_gives (λ d items n. n ≡ extended d items)
+        ensures ran { ExtendsWithItems U.into_iter_gives U.IntoIter.next_gives (λ d items n. n ≡ with_entries d items)
             iter self.old self.new result }
         ensures err { IfErr result (λ e. e ≡ OutOfMemory) }
     {
@@ -239,7 +239,7 @@ impl Directory {
         requires { (it : U.IntoIter) → U.into_iter_gives iter it
             → U.IntoIter.can_next it × IsFinite (U.IntoIter.remaining it) }
         ensures ok { IfOk result (λ d. (it : U.IntoIter) × (items : List (Tag × Field)) × U.into_iter_gives iter it
-            × Drains U.IntoIter.next_gives it items × (d ≡ extended (record { entries = map.empty; next = None }) items)) }
+            × Drains U.IntoIter.next_gives it items × (d ≡ with_entries (record { entries = map.empty; next = None }) items)) }
         ensures err { IfErr result (λ e. e ≡ OutOfMemory) }
     {
         let mut directory = Directory::empty(alloc);
@@ -247,7 +247,7 @@ impl Directory {
         Ok(directory)
     }
 
-    /// Sets the place of the next directory, or that there is none; so does the place 0.
+    /// Sets the offset of the next directory, or that there is none; so does the offset 0.
     pub fn set_next(&mut self, next: Option<IfdPointer>)
         ensures { self.new ≡ record self.old { next = link (unwrap_or (option_map (λ p. p.0) next) 0) } }
     {
@@ -257,11 +257,11 @@ impl Directory {
         };
     }
 
-    /// Sets the place of the next directory; 0 is none.
-    pub fn link_to(&mut self, place: u64)
-        ensures { self.new ≡ record self.old { next = link place } }
+    /// Sets the offset of the next directory; 0 is none.
+    pub fn link_to(&mut self, offset: u64)
+        ensures { self.new ≡ record self.old { next = link offset } }
     {
-        self.next = place;
+        self.next = offset;
     }
 }
 

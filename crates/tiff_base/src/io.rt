@@ -1,7 +1,7 @@
 //! Where bytes come from and go to.
 
 ghost use Rattle.std.specs.Prelude.{◌≡◌, ℕ, ◌+◌, ◌^◌, ◌≤◌, ◌<◌, List, length, Option, None, Some, IfErr, IfOk, OnOk, OnErr, take, true};
-ghost use Rattle.tiff_base.specs.Told.{AreOctets, bytes_at, Holds, Reads, Appends, Overwrites};
+ghost use Rattle.tiff_base.specs.SourceAndSink.{AreOctets, bytes_at, HoldsByte, Reads, Appends, Overwrites};
 ghost use Rattle.tiff_base.specs.declared.io.SinkFault.{SinkFault};
 
 use crate::count::Count;
@@ -44,7 +44,7 @@ pub enum SinkFault {
     OutOfMemory,
 }
 
-/// Bytes that can be read at any place.
+/// Bytes that can be read at any offset.
 pub trait Source {
     /// The bytes; they never change.
     ghost bytes: { Self → List ℕ };
@@ -59,8 +59,8 @@ pub trait Source {
         ensures answered { OnOk result (failures self.new ≡ failures self.old) }
         ensures failed { OnErr result (failures self.old < failures self.new) };
 
-    /// Every place is below 2^64.
-    ghost places: { (s : Self) → length (bytes s) < 2 ^ 64 };
+    /// Every offset is below 2^64.
+    ghost offsets: { (s : Self) → length (bytes s) < 2 ^ 64 };
 
     /// A byte is a number below 256.
     ghost octets: { (s : Self) → AreOctets (bytes s) };
@@ -102,7 +102,7 @@ pub trait Sink {
     ghost short: { (s : Self) → length (told s) < 2 ^ 63 };
 }
 
-// Reads the bytes of a slice from a place on, as many as there are and as the buffer holds.
+// Reads the bytes of a slice from an offset on, as many as there are and as the buffer holds.
 fn read_of(items: &[u8], at: u64, buf: &mut [u8]) -> usize
     ensures { Reads items.now at buf.old result buf.new }
 {
@@ -119,7 +119,7 @@ fn read_of(items: &[u8], at: u64, buf: &mut [u8]) -> usize
 #[derive(Drop)]
 pub struct MemorySource {
     items: Vec<u8>,
-    ghost places: { length items.items < 2 ^ 64 },
+    ghost offsets: { length items.items < 2 ^ 64 },
     ghost octets: { AreOctets items.items },
 }
 
@@ -142,7 +142,7 @@ impl Source for MemorySource {
 
     ghost failures = { λ _. 0 };
 
-    ghost places = { λ s. s.places };
+    ghost offsets = { λ s. s.offsets };
 
     ghost octets = { λ s. s.octets };
 
@@ -155,7 +155,7 @@ impl Source for MemorySource {
 #[derive(Drop)]
 pub struct SliceSource<'a> {
     items: &'a [u8],
-    ghost places: { length items.now < 2 ^ 64 },
+    ghost offsets: { length items.now < 2 ^ 64 },
     ghost octets: { AreOctets items.now },
 }
 
@@ -178,7 +178,7 @@ impl Source for SliceSource<'_> {
 
     ghost failures = { λ _. 0 };
 
-    ghost places = { λ s. s.places };
+    ghost offsets = { λ s. s.offsets };
 
     ghost octets = { λ s. s.octets };
 
@@ -229,18 +229,18 @@ impl<S: Source> BufferedSource<S> {
 }
 
 impl<S: Source> BufferedSource<S> {
-    // Whether the byte at a place is in the buffer.
+    // Whether the byte at an offset is in the buffer.
     fn has(&self, at: u64) -> bool
         ensures { result ≡ true → (self.now.from ≤ at) × (at < self.now.from + self.now.held) }
     {
         at >= self.from && at - self.from < self.held as u64
     }
 
-    // Reads the source from a place on into the buffer. After a fault the buffer is empty.
+    // Reads the source from an offset on into the buffer. After a fault the buffer is empty.
     fn fill(&mut self, at: u64) -> Result<(), DeviceFault>
         requires { 0 < length self.old.buffer.items }
         ensures bytes { S.bytes self.new.source ≡ S.bytes self.old.source }
-        ensures holds { OnOk result (Holds (S.bytes self.new.source) self.new.from self.new.held at) }
+        ensures holds { OnOk result (HoldsByte (S.bytes self.new.source) self.new.from self.new.held at) }
         ensures answered { OnOk result (S.failures self.new.source ≡ S.failures self.old.source) }
         ensures failed { OnErr result (S.failures self.old.source < S.failures self.new.source) }
     {
@@ -250,11 +250,11 @@ impl<S: Source> BufferedSource<S> {
         Ok(())
     }
 
-    // Has the byte at a place in the buffer, where there is one.
+    // Has the byte at an offset in the buffer, where there is one.
     fn hold(&mut self, at: u64) -> Result<(), DeviceFault>
         requires { 0 < length self.old.buffer.items }
         ensures bytes { S.bytes self.new.source ≡ S.bytes self.old.source }
-        ensures holds { OnOk result (Holds (S.bytes self.new.source) self.new.from self.new.held at) }
+        ensures holds { OnOk result (HoldsByte (S.bytes self.new.source) self.new.from self.new.held at) }
         ensures answered { OnOk result (S.failures self.new.source ≡ S.failures self.old.source) }
         ensures failed { OnErr result (S.failures self.old.source < S.failures self.new.source) }
     {
@@ -264,9 +264,9 @@ impl<S: Source> BufferedSource<S> {
         self.fill(at)
     }
 
-    // Reads what the buffer has from a place on.
+    // Reads what the buffer has from an offset on.
     fn read_held(&self, at: u64, buf: &mut [u8]) -> usize
-        requires { Holds (S.bytes self.now.source) self.now.from self.now.held at }
+        requires { HoldsByte (S.bytes self.now.source) self.now.from self.now.held at }
         ensures { Reads (S.bytes self.now.source) at buf.old result buf.new }
     {
         read_of(&self.buffer[..self.held], at - self.from, buf)
@@ -278,7 +278,7 @@ impl<S: Source> Source for BufferedSource<S> {
 
     ghost failures = { λ s. S.failures s.source };
 
-    ghost places = { λ s. S.places s.source };
+    ghost offsets = { λ s. S.offsets s.source };
 
     ghost octets = { λ s. S.octets s.source };
 

@@ -3,7 +3,7 @@
 ghost use Rattle.tiff_base.specs.Blocks.{IsUnpacked, IsOneUnpacked};
 ghost use Rattle.tiff_base.specs.Directory.{LastOfEachStand};
 ghost use Rattle.tiff_base.specs.Named.{NumbersComeBack, NamesComeBack};
-ghost use Rattle.tiff_base.specs.Turned.{TurnsBack};
+ghost use Rattle.tiff_base.specs.ByteOrders.{TurnsBack};
 
 /// Bytes that are turned from one order into another and back are as they were; a ragged end stays.
 pub fn turns_back()

@@ -2,9 +2,9 @@
 
 ghost use Rattle.std.specs.Prelude.{◌≡◌, ◌+◌, ◌≤◌, length};
 ghost use Rattle.std.specs.Int.{w16, w32, w64};
-ghost use Rattle.tiff_base.specs.Told.{bytes_at, exactly_at};
+ghost use Rattle.tiff_base.specs.SourceAndSink.{bytes_at, exactly_at};
 ghost use Rattle.tiff_base.specs.Number.{number, number_at};
-ghost use Rattle.tiff_base.specs.Answers.{Answers, AnswersExactly, IsKept};
+ghost use Rattle.tiff_base.specs.Answers.{Answers, AnswersWithoutMemory, IsKept};
 ghost use Rattle.tiff_base.specs.Sparing.{AnswersSparingly};
 
 use crate::error::{TiffError, TiffResult};
@@ -12,18 +12,18 @@ use crate::io::{IoKind, Source};
 use crate::tags::ByteOrder;
 use std::alloc::Global;
 
-/// Fills the buffer with the bytes at a place. Fewer bytes there: `IoError(UnexpectedEof)`.
+/// Fills the buffer with the bytes at an offset. Fewer bytes there: `IoError(UnexpectedEof)`.
 #[tactic(auto, using(crate::proofs::Bytes::next_read))]
 pub fn read_exact_at<R: Source>(source: &mut R, at: u64, buf: &mut [u8]) -> TiffResult<()>
     ensures kept { IsKept R.bytes R.failures result source.old source.new }
-    ensures answer { AnswersExactly (λ _. buf.new) result (exactly_at (R.bytes source.old) at (length buf.old)) (R.failures source.old) (R.failures source.new) }
+    ensures answer { AnswersWithoutMemory (λ _. buf.new) result (exactly_at (R.bytes source.old) at (length buf.old)) (R.failures source.old) (R.failures source.new) }
 {
     let mut done = 0;
     while done < buf.len() {
-        let Some(place) = at.checked_add(done as u64) else {
+        let Some(offset) = at.checked_add(done as u64) else {
             return Err(TiffError::IoError(IoKind::UnexpectedEof));
         };
-        let n = source.read_at(place, &mut buf[done..])?;
+        let n = source.read_at(offset, &mut buf[done..])?;
         if n == 0 {
             return Err(TiffError::IoError(IoKind::UnexpectedEof));
         }
@@ -32,7 +32,7 @@ pub fn read_exact_at<R: Source>(source: &mut R, at: u64, buf: &mut [u8]) -> Tiff
     Ok(())
 }
 
-/// The `len` bytes at a place. Fewer bytes there: `IoError(UnexpectedEof)`, told before room for them is taken: the last
+/// The `len` bytes at an offset. Fewer bytes there: `IoError(UnexpectedEof)`, told before room for them is taken: the last
 /// byte is read first. Its only other errors are those of the device, and `OutOfMemory` where the bytes are there.
 #[tactic(auto, using(crate::proofs::Bytes::cut_at_last, crate::proofs::Bytes::cut_past))]
 pub fn read_bytes_at<R: Source>(
@@ -141,30 +141,30 @@ pub fn u64_in(order: ByteOrder, bytes: &[u8], at: usize) -> u64
     u64_of(order, &bytes[at..at + 8])
 }
 
-/// The two bytes at a place as a number.
+/// The two bytes at an offset as a number.
 pub fn read_u16_at<R: Source>(source: &mut R, at: u64, order: ByteOrder) -> TiffResult<u16>
     ensures kept { IsKept R.bytes R.failures result source.old source.new }
-    ensures answer { AnswersExactly (λ n. n) result (number_at order w16 (R.bytes source.old) at) (R.failures source.old) (R.failures source.new) }
+    ensures answer { AnswersWithoutMemory (λ n. n) result (number_at order w16 (R.bytes source.old) at) (R.failures source.old) (R.failures source.new) }
 {
     let mut bytes = [0u8; 2];
     read_exact_at(source, at, &mut bytes)?;
     Ok(u16_from(order, bytes))
 }
 
-/// The four bytes at a place as a number.
+/// The four bytes at an offset as a number.
 pub fn read_u32_at<R: Source>(source: &mut R, at: u64, order: ByteOrder) -> TiffResult<u32>
     ensures kept { IsKept R.bytes R.failures result source.old source.new }
-    ensures answer { AnswersExactly (λ n. n) result (number_at order w32 (R.bytes source.old) at) (R.failures source.old) (R.failures source.new) }
+    ensures answer { AnswersWithoutMemory (λ n. n) result (number_at order w32 (R.bytes source.old) at) (R.failures source.old) (R.failures source.new) }
 {
     let mut bytes = [0u8; 4];
     read_exact_at(source, at, &mut bytes)?;
     Ok(u32_from(order, bytes))
 }
 
-/// The eight bytes at a place as a number.
+/// The eight bytes at an offset as a number.
 pub fn read_u64_at<R: Source>(source: &mut R, at: u64, order: ByteOrder) -> TiffResult<u64>
     ensures kept { IsKept R.bytes R.failures result source.old source.new }
-    ensures answer { AnswersExactly (λ n. n) result (number_at order w64 (R.bytes source.old) at) (R.failures source.old) (R.failures source.new) }
+    ensures answer { AnswersWithoutMemory (λ n. n) result (number_at order w64 (R.bytes source.old) at) (R.failures source.old) (R.failures source.new) }
 {
     let mut bytes = [0u8; 8];
     read_exact_at(source, at, &mut bytes)?;

@@ -3,7 +3,7 @@
 ghost use Rattle.std.specs.Prelude.{◌≡◌, ◌<◌, ◌/◌, false, true, length};
 ghost use Rattle.std.specs.Fmt.{WritesOnOk, digits};
 ghost use Rattle.tiff_base.specs.Tags.{extra_number, extra_of, format_number, format_of, interpretation_number, interpretation_of, method_number, method_of, planar_number, planar_of, predictor_number, predictor_of, tag_number, tag_of, type_number, type_of, unit_number, unit_of, named_tag, named_method, named_format};
-ghost use Rattle.tiff_base.specs.Turned.{convert, turned_units, unit_size};
+ghost use Rattle.tiff_base.specs.ByteOrders.{convert, turned_units, unit_size};
 ghost use Rattle.tiff_base.specs.Types.{type_size};
 ghost use Rattle.tiff_base.specs.declared.tags.ByteOrder.TheVariants.{LittleEndian};
 
@@ -607,7 +607,7 @@ impl SampleFormat {
     }
 }
 
-/// What a sample beyond those of the colour is (TIFF 6.0 section 8).
+/// What a sample beyond those of the color is (TIFF 6.0 section 8).
 #[derive(Clone, Copy, Debug, PartialEq, Eq, Hash)]
 #[non_exhaustive]
 pub enum ExtraSamples {
@@ -642,7 +642,7 @@ impl ExtraSamples {
     }
 }
 
-/// The place of a directory; 0 is none.
+/// The offset of a directory; 0 is none.
 #[derive(Clone, Copy, Debug, PartialEq, Eq, Hash)]
 pub struct IfdPointer(pub u64);
 
@@ -680,7 +680,7 @@ impl ByteOrder {
     }
 
     /// Turns the numbers of values of a type into another order. A rational is two numbers; a ragged end stays as it is.
-    #[tactic(auto, unfolding(crate::specs::Turned::turned))]
+    #[tactic(auto, unfolding(crate::specs::ByteOrders::turned))]
     pub fn convert(self, ty: Type, buffer: &mut [u8], to: ByteOrder)
         ensures { buffer.new ≡ convert ty self buffer.old to }
     {
@@ -719,12 +719,12 @@ fn turn_units(buffer: &mut [u8], size: usize)
     }
 }
 
-/// The two kinds of file, by the width of their places (this project's own).
+/// The two kinds of file, by the width of their offsets (this project's own).
 #[derive(Clone, Copy, Debug, PartialEq, Eq)]
 pub enum FileKind {
-    /// TIFF 6.0: places of 4 bytes.
+    /// TIFF 6.0: offsets of 4 bytes.
     Classic,
-    /// BigTIFF: places of 8 bytes.
+    /// BigTIFF: offsets of 8 bytes.
     Big,
 }
 

@@ -121,7 +121,7 @@ struct tiff_layout {
 };
 tiff_status tiff_page_layout(const uint8_t *file, size_t len, size_t page, struct tiff_layout *layout);
 
-/* The colour of a page: its kind, the bits of a sample, and how many samples a pixel shows. */
+/* The color of a page: its kind, the bits of a sample, and how many samples a pixel shows. */
 enum {
     TIFF_GRAY = 0,
     TIFF_RGB = 1,
@@ -189,10 +189,10 @@ enum {
 };
 tiff_status tiff_byte_order(const uint8_t *file, size_t len, uint32_t *order);
 
-/* What an image is written as: its colour type; its sides, in pixels; the version that the header of its file has; the values of its
+/* What an image is written as: its color type; its sides, in pixels; the version that the header of its file has; the values of its
    tags Compression and Predictor. */
 enum {
-    /* the colour types: how samples are read, and the bits of each; I: signed, FLOAT: floating numbers, else unsigned */
+    /* the color types: how samples are read, and the bits of each; I: signed, FLOAT: floating numbers, else unsigned */
     TIFF_GRAY8 = 0,
     TIFF_GRAY16 = 1,
     TIFF_GRAY32 = 2,
@@ -250,7 +250,7 @@ struct tiff_image {
    for the length. It takes as long as one that writes.
 
    Any status but TIFF_DONE leaves BUFFER as it was, and any but these two *LEN. Faults, the first of them: a version that is none,
-   TIFF_SIGNATURE_INVALID; a colour type that is none, TIFF_INVALID_INPUT; a method that isn't written,
+   TIFF_SIGNATURE_INVALID; a color type that is none, TIFF_INVALID_INPUT; a method that isn't written,
    TIFF_UNSUPPORTED_COMPRESSION_METHOD; a predictor that is none, TIFF_UNKNOWN_PREDICTOR; SAMPLES_LEN that is no whole number of samples,
    TIFF_MISMATCHED_ENTRY_LENGTH; a side of 0, TIFF_INVALID_DIMENSIONS; the horizontal predictor of floating numbers,
    TIFF_PREDICTOR_INCOMPATIBLE, and predictor 3, TIFF_PREDICTOR_UNAVAILABLE; 2^64 samples or more, TIFF_INVALID_INPUT; too few

@@ -14,11 +14,11 @@ use Rattle.tiff_base.specs.declared.io.IoKind.TheVariants.{UnexpectedEof, Invali
 use Rattle.tiff_encode.specs.Shows.{ShowsFirst}
 use Rattle.tiff_c.specs.declared.writer.NewImage.{NewImage}
 use Rattle.tiff_c.specs.declared.writer.Settings.{Settings}
-use Rattle.tiff_c.specs.Status.{fault_number, format_number, unsupported_number, usage_number, io_number}
-use Rattle.tiff_c.specs.Writer.{Delivers, IsShown, Tells, WritesBy, WritesBytes, WritesNew, image_by, samples_of, settings_of}
+use Rattle.tiff_c.specs.Status.{fault_number, format_fault_number, unsupported_fault_number, usage_fault_number, io_fault_number}
+use Rattle.tiff_c.specs.Writer.{Delivers, IsShown, WriterTells, WritesBy, WritesBytes, WritesNew, image_by, samples_from_bytes, settings_of}
 
 -- no fault has the number 0
-some_format : (e : TiffFormatError) → 0 < format_number e
+some_format : (e : TiffFormatError) → 0 < format_fault_number e
 some_format TiffSignatureNotFound = lit< tt
 some_format TiffSignatureInvalid = lit< tt
 some_format ImageFileDirectoryNotFound = lit< tt
@@ -36,7 +36,7 @@ some_format CycleInOffsets = lit< tt
 some_format SamplesPerPixelIsZero = lit< tt
 some_format (CompressedDataCorrupt a) = lit< tt
 
-some_unsupported : (e : TiffUnsupportedError) → 0 < unsupported_number e
+some_unsupported : (e : TiffUnsupportedError) → 0 < unsupported_fault_number e
 some_unsupported (FloatingPointPredictor a) = lit< tt
 some_unsupported (HorizontalPredictor a) = lit< tt
 some_unsupported (InconsistentBitsPerSample a) = lit< tt
@@ -54,7 +54,7 @@ some_unsupported (UnsupportedInterpretation a) = lit< tt
 some_unsupported ChromaSubsampling = lit< tt
 some_unsupported MisalignedTileBoundaries = lit< tt
 
-some_usage : (e : Usage) → 0 < usage_number e
+some_usage : (e : Usage) → 0 < usage_fault_number e
 some_usage (InvalidChunkType a b) = lit< tt
 some_usage (InvalidChunkIndex a) = lit< tt
 some_usage (InvalidPlaneIndex a) = lit< tt
@@ -71,7 +71,7 @@ some_usage (MismatchedEntryLength a b) = lit< tt
 some_usage ParentNotWritten = lit< tt
 some_usage WriterFailed = lit< tt
 
-some_io : (e : IoKind) → 0 < io_number e
+some_io : (e : IoKind) → 0 < io_fault_number e
 some_io UnexpectedEof = lit< tt
 some_io InvalidData = lit< tt
 some_io InvalidInput = lit< tt
@@ -105,7 +105,7 @@ module _ (image : NewImage) (bytes file old new : List ℕ) (len : ℕ) (is : le
   rest =
       ap (λ n. drop n new) is ∙ ap (drop (length file)) put ∙ drop-append_seam file (drop (length file) old) ∙ ap (λ n. drop n old) (sym is)
 
-  by_samples : (s : Settings) → settings_of image ≡ Ok s → (r : Result (List ℕ) TiffError) → samples_of s.color bytes ≡ r
+  by_samples : (s : Settings) → settings_of image ≡ Ok s → (r : Result (List ℕ) TiffError) → samples_from_bytes s.color bytes ≡ r
       → WritesBytes s image.width image.height r (Ok file) → IsShown image bytes old new len
   by_samples s asked (Ok samples) are (inl w) = absurd (err_ok w)
   by_samples s asked (Ok samples) are (inr w) = record {
@@ -120,7 +120,7 @@ module _ (image : NewImage) (bytes file old new : List ℕ) (len : ℕ) (is : le
   by_samples s asked (Err e) are w = absurd (err_ok w)
 
   by_settings : (r : Result Settings TiffError) → settings_of image ≡ r → WritesBy r image.width image.height bytes (Ok file) → IsShown image bytes old new len
-  by_settings (Ok s) asked w = by_samples s asked (samples_of s.color bytes) refl w
+  by_settings (Ok s) asked w = by_samples s asked (samples_from_bytes s.color bytes) refl w
   by_settings (Err e) asked w = absurd (err_ok w)
 
 delivered : (image : NewImage) (bytes : List ℕ) (answer : Result (List ℕ) TiffError) (status : ℕ) (old new : List ℕ) (len_old len_new : ℕ)
@@ -138,7 +138,7 @@ kept (Err e) status old new len_old len_new d = inr d.1.0
 
 -- what is told of an image that was written
 pub told_new : (image : NewImage) (bytes : List ℕ) (answer : Result (List ℕ) TiffError) (status : ℕ) (old new : List ℕ) (len_old len_new : ℕ)
-    → WritesNew image bytes answer → Delivers answer status old new len_old len_new → Tells image bytes status old new len_old len_new
+    → WritesNew image bytes answer → Delivers answer status old new len_old len_new → WriterTells image bytes status old new len_old len_new
 told_new image bytes answer status old new len_old len_new w d = (answer, (w, d))
 
 pub told_shown : (image : NewImage) (bytes : List ℕ) (answer : Result (List ℕ) TiffError) (status : ℕ) (old new : List ℕ) (len_old len_new : ℕ)

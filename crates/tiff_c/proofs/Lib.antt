@@ -1,5 +1,5 @@
 pub mod Slices
-pub mod Told
+pub mod StatusTells
 pub mod Octets
 pub mod PieceNumbers
 pub mod Writing

@@ -3,18 +3,18 @@ use Rattle.std.proofs.Common.{◌≡◌, ℕ, ◌<◌, List, Option, None, Resul
 use Rattle.tiff_base.specs.declared.error.TiffError.{TiffError}
 use Rattle.tiff_base.specs.declared.error.TiffError.TheVariants.{FormatError, UnsupportedError, IoError, UsageError, LimitsExceeded, IntSizeError, OutOfMemory}
 use Rattle.tiff_base.specs.declared.io.IoKind.TheVariants.{UnexpectedEof, InvalidData, InvalidInput, WriteZero, Device}
-use Rattle.tiff_base.specs.Answers.{Answers, AnswersExactly, AnswersHere}
+use Rattle.tiff_base.specs.Answers.{Answers, AnswersWithoutMemory, AnswersWithoutSource}
 use Rattle.tiff_base.specs.declared.tags.Tag.{Tag}
 use Rattle.tiff_base.specs.Field.{DirectoryRecord}
 use Rattle.tiff_decode.specs.Outcome.{find_tag_bytes}
-use Rattle.tiff_decode.specs.Reader.{TagsRead, reading}
+use Rattle.tiff_decode.specs.Reader.{TagsRead, reader_of}
 use Rattle.tiff_decode.specs.Machine.{Decoding, Follows, Outcome, Refused}
 
 not_more : (m n : ℕ) → m ≡ 0 → n ≡ 0 → m < n → ⊥
 not_more m n a b h = omega (arith, a, b, h)
 
 refused : {X Y : Type 0} → (view : X → Y) → (o : Outcome Y) → (e : TiffError) → (old new : Decoding) → Refused (Unit {0}) e o old new
-    → old.failures ≡ 0 → new.failures ≡ 0 → AnswersHere view (Err e) o.answer
+    → old.failures ≡ 0 → new.failures ≡ 0 → AnswersWithoutSource view (Err e) o.answer
 refused view o OutOfMemory old new r a b = tt
 refused view o (IoError Device) old new r a b = not_more old.failures new.failures a b r.grew
 refused view o (IoError UnexpectedEof) old new r a b = r.answer
@@ -28,7 +28,7 @@ refused view o LimitsExceeded old new r a b = r.answer
 refused view o IntSizeError old new r a b = r.answer
 
 pub here : {X Y : Type 0} → (view : X → Y) → (o : Outcome Y) → (result : Result X TiffError) → (old new : Decoding) → Follows view o result old new
-    → old.failures ≡ 0 → new.failures ≡ 0 → AnswersHere view result o.answer
+    → old.failures ≡ 0 → new.failures ≡ 0 → AnswersWithoutSource view result o.answer
 here view o (Ok x) old new f a b = f.answer
 here view o (Err e) old new f a b = refused view o e old new f a b
 
@@ -38,7 +38,7 @@ gone view o (Ok x) old new f a b = f.at
 gone view o (Err e) old new f a b = tt
 
 tag_refused : {X Y : Type 0} → (view : X → Y) → (given : Result Y TiffError) → (e : TiffError) → (m n : ℕ) → Answers view (Err e) given m n
-    → m ≡ 0 → n ≡ 0 → AnswersHere view (Err e) given
+    → m ≡ 0 → n ≡ 0 → AnswersWithoutSource view (Err e) given
 tag_refused view given OutOfMemory m n r a b = tt
 tag_refused view given (IoError Device) m n r a b = not_more m n a b r
 tag_refused view given (IoError UnexpectedEof) m n r a b = r
@@ -52,17 +52,17 @@ tag_refused view given LimitsExceeded m n r a b = r
 tag_refused view given IntSizeError m n r a b = r
 
 answer_here : {X Y : Type 0} → (view : X → Y) → (given : Result Y TiffError) → (result : Result X TiffError) → (m n : ℕ) → Answers view result given m n
-    → m ≡ 0 → n ≡ 0 → AnswersHere view result given
+    → m ≡ 0 → n ≡ 0 → AnswersWithoutSource view result given
 answer_here view given (Ok x) m n r a b = r
 answer_here view given (Err e) m n r a b = tag_refused view given e m n r a b
 
 pub read_here : {X Y : Type 0} → (view : X → Y) → (o : Outcome Y) → (result : Result X TiffError) → (old new : Decoding) → TagsRead view o result old new
-    → old.failures ≡ 0 → new.failures ≡ 0 → AnswersHere view result o.answer
+    → old.failures ≡ 0 → new.failures ≡ 0 → AnswersWithoutSource view result o.answer
 read_here view o result old new r a b = answer_here view o.answer result old.failures new.failures r.answer a b
 
 -- an answer that takes no memory
-exact : {X Y : Type 0} → (view : X → Y) → (given : Result Y TiffError) → (e : TiffError) → (m n : ℕ) → AnswersExactly view (Err e) given m n
-    → m ≡ 0 → n ≡ 0 → AnswersHere view (Err e) given
+exact : {X Y : Type 0} → (view : X → Y) → (given : Result Y TiffError) → (e : TiffError) → (m n : ℕ) → AnswersWithoutMemory view (Err e) given m n
+    → m ≡ 0 → n ≡ 0 → AnswersWithoutSource view (Err e) given
 exact view given OutOfMemory m n r a b = tt
 exact view given (IoError Device) m n r a b = not_more m n a b r
 exact view given (IoError UnexpectedEof) m n r a b = r
@@ -75,18 +75,18 @@ exact view given (UsageError x) m n r a b = r
 exact view given LimitsExceeded m n r a b = r
 exact view given IntSizeError m n r a b = r
 
-pub exactly_here : {X Y : Type 0} → (view : X → Y) → (given : Result Y TiffError) → (result : Result X TiffError) → (m n : ℕ) → AnswersExactly view result given m n
-    → m ≡ 0 → n ≡ 0 → AnswersHere view result given
+pub exactly_here : {X Y : Type 0} → (view : X → Y) → (given : Result Y TiffError) → (result : Result X TiffError) → (m n : ℕ) → AnswersWithoutMemory view result given m n
+    → m ≡ 0 → n ≡ 0 → AnswersWithoutSource view result given
 exactly_here view given (Ok x) m n r a b = r
 exactly_here view given (Err e) m n r a b = exact view given e m n r a b
 
 -- bytes of a tag that a decoder read in its page's directory
 pub part_read : (tag : Tag) (old_bytes new_bytes : List ℕ) (at : ℕ) (result : Result (Option ℕ) TiffError) (d e : Decoding) (other : Option DirectoryRecord) (m n : ℕ)
     → e ≡ d → other ≡ None
-    → AnswersExactly (λ count. (count, new_bytes)) result (find_tag_bytes (reading e other) tag old_bytes at).answer e.failures n → m ≡ n
-    → AnswersExactly (λ count. (count, new_bytes)) result (find_tag_bytes d tag old_bytes at).answer d.failures m
+    → AnswersWithoutMemory (λ count. (count, new_bytes)) result (find_tag_bytes (reader_of e other) tag old_bytes at).answer e.failures n → m ≡ n
+    → AnswersWithoutMemory (λ count. (count, new_bytes)) result (find_tag_bytes d tag old_bytes at).answer d.failures m
 part_read tag old_bytes new_bytes at result d e other m n same none r is =
-    let there = subst (λ o. AnswersExactly (λ count. (count, new_bytes)) result (find_tag_bytes (reading e o) tag old_bytes at).answer e.failures n) none r in
-    let here : AnswersExactly (λ count. (count, new_bytes)) result (find_tag_bytes d tag old_bytes at).answer d.failures n =
-    subst (λ (x : Decoding). AnswersExactly (λ count. (count, new_bytes)) result (find_tag_bytes (reading x None) tag old_bytes at).answer x.failures n) same there in
-    subst (λ k. AnswersExactly (λ count. (count, new_bytes)) result (find_tag_bytes d tag old_bytes at).answer d.failures k) (sym is) here
+    let there = subst (λ o. AnswersWithoutMemory (λ count. (count, new_bytes)) result (find_tag_bytes (reader_of e o) tag old_bytes at).answer e.failures n) none r in
+    let here : AnswersWithoutMemory (λ count. (count, new_bytes)) result (find_tag_bytes d tag old_bytes at).answer d.failures n =
+    subst (λ (x : Decoding). AnswersWithoutMemory (λ count. (count, new_bytes)) result (find_tag_bytes (reader_of x None) tag old_bytes at).answer x.failures n) same there in
+    subst (λ k. AnswersWithoutMemory (λ count. (count, new_bytes)) result (find_tag_bytes d tag old_bytes at).answer d.failures k) (sym is) here

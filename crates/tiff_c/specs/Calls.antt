@@ -15,7 +15,7 @@ use Rattle.tiff_base.specs.declared.tags.ByteOrder.{ByteOrder}
 use Rattle.tiff_base.specs.declared.tags.ByteOrder.TheVariants.{LittleEndian, BigEndian}
 use Rattle.tiff_base.specs.declared.tags.Tag.{Tag}
 use Rattle.tiff_base.specs.Tags.{tag_of, type_number}
-use Rattle.tiff_ifd.specs.Look.{known}
+use Rattle.tiff_ifd.specs.Look.{ok_or_fault}
 use Rattle.tiff_c.specs.declared.calls.FieldSize.{FieldSize}
 use Rattle.tiff_c.specs.declared.calls.Sides.{Sides}
 use Rattle.tiff_c.specs.declared.calls.Layout.{Layout}
@@ -23,47 +23,47 @@ use Rattle.tiff_c.specs.declared.calls.Color.{Color}
 use Rattle.tiff_c.specs.declared.calls.Chunks.{Chunks}
 
 -- the decoder at the page of this number
-abbrev pub at_page : List ℕ → ℕ → Result Decoding TiffError
-at_page file page = do
-  d ← outcome.begun file 0
+abbrev pub decoder_at_page : List ℕ → ℕ → Result Decoding TiffError
+decoder_at_page file page = do
+  d ← outcome.decoder_of file 0
   _ ← (outcome.seek_to_image d page).answer
   Ok (record d { state = (outcome.seek_to_image d page).next })
 
 -- the sides of a page
 abbrev pub page_sides : List ℕ → ℕ → Result Sides TiffError
 page_sides file page = do
-  d ← at_page file page
+  d ← decoder_at_page file page
   sides ← (outcome.dimensions d).answer
   Ok (record { width = sides.0; height = sides.1 })
 
 -- the bytes of an image in a slice
 abbrev pub read_image_bytes : List ℕ → ℕ → List ℕ → Result (List ℕ) TiffError
 read_image_bytes file page slice = do
-  d ← at_page file page
+  d ← decoder_at_page file page
   (outcome.read_image_bytes d slice).answer
 
 -- the bytes of an image: of one plane, and of all
-abbrev pub layout_of : Decoding → Result Layout TiffError
-layout_of d = do
+abbrev pub image_layout : Decoding → Result Layout TiffError
+image_layout d = do
   layout ← (outcome.image_buffer_layout d).answer
   Ok (record { len = layout.len; complete_len = layout.complete_len })
 
 abbrev pub page_layout : List ℕ → ℕ → Result Layout TiffError
-page_layout file page = at_page file page >>= layout_of
+page_layout file page = decoder_at_page file page >>= image_layout
 
 -- the bytes of a chunk in a slice
 abbrev pub read_chunk_bytes : List ℕ → ℕ → ℕ → List ℕ → Result (List ℕ) TiffError
 read_chunk_bytes file page chunk slice = do
-  d ← at_page file page
+  d ← decoder_at_page file page
   (outcome.read_chunk_bytes d chunk slice).answer
 
 -- the bytes of a coding unit in a slice
 abbrev pub read_unit_bytes : List ℕ → ℕ → ℕ → List ℕ → Result (List ℕ) TiffError
 read_unit_bytes file page unit slice = do
-  d ← at_page file page
+  d ← decoder_at_page file page
   (outcome.read_coding_unit_bytes d unit slice).answer
 
--- the kind of a colour, as a number
+-- the kind of a color, as a number
 abbrev pub color_number : ColorType → ℕ
 color_number (Gray b) = 0
 color_number (RGB b) = 1
@@ -76,14 +76,14 @@ color_number (YCbCr b) = 7
 color_number (Lab b) = 8
 color_number (Multiband b n) = 9
 
--- the colour of a page
+-- the color of a page
 abbrev pub color_of : Decoding → Result Color TiffError
 color_of d = do
   color ← (outcome.colortype d).answer
   Ok (record { kind = color_number color; bits = bit_depth color; samples = num_samples color })
 
 abbrev pub page_color : List ℕ → ℕ → Result Color TiffError
-page_color file page = at_page file page >>= color_of
+page_color file page = decoder_at_page file page >>= color_of
 
 -- strips are 0, tiles 1
 abbrev pub chunk_number : ChunkType → ℕ
@@ -91,14 +91,14 @@ chunk_number Strip = 0
 chunk_number Tile = 1
 
 -- how many chunks of its kind a page has
-abbrev pub chunk_count : Decoding → ChunkType → Result ℕ TiffError
-chunk_count d Strip = (outcome.strip_count d).answer
-chunk_count d Tile = (outcome.tile_count d).answer
+abbrev pub page_chunk_count : Decoding → ChunkType → Result ℕ TiffError
+page_chunk_count d Strip = (outcome.strip_count d).answer
+page_chunk_count d Tile = (outcome.tile_count d).answer
 
 -- the chunks of a page, with their sides before they are cut at the edges of the image
-abbrev pub chunks_of : Decoding → Result Chunks TiffError
-chunks_of d = do
-  count ← chunk_count d (outcome.get_chunk_type d)
+abbrev pub chunks_of_page : Decoding → Result Chunks TiffError
+chunks_of_page d = do
+  count ← page_chunk_count d (outcome.get_chunk_type d)
   Ok (record {
     kind = chunk_number (outcome.get_chunk_type d);
     count = count;
@@ -107,35 +107,35 @@ chunks_of d = do
   })
 
 abbrev pub page_chunks : List ℕ → ℕ → Result Chunks TiffError
-page_chunks file page = at_page file page >>= chunks_of
+page_chunks file page = decoder_at_page file page >>= chunks_of_page
 
 -- the field of a tag of a page: the number of its type, and how many values there are
-abbrev pub field_of : Decoding → Tag → Result FieldSize TiffError
-field_of d tag = do
-  field ← known (outcome.find_entry d tag) (FormatError (RequiredTagNotFound tag))
+abbrev pub field_size : Decoding → Tag → Result FieldSize TiffError
+field_size d tag = do
+  field ← ok_or_fault (outcome.find_entry d tag) (FormatError (RequiredTagNotFound tag))
   Ok (record { kind = type_number field.field_type; count = field.count })
 
 abbrev pub tag_field : List ℕ → ℕ → ℕ → Result FieldSize TiffError
 tag_field file page number = do
-  d ← at_page file page
-  field_of d (tag_of number)
+  d ← decoder_at_page file page
+  field_size d (tag_of number)
 
 -- the number of a tag of a page
 abbrev pub tag_number_at : List ℕ → ℕ → ℕ → Result ℕ TiffError
 tag_number_at file page number = do
-  d ← at_page file page
+  d ← decoder_at_page file page
   (outcome.get_tag_u64 d (tag_of number)).answer
 
 -- bytes of the values of a tag of a page, from one on, in a slice, and how many of them were copied
 abbrev pub bytes_of_tag : Decoding → Tag → ℕ → List ℕ → Result (ℕ × List ℕ) TiffError
 bytes_of_tag d tag at slice = do
   found ← (outcome.find_tag_bytes d tag slice at).answer
-  count ← known found.0 (FormatError (RequiredTagNotFound tag))
+  count ← ok_or_fault found.0 (FormatError (RequiredTagNotFound tag))
   Ok (count, found.1)
 
 abbrev pub tag_bytes : List ℕ → ℕ → ℕ → ℕ → List ℕ → Result (ℕ × List ℕ) TiffError
 tag_bytes file page number at slice = do
-  d ← at_page file page
+  d ← decoder_at_page file page
   bytes_of_tag d (tag_of number) at slice
 
 -- little-endian is 0, big-endian 1
@@ -144,7 +144,7 @@ order_number LittleEndian = 0
 order_number BigEndian = 1
 
 -- the byte order of a file
-abbrev pub byte_order : List ℕ → Result ℕ TiffError
-byte_order file = do
-  d ← outcome.begun file 0
+abbrev pub file_byte_order : List ℕ → Result ℕ TiffError
+file_byte_order file = do
+  d ← outcome.decoder_of file 0
   Ok (order_number d.order)

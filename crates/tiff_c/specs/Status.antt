@@ -12,75 +12,75 @@ use Rattle.tiff_base.specs.declared.io.IoKind.{IoKind}
 use Rattle.tiff_base.specs.declared.io.IoKind.TheVariants.{UnexpectedEof, InvalidData, InvalidInput, WriteZero, Device}
 
 -- of a file that does not have TIFF's form
-abbrev pub format_number : TiffFormatError → ℕ
-format_number TiffSignatureNotFound = 20
-format_number TiffSignatureInvalid = 21
-format_number ImageFileDirectoryNotFound = 22
-format_number InconsistentSizesEncountered = 23
-format_number (InvalidDimensions a b) = 24
-format_number InvalidTag = 25
-format_number (InvalidTagValueType a) = 26
-format_number (RequiredTagNotFound a) = 27
-format_number (UnknownPredictor a) = 28
-format_number (UnknownPlanarConfiguration a) = 29
-format_number InvalidTypeForTag = 30
-format_number (InvalidCountForTag a b) = 31
-format_number StripTileTagConflict = 32
-format_number CycleInOffsets = 33
-format_number SamplesPerPixelIsZero = 34
-format_number (CompressedDataCorrupt a) = 35
+abbrev pub format_fault_number : TiffFormatError → ℕ
+format_fault_number TiffSignatureNotFound = 20
+format_fault_number TiffSignatureInvalid = 21
+format_fault_number ImageFileDirectoryNotFound = 22
+format_fault_number InconsistentSizesEncountered = 23
+format_fault_number (InvalidDimensions a b) = 24
+format_fault_number InvalidTag = 25
+format_fault_number (InvalidTagValueType a) = 26
+format_fault_number (RequiredTagNotFound a) = 27
+format_fault_number (UnknownPredictor a) = 28
+format_fault_number (UnknownPlanarConfiguration a) = 29
+format_fault_number InvalidTypeForTag = 30
+format_fault_number (InvalidCountForTag a b) = 31
+format_fault_number StripTileTagConflict = 32
+format_fault_number CycleInOffsets = 33
+format_fault_number SamplesPerPixelIsZero = 34
+format_fault_number (CompressedDataCorrupt a) = 35
 
 -- of what is not supported
-abbrev pub unsupported_number : TiffUnsupportedError → ℕ
-unsupported_number (FloatingPointPredictor a) = 40
-unsupported_number (HorizontalPredictor a) = 41
-unsupported_number (InconsistentBitsPerSample a) = 42
-unsupported_number (InterpretationWithBits a b) = 43
-unsupported_number UnknownInterpretation = 44
-unsupported_number UnknownCompressionMethod = 45
-unsupported_number (UnsupportedCompressionMethod a) = 46
-unsupported_number (UnsupportedSampleDepth a) = 47
-unsupported_number (UnsupportedSampleFormat a) = 48
-unsupported_number (UnsupportedColorType a) = 49
-unsupported_number (UnsupportedBitsPerChannel a) = 50
-unsupported_number (UnsupportedPlanarConfig a) = 51
-unsupported_number UnsupportedDataType = 52
-unsupported_number (UnsupportedInterpretation a) = 53
-unsupported_number ChromaSubsampling = 54
-unsupported_number MisalignedTileBoundaries = 55
+abbrev pub unsupported_fault_number : TiffUnsupportedError → ℕ
+unsupported_fault_number (FloatingPointPredictor a) = 40
+unsupported_fault_number (HorizontalPredictor a) = 41
+unsupported_fault_number (InconsistentBitsPerSample a) = 42
+unsupported_fault_number (InterpretationWithBits a b) = 43
+unsupported_fault_number UnknownInterpretation = 44
+unsupported_fault_number UnknownCompressionMethod = 45
+unsupported_fault_number (UnsupportedCompressionMethod a) = 46
+unsupported_fault_number (UnsupportedSampleDepth a) = 47
+unsupported_fault_number (UnsupportedSampleFormat a) = 48
+unsupported_fault_number (UnsupportedColorType a) = 49
+unsupported_fault_number (UnsupportedBitsPerChannel a) = 50
+unsupported_fault_number (UnsupportedPlanarConfig a) = 51
+unsupported_fault_number UnsupportedDataType = 52
+unsupported_fault_number (UnsupportedInterpretation a) = 53
+unsupported_fault_number ChromaSubsampling = 54
+unsupported_fault_number MisalignedTileBoundaries = 55
 
 -- of a call that doesn't fit
-abbrev pub usage_number : Usage → ℕ
-usage_number (InvalidChunkType a b) = 60
-usage_number (InvalidChunkIndex a) = 61
-usage_number (InvalidPlaneIndex a) = 62
-usage_number (InvalidCodingUnit a b) = 63
-usage_number PredictorCompressionMismatch = 64
-usage_number PredictorIncompatible = 65
-usage_number PredictorUnavailable = 66
-usage_number (InsufficientOutputBufferSize a b) = 67
-usage_number (InsufficientOutputRowStride a b) = 68
-usage_number ZeroIfdPointer = 69
-usage_number ReconfiguredAfterImageWrite = 70
-usage_number ByteOrderMismatch = 71
-usage_number (MismatchedEntryLength a b) = 72
-usage_number ParentNotWritten = 73
-usage_number WriterFailed = 74
+abbrev pub usage_fault_number : Usage → ℕ
+usage_fault_number (InvalidChunkType a b) = 60
+usage_fault_number (InvalidChunkIndex a) = 61
+usage_fault_number (InvalidPlaneIndex a) = 62
+usage_fault_number (InvalidCodingUnit a b) = 63
+usage_fault_number PredictorCompressionMismatch = 64
+usage_fault_number PredictorIncompatible = 65
+usage_fault_number PredictorUnavailable = 66
+usage_fault_number (InsufficientOutputBufferSize a b) = 67
+usage_fault_number (InsufficientOutputRowStride a b) = 68
+usage_fault_number ZeroIfdPointer = 69
+usage_fault_number ReconfiguredAfterImageWrite = 70
+usage_fault_number ByteOrderMismatch = 71
+usage_fault_number (MismatchedEntryLength a b) = 72
+usage_fault_number ParentNotWritten = 73
+usage_fault_number WriterFailed = 74
 
 -- of a fault of the bytes
-abbrev pub io_number : IoKind → ℕ
-io_number UnexpectedEof = 10
-io_number InvalidData = 11
-io_number InvalidInput = 12
-io_number WriteZero = 13
-io_number Device = 14
+abbrev pub io_fault_number : IoKind → ℕ
+io_fault_number UnexpectedEof = 10
+io_fault_number InvalidData = 11
+io_fault_number InvalidInput = 12
+io_fault_number WriteZero = 13
+io_fault_number Device = 14
 
 -- of any fault
 abbrev pub fault_number : TiffError → ℕ
-fault_number (FormatError e) = format_number e
-fault_number (UnsupportedError e) = unsupported_number e
-fault_number (IoError k) = io_number k
-fault_number (UsageError e) = usage_number e
+fault_number (FormatError e) = format_fault_number e
+fault_number (UnsupportedError e) = unsupported_fault_number e
+fault_number (IoError k) = io_fault_number k
+fault_number (UsageError e) = usage_fault_number e
 fault_number LimitsExceeded = 1
 fault_number IntSizeError = 2
 fault_number OutOfMemory = 3
@@ -92,6 +92,6 @@ status (Err e) = fault_number e
 
 -- The status of a call tells the answer that is given: 0, and what the call left is the value; or the number of the fault. Or else
 -- it is want of memory.
-abbrev pub Tells : {X : Type 0} → Result X TiffError → ℕ → X → Type 0
-Tells (Ok x) status left = ((status ≡ 0) × (left ≡ x)) ⊎ (status ≡ fault_number OutOfMemory)
-Tells (Err e) status left = (status ≡ fault_number e) ⊎ (status ≡ fault_number OutOfMemory)
+abbrev pub StatusTells : {X : Type 0} → Result X TiffError → ℕ → X → Type 0
+StatusTells (Ok x) status left = ((status ≡ 0) × (left ≡ x)) ⊎ (status ≡ fault_number OutOfMemory)
+StatusTells (Err e) status left = (status ≡ fault_number e) ⊎ (status ≡ fault_number OutOfMemory)

@@ -2,10 +2,10 @@
 //! caller's, or want of memory.
 
 ghost use Rattle.std.specs.Prelude.{◌≡◌, IfOk, OnOk};
-ghost use Rattle.tiff_base.specs.Answers.{AnswersExactly, AnswersHere, Gives};
+ghost use Rattle.tiff_base.specs.Answers.{AnswersWithoutMemory, AnswersWithoutSource, Gives};
 ghost use Rattle.tiff_base.specs.declared.error.TiffError.TheVariants.{FormatError};
 ghost use Rattle.tiff_base.specs.declared.error.TiffFormatError.TheVariants.{RequiredTagNotFound};
-ghost use Rattle.tiff_ifd.specs.Look.{known};
+ghost use Rattle.tiff_ifd.specs.Look.{ok_or_fault};
 ghost use Rattle.tiff_decode.specs.Outcome as outcome;
 ghost use Rattle.tiff_c.specs.Calls as calls;
 
@@ -33,7 +33,7 @@ pub struct Layout {
     pub complete_len: usize,
 }
 
-/// The colour of a page: the number of its kind, the bits of a sample, and how many samples a pixel shows.
+/// The color of a page: the number of its kind, the bits of a sample, and how many samples a pixel shows.
 #[derive(Clone, Copy, Debug, PartialEq, Eq)]
 #[repr(C)]
 pub struct Color {
@@ -69,7 +69,7 @@ fn never_failed(decoder: &Decoder<SliceSource<'_>>)
 
 // A decoder at the first page of a file.
 fn open_first(alloc: Global, file: &[u8]) -> TiffResult<Decoder<SliceSource<'_>>>
-    ensures { AnswersHere (λ d. d) result (outcome.begun file.now 0) }
+    ensures { AnswersWithoutSource (λ d. d) result (outcome.decoder_of file.now 0) }
 {
     match Decoder::new(alloc, SliceSource::new(file)) {
         Ok(decoder) => {
@@ -83,7 +83,7 @@ fn open_first(alloc: Global, file: &[u8]) -> TiffResult<Decoder<SliceSource<'_>>
 // Goes to a page.
 #[tactic(auto, using(crate::proofs::Slices::here, crate::proofs::Slices::gone))]
 fn seek(decoder: &mut Decoder<SliceSource<'_>>, page: usize) -> TiffResult<()>
-    ensures answer { AnswersHere (λ x. x) result (outcome.seek_to_image decoder.old page).answer }
+    ensures answer { AnswersWithoutSource (λ x. x) result (outcome.seek_to_image decoder.old page).answer }
     ensures gone { OnOk result (decoder.new ≡ record decoder.old { state = (outcome.seek_to_image decoder.old page).next }) }
 {
     never_failed(decoder);
@@ -94,7 +94,7 @@ fn seek(decoder: &mut Decoder<SliceSource<'_>>, page: usize) -> TiffResult<()>
 
 // A decoder at a page of a file.
 fn open_at(alloc: Global, file: &[u8], page: usize) -> TiffResult<Decoder<SliceSource<'_>>>
-    ensures { AnswersHere (λ d. d) result (calls.at_page file.now page) }
+    ensures { AnswersWithoutSource (λ d. d) result (calls.decoder_at_page file.now page) }
 {
     let mut decoder = open_first(alloc, file)?;
     seek(&mut decoder, page)?;
@@ -104,7 +104,7 @@ fn open_at(alloc: Global, file: &[u8], page: usize) -> TiffResult<Decoder<SliceS
 /// The width and the height of a page.
 #[tactic(auto, unfolding(tiff_decode::specs::Outcome::dimensions))]
 pub fn page_sides(alloc: Global, file: &[u8], page: usize) -> TiffResult<Sides>
-    ensures { AnswersHere (λ s. s) result (calls.page_sides file.now page) }
+    ensures { AnswersWithoutSource (λ s. s) result (calls.page_sides file.now page) }
 {
     let (width, height) = open_at(alloc, file, page)?.dimensions()?;
     Ok(Sides { width, height })
@@ -113,7 +113,7 @@ pub fn page_sides(alloc: Global, file: &[u8], page: usize) -> TiffResult<Sides>
 // Reads the image of a decoder's page into a slice.
 #[tactic(auto, using(crate::proofs::Slices::here))]
 fn image_here(decoder: &mut Decoder<SliceSource<'_>>, buffer: &mut [u8]) -> TiffResult<()>
-    ensures { AnswersHere (λ _. buffer.new) result (outcome.read_image_bytes decoder.old buffer.old).answer }
+    ensures { AnswersWithoutSource (λ _. buffer.new) result (outcome.read_image_bytes decoder.old buffer.old).answer }
 {
     never_failed(decoder);
     let answer = decoder.read_image_bytes(buffer);
@@ -123,7 +123,7 @@ fn image_here(decoder: &mut Decoder<SliceSource<'_>>, buffer: &mut [u8]) -> Tiff
 
 /// Reads the image of a page into a slice.
 pub fn image_bytes(alloc: Global, file: &[u8], page: usize, buffer: &mut [u8]) -> TiffResult<()>
-    ensures { AnswersHere (λ _. buffer.new) result (calls.read_image_bytes file.now page buffer.old) }
+    ensures { AnswersWithoutSource (λ _. buffer.new) result (calls.read_image_bytes file.now page buffer.old) }
 {
     image_here(&mut open_at(alloc, file, page)?, buffer)
 }
@@ -131,7 +131,7 @@ pub fn image_bytes(alloc: Global, file: &[u8], page: usize, buffer: &mut [u8]) -
 // The layout of a decoder's page.
 #[tactic(auto, unfolding(tiff_decode::specs::Outcome::image_buffer_layout))]
 fn layout_here(decoder: &mut Decoder<SliceSource<'_>>) -> TiffResult<Layout>
-    ensures { AnswersHere (λ l. l) result (calls.layout_of decoder.old) }
+    ensures { AnswersWithoutSource (λ l. l) result (calls.image_layout decoder.old) }
 {
     let layout = decoder.image_buffer_layout()?;
     Ok(Layout {
@@ -142,7 +142,7 @@ fn layout_here(decoder: &mut Decoder<SliceSource<'_>>) -> TiffResult<Layout>
 
 /// The bytes of the image of a page.
 pub fn page_layout(alloc: Global, file: &[u8], page: usize) -> TiffResult<Layout>
-    ensures { AnswersHere (λ l. l) result (calls.page_layout file.now page) }
+    ensures { AnswersWithoutSource (λ l. l) result (calls.page_layout file.now page) }
 {
     layout_here(&mut open_at(alloc, file, page)?)
 }
@@ -154,7 +154,7 @@ fn chunk_here(
     chunk: u32,
     buffer: &mut [u8],
 ) -> TiffResult<()>
-    ensures { AnswersHere (λ _. buffer.new) result (outcome.read_chunk_bytes decoder.old chunk buffer.old).answer }
+    ensures { AnswersWithoutSource (λ _. buffer.new) result (outcome.read_chunk_bytes decoder.old chunk buffer.old).answer }
 {
     never_failed(decoder);
     let answer = decoder.read_chunk_bytes(chunk, buffer);
@@ -170,7 +170,7 @@ pub fn chunk_bytes(
     chunk: u32,
     buffer: &mut [u8],
 ) -> TiffResult<()>
-    ensures { AnswersHere (λ _. buffer.new) result (calls.read_chunk_bytes file.now page chunk buffer.old) }
+    ensures { AnswersWithoutSource (λ _. buffer.new) result (calls.read_chunk_bytes file.now page chunk buffer.old) }
 {
     chunk_here(&mut open_at(alloc, file, page)?, chunk, buffer)
 }
@@ -178,7 +178,7 @@ pub fn chunk_bytes(
 // Reads a coding unit of a decoder's page into a slice.
 #[tactic(auto, using(crate::proofs::Slices::here))]
 fn unit_here(decoder: &mut Decoder<SliceSource<'_>>, unit: u32, buffer: &mut [u8]) -> TiffResult<()>
-    ensures { AnswersHere (λ _. buffer.new) result (outcome.read_coding_unit_bytes decoder.old unit buffer.old).answer }
+    ensures { AnswersWithoutSource (λ _. buffer.new) result (outcome.read_coding_unit_bytes decoder.old unit buffer.old).answer }
 {
     never_failed(decoder);
     let answer = decoder.read_coding_unit_bytes(TiffCodingUnit(unit), buffer);
@@ -194,12 +194,12 @@ pub fn unit_bytes(
     unit: u32,
     buffer: &mut [u8],
 ) -> TiffResult<()>
-    ensures { AnswersHere (λ _. buffer.new) result (calls.read_unit_bytes file.now page unit buffer.old) }
+    ensures { AnswersWithoutSource (λ _. buffer.new) result (calls.read_unit_bytes file.now page unit buffer.old) }
 {
     unit_here(&mut open_at(alloc, file, page)?, unit, buffer)
 }
 
-// The kind of a colour, as C is told of it.
+// The kind of a color, as C is told of it.
 fn color_number(color: ColorType) -> u32
     ensures { result ≡ calls.color_number color }
 {
@@ -218,10 +218,10 @@ fn color_number(color: ColorType) -> u32
     }
 }
 
-// The colour of a decoder's page.
+// The color of a decoder's page.
 #[tactic(auto, unfolding(tiff_decode::specs::Outcome::colortype))]
 fn color_here(decoder: &mut Decoder<SliceSource<'_>>) -> TiffResult<Color>
-    ensures { AnswersHere (λ c. c) result (calls.color_of decoder.old) }
+    ensures { AnswersWithoutSource (λ c. c) result (calls.color_of decoder.old) }
 {
     let color = decoder.colortype()?;
     Ok(Color {
@@ -231,9 +231,9 @@ fn color_here(decoder: &mut Decoder<SliceSource<'_>>) -> TiffResult<Color>
     })
 }
 
-/// The colour of a page.
+/// The color of a page.
 pub fn page_color(alloc: Global, file: &[u8], page: usize) -> TiffResult<Color>
-    ensures { AnswersHere (λ c. c) result (calls.page_color file.now page) }
+    ensures { AnswersWithoutSource (λ c. c) result (calls.page_color file.now page) }
 {
     color_here(&mut open_at(alloc, file, page)?)
 }
@@ -241,7 +241,7 @@ pub fn page_color(alloc: Global, file: &[u8], page: usize) -> TiffResult<Color>
 // The chunks of a decoder's page.
 #[tactic(auto, unfolding(tiff_decode::specs::Outcome::strip_count, tiff_decode::specs::Outcome::tile_count))]
 fn chunks_here(decoder: &mut Decoder<SliceSource<'_>>) -> TiffResult<Chunks>
-    ensures { AnswersHere (λ c. c) result (calls.chunks_of decoder.old) }
+    ensures { AnswersWithoutSource (λ c. c) result (calls.chunks_of_page decoder.old) }
 {
     let (width, height) = decoder.chunk_dimensions();
     let (kind, count) = match decoder.get_chunk_type() {
@@ -258,14 +258,14 @@ fn chunks_here(decoder: &mut Decoder<SliceSource<'_>>) -> TiffResult<Chunks>
 
 /// The chunks of a page.
 pub fn page_chunks(alloc: Global, file: &[u8], page: usize) -> TiffResult<Chunks>
-    ensures { AnswersHere (λ c. c) result (calls.page_chunks file.now page) }
+    ensures { AnswersWithoutSource (λ c. c) result (calls.page_chunks file.now page) }
 {
     chunks_here(&mut open_at(alloc, file, page)?)
 }
 
 // The field of a tag of a decoder's page.
 fn field_here(decoder: &mut Decoder<SliceSource<'_>>, tag: Tag) -> TiffResult<FieldSize>
-    ensures { AnswersHere (λ f. f) result (calls.field_of decoder.old tag) }
+    ensures { AnswersWithoutSource (λ f. f) result (calls.field_size decoder.old tag) }
 {
     match decoder.image_ifd().find_entry(tag) {
         None => Err(TiffFormatError::RequiredTagNotFound(tag).into()),
@@ -278,7 +278,7 @@ fn field_here(decoder: &mut Decoder<SliceSource<'_>>, tag: Tag) -> TiffResult<Fi
 
 /// The field of a tag of a page, by the tag's number.
 pub fn tag_field(alloc: Global, file: &[u8], page: usize, number: u16) -> TiffResult<FieldSize>
-    ensures { AnswersHere (λ f. f) result (calls.tag_field file.now page number) }
+    ensures { AnswersWithoutSource (λ f. f) result (calls.tag_field file.now page number) }
 {
     field_here(
         &mut open_at(alloc, file, page)?,
@@ -307,7 +307,7 @@ pub fn page_count(alloc: Global, file: &[u8]) -> TiffResult<u32> {
 // The number of a tag of a decoder's page.
 #[tactic(auto, using(crate::proofs::Slices::read_here))]
 fn number_here(decoder: &mut Decoder<SliceSource<'_>>, tag: Tag) -> TiffResult<u64>
-    ensures { AnswersHere (λ n. n) result (outcome.get_tag_u64 decoder.old tag).answer }
+    ensures { AnswersWithoutSource (λ n. n) result (outcome.get_tag_u64 decoder.old tag).answer }
 {
     never_failed(decoder);
     let answer = decoder.get_tag_u64(tag);
@@ -317,7 +317,7 @@ fn number_here(decoder: &mut Decoder<SliceSource<'_>>, tag: Tag) -> TiffResult<u
 
 /// The number of a tag of a page, by the tag's number.
 pub fn tag_number(alloc: Global, file: &[u8], page: usize, number: u16) -> TiffResult<u64>
-    ensures { AnswersHere (λ n. n) result (calls.tag_number_at file.now page number) }
+    ensures { AnswersWithoutSource (λ n. n) result (calls.tag_number_at file.now page number) }
 {
     number_here(
         &mut open_at(alloc, file, page)?,
@@ -327,7 +327,7 @@ pub fn tag_number(alloc: Global, file: &[u8], page: usize, number: u16) -> TiffR
 
 // A field's bytes that were copied: how many, where there is the field.
 fn copied(tag: Tag, found: Option<usize>) -> TiffResult<usize>
-    ensures { Gives (λ n. n) result (known found (FormatError (RequiredTagNotFound tag))) }
+    ensures { Gives (λ n. n) result (ok_or_fault found (FormatError (RequiredTagNotFound tag))) }
 {
     match found {
         Some(count) => Ok(count),
@@ -343,7 +343,8 @@ fn part_of_tag<R: Source>(
     at: u64,
     buffer: &mut [u8],
 ) -> TiffResult<Option<usize>>
-    ensures { AnswersExactly (λ n. (n, buffer.new)) result (outcome.find_tag_bytes decoder.old tag buffer.old at).answer decoder.old.failures decoder.new.failures }
+    ensures { AnswersWithoutMemory (λ n. (n, buffer.new)) result (outcome.find_tag_bytes decoder.old tag buffer.old at).answer
+        decoder.old.failures decoder.new.failures }
 {
     decoder.image_ifd().find_tag_bytes(tag, buffer, at)
 }
@@ -356,7 +357,7 @@ fn part_here(
     at: u64,
     buffer: &mut [u8],
 ) -> TiffResult<Option<usize>>
-    ensures { AnswersHere (λ n. (n, buffer.new)) result (outcome.find_tag_bytes decoder.old tag buffer.old at).answer }
+    ensures { AnswersWithoutSource (λ n. (n, buffer.new)) result (outcome.find_tag_bytes decoder.old tag buffer.old at).answer }
 {
     never_failed(decoder);
     let answer = part_of_tag(decoder, tag, at, buffer);
@@ -371,7 +372,7 @@ fn bytes_here(
     at: u64,
     buffer: &mut [u8],
 ) -> TiffResult<usize>
-    ensures { AnswersHere (λ n. (n, buffer.new)) result (calls.bytes_of_tag decoder.old tag at buffer.old) }
+    ensures { AnswersWithoutSource (λ n. (n, buffer.new)) result (calls.bytes_of_tag decoder.old tag at buffer.old) }
 {
     let found = part_here(decoder, tag, at, buffer)?;
     copied(tag, found)
@@ -387,7 +388,7 @@ pub fn tag_bytes(
     at: u64,
     buffer: &mut [u8],
 ) -> TiffResult<usize>
-    ensures { AnswersHere (λ n. (n, buffer.new)) result (calls.tag_bytes file.now page number at buffer.old) }
+    ensures { AnswersWithoutSource (λ n. (n, buffer.new)) result (calls.tag_bytes file.now page number at buffer.old) }
 {
     bytes_here(
         &mut open_at(alloc, file, page)?,
@@ -409,7 +410,7 @@ fn order_number(order: ByteOrder) -> u32
 
 /// The byte order of a file.
 pub fn byte_order(alloc: Global, file: &[u8]) -> TiffResult<u32>
-    ensures { AnswersHere (λ n. n) result (calls.byte_order file.now) }
+    ensures { AnswersWithoutSource (λ n. n) result (calls.file_byte_order file.now) }
 {
     Ok(order_number(open_first(alloc, file)?.byte_order()))
 }

@@ -4,7 +4,7 @@
 
 ghost use Rattle.std.specs.Prelude.{◌≡◌, ◌⊎◌};
 ghost use Rattle.tiff_c.specs.Calls as calls;
-ghost use Rattle.tiff_c.specs.Status.{Tells};
+ghost use Rattle.tiff_c.specs.Status.{StatusTells};
 ghost use Rattle.tiff_c.specs.Writer as writer;
 ghost use Rattle.tiff_c.specs.Writer.{IsShown};
 
@@ -24,67 +24,67 @@ use crate::writer::{NewImage, deliver, write_new};
 
 /// The width and the height of a page.
 #[unsafe(no_mangle)]
-#[tactic(auto, using(crate::proofs::Told::tells_left))]
+#[tactic(auto, using(crate::proofs::StatusTells::tells_left))]
 pub extern "C" fn tiff_page_sides(alloc: Global, file: &[u8], page: usize, sides: &mut Sides) -> u32
-    ensures { Tells (calls.page_sides file.now page) result sides.new }
+    ensures { StatusTells (calls.page_sides file.now page) result sides.new }
 {
     given(page_sides(alloc, file, page), sides)
 }
 
 /// Reads the image of a page into a slice.
 #[unsafe(no_mangle)]
-#[tactic(auto, using(crate::proofs::Told::tells_left))]
+#[tactic(auto, using(crate::proofs::StatusTells::tells_left))]
 pub extern "C" fn tiff_read_image_bytes(
     alloc: Global,
     file: &[u8],
     page: usize,
     buffer: &mut [u8],
 ) -> u32
-    ensures { Tells (calls.read_image_bytes file.now page buffer.old) result buffer.new }
+    ensures { StatusTells (calls.read_image_bytes file.now page buffer.old) result buffer.new }
 {
     done(image_bytes(alloc, file, page, buffer))
 }
 
-/// The colour of a page.
+/// The color of a page.
 #[unsafe(no_mangle)]
-#[tactic(auto, using(crate::proofs::Told::tells_left))]
+#[tactic(auto, using(crate::proofs::StatusTells::tells_left))]
 pub extern "C" fn tiff_page_color(alloc: Global, file: &[u8], page: usize, color: &mut Color) -> u32
-    ensures { Tells (calls.page_color file.now page) result color.new }
+    ensures { StatusTells (calls.page_color file.now page) result color.new }
 {
     given(page_color(alloc, file, page), color)
 }
 
 /// The strips or the tiles of a page.
 #[unsafe(no_mangle)]
-#[tactic(auto, using(crate::proofs::Told::tells_left))]
+#[tactic(auto, using(crate::proofs::StatusTells::tells_left))]
 pub extern "C" fn tiff_page_chunks(
     alloc: Global,
     file: &[u8],
     page: usize,
     chunks: &mut Chunks,
 ) -> u32
-    ensures { Tells (calls.page_chunks file.now page) result chunks.new }
+    ensures { StatusTells (calls.page_chunks file.now page) result chunks.new }
 {
     given(page_chunks(alloc, file, page), chunks)
 }
 
 /// The bytes of the image of a page: of one plane, and of all.
 #[unsafe(no_mangle)]
-#[tactic(auto, using(crate::proofs::Told::tells_left))]
+#[tactic(auto, using(crate::proofs::StatusTells::tells_left))]
 pub extern "C" fn tiff_page_layout(
     alloc: Global,
     file: &[u8],
     page: usize,
     layout: &mut Layout,
 ) -> u32
-    ensures { Tells (calls.page_layout file.now page) result layout.new }
+    ensures { StatusTells (calls.page_layout file.now page) result layout.new }
 {
     given(page_layout(alloc, file, page), layout)
 }
 
 /// Reads a chunk of a page into a slice.
 #[unsafe(no_mangle)]
-#[tactic(auto, using(crate::proofs::Told::tells_left))]
+#[tactic(auto, using(crate::proofs::StatusTells::tells_left))]
 pub extern "C" fn tiff_read_chunk_bytes(
     alloc: Global,
     file: &[u8],
@@ -92,14 +92,14 @@ pub extern "C" fn tiff_read_chunk_bytes(
     chunk: u32,
     buffer: &mut [u8],
 ) -> u32
-    ensures { Tells (calls.read_chunk_bytes file.now page chunk buffer.old) result buffer.new }
+    ensures { StatusTells (calls.read_chunk_bytes file.now page chunk buffer.old) result buffer.new }
 {
     done(chunk_bytes(alloc, file, page, chunk, buffer))
 }
 
 /// Reads a coding unit of a page into a slice.
 #[unsafe(no_mangle)]
-#[tactic(auto, using(crate::proofs::Told::tells_left))]
+#[tactic(auto, using(crate::proofs::StatusTells::tells_left))]
 pub extern "C" fn tiff_read_coding_unit_bytes(
     alloc: Global,
     file: &[u8],
@@ -107,14 +107,14 @@ pub extern "C" fn tiff_read_coding_unit_bytes(
     unit: u32,
     buffer: &mut [u8],
 ) -> u32
-    ensures { Tells (calls.read_unit_bytes file.now page unit buffer.old) result buffer.new }
+    ensures { StatusTells (calls.read_unit_bytes file.now page unit buffer.old) result buffer.new }
 {
     done(unit_bytes(alloc, file, page, unit, buffer))
 }
 
 /// The field of a tag of a page, by the tag's number.
 #[unsafe(no_mangle)]
-#[tactic(auto, using(crate::proofs::Told::tells_left))]
+#[tactic(auto, using(crate::proofs::StatusTells::tells_left))]
 pub extern "C" fn tiff_tag_field(
     alloc: Global,
     file: &[u8],
@@ -122,14 +122,14 @@ pub extern "C" fn tiff_tag_field(
     number: u16,
     field: &mut FieldSize,
 ) -> u32
-    ensures { Tells (calls.tag_field file.now page number) result field.new }
+    ensures { StatusTells (calls.tag_field file.now page number) result field.new }
 {
     given(tag_field(alloc, file, page, number), field)
 }
 
 /// The number of a tag of a page, by the tag's number.
 #[unsafe(no_mangle)]
-#[tactic(auto, using(crate::proofs::Told::tells_left))]
+#[tactic(auto, using(crate::proofs::StatusTells::tells_left))]
 pub extern "C" fn tiff_tag_number(
     alloc: Global,
     file: &[u8],
@@ -137,14 +137,14 @@ pub extern "C" fn tiff_tag_number(
     number: u16,
     value: &mut u64,
 ) -> u32
-    ensures { Tells (calls.tag_number_at file.now page number) result value.new }
+    ensures { StatusTells (calls.tag_number_at file.now page number) result value.new }
 {
     given(tag_number(alloc, file, page, number), value)
 }
 
 /// Copies the bytes of the values of a tag of a page from a byte on, by the tag's number.
 #[unsafe(no_mangle)]
-#[tactic(auto, using(crate::proofs::Told::tells_both))]
+#[tactic(auto, using(crate::proofs::StatusTells::tells_both))]
 pub extern "C" fn tiff_tag_bytes(
     alloc: Global,
     file: &[u8],
@@ -154,16 +154,16 @@ pub extern "C" fn tiff_tag_bytes(
     buffer: &mut [u8],
     written: &mut usize,
 ) -> u32
-    ensures { Tells (calls.tag_bytes file.now page number at buffer.old) result (written.new, buffer.new) }
+    ensures { StatusTells (calls.tag_bytes file.now page number at buffer.old) result (written.new, buffer.new) }
 {
     given(tag_bytes(alloc, file, page, number, at, buffer), written)
 }
 
 /// The byte order of a file.
 #[unsafe(no_mangle)]
-#[tactic(auto, using(crate::proofs::Told::tells_left))]
+#[tactic(auto, using(crate::proofs::StatusTells::tells_left))]
 pub extern "C" fn tiff_byte_order(alloc: Global, file: &[u8], order: &mut u32) -> u32
-    ensures { Tells (calls.byte_order file.now) result order.new }
+    ensures { StatusTells (calls.file_byte_order file.now) result order.new }
 {
     given(byte_order(alloc, file), order)
 }
@@ -184,7 +184,7 @@ pub extern "C" fn tiff_write_image(
     buffer: &mut [u8],
     len: &mut usize,
 ) -> u32
-    ensures answer { writer.Tells image.now samples.now result buffer.old buffer.new len.old len.new }
+    ensures answer { writer.WriterTells image.now samples.now result buffer.old buffer.new len.old len.new }
 
     // What is done is shown, and what is not done is not begun.
     ensures shows { result ≡ 0 → IsShown image.now samples.now buffer.old buffer.new len.new }

@@ -71,7 +71,7 @@ pub enum Status {
 
 // The number of a file that does not have TIFF's form.
 fn format_number(fault: &TiffFormatError) -> u32
-    ensures { result ≡ spec.format_number fault.now }
+    ensures { result ≡ spec.format_fault_number fault.now }
 {
     let status = match fault {
         TiffFormatError::TiffSignatureNotFound => Status::TiffSignatureNotFound,
@@ -97,7 +97,7 @@ fn format_number(fault: &TiffFormatError) -> u32
 
 // The number of what is not supported.
 fn unsupported_number(fault: &TiffUnsupportedError) -> u32
-    ensures { result ≡ spec.unsupported_number fault.now }
+    ensures { result ≡ spec.unsupported_fault_number fault.now }
 {
     let status = match fault {
         TiffUnsupportedError::FloatingPointPredictor(_) => Status::FloatingPointPredictor,
@@ -124,7 +124,7 @@ fn unsupported_number(fault: &TiffUnsupportedError) -> u32
 
 // The number of a call that doesn't fit.
 fn usage_number(fault: &UsageError) -> u32
-    ensures { result ≡ spec.usage_number fault.now }
+    ensures { result ≡ spec.usage_fault_number fault.now }
 {
     let status = match fault {
         UsageError::InvalidChunkType(_, _) => Status::InvalidChunkType,
@@ -149,7 +149,7 @@ fn usage_number(fault: &UsageError) -> u32
 
 // The number of a fault of the bytes.
 fn io_number(fault: &IoKind) -> u32
-    ensures { result ≡ spec.io_number fault.now }
+    ensures { result ≡ spec.io_fault_number fault.now }
 {
     let status = match fault {
         IoKind::UnexpectedEof => Status::UnexpectedEof,
@@ -176,7 +176,7 @@ pub fn fault_number(fault: &TiffError) -> u32
     }
 }
 
-/// The status of a call that leaves what it answers in a place of its own.
+/// The status of a call that leaves what it answers in a variable of the caller's.
 pub fn done(answer: TiffResult<()>) -> u32
     ensures { result ≡ spec.status answer }
 {
@@ -186,15 +186,15 @@ pub fn done(answer: TiffResult<()>) -> u32
     }
 }
 
-/// Puts what is answered in its place, and gives the status. A fault leaves the place as it was.
-pub fn given<T: Copy + Drop>(answer: TiffResult<T>, place: &mut T) -> u32
+/// Puts what is answered in its place, and gives the status. A fault leaves `out` as it was.
+pub fn given<T: Copy + Drop>(answer: TiffResult<T>, out: &mut T) -> u32
     ensures status { result ≡ spec.status answer }
-    ensures put { IfOk answer (λ x. place.new ≡ x) }
-    ensures kept { OnErr answer (place.new ≡ place.old) }
+    ensures put { IfOk answer (λ x. out.new ≡ x) }
+    ensures kept { OnErr answer (out.new ≡ out.old) }
 {
     match answer {
         Ok(x) => {
-            *place = x;
+            *out = x;
             Status::Done as u32
         }
         Err(fault) => fault_number(&fault),

@@ -5,7 +5,7 @@ ghost use Rattle.tiff_base.specs.Types.{type_size};
 ghost use Rattle.tiff_value.specs.ColorType.{sample_number};
 ghost use Rattle.tiff_page.specs.Pixels.{numbers_in};
 ghost use Rattle.tiff_c.specs.Writer as writer;
-ghost use Rattle.tiff_c.specs.Writer.{Delivers, IsBegun, Puts, Writes, WritesBytes, WritesNew, seen};
+ghost use Rattle.tiff_c.specs.Writer.{Delivers, IsBegun, Puts, WritesImageFile, WritesBytes, WritesNew, view_of_result};
 
 use crate::samples::{Number, samples_of};
 use crate::status::{Status, fault_number};
@@ -22,7 +22,7 @@ use tiff_value::encoder::colortype::{
 };
 use tiff_value::encoder::tiff_value::TiffValue;
 
-/// An image that is written, by the numbers of TIFF: the colour type by its number in `COLOR_TYPES`, the sides in pixels, the
+/// An image that is written, by the numbers of TIFF: the color type by its number in `COLOR_TYPES`, the sides in pixels, the
 /// version of the header, and the values of the tags Compression and Predictor.
 #[derive(Clone, Copy, Debug, PartialEq, Eq)]
 #[repr(C)]
@@ -44,7 +44,7 @@ pub struct Settings {
     pub predictor: Predictor,
 }
 
-// The colour types, in the order of their numbers.
+// The color types, in the order of their numbers.
 const COLOR_TYPES: [ColorTypeName; 30] = [
     ColorTypeName::Gray8,
     ColorTypeName::Gray16,
@@ -92,7 +92,7 @@ fn kind_of(version: u16) -> Option<FileKind>
     }
 }
 
-// A colour type, by its number.
+// A color type, by its number.
 fn color_of(number: u32) -> Option<ColorTypeName>
     ensures { result ≡ slice_get writer.color_types number }
 {
@@ -162,7 +162,7 @@ fn begin<K: TiffKind>(
     }
 }
 
-// A file of one image of a colour type.
+// A file of one image of a color type.
 #[tactic(auto, using(crate::proofs::Writing::file_written, crate::proofs::Writing::fault_written, crate::proofs::Writing::only_memory))]
 fn write_samples<K: TiffKind, C: NamedColorType>(
     alloc: Global,
@@ -173,7 +173,8 @@ fn write_samples<K: TiffKind, C: NamedColorType>(
 ) -> TiffResult<Vec<u8>>
     requires kind { settings.now.kind ≡ K.kind }
     requires named { settings.now.color ≡ C.name }
-    ensures { Writes settings.now width height (map (sample_number (type_size C.Inner.value_type) C.Inner.bits) samples.now) (seen (λ v. v.items) result) }
+    ensures { WritesImageFile settings.now width height (map (sample_number (type_size C.Inner.value_type) C.Inner.bits)
+        samples.now) (view_of_result (λ v. v.items) result) }
 {
     let size = usize::from(C::Inner::byte_len());
     let room = samples.len().saturating_mul(size).saturating_add(FRAME);
@@ -202,7 +203,8 @@ fn write_pieces<K: TiffKind, C: NamedColorType, U: Number<N>, const N: usize>(
     requires named { settings.now.color ≡ C.name }
     requires some { 0 < N }
     requires size { type_size C.Inner.value_type ≡ N }
-    ensures { WritesBytes settings.now width height (writer.samples_of settings.now.color bytes.now) (seen (λ v. v.items) result) }
+    ensures { WritesBytes settings.now width height (writer.samples_from_bytes settings.now.color bytes.now)
+        (view_of_result (λ v. v.items) result) }
 {
     if bytes.len() % N != 0 {
         return Err(TiffError::UsageError(UsageError::MismatchedEntryLength {
@@ -217,7 +219,7 @@ fn write_pieces<K: TiffKind, C: NamedColorType, U: Number<N>, const N: usize>(
     write_samples::<K, C>(alloc, settings, width, height, &samples)
 }
 
-// The same, by the name of a colour type.
+// The same, by the name of a color type.
 #[tactic(auto, using(crate::proofs::Writing::octets_written), unfolding(tiff_value::specs::ColorTypes::inner_type))]
 fn write_named<K: TiffKind>(
     alloc: Global,
@@ -227,7 +229,7 @@ fn write_named<K: TiffKind>(
     bytes: &[u8],
 ) -> TiffResult<Vec<u8>>
     requires { s.now.kind ≡ K.kind }
-    ensures { WritesBytes s.now width height (writer.samples_of s.now.color bytes.now) (seen (λ v. v.items) result) }
+    ensures { WritesBytes s.now width height (writer.samples_from_bytes s.now.color bytes.now) (view_of_result (λ v. v.items) result) }
 {
     match s.color {
         ColorTypeName::Gray8 => write_samples::<K, Gray8>(alloc, s, width, height, bytes),
@@ -287,7 +289,7 @@ fn write_named<K: TiffKind>(
 
 /// The file of an image of these samples, which are little-endian bytes, row by row and pixel by pixel; or the fault.
 pub fn write_new(alloc: Global, image: &NewImage, bytes: &[u8]) -> TiffResult<Vec<u8>>
-    ensures { WritesNew image.now bytes.now (seen (λ v. v.items) result) }
+    ensures { WritesNew image.now bytes.now (view_of_result (λ v. v.items) result) }
 {
     let settings = match settings_of(image) {
         Ok(settings) => settings,
@@ -318,7 +320,7 @@ fn put(file: &[u8], buffer: &mut [u8]) -> u32
 
 /// Puts a file at the front of a buffer that has room for it, tells its length in any case, and gives the status.
 pub fn deliver(answer: TiffResult<Vec<u8>>, buffer: &mut [u8], len: &mut usize) -> u32
-    ensures { Delivers (seen (λ v. v.items) answer) result buffer.old buffer.new len.old len.new }
+    ensures { Delivers (view_of_result (λ v. v.items) answer) result buffer.old buffer.new len.old len.new }
 {
     match answer {
         Ok(file) => {

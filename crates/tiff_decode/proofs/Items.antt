@@ -9,7 +9,7 @@ use Rattle.tiff_base.specs.declared.error.TiffError.TheVariants.{FormatError, Un
 use Rattle.tiff_base.specs.declared.io.IoKind.TheVariants.{UnexpectedEof, InvalidData, InvalidInput, WriteZero, Device}
 use Rattle.tiff_base.specs.declared.tags.Tag.{Tag}
 use Rattle.tiff_base.specs.Answers.{IsCause, NoneSwallowed, ◌>>=◌}
-use Rattle.tiff_base.specs.Sparing.{IsWithin}
+use Rattle.tiff_base.specs.Sparing.{IsWithinLimits}
 use Rattle.tiff_base.specs.Directory.{fields_after}
 use Rattle.tiff_base.specs.Field.{Field, DirectoryRecord}
 use Rattle.tiff_base.proofs.After.{after_first, after_head}
@@ -21,7 +21,7 @@ use Rattle.tiff_decode.specs.Step.{ItemIs}
 
 -- a value that is refused makes an item that is refused
 pub item_refused : (given : Result Datum TiffError) (make : Datum → Result (Tag × Datum) TiffError) (before after : ℕ) (e : TiffError)
-    → IsCause (IsWithin given) (before < after) e (given ≡ Err e) → NoneSwallowed {X = Value} (Err e) before after → ItemIs (given >>= make) (Err e) before after
+    → IsCause (IsWithinLimits given) (before < after) e (given ≡ Err e) → NoneSwallowed {X = Value} (Err e) before after → ItemIs (given >>= make) (Err e) before after
 item_refused given make before after OutOfMemory c l = l
 item_refused given make before after (IoError Device) c l = c
 item_refused given make before after (IoError UnexpectedEof) c l = (ap (λ r. r >>= make) c, l)

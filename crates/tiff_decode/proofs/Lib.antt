@@ -1,10 +1,10 @@
 pub mod Opening
-pub mod After
+pub mod NextState
 pub mod Required
 pub mod Numbers
-pub mod Along
+pub mod ChainPosition
 pub mod Items
 pub mod TagList
 pub mod Samples
 pub mod Pieces
-pub mod Turns
+pub mod CallsMade

@@ -10,22 +10,22 @@ use Rattle.tiff_base.specs.Header.{Header, header_at}
 use Rattle.tiff_base.proofs.Causes.{cause_along}
 use Rattle.tiff_ifd.specs.declared.limits.Limits.{Limits}
 use Rattle.tiff_ifd.specs.Chain.{Chain, chain, walk, onto, entered, link_from}
-use Rattle.tiff_ifd.specs.Look.{known}
+use Rattle.tiff_ifd.specs.Look.{ok_or_fault}
 use Rattle.tiff_ifd.specs.Walk.{Walked, Enters, IsRefused, Steps}
 use Rattle.tiff_page.specs.Page.{PageRecord}
 use Rattle.tiff_decode.specs.Machine.{Decoding}
-use Rattle.tiff_decode.specs.Outcome.{begun, chain_from, first_directory, first_state, page_in, past}
-use Rattle.tiff_decode.specs.State.{default_limits}
+use Rattle.tiff_decode.specs.Outcome.{decoder_of, chain_from, first_directory, first_state, page_in, end_fault}
+use Rattle.tiff_decode.specs.DefaultLimits.{default_limits}
 
--- the first place of a chain, or why there is none
+-- the first offset of a chain, or why there is none
 first_of : Chain → Result ℕ TiffError
-first_of c = known (slice_get c.places 0) (past c.end)
+first_of c = ok_or_fault (slice_get c.offsets 0) (end_fault c.end)
 
-of_onto : (place : ℕ) (r : Result (Option ℕ) TiffError) (rest : Option ℕ → Chain)
-    → first_of (onto place r rest) ≡ (r >>= λ _. Ok place)
+of_onto : (offset : ℕ) (r : Result (Option ℕ) TiffError) (rest : Option ℕ → Chain)
+    → first_of (onto offset r rest) ≡ (r >>= λ _. Ok offset)
 unfolding first_of
-of_onto place (Ok after) rest = refl
-of_onto place (Err e) rest = refl
+of_onto offset (Ok after) rest = refl
+of_onto offset (Err e) rest = refl
 
 of_walk : (link : ℕ → Result (Option ℕ) TiffError) (steps first : ℕ)
     → first_of (walk link steps [] (Some first)) ≡ (entered link [] first >>= λ _. Ok first)
@@ -33,17 +33,17 @@ unfolding first_of
 of_walk link zero first = of_onto first (entered link [] first) _
 of_walk link (suc steps) first = of_onto first (entered link [] first) _
 
--- the first place is entered where its directory is read and isn't its own next one
+-- the first offset is entered where its directory is read and isn't its own next one
 first_is : (header : Header) (bytes : List ℕ)
     → first_of (chain_from header bytes) ≡ (entered (link_from header.kind header.order bytes) [] header.first >>= λ _. Ok header.first)
 unfolding chain first_of
 first_is header bytes = of_walk (link_from header.kind header.order bytes) (length bytes) header.first
 
--- the rest, once the first place is known
+-- the rest, once the first offset is known
 rest : Header → List ℕ → Result ℕ TiffError → Result (Header × ℕ × DirectoryRecord) TiffError
-rest header bytes r = r >>= λ place. directory_at header.kind header.order bytes place >>= λ directory. Ok (header, place, directory)
+rest header bytes r = r >>= λ offset. directory_at header.kind header.order bytes offset >>= λ directory. Ok (header, offset, directory)
 
--- with this header, of a chain whose first place is entered or isn't
+-- with this header, of a chain whose first offset is entered or isn't
 with_header : (header : Header) (bytes : List ℕ) → header_at bytes ≡ Ok header
     → first_directory bytes
     ≡ rest header bytes (entered (link_from header.kind header.order bytes) [] header.first >>= λ _. Ok header.first)
@@ -59,14 +59,14 @@ headless failed bytes e c =
     cause_along e (λ u. absurd u) (λ f. f)
     (λ h. ap (λ (r : Result Header TiffError). r >>= λ x. rest x bytes (first_of (chain_from x bytes))) h) c
 
--- a walk that begins at a header's first place
+-- a walk that begins at a header's first offset
 abbrev begun_at : Header → Walked
-begun_at header = record { places = []; next = Some header.first }
+begun_at header = record { offsets = []; next = Some header.first }
 
-same_place : (header : Header) (place : ℕ) → (begun_at header).next ≡ Some place → place ≡ header.first
-same_place header place h = cc
+same_offset : (header : Header) (offset : ℕ) → (begun_at header).next ≡ Some offset → offset ≡ header.first
+same_offset header offset h = cc
 
--- the first place isn't entered, of bytes that tell the same
+-- the first offset isn't entered, of bytes that tell the same
 pub unentered : (failed failed' : Type 0) (bytes told : List ℕ) (header : Header) (before after : Walked) (e : TiffError) → (failed → failed') → told ≡ bytes
     → header_at bytes ≡ Ok header → before ≡ begun_at header
     → IsCause (after ≡ before) (failed × (after ≡ before)) e (Steps header.kind header.order told before (Err e) after)
@@ -78,7 +78,7 @@ unentered failed failed' bytes told header before after e f same h b c =
     let Q : Walked → Type 0 = λ w. IsRefused header.kind header.order bytes w e in
     let r : IsRefused header.kind header.order bytes (begun_at header) e = subst Q b (subst P same s.0) in
     let E : ℕ → Type 0 = λ p. entered (link_from header.kind header.order bytes) [] p ≡ Err e in
-    let at_first : entered (link_from header.kind header.order bytes) [] header.first ≡ Err e = subst E (same_place header r.place r.next) r.refused in
+    let at_first : entered (link_from header.kind header.order bytes) [] header.first ≡ Err e = subst E (same_offset header r.offset r.next) r.refused in
     with_header header bytes h
     ∙ ap (λ (x : Result (Option ℕ) TiffError). rest header bytes (x >>= λ _. Ok header.first)) at_first))
     c
@@ -93,9 +93,9 @@ first_entered bytes told header before after d same h b s =
     let Q : Walked → Type 0 = λ w. Enters header.kind header.order bytes w d after in
     let r : Enters header.kind header.order bytes (begun_at header) d after = subst Q b (subst P same s) in
     let E : ℕ → Type 0 = λ p. entered (link_from header.kind header.order bytes) [] p ≡ Ok d.next in
-    let at_first : entered (link_from header.kind header.order bytes) [] header.first ≡ Ok d.next = subst E (same_place header r.place r.next) r.entered in
+    let at_first : entered (link_from header.kind header.order bytes) [] header.first ≡ Ok d.next = subst E (same_offset header r.offset r.next) r.entered in
     let D : ℕ → Type 0 = λ p. directory_at header.kind header.order bytes p ≡ Ok d in
-    let there_is : directory_at header.kind header.order bytes header.first ≡ Ok d = subst D (same_place header r.place r.next) r.read in
+    let there_is : directory_at header.kind header.order bytes header.first ≡ Ok d = subst D (same_offset header r.offset r.next) r.read in
     with_header header bytes h
     ∙ ap (λ (x : Result (Option ℕ) TiffError). rest header bytes (x >>= λ _. Ok header.first)) at_first
     ∙ ap (λ (x : Result DirectoryRecord TiffError). x >>= λ directory. Ok (header, header.first, directory)) there_is
@@ -117,18 +117,18 @@ page_then bytes failures r =
 
 -- no first directory
 pub begun_unread : (failed failed' : Type 0) (bytes : List ℕ) (failures : ℕ) (e : TiffError) → (failed → failed')
-    → IsCause (Unit {0}) failed e (first_directory bytes ≡ Err e) → IsCause (Unit {0}) failed' e (begun bytes failures ≡ Err e)
-unfolding begun page_then
+    → IsCause (Unit {0}) failed e (first_directory bytes ≡ Err e) → IsCause (Unit {0}) failed' e (decoder_of bytes failures ≡ Err e)
+unfolding decoder_of page_then
 begun_unread failed failed' bytes failures e f c = cause_along e (λ u. u) f (λ h. ap (page_then bytes failures) h) c
 
 -- a first directory that is no page, where its tags were read with these bytes and limits
-pub begun_unpaged : (failed failed' : Type 0) (bytes told : List ℕ) (limits : Limits) (failures : ℕ) (header : Header) (place : ℕ) (directory : DirectoryRecord) (e : TiffError)
+pub begun_unpaged : (failed failed' : Type 0) (bytes told : List ℕ) (limits : Limits) (failures : ℕ) (header : Header) (offset : ℕ) (directory : DirectoryRecord) (e : TiffError)
     → (failed → failed')
-    → told ≡ bytes → limits ≡ default_limits → first_directory bytes ≡ Ok (header, place, directory)
+    → told ≡ bytes → limits ≡ default_limits → first_directory bytes ≡ Ok (header, offset, directory)
     → IsCause (Unit {0}) failed e (page_in header.kind header.order told limits directory ≡ Err e)
-    → IsCause (Unit {0}) failed' e (begun bytes failures ≡ Err e)
-unfolding begun page_then
-begun_unpaged failed failed' bytes told limits failures header place directory e f same given found c =
+    → IsCause (Unit {0}) failed' e (decoder_of bytes failures ≡ Err e)
+unfolding decoder_of page_then
+begun_unpaged failed failed' bytes told limits failures header offset directory e f same given found c =
     cause_along e (λ u. u) f
     (λ h. ap (page_then bytes failures) found
     ∙ ap (λ (r : Result PageRecord TiffError). r >>= λ page. Ok (record {
@@ -137,25 +137,25 @@ begun_unpaged failed failed' bytes told limits failures header place directory e
       order = header.order;
       first = header.first;
       failures = failures;
-      state = first_state header.kind place directory page;
+      state = first_state header.kind offset directory page;
     }))
     ((λ i. page_in header.kind header.order (sym same i) (sym given i) directory) ∙ h))
     c
 
 -- a first page
-pub begun_page : (bytes told : List ℕ) (limits : Limits) (failures : ℕ) (header : Header) (place : ℕ) (directory : DirectoryRecord) (page : PageRecord)
-    → told ≡ bytes → limits ≡ default_limits → first_directory bytes ≡ Ok (header, place, directory)
+pub begun_page : (bytes told : List ℕ) (limits : Limits) (failures : ℕ) (header : Header) (offset : ℕ) (directory : DirectoryRecord) (page : PageRecord)
+    → told ≡ bytes → limits ≡ default_limits → first_directory bytes ≡ Ok (header, offset, directory)
     → page_in header.kind header.order told limits directory ≡ Ok page
-    → begun bytes failures ≡ Ok (record {
+    → decoder_of bytes failures ≡ Ok (record {
       bytes = bytes;
       kind = header.kind;
       order = header.order;
       first = header.first;
       failures = failures;
-      state = first_state header.kind place directory page;
+      state = first_state header.kind offset directory page;
     })
-unfolding begun page_then
-begun_page bytes told limits failures header place directory page same given found h =
+unfolding decoder_of page_then
+begun_page bytes told limits failures header offset directory page same given found h =
     ap (page_then bytes failures) found
     ∙ ap (λ (r : Result PageRecord TiffError). r >>= λ page. Ok (record {
       bytes = bytes;
@@ -163,6 +163,6 @@ begun_page bytes told limits failures header place directory page same given fou
       order = header.order;
       first = header.first;
       failures = failures;
-      state = first_state header.kind place directory page;
+      state = first_state header.kind offset directory page;
     }))
     ((λ i. page_in header.kind header.order (sym same i) (sym given i) directory) ∙ h)

@@ -8,17 +8,17 @@ use Rattle.tiff_base.specs.declared.tags.Tag.{Tag}
 use Rattle.tiff_base.specs.Answers.{IsCause, ◌>>=◌}
 use Rattle.tiff_base.proofs.Causes.{cause_along}
 use Rattle.tiff_ifd.specs.Datum.{Datum}
-use Rattle.tiff_ifd.specs.Look.{Look, converted, find, known, require}
+use Rattle.tiff_ifd.specs.Look.{Look, if_found, find, ok_or_fault, require}
 
 -- a number that is there is the number
-there : {A : Type 0} (fault : TiffError) (x : Result A TiffError) → ((x >>= λ y. Ok (Some y)) >>= λ found. known found fault) ≡ x
+there : {A : Type 0} (fault : TiffError) (x : Result A TiffError) → ((x >>= λ y. Ok (Some y)) >>= λ found. ok_or_fault found fault) ≡ x
 there fault (Ok y) = refl
 there fault (Err e) = refl
 
 -- a conversion of a required value is what the value converts to
 by_value : {A : Type 0} (into : Datum → Result A TiffError) (fault : TiffError) (r : Result (Option Datum) TiffError)
-    → ((r >>= converted into) >>= λ found. known found fault)
-    ≡ (((r >>= converted (λ d. Ok d)) >>= λ found. known found fault) >>= into)
+    → ((r >>= if_found into) >>= λ found. ok_or_fault found fault)
+    ≡ (((r >>= if_found (λ d. Ok d)) >>= λ found. ok_or_fault found fault) >>= into)
 by_value into fault (Err e) = refl
 by_value into fault (Ok None) = refl
 by_value into fault (Ok (Some d)) = there fault (into d)

@@ -5,7 +5,7 @@ use Rattle.tiff_base.specs.declared.error.TiffError.{TiffError}
 use Rattle.tiff_base.specs.declared.tags.Tag.{Tag}
 use Rattle.tiff_ifd.specs.Datum.{Datum}
 use Rattle.tiff_ifd.specs.declared.value.Value.{Value}
-use Rattle.tiff_ifd.specs.Ask.{tag_items}
+use Rattle.tiff_ifd.specs.TagQueries.{tag_items}
 use Rattle.tiff_decode.specs.Items.{items_left, NextItem}
 use Rattle.tiff_decode.specs.Machine.{Decoding}
 use Rattle.tiff_decode.specs.Outcome.{tag_iter}

@@ -15,7 +15,7 @@ use Rattle.tiff_ifd.specs.FieldValue.{field_value}
 use Rattle.tiff_ifd.specs.declared.limits.Limits.{Limits}
 use Rattle.tiff_ifd.specs.declared.value.Value.{Value}
 use Rattle.tiff_decode.specs.Machine.{Decoding}
-use Rattle.tiff_decode.specs.Reader.{reading}
+use Rattle.tiff_decode.specs.Reader.{reader_of}
 use Rattle.tiff_decode.specs.Step.{ItemIs}
 
 -- the fields that come after a tag number, or all of them
@@ -33,7 +33,7 @@ items_left d last = map (item_of d.kind d.order d.bytes d.state.limits) (fields_
 
 -- the items that are left of the tags that a borrowed decoder reads, of its page's directory or of another one
 abbrev pub tags_left : MutBor Decoding → Option (Bor DirectoryRecord) → Option ℕ → List (Result (Tag × Datum) TiffError)
-tags_left decoder other last = items_left (reading decoder.now (option_map (λ d. d.now) other)) last
+tags_left decoder other last = items_left (reader_of decoder.now (option_map (λ d. d.now) other)) last
 
 -- The next of some items, with those that are left after it and the counts of failed reads before and after it. At the end none
 -- is left, and nothing is read.

@@ -1,11 +1,11 @@
-pub mod State
+pub mod DefaultLimits
 pub mod Result
 pub mod Machine
 pub mod Outcome
 pub mod Failures
 pub mod Step
 pub mod Steps
-pub mod After
+pub mod NextState
 pub mod Reader
-pub mod Along
+pub mod ChainPosition
 pub mod Items

@@ -11,17 +11,17 @@ use Rattle.tiff_base.specs.Field.{DirectoryRecord}
 use Rattle.tiff_ifd.specs.declared.limits.Limits.{Limits}
 use Rattle.tiff_page.specs.Page.{PageRecord}
 
--- Where a decoder stands: the place of the directory that was entered last, whether another follows it, the page that was
--- read last with its directory, the place of the low-level reads, and the limits.
+-- Where a decoder stands: the offset of the directory that was entered last, whether another follows it, the page that was
+-- read last with its directory, the offset of the low-level reads, and the limits.
 pub record State : Type 0 where
   pub pointer : Option IfdPointer
   pub more : Bool
   pub page : PageRecord
   pub directory : DirectoryRecord
-  pub place : ℕ
+  pub offset : ℕ
   pub limits : Limits
 
--- A decoder: the bytes of its source, the file's kind, byte order and first place, how many reads failed so far, and where
+-- A decoder: the bytes of its source, the file's kind, byte order and first offset, how many reads failed so far, and where
 -- it stands.
 pub record Decoding : Type 0 where
   pub bytes : List ℕ
@@ -33,13 +33,13 @@ pub record Decoding : Type 0 where
 
 -- a decoder from what it is made of
 abbrev pub decoding : List ℕ → FileKind → ByteOrder → ℕ → ℕ → Option IfdPointer → Bool → PageRecord → DirectoryRecord → ℕ → Limits → Decoding
-decoding bytes kind order first failures pointer more page directory place limits = record {
+decoding bytes kind order first failures pointer more page directory offset limits = record {
   bytes = bytes;
   kind = kind;
   order = order;
   first = first;
   failures = failures;
-  state = record { pointer = pointer; more = more; page = page; directory = directory; place = place; limits = limits };
+  state = record { pointer = pointer; more = more; page = page; directory = directory; offset = offset; limits = limits };
 }
 
 -- What a call gives: its answer, and where the decoder stands after it. The answer is never want of memory or a fault of
@@ -89,21 +89,21 @@ abbrev pub Follows : {X Y : Type 0} → (X → Y) → Outcome Y → Result X Tif
 Follows view outcome result old new = FollowsBut (Unit {0}) view outcome result old new
 
 -- of one that takes none
-abbrev pub FollowsExactly : {X Y : Type 0} → (X → Y) → Outcome Y → Result X TiffError → Decoding → Decoding → Type 0
-FollowsExactly view outcome result old new = FollowsBut ⊥ view outcome result old new
+abbrev pub FollowsWithoutMemory : {X Y : Type 0} → (X → Y) → Outcome Y → Result X TiffError → Decoding → Decoding → Type 0
+FollowsWithoutMemory view outcome result old new = FollowsBut ⊥ view outcome result old new
 
 -- of a call that reads nothing: no read fails
-abbrev pub FollowsHereBut : {X Y : Type 0} → Type 0 → (X → Y) → Outcome Y → Result X TiffError → Decoding → Decoding → Type 0
-FollowsHereBut wanting view outcome result old new =
+abbrev pub FollowsWithoutSourceBut : {X Y : Type 0} → Type 0 → (X → Y) → Outcome Y → Result X TiffError → Decoding → Decoding → Type 0
+FollowsWithoutSourceBut wanting view outcome result old new =
     AnswersBut wanting ⊥ view result outcome.answer × (new ≡ record old { state = outcome.next })
 
 -- of one that takes memory
-abbrev pub FollowsHere : {X Y : Type 0} → (X → Y) → Outcome Y → Result X TiffError → Decoding → Decoding → Type 0
-FollowsHere view outcome result old new = FollowsHereBut (Unit {0}) view outcome result old new
+abbrev pub FollowsWithoutSource : {X Y : Type 0} → (X → Y) → Outcome Y → Result X TiffError → Decoding → Decoding → Type 0
+FollowsWithoutSource view outcome result old new = FollowsWithoutSourceBut (Unit {0}) view outcome result old new
 
 -- of one that takes none
-abbrev pub FollowsPlainly : {X Y : Type 0} → (X → Y) → Outcome Y → Result X TiffError → Decoding → Decoding → Type 0
-FollowsPlainly view outcome result old new = FollowsHereBut ⊥ view outcome result old new
+abbrev pub FollowsWithoutEither : {X Y : Type 0} → (X → Y) → Outcome Y → Result X TiffError → Decoding → Decoding → Type 0
+FollowsWithoutEither view outcome result old new = FollowsWithoutSourceBut ⊥ view outcome result old new
 
 -- it is a fault that is given
 abbrev pub IsFault : {Y : Type 0} → Result Y TiffError → Type 0
@@ -112,7 +112,7 @@ IsFault (Err e) = Unit {0}
 
 -- of one that takes memory for a fault alone, which may carry a list
 abbrev pub FollowsOrFaults : {X Y : Type 0} → (X → Y) → Outcome Y → Result X TiffError → Decoding → Decoding → Type 0
-FollowsOrFaults view outcome result old new = FollowsHereBut (IsFault outcome.answer) view outcome result old new
+FollowsOrFaults view outcome result old new = FollowsWithoutSourceBut (IsFault outcome.answer) view outcome result old new
 
 -- a call that is never refused and moves nothing
 abbrev pub Tells : {Y : Type 0} → Y → Y → Decoding → Decoding → Type 0

@@ -15,30 +15,30 @@ use Rattle.tiff_base.specs.declared.tags.FileKind.TheVariants.{Classic, Big}
 use Rattle.tiff_base.specs.declared.tags.IfdPointer.{IfdPointer}
 use Rattle.tiff_base.specs.declared.tags.Tag.{Tag}
 use Rattle.tiff_base.specs.Answers.{◌>>=◌}
-use Rattle.tiff_base.specs.Directory.{directory_at, place_width}
+use Rattle.tiff_base.specs.Directory.{directory_at, offset_width}
 use Rattle.tiff_base.specs.Field.{Field, DirectoryRecord}
 use Rattle.tiff_base.specs.Header.{Header, header_at}
 use Rattle.tiff_base.specs.Number.{number_at}
 use Rattle.tiff_base.specs.Tags.{tag_number}
-use Rattle.tiff_base.specs.Told.{exactly_at}
+use Rattle.tiff_base.specs.SourceAndSink.{exactly_at}
 use Rattle.tiff_value.specs.Buffer.{BufferRecord}
 use Rattle.tiff_ifd.specs.declared.limits.Limits.{Limits}
 use Rattle.tiff_ifd.specs.Chain.{Chain, chain}
 use Rattle.tiff_ifd.specs.Datum.{Datum}
 use Rattle.tiff_ifd.specs.FieldValue.{placed_text}
 use Rattle.tiff_ifd.specs.Into as into
-use Rattle.tiff_ifd.specs.Look.{Look, look_in, require, known}
-use Rattle.tiff_ifd.specs.Ask.{find_unsigned, find_unsigned_vec, get_unsigned, tag_items, buffer_of, part_of_field}
+use Rattle.tiff_ifd.specs.Look.{Look, look_in, require, ok_or_fault}
+use Rattle.tiff_ifd.specs.TagQueries.{find_unsigned, find_unsigned_vec, get_unsigned, tag_items, buffer_of, part_of_field}
 use Rattle.tiff_page.specs.declared.layout.BufferLayoutPreference.{BufferLayoutPreference}
 use Rattle.tiff_page.specs.Page.{PageRecord}
 use Rattle.tiff_page.specs.Checks.{page_of}
-use Rattle.tiff_page.specs.Layout.{colour_of}
+use Rattle.tiff_page.specs.Layout.{color_of}
 use Rattle.tiff_page.specs.Counts as counts
 use Rattle.tiff_page.specs.Rect as rects
 use Rattle.tiff_page.specs.Buffers as layouts
 use Rattle.tiff_page.specs.Image.{Decoded, image_of}
 use Rattle.tiff_page.specs.PixelCalls as pixels
-use Rattle.tiff_decode.specs.State.{default_limits}
+use Rattle.tiff_decode.specs.DefaultLimits.{default_limits}
 use Rattle.tiff_decode.specs.Machine.{State, Decoding, Outcome, stays}
 
 -- ---- entering pages
@@ -48,9 +48,9 @@ abbrev pub not_found : TiffError
 not_found = FormatError ImageFileDirectoryNotFound
 
 -- why a chain ends where it does
-abbrev pub past : Option TiffError → TiffError
-past None = not_found
-past (Some e) = e
+abbrev pub end_fault : Option TiffError → TiffError
+end_fault None = not_found
+end_fault (Some e) = e
 
 -- the chain of directories from a header on
 abbrev pub chain_from : Header → List ℕ → Chain
@@ -68,29 +68,29 @@ abbrev pub header_end : FileKind → ℕ
 header_end Classic = 8
 header_end Big = 16
 
--- the header, and the first directory of the chain with its place; or the first fault: of the header, of the chain where no
+-- the header, and the first directory of the chain with its offset; or the first fault: of the header, of the chain where no
 -- directory is in it
 unfoldable pub first_directory : List ℕ → Result (Header × ℕ × DirectoryRecord) TiffError
 first_directory bytes = do
   header ← header_at bytes
-  place ← known (slice_get (chain_from header bytes).places 0) (past (chain_from header bytes).end)
-  directory ← directory_at header.kind header.order bytes place
-  Ok (header, place, directory)
+  offset ← ok_or_fault (slice_get (chain_from header bytes).offsets 0) (end_fault (chain_from header bytes).end)
+  directory ← directory_at header.kind header.order bytes offset
+  Ok (header, offset, directory)
 
 -- where a decoder begins: at the first directory and its page, behind the header, under the limits by default
 abbrev pub first_state : FileKind → ℕ → DirectoryRecord → PageRecord → State
-first_state kind place directory page = record {
-  pointer = Some (record { 0 = place });
+first_state kind offset directory page = record {
+  pointer = Some (record { 0 = offset });
   more = is_some directory.next;
   page = page;
   directory = directory;
-  place = header_end kind;
+  offset = header_end kind;
   limits = default_limits;
 }
 
 -- the decoder of a file, at its first page, where so many reads failed; or the first fault
-unfoldable pub begun : List ℕ → ℕ → Result Decoding TiffError
-begun bytes failures = do
+unfoldable pub decoder_of : List ℕ → ℕ → Result Decoding TiffError
+decoder_of bytes failures = do
   found ← first_directory bytes
   page ← page_in found.0.kind found.0.order bytes default_limits found.2
   Ok (record {
@@ -107,58 +107,58 @@ abbrev pub with_page : State → DirectoryRecord → Result PageRecord TiffError
 with_page s directory (Ok page) = record { answer = Ok tt; next = record s { page = page; directory = directory } }
 with_page s directory (Err e) = record { answer = Err e; next = s }
 
-abbrev pub entered : Decoding → ℕ → Result DirectoryRecord TiffError → Outcome (Unit {0})
-entered d place (Ok directory) =
-    with_page (record d.state { pointer = Some (record { 0 = place }); more = is_some directory.next }) directory
+abbrev pub entry_outcome : Decoding → ℕ → Result DirectoryRecord TiffError → Outcome (Unit {0})
+entry_outcome d offset (Ok directory) =
+    with_page (record d.state { pointer = Some (record { 0 = offset }); more = is_some directory.next }) directory
     (page_in d.kind d.order d.bytes d.state.limits directory)
-entered d place (Err e) = stays d (Err e)
+entry_outcome d offset (Err e) = stays d (Err e)
 
--- To enter the directory at a place of the chain: it is the pointer, openness is whether a next one follows it, and its page
+-- To enter the directory at an offset of the chain: it is the pointer, openness is whether a next one follows it, and its page
 -- is read under the limits.
 unfoldable pub enter : Decoding → ℕ → Outcome (Unit {0})
-enter d place = entered d place (directory_at d.kind d.order d.bytes place)
+enter d offset = entry_outcome d offset (directory_at d.kind d.order d.bytes offset)
 
--- the place behind this one
-abbrev pub place_after : ℕ → List ℕ → Option ℕ
-place_after place [] = None
-place_after place (p ∷ ps) = if p == place then slice_get ps 0 else place_after place ps
+-- the offset behind this one
+abbrev pub offset_after : ℕ → List ℕ → Option ℕ
+offset_after offset [] = None
+offset_after offset (p ∷ ps) = if p == offset then slice_get ps 0 else offset_after offset ps
 
--- the next place of the chain behind a pointer
-abbrev pub next_place : Option IfdPointer → List ℕ → Option ℕ
-next_place None places = None
-next_place (Some pointer) places = place_after pointer.0 places
+-- the next offset of the chain behind a pointer
+abbrev pub next_offset : Option IfdPointer → List ℕ → Option ℕ
+next_offset None offsets = None
+next_offset (Some pointer) offsets = offset_after pointer.0 offsets
 
 -- none is entered: why the chain ends, and that it does
-abbrev pub closed : Decoding → Outcome (Unit {0})
-closed d = record { answer = Err (past (chain_of d).end); next = record d.state { more = false } }
+abbrev pub end_outcome : Decoding → Outcome (Unit {0})
+end_outcome d = record { answer = Err (end_fault (chain_of d).end); next = record d.state { more = false } }
 
-abbrev pub next_entered : Decoding → Option ℕ → Outcome (Unit {0})
-next_entered d None = closed d
-next_entered d (Some place) = enter d place
+abbrev pub next_outcome : Decoding → Option ℕ → Outcome (Unit {0})
+next_outcome d None = end_outcome d
+next_outcome d (Some offset) = enter d offset
 
 -- the next page of the chain; at its end its fault, or that there is no such directory
 unfoldable pub next_image : Decoding → Outcome (Unit {0})
 next_image d =
-    if d.state.more then next_entered d (next_place d.state.pointer (chain_of d).places) else stays d (Err not_found)
+    if d.state.more then next_outcome d (next_offset d.state.pointer (chain_of d).offsets) else stays d (Err not_found)
 
--- the last place of the chain
-abbrev pub last_place : Decoding → Option IfdPointer
-last_place d = option_map (λ place. record { 0 = place }) (last_or None (chain_of d).places)
+-- the last offset of the chain
+abbrev pub last_offset : Decoding → Option IfdPointer
+last_offset d = option_map (λ offset. record { 0 = offset }) (last_or None (chain_of d).offsets)
 
 -- past the chain: an open decoder goes to its last directory and tells why it ends, another has no pointer
-abbrev pub sought_past : Decoding → Outcome (Unit {0})
-sought_past d =
+abbrev pub seek_past_end : Decoding → Outcome (Unit {0})
+seek_past_end d =
     if d.state.more
-    then record { answer = Err (past (chain_of d).end); next = record d.state { pointer = last_place d; more = false } }
+    then record { answer = Err (end_fault (chain_of d).end); next = record d.state { pointer = last_offset d; more = false } }
     else record { answer = Err not_found; next = record d.state { pointer = None } }
 
-abbrev pub sought : Decoding → Option ℕ → Outcome (Unit {0})
-sought d None = sought_past d
-sought d (Some place) = enter d place
+abbrev pub seek_outcome : Decoding → Option ℕ → Outcome (Unit {0})
+seek_outcome d None = seek_past_end d
+seek_outcome d (Some offset) = enter d offset
 
 -- the page of this number in the chain, from wherever the decoder stands
 unfoldable pub seek_to_image : Decoding → ℕ → Outcome (Unit {0})
-seek_to_image d k = sought d (slice_get (chain_of d).places k)
+seek_to_image d k = seek_outcome d (slice_get (chain_of d).offsets k)
 
 -- ---- what a decoder says of itself
 
@@ -169,7 +169,7 @@ unfoldable pub dimensions : Decoding → Outcome (ℕ × ℕ)
 dimensions d = stays d (Ok (d.state.page.width, d.state.page.height))
 
 unfoldable pub colortype : Decoding → Outcome ColorType
-colortype d = stays d (colour_of d.state.page)
+colortype d = stays d (color_of d.state.page)
 
 abbrev pub ifd_pointer : Decoding → Option IfdPointer
 ifd_pointer d = d.state.pointer
@@ -180,27 +180,27 @@ more_images d = d.state.more
 abbrev pub byte_order : Decoding → ByteOrder
 byte_order d = d.order
 
--- the directory at any place; pages are untouched
+-- the directory at any offset; pages are untouched
 unfoldable pub read_directory : Decoding → IfdPointer → Outcome DirectoryRecord
 read_directory d pointer = stays d (directory_at d.kind d.order d.bytes pointer.0)
 
--- ---- reads at the place
+-- ---- reads at the offset
 
 unfoldable pub goto_offset : Decoding → ℕ → Outcome (Unit {0})
-goto_offset d place = record { answer = Ok tt; next = record d.state { place = place } }
+goto_offset d offset = record { answer = Ok tt; next = record d.state { offset = offset } }
 
--- a read of so many bytes: the place goes behind them, and a refused one leaves it
-abbrev pub moved : {Y : Type 0} → Decoding → ℕ → Result Y TiffError → Outcome Y
-moved d len (Ok y) = record { answer = Ok y; next = record d.state { place = d.state.place + len } }
-moved d len (Err e) = stays d (Err e)
+-- a read of so many bytes: the offset goes behind them, and a refused one leaves it
+abbrev pub read_outcome : {Y : Type 0} → Decoding → ℕ → Result Y TiffError → Outcome Y
+read_outcome d len (Ok y) = record { answer = Ok y; next = record d.state { offset = d.state.offset + len } }
+read_outcome d len (Err e) = stays d (Err e)
 
--- the number at the place, as this
+-- the number at the offset, as this
 abbrev pub number_here : {Y : Type 0} → Decoding → Width → (ℕ → Y) → Outcome Y
-number_here d w view = moved d (byte_len w) (number_at d.order w d.bytes d.state.place >>= λ n. Ok (view n))
+number_here d w view = read_outcome d (byte_len w) (number_at d.order w d.bytes d.state.offset >>= λ n. Ok (view n))
 
--- a place of 4 or 8 bytes
+-- an offset of 4 or 8 bytes
 unfoldable pub read_ifd_offset : Decoding → Outcome ℕ
-read_ifd_offset d = number_here d (place_width d.kind) (λ n. n)
+read_ifd_offset d = number_here d (offset_width d.kind) (λ n. n)
 
 unfoldable pub read_byte : Decoding → Outcome ℕ
 read_byte d = number_here d w8 (λ n. n)
@@ -232,18 +232,18 @@ read_double d = number_here d w64 (λ n. n)
 
 -- a text of so many bytes, cut at its first zero, which has to be UTF-8
 unfoldable pub read_string : Decoding → ℕ → Outcome (List ℕ)
-read_string d len = moved d len (exactly_at d.bytes d.state.place len >>= placed_text >>= into.into_string)
+read_string d len = read_outcome d len (exactly_at d.bytes d.state.offset len >>= placed_text >>= into.into_string)
 
--- the bytes of a place as they stand; one of 4 bytes is none of BigTIFF
+-- the bytes of an offset as they stand; one of 4 bytes is none of BigTIFF
 abbrev pub offset_bytes : FileKind → Decoding → Result (List ℕ) TiffError
-offset_bytes Classic d = exactly_at d.bytes d.state.place 4
+offset_bytes Classic d = exactly_at d.bytes d.state.offset 4
 offset_bytes Big d = Err (FormatError InconsistentSizesEncountered)
 
 unfoldable pub read_offset : Decoding → Outcome (List ℕ)
-read_offset d = moved d 4 (offset_bytes d.kind d)
+read_offset d = read_outcome d 4 (offset_bytes d.kind d)
 
 unfoldable pub read_offset_u64 : Decoding → Outcome (List ℕ)
-read_offset_u64 d = moved d 8 (exactly_at d.bytes d.state.place 8)
+read_offset_u64 d = read_outcome d 8 (exactly_at d.bytes d.state.offset 8)
 
 -- ---- chunks and layouts of the page
 
@@ -317,47 +317,47 @@ unfoldable pub find_tag_unsigned_vec : Decoding → Tag → Outcome (Option (Lis
 find_tag_unsigned_vec d tag = stays d (find_unsigned_vec (2 ^ 64) (page_tags d) tag)
 
 -- a required tag's value by a conversion
-abbrev pub gotten : {Y : Type 0} → Decoding → (Datum → Result Y TiffError) → Tag → Outcome Y
-gotten d into tag = stays d (require into (page_tags d) tag)
+abbrev pub required_value : {Y : Type 0} → Decoding → (Datum → Result Y TiffError) → Tag → Outcome Y
+required_value d into tag = stays d (require into (page_tags d) tag)
 
 unfoldable pub get_tag : Decoding → Tag → Outcome Datum
-get_tag d tag = gotten d (λ value. Ok value) tag
+get_tag d tag = required_value d (λ value. Ok value) tag
 
 unfoldable pub get_tag_unsigned : Decoding → Tag → Outcome ℕ
 get_tag_unsigned d tag = stays d (get_unsigned (2 ^ 64) (page_tags d) tag)
 
 unfoldable pub get_tag_u32 : Decoding → Tag → Outcome ℕ
-get_tag_u32 d tag = gotten d into.into_u32 tag
+get_tag_u32 d tag = required_value d into.into_u32 tag
 
 unfoldable pub get_tag_u64 : Decoding → Tag → Outcome ℕ
-get_tag_u64 d tag = gotten d into.into_u64 tag
+get_tag_u64 d tag = required_value d into.into_u64 tag
 
 unfoldable pub get_tag_f32 : Decoding → Tag → Outcome ℕ
-get_tag_f32 d tag = gotten d into.into_f32 tag
+get_tag_f32 d tag = required_value d into.into_f32 tag
 
 unfoldable pub get_tag_f64 : Decoding → Tag → Outcome ℕ
-get_tag_f64 d tag = gotten d into.into_f64 tag
+get_tag_f64 d tag = required_value d into.into_f64 tag
 
 unfoldable pub get_tag_u32_vec : Decoding → Tag → Outcome (List ℕ)
-get_tag_u32_vec d tag = gotten d into.into_u32_vec tag
+get_tag_u32_vec d tag = required_value d into.into_u32_vec tag
 
 unfoldable pub get_tag_u16_vec : Decoding → Tag → Outcome (List ℕ)
-get_tag_u16_vec d tag = gotten d into.into_u16_vec tag
+get_tag_u16_vec d tag = required_value d into.into_u16_vec tag
 
 unfoldable pub get_tag_u64_vec : Decoding → Tag → Outcome (List ℕ)
-get_tag_u64_vec d tag = gotten d into.into_u64_vec tag
+get_tag_u64_vec d tag = required_value d into.into_u64_vec tag
 
 unfoldable pub get_tag_f32_vec : Decoding → Tag → Outcome (List ℕ)
-get_tag_f32_vec d tag = gotten d into.into_f32_vec tag
+get_tag_f32_vec d tag = required_value d into.into_f32_vec tag
 
 unfoldable pub get_tag_f64_vec : Decoding → Tag → Outcome (List ℕ)
-get_tag_f64_vec d tag = gotten d into.into_f64_vec tag
+get_tag_f64_vec d tag = required_value d into.into_f64_vec tag
 
 unfoldable pub get_tag_u8_vec : Decoding → Tag → Outcome (List ℕ)
-get_tag_u8_vec d tag = gotten d into.into_u8_vec tag
+get_tag_u8_vec d tag = required_value d into.into_u8_vec tag
 
 unfoldable pub get_tag_ascii_string : Decoding → Tag → Outcome (List ℕ)
-get_tag_ascii_string d tag = gotten d into.into_string tag
+get_tag_ascii_string d tag = required_value d into.into_string tag
 
 -- each tag with its value or its fault, in ascending number
 unfoldable pub tag_iter : Decoding → List (Result (Tag × Datum) TiffError)

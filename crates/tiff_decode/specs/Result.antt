@@ -3,11 +3,11 @@ use Rattle.std.specs.Prelude.{◌≡◌, ℕ, ◌-◌, ◌%◌, List, ◌++◌, 
 use Rattle.std.specs.List.{flat_map}
 use Rattle.std.specs.Int.{w8, w16, w32, w64, cast_unsigned}
 use Rattle.tiff_base.specs.Number.{le}
-use Rattle.tiff_base.specs.Told.{AreOctets}
+use Rattle.tiff_base.specs.SourceAndSink.{AreOctets}
 use Rattle.tiff_page.specs.declared.layout.DecodingSampleType.{DecodingSampleType}
 use Rattle.tiff_page.specs.declared.layout.DecodingSampleType.TheVariants as type
 use Rattle.tiff_page.specs.Layout.{size_of}
-use Rattle.tiff_page.specs.Image.{Decoded, decoded}
+use Rattle.tiff_page.specs.Image.{Decoded, decoded_samples}
 use Rattle.tiff_decode.specs.declared.result.DecodingResult.{DecodingResult}
 use Rattle.tiff_decode.specs.declared.result.DecodingResult.TheVariants as result
 use Rattle.tiff_decode.specs.declared.buffer.DecodingBuffer.{DecodingBuffer}
@@ -50,4 +50,4 @@ whole_numbers size bytes = bytes ++ replicate ((size - length bytes % size) % si
 
 -- the numbers that bytes hold have those bytes, and the zeros
 abbrev pub BytesAgain : Type 0
-BytesAgain = (t : DecodingSampleType) (bytes : List ℕ) → AreOctets bytes → bytes_of (decoded t bytes) ≡ whole_numbers (size_of t) bytes
+BytesAgain = (t : DecodingSampleType) (bytes : List ℕ) → AreOctets bytes → bytes_of (decoded_samples t bytes) ≡ whole_numbers (size_of t) bytes

@@ -12,14 +12,14 @@ use Rattle.tiff_base.specs.declared.tags.ByteOrder.{ByteOrder}
 use Rattle.tiff_base.specs.Field.{Field}
 use Rattle.tiff_value.specs.Buffer.{BufferRecord, empty_buffer}
 use Rattle.tiff_ifd.specs.declared.value.Value.{Value}
-use Rattle.tiff_ifd.specs.Ask.{refused_buffer}
+use Rattle.tiff_ifd.specs.TagQueries.{refused_buffer}
 use Rattle.tiff_ifd.specs.Datum.{Datum}
 use Rattle.tiff_ifd.specs.View.{datum}
 use Rattle.tiff_decode.specs.declared.script.Call.{Call}
 use Rattle.tiff_decode.specs.declared.script.Call.TheVariants as call
 use Rattle.tiff_decode.specs.declared.script.Reply.{Reply}
 use Rattle.tiff_decode.specs.declared.script.Reply.TheVariants as reply
-use Rattle.tiff_decode.specs.Machine.{Decoding, StandsAt, Follows, FollowsBut, FollowsExactly, FollowsHere, FollowsPlainly, FollowsOrFaults, Tells}
+use Rattle.tiff_decode.specs.Machine.{Decoding, StandsAt, Follows, FollowsBut, FollowsWithoutMemory, FollowsWithoutSource, FollowsWithoutEither, FollowsOrFaults, Tells}
 use Rattle.tiff_decode.specs.Outcome as outcome
 use Rattle.tiff_decode.specs.Reader.{TagsRead}
 use Rattle.tiff_decode.specs.Result.{decoded_as}
@@ -68,7 +68,7 @@ BufferLeft order (Some f) held (Err e) b = b ≡ refused_buffer order f held e
 -- name is none.
 abbrev pub Step : Decoding → Call → Reply → Decoding → Type 0
 Step old (call.SetLimits limits) reply.SetLimits new = new ≡ record old { state = (outcome.set_limits old limits).next }
-Step old call.Dimensions (reply.Dimensions r) new = FollowsPlainly (λ x. x) (outcome.dimensions old) r old new
+Step old call.Dimensions (reply.Dimensions r) new = FollowsWithoutEither (λ x. x) (outcome.dimensions old) r old new
 Step old call.Colortype (reply.Colortype r) new = FollowsOrFaults (λ x. x) (outcome.colortype old) r old new
 Step old call.IfdPointer (reply.IfdPointer r) new = Tells (outcome.ifd_pointer old) r old new
 Step old (call.SeekToImage k) (reply.SeekToImage r) new = Follows (λ x. x) (outcome.seek_to_image old k) r old new
@@ -76,29 +76,29 @@ Step old call.NextImage (reply.NextImage r) new = FollowsBut (old.state.more ≡
 Step old call.MoreImages (reply.MoreImages r) new = Tells (outcome.more_images old) r old new
 Step old call.ByteOrder (reply.ByteOrder r) new = Tells (outcome.byte_order old) r old new
 Step old (call.ReadDirectory pointer) (reply.ReadDirectory r) new = Follows (λ x. x) (outcome.read_directory old pointer) r old new
-Step old (call.GotoOffset place) (reply.GotoOffset r) new = FollowsPlainly (λ x. x) (outcome.goto_offset old place) r old new
-Step old (call.GotoOffsetU64 place) (reply.GotoOffsetU64 r) new = FollowsPlainly (λ x. x) (outcome.goto_offset old place) r old new
-Step old call.ReadIfdOffset (reply.ReadIfdOffset r) new = FollowsExactly (λ x. x) (outcome.read_ifd_offset old) r old new
-Step old call.ReadByte (reply.ReadByte r) new = FollowsExactly (λ x. x) (outcome.read_byte old) r old new
-Step old call.ReadShort (reply.ReadShort r) new = FollowsExactly (λ x. x) (outcome.read_short old) r old new
-Step old call.ReadSshort (reply.ReadSshort r) new = FollowsExactly (λ x. x) (outcome.read_sshort old) r old new
-Step old call.ReadLong (reply.ReadLong r) new = FollowsExactly (λ x. x) (outcome.read_long old) r old new
-Step old call.ReadSlong (reply.ReadSlong r) new = FollowsExactly (λ x. x) (outcome.read_slong old) r old new
-Step old call.ReadLong8 (reply.ReadLong8 r) new = FollowsExactly (λ x. x) (outcome.read_long8 old) r old new
-Step old call.ReadSlong8 (reply.ReadSlong8 r) new = FollowsExactly (λ x. x) (outcome.read_slong8 old) r old new
-Step old call.ReadFloat (reply.ReadFloat r) new = FollowsExactly bits_32 (outcome.read_float old) r old new
-Step old call.ReadDouble (reply.ReadDouble r) new = FollowsExactly bits_64 (outcome.read_double old) r old new
+Step old (call.GotoOffset offset) (reply.GotoOffset r) new = FollowsWithoutEither (λ x. x) (outcome.goto_offset old offset) r old new
+Step old (call.GotoOffsetU64 offset) (reply.GotoOffsetU64 r) new = FollowsWithoutEither (λ x. x) (outcome.goto_offset old offset) r old new
+Step old call.ReadIfdOffset (reply.ReadIfdOffset r) new = FollowsWithoutMemory (λ x. x) (outcome.read_ifd_offset old) r old new
+Step old call.ReadByte (reply.ReadByte r) new = FollowsWithoutMemory (λ x. x) (outcome.read_byte old) r old new
+Step old call.ReadShort (reply.ReadShort r) new = FollowsWithoutMemory (λ x. x) (outcome.read_short old) r old new
+Step old call.ReadSshort (reply.ReadSshort r) new = FollowsWithoutMemory (λ x. x) (outcome.read_sshort old) r old new
+Step old call.ReadLong (reply.ReadLong r) new = FollowsWithoutMemory (λ x. x) (outcome.read_long old) r old new
+Step old call.ReadSlong (reply.ReadSlong r) new = FollowsWithoutMemory (λ x. x) (outcome.read_slong old) r old new
+Step old call.ReadLong8 (reply.ReadLong8 r) new = FollowsWithoutMemory (λ x. x) (outcome.read_long8 old) r old new
+Step old call.ReadSlong8 (reply.ReadSlong8 r) new = FollowsWithoutMemory (λ x. x) (outcome.read_slong8 old) r old new
+Step old call.ReadFloat (reply.ReadFloat r) new = FollowsWithoutMemory bits_32 (outcome.read_float old) r old new
+Step old call.ReadDouble (reply.ReadDouble r) new = FollowsWithoutMemory bits_64 (outcome.read_double old) r old new
 Step old (call.ReadString len) (reply.ReadString r) new = Follows string_bytes (outcome.read_string old len) r old new
-Step old call.ReadOffset (reply.ReadOffset r) new = FollowsExactly (λ x. x) (outcome.read_offset old) r old new
-Step old call.ReadOffsetU64 (reply.ReadOffsetU64 r) new = FollowsExactly (λ x. x) (outcome.read_offset_u64 old) r old new
+Step old call.ReadOffset (reply.ReadOffset r) new = FollowsWithoutMemory (λ x. x) (outcome.read_offset old) r old new
+Step old call.ReadOffsetU64 (reply.ReadOffsetU64 r) new = FollowsWithoutMemory (λ x. x) (outcome.read_offset_u64 old) r old new
 Step old call.GetChunkType (reply.GetChunkType r) new = Tells (outcome.get_chunk_type old) r old new
-Step old call.StripCount (reply.StripCount r) new = FollowsPlainly (λ x. x) (outcome.strip_count old) r old new
-Step old call.TileCount (reply.TileCount r) new = FollowsPlainly (λ x. x) (outcome.tile_count old) r old new
+Step old call.StripCount (reply.StripCount r) new = FollowsWithoutEither (λ x. x) (outcome.strip_count old) r old new
+Step old call.TileCount (reply.TileCount r) new = FollowsWithoutEither (λ x. x) (outcome.tile_count old) r old new
 Step old call.ChunkDimensions (reply.ChunkDimensions r) new = Tells (outcome.chunk_dimensions old) r old new
 Step old (call.ChunkDataDimensions i) (reply.ChunkDataDimensions r) new = Tells (outcome.chunk_data_dimensions old i) r old new
-Step old call.ImageBufferLayout (reply.ImageBufferLayout r) new = FollowsHere (λ x. x) (outcome.image_buffer_layout old) r old new
-Step old (call.ImageChunkBufferLayout i) (reply.ImageChunkBufferLayout r) new = FollowsHere (λ x. x) (outcome.image_chunk_buffer_layout old i) r old new
-Step old (call.ImageCodingUnitLayout unit) (reply.ImageCodingUnitLayout r) new = FollowsHere (λ x. x) (outcome.image_coding_unit_layout old unit.0) r old new
+Step old call.ImageBufferLayout (reply.ImageBufferLayout r) new = FollowsWithoutSource (λ x. x) (outcome.image_buffer_layout old) r old new
+Step old (call.ImageChunkBufferLayout i) (reply.ImageChunkBufferLayout r) new = FollowsWithoutSource (λ x. x) (outcome.image_chunk_buffer_layout old i) r old new
+Step old (call.ImageCodingUnitLayout unit) (reply.ImageCodingUnitLayout r) new = FollowsWithoutSource (λ x. x) (outcome.image_coding_unit_layout old unit.0) r old new
 Step old call.ReadImage (reply.ReadImage r) new = Follows decoded_as (outcome.read_image old) r old new
 Step old call.ReadImageToBuffer (reply.ReadImageToBuffer r b) new = Follows (λ x. (x, decoded_as b)) (outcome.read_image_to_buffer old) r old new
 Step old (call.ReadImageBytes len) (reply.ReadImageBytes r b) new = Follows (λ _. items_of b) (outcome.read_image_bytes old (replicate len 0)) r old new

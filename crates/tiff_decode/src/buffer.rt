@@ -2,7 +2,7 @@
 
 ghost use Rattle.std.specs.Prelude.{◌≡◌, ◌*◌, ◌++◌, length, map, Ok, OnOk};
 ghost use Rattle.std.specs.List.{flat_map};
-ghost use Rattle.tiff_base.specs.Answers.{AnswersHere};
+ghost use Rattle.tiff_base.specs.Answers.{AnswersWithoutSource};
 ghost use Rattle.tiff_base.specs.Number.{le};
 ghost use Rattle.tiff_page.specs.Layout.{size_of};
 ghost use Rattle.tiff_decode.specs.Result.{buffered_as, bytes_of};
@@ -162,7 +162,7 @@ impl Sample for i64 {
 
 // The bytes of samples.
 fn bytes_of<T: Sample>(alloc: Global, samples: &[T]) -> TiffResult<Vec<u8>>
-    ensures { AnswersHere (λ v. v.items) result (Ok (flat_map (le T.size) (map T.bits samples.now))) }
+    ensures { AnswersWithoutSource (λ v. v.items) result (Ok (flat_map (le T.size) (map T.bits samples.now))) }
 {
     let mut bytes = Vec::new(alloc);
     for sample in samples {
@@ -193,7 +193,7 @@ impl DecodingBuffer<'_> {
 
     /// A copy of its samples as bytes, the lowest of each first.
     pub fn as_bytes(&self, alloc: Global) -> TiffResult<Vec<u8>>
-        ensures { AnswersHere (λ v. v.items) result (Ok (bytes_of (buffered_as self.now))) }
+        ensures { AnswersWithoutSource (λ v. v.items) result (Ok (bytes_of (buffered_as self.now))) }
     {
         match self {
             DecodingBuffer::U8(samples) => bytes_of(alloc, samples),

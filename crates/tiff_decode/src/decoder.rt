@@ -5,13 +5,13 @@ ghost use Rattle.std.specs.List.{last_or, slice_get};
 ghost use Rattle.tiff_base.specs.Answers.{Answers, AnswersBut, FailsFrom, IsCause, IsKept};
 ghost use Rattle.tiff_base.specs.Directory.{directory_at};
 ghost use Rattle.tiff_base.specs.declared.color.ColorType.{ColorType};
-ghost use Rattle.tiff_page.specs.Layout.{colour_of};
-ghost use Rattle.tiff_page.specs.View.{page as page_record};
+ghost use Rattle.tiff_page.specs.Layout.{color_of};
+ghost use Rattle.tiff_page.specs.PageView.{page as page_record};
 ghost use Rattle.tiff_ifd.specs.Walk.{Begins, Ends};
-ghost use Rattle.tiff_decode.specs.Along.{IsAlong, IsAt};
-ghost use Rattle.tiff_decode.specs.Machine.{Decoding, Follows, FollowsBut, FollowsOrFaults, FollowsPlainly, Tells, decoding, keeps_state};
+ghost use Rattle.tiff_decode.specs.ChainPosition.{IsInChain, IsAt};
+ghost use Rattle.tiff_decode.specs.Machine.{Decoding, Follows, FollowsBut, FollowsOrFaults, FollowsWithoutEither, Tells, decoding, keeps_state};
 ghost use Rattle.tiff_decode.specs.Outcome as outcome;
-ghost use Rattle.tiff_decode.specs.Outcome.{begun, first_directory, page_in};
+ghost use Rattle.tiff_decode.specs.Outcome.{decoder_of, first_directory, page_in};
 
 pub use crate::result::DecodingResult;
 use std::alloc::Global;
@@ -27,9 +27,9 @@ use tiff_ifd::header::{FileHeader, read_header};
 use tiff_ifd::limits::Limits;
 use tiff_ifd::value_reader::ValueReader;
 use tiff_ifd::walk::Walk;
-use tiff_page::checks::read_page;
-use tiff_page::layout::colour_of as page_colour;
+use tiff_page::layout::color_of as page_color;
 use tiff_page::page::Page;
+use tiff_page::read_page::read_page;
 
 // Where the low-level reads begin: behind the header.
 fn header_end(kind: FileKind) -> u64
@@ -65,8 +65,10 @@ fn read_first_directory<R: Source>(
     source: &mut R,
 ) -> TiffResult<(FileHeader, Walk, Directory)>
     ensures kept { IsKept R.bytes R.failures result source.old source.new }
-    ensures answer { Answers (λ r. (record { order = r.0.order; kind = r.0.kind; first = r.0.first }, r.0.first, r.2)) result (first_directory (R.bytes source.old)) (R.failures source.old) (R.failures source.new) }
-    ensures walk { IfOk result (λ r. IsAlong r.0.kind r.0.order (R.bytes source.old) r.0.first r.1 (Some (record { 0 = r.0.first })) 0 (is_some r.2.next)) }
+    ensures answer { Answers (λ r. (record { order = r.0.order; kind = r.0.kind; first = r.0.first }, r.0.first, r.2)) result
+        (first_directory (R.bytes source.old)) (R.failures source.old) (R.failures source.new) }
+    ensures walk { IfOk result (λ r. IsInChain r.0.kind r.0.order (R.bytes source.old) r.0.first r.1
+        (Some (record { 0 = r.0.first })) 0 (is_some r.2.next)) }
 {
     let header = match read_header(source) {
         Ok(header) => header,
@@ -80,7 +82,7 @@ fn read_first_directory<R: Source>(
     }
 }
 
-// The directory that a decoder entered last: its place, how many of the chain are before it, and whether another follows it.
+// The directory that a decoder entered last: its offset, how many of the chain are before it, and whether another follows it.
 #[derive(Drop)]
 pub(crate) struct Standing {
     pointer: Option<IfdPointer>,
@@ -88,34 +90,35 @@ pub(crate) struct Standing {
     more: bool,
 }
 
-// A place as a pointer.
-fn pointer_to(place: Option<u64>) -> Option<IfdPointer>
-    ensures { result ≡ option_map (λ p. record { 0 = p }) place }
+// An offset as a pointer.
+fn pointer_to(offset: Option<u64>) -> Option<IfdPointer>
+    ensures { result ≡ option_map (λ p. record { 0 = p }) offset }
 {
-    match place {
-        Some(place) => Some(IfdPointer(place)),
+    match offset {
+        Some(offset) => Some(IfdPointer(offset)),
         None => None,
     }
 }
 
 impl Standing {
     // At a directory that was read.
-    fn at_directory(at: usize, place: u64, directory: &Directory) -> Self
-        ensures { result ≡ record { pointer = Some (record { 0 = place }); at = at; more = is_some directory.now.next } }
+    fn at_directory(at: usize, offset: u64, directory: &Directory) -> Self
+        ensures { result ≡ record { pointer = Some (record { 0 = offset }); at = at; more = is_some directory.now.next } }
     {
         Standing {
-            pointer: Some(IfdPointer(place)),
+            pointer: Some(IfdPointer(offset)),
             at,
             more: links_on(directory),
         }
     }
 
-    // Past the chain, whose places are all entered: at its last place, or nowhere where the decoder wasn't open.
-    #[tactic(auto, using(crate::proofs::Along::last_pointed, crate::proofs::Along::stands_last))]
+    // Past the chain, whose offsets are all entered: at its last offset, or nowhere where the decoder wasn't open.
+    #[tactic(auto, using(crate::proofs::ChainPosition::last_pointed, crate::proofs::ChainPosition::stands_last))]
     fn past(walk: &Walk, was_open: bool) -> Self
-        ensures pointer { result.pointer ≡ (if was_open then option_map (λ place. record { 0 = place }) (last_or None walk.now.places) else None) }
+        ensures pointer { result.pointer ≡ (if was_open then option_map (λ offset. record { 0 = offset })
+            (last_or None walk.now.offsets) else None) }
         ensures more { result.more ≡ false }
-        ensures stands { IsAt walk.now.places result.pointer result.at false }
+        ensures stands { IsAt walk.now.offsets result.pointer result.at false }
     {
         if !was_open {
             return Standing {
@@ -132,12 +135,12 @@ impl Standing {
     }
 
     // The number of the directory behind that of an open decoder.
-    #[tactic(auto, using(crate::proofs::Along::within))]
+    #[tactic(auto, using(crate::proofs::ChainPosition::within))]
     fn following(&self, walk: &Walk) -> usize
-        requires stands { IsAt walk.now.places self.now.pointer self.now.at self.now.more }
+        requires stands { IsAt walk.now.offsets self.now.pointer self.now.at self.now.more }
         requires more { self.now.more ≡ true }
         ensures number { result ≡ self.now.at + 1 }
-        ensures entered { result ≤ length walk.now.places }
+        ensures entered { result ≤ length walk.now.offsets }
     {
         let _entered = walk.len();
         self.at + 1
@@ -154,7 +157,8 @@ fn replace_directory<R: Source>(
     ensures kind { tags.new.kind ≡ tags.old.kind }
     ensures order { tags.new.order ≡ tags.old.order }
     ensures limits { tags.new.limits ≡ tags.old.limits }
-    ensures answer { Answers page_record result (page_in tags.old.kind tags.old.order (R.bytes tags.old.source) tags.old.limits directory) (R.failures tags.old.source) (R.failures tags.new.source) }
+    ensures answer { Answers page_record result (page_in tags.old.kind tags.old.order (R.bytes tags.old.source) tags.old.limits
+        directory) (R.failures tags.old.source) (R.failures tags.new.source) }
     ensures replaced { OnOk result (tags.new.directory ≡ directory) }
     ensures stays { OnErr result (tags.new.directory ≡ tags.old.directory) }
 {
@@ -168,7 +172,7 @@ fn replace_directory<R: Source>(
     }
 }
 
-// Enters a directory that was read, the one of this number and place of the chain: the decoder stands at it, and its page is
+// Enters a directory that was read, the one of this number and offset of the chain: the decoder stands at it, and its page is
 // read. The page that it had stays where the new one has a fault, and so does all of it after want of memory or a fault of the
 // device.
 fn enter_directory<R: Source>(
@@ -177,16 +181,23 @@ fn enter_directory<R: Source>(
     page: &mut Page,
     standing: &mut Standing,
     at: usize,
-    place: u64,
+    offset: u64,
     directory: Directory,
 ) -> TiffResult<()>
     ensures kept { IsKept R.bytes R.failures result tags.old.source tags.new.source }
     ensures kind { tags.new.kind ≡ tags.old.kind }
     ensures order { tags.new.order ≡ tags.old.order }
-    ensures follows { (first here : ℕ) → Follows (λ x. x) (outcome.entered (decoding (R.bytes tags.old.source) tags.old.kind tags.old.order first (R.failures tags.old.source) standing.old.pointer standing.old.more (page_record page.old) tags.old.directory here tags.old.limits) place (Ok directory)) result (decoding (R.bytes tags.old.source) tags.old.kind tags.old.order first (R.failures tags.old.source) standing.old.pointer standing.old.more (page_record page.old) tags.old.directory here tags.old.limits) (decoding (R.bytes tags.new.source) tags.new.kind tags.new.order first (R.failures tags.new.source) standing.new.pointer standing.new.more (page_record page.new) tags.new.directory here tags.new.limits) }
-    ensures stands { (places : List ℕ) → IsAt places standing.old.pointer standing.old.at standing.old.more → slice_get places at ≡ Some place → IsAt places standing.new.pointer standing.new.at standing.new.more }
+    ensures follows { (first here : ℕ) → Follows (λ x. x) (outcome.entry_outcome
+        (decoding (R.bytes tags.old.source) tags.old.kind tags.old.order first (R.failures tags.old.source) standing.old.pointer
+        standing.old.more (page_record page.old) tags.old.directory here tags.old.limits) offset (Ok directory)) result
+        (decoding (R.bytes tags.old.source) tags.old.kind tags.old.order first (R.failures tags.old.source) standing.old.pointer
+        standing.old.more (page_record page.old) tags.old.directory here tags.old.limits)
+        (decoding (R.bytes tags.new.source) tags.new.kind tags.new.order first (R.failures tags.new.source) standing.new.pointer
+        standing.new.more (page_record page.new) tags.new.directory here tags.new.limits) }
+    ensures stands { (offsets : List ℕ) → IsAt offsets standing.old.pointer standing.old.at standing.old.more → slice_get offsets
+        at ≡ Some offset → IsAt offsets standing.new.pointer standing.new.at standing.new.more }
 {
-    let to = Standing::at_directory(at, place, &directory);
+    let to = Standing::at_directory(at, offset, &directory);
     match replace_directory(alloc, tags, directory) {
         Ok(found) => {
             *page = found;
@@ -203,32 +214,39 @@ fn enter_directory<R: Source>(
     }
 }
 
-// Reads the directory of this number and place of the chain, and enters it.
+// Reads the directory of this number and offset of the chain, and enters it.
 #[tactic(auto, unfolding(crate::specs::Outcome::enter))]
-fn enter_place<R: Source>(
+fn enter_offset<R: Source>(
     alloc: Global,
     tags: &mut ValueReader<R>,
     page: &mut Page,
     standing: &mut Standing,
     at: usize,
-    place: u64,
+    offset: u64,
 ) -> TiffResult<()>
     ensures kept { IsKept R.bytes R.failures result tags.old.source tags.new.source }
     ensures kind { tags.new.kind ≡ tags.old.kind }
     ensures order { tags.new.order ≡ tags.old.order }
-    ensures follows { (first here : ℕ) → Follows (λ x. x) (outcome.enter (decoding (R.bytes tags.old.source) tags.old.kind tags.old.order first (R.failures tags.old.source) standing.old.pointer standing.old.more (page_record page.old) tags.old.directory here tags.old.limits) place) result (decoding (R.bytes tags.old.source) tags.old.kind tags.old.order first (R.failures tags.old.source) standing.old.pointer standing.old.more (page_record page.old) tags.old.directory here tags.old.limits) (decoding (R.bytes tags.new.source) tags.new.kind tags.new.order first (R.failures tags.new.source) standing.new.pointer standing.new.more (page_record page.new) tags.new.directory here tags.new.limits) }
-    ensures stands { (places : List ℕ) → IsAt places standing.old.pointer standing.old.at standing.old.more → slice_get places at ≡ Some place → IsAt places standing.new.pointer standing.new.at standing.new.more }
+    ensures follows { (first here : ℕ) → Follows (λ x. x) (outcome.enter
+        (decoding (R.bytes tags.old.source) tags.old.kind tags.old.order first (R.failures tags.old.source) standing.old.pointer
+        standing.old.more (page_record page.old) tags.old.directory here tags.old.limits) offset) result
+        (decoding (R.bytes tags.old.source) tags.old.kind tags.old.order first (R.failures tags.old.source) standing.old.pointer
+        standing.old.more (page_record page.old) tags.old.directory here tags.old.limits)
+        (decoding (R.bytes tags.new.source) tags.new.kind tags.new.order first (R.failures tags.new.source) standing.new.pointer
+        standing.new.more (page_record page.new) tags.new.directory here tags.new.limits) }
+    ensures stands { (offsets : List ℕ) → IsAt offsets standing.old.pointer standing.old.at standing.old.more → slice_get offsets
+        at ≡ Some offset → IsAt offsets standing.new.pointer standing.new.at standing.new.more }
 {
     let (kind, order) = (tags.kind, tags.order);
-    match read_directory(alloc, &mut tags.source, place, kind, order) {
+    match read_directory(alloc, &mut tags.source, offset, kind, order) {
         Ok(directory) => {
-            return enter_directory(alloc, tags, page, standing, at, place, directory);
+            return enter_directory(alloc, tags, page, standing, at, offset, directory);
         }
         Err(fault) => return Err(fault),
     }
 }
 
-// Enters the next place of a walk: its directory, and the place.
+// Enters the next offset of a walk: its directory, and the offset.
 fn enter_behind<R: Source>(
     alloc: Global,
     walk: &mut Walk,
@@ -237,19 +255,21 @@ fn enter_behind<R: Source>(
     order: ByteOrder,
 ) -> TiffResult<Option<(u64, Directory)>>
     ensures kept { IsKept R.bytes R.failures result source.old source.new }
-    ensures begins { (first : ℕ) → Begins kind order (R.bytes source.old) first walk.old → Begins kind order (R.bytes source.old) first walk.new }
-    ensures entered { IfOk result (λ found. IfSome found (λ f. (walk.new.places ≡ walk.old.places ++ f.0 ∷ []) × (directory_at kind order (R.bytes source.old) f.0 ≡ Ok f.1))) }
+    ensures begins { (first : ℕ) → Begins kind order (R.bytes source.old) first walk.old → Begins kind order (R.bytes source.old)
+        first walk.new }
+    ensures entered { IfOk result (λ found. IfSome found (λ f. (walk.new.offsets ≡ walk.old.offsets ++ f.0 ∷ []) ×
+        (directory_at kind order (R.bytes source.old) f.0 ≡ Ok f.1))) }
     ensures end { IfOk result (λ found. IfNone found ((walk.new ≡ walk.old) × ((first : ℕ) → Begins kind order (R.bytes source.old) first walk.old
         → Ends kind order (R.bytes source.old) first walk.old None))) }
     ensures stays { OnErr result (walk.new ≡ walk.old) }
     ensures cut { IfErr result (λ e. IsCause (Unit {0}) (R.failures source.old < R.failures source.new) e
         ((first : ℕ) → Begins kind order (R.bytes source.old) first walk.old → Ends kind order (R.bytes source.old) first walk.old (Some e))) }
 {
-    let Some(place) = walk.next() else {
+    let Some(offset) = walk.next() else {
         return Ok(None);
     };
     match walk.enter_next(alloc, source, kind, order) {
-        Ok(Some(directory)) => return Ok(Some((place, directory))),
+        Ok(Some(directory)) => return Ok(Some((offset, directory))),
         Ok(None) => return Ok(None),
         Err(fault) => return Err(fault),
     }
@@ -264,14 +284,14 @@ pub struct Decoder<R: Source> {
     pub(crate) first: u64,
     pub(crate) walk: Walk,
     pub(crate) standing: Standing,
-    pub(crate) place: u64,
+    pub(crate) offset: u64,
 }
 
 impl<R: Source> Model for Decoder<R> {
     ghost use Rattle.std.specs.Coded.{codes};
     ghost use Rattle.std.specs.FinMap as map;
-    ghost use Rattle.tiff_page.specs.View.{page as page_record};
-    ghost use Rattle.tiff_decode.specs.Along.{IsAlong};
+    ghost use Rattle.tiff_page.specs.PageView.{page as page_record};
+    ghost use Rattle.tiff_decode.specs.ChainPosition.{IsInChain};
     ghost use Rattle.tiff_decode.specs.Machine.{Decoding};
 
     ghost Value = { Decoding };
@@ -289,12 +309,12 @@ impl<R: Source> Model for Decoder<R> {
         more = d.standing.more;
         page = page_record d.page;
         directory = d.tags.directory;
-        place = d.place;
+        offset = d.offset;
         limits = d.tags.limits;
       };
     } };
 
-    ghost invariant = { λ d. IsAlong d.tags.kind d.tags.order (R.bytes d.tags.source) d.first d.walk d.standing.pointer d.standing.at d.standing.more };
+    ghost invariant = { λ d. IsInChain d.tags.kind d.tags.order (R.bytes d.tags.source) d.first d.walk d.standing.pointer d.standing.at d.standing.more };
 }
 
 /// What is known of the file and the page without a read of it.
@@ -315,7 +335,9 @@ impl<R: Source + Drop> Decoder<R> {
     /// Opens a file at its first page, under the limits by default. The first fault of the header, the directory or the
     /// page is answered.
     pub fn new(alloc: Global, source: R) -> TiffResult<Self>
-        ensures answer { AnswersBut (Unit {0}) (FailsFrom R.bytes R.failures source) (λ (d : Decoding). record d { failures = R.failures source }) result (begun (R.bytes source) (R.failures source)) }
+        ensures answer { AnswersBut (Unit {0}) (FailsFrom R.bytes R.failures source)
+            (λ (d : Decoding). record d { failures = R.failures source }) result
+            (decoder_of (R.bytes source) (R.failures source)) }
         ensures count { IfOk result (λ d. d.failures ≡ R.failures source) }
     {
         let mut source = source;
@@ -344,7 +366,7 @@ impl<R: Source + Drop> Decoder<R> {
                         at: 0,
                         more,
                     },
-                    place: header_end(header.kind),
+                    offset: header_end(header.kind),
                 });
             }
             Err(fault) => return Err(fault),
@@ -374,21 +396,21 @@ impl<R: Source> Decoder<R> {
     /// The width and the height of the page.
     #[tactic(auto, unfolding(crate::specs::Outcome::dimensions))]
     pub fn dimensions(&mut self) -> TiffResult<(u32, u32)>
-        ensures { FollowsPlainly (λ s. s) (outcome.dimensions self.old) result self.old self.new }
+        ensures { FollowsWithoutEither (λ s. s) (outcome.dimensions self.old) result self.old self.new }
     {
         Ok((self.page.width, self.page.height))
     }
 
-    /// The colour of the page. One that has no colour: `InterpretationWithBits`.
+    /// The color of the page. One that has no color: `InterpretationWithBits`.
     #[tactic(auto, unfolding(crate::specs::Outcome::colortype))]
     pub fn colortype(&mut self) -> TiffResult<ColorType>
-        // No memory is taken where there is a colour.
+        // No memory is taken where there is a color.
         ensures { FollowsOrFaults (λ c. c) (outcome.colortype self.old) result self.old self.new }
     {
-        page_colour(&self.page, self.alloc)
+        page_color(&self.page, self.alloc)
     }
 
-    /// The place of the directory that was entered last; none after a seek past the chain by a decoder that wasn't open.
+    /// The offset of the directory that was entered last; none after a seek past the chain by a decoder that wasn't open.
     pub fn ifd_pointer(&mut self) -> Option<IfdPointer>
         ensures { Tells (outcome.ifd_pointer self.old) result self.old self.new }
     {
@@ -432,15 +454,15 @@ impl<R: Source> Decoder<R> {
         let (alloc, kind, order) = (self.alloc, self.tags.kind, self.tags.order);
         let at = self.standing.following(&self.walk);
         let known = self.walk.get(at);
-        if let Some(place) = known {
+        if let Some(offset) = known {
             let (tags, page) = (&mut self.tags, &mut self.page);
-            return enter_place(alloc, tags, page, &mut self.standing, at, place);
+            return enter_offset(alloc, tags, page, &mut self.standing, at, offset);
         }
         match enter_behind(alloc, &mut self.walk, &mut self.tags.source, kind, order) {
-            Ok(Some((place, directory))) => {
+            Ok(Some((offset, directory))) => {
                 let (tags, page) = (&mut self.tags, &mut self.page);
                 let standing = &mut self.standing;
-                return enter_directory(alloc, tags, page, standing, at, place, directory);
+                return enter_directory(alloc, tags, page, standing, at, offset, directory);
             }
             Ok(None) => {
                 self.standing.more = false;
@@ -468,10 +490,10 @@ impl<R: Source> Decoder<R> {
     {
         let (alloc, kind, order) = (self.alloc, self.tags.kind, self.tags.order);
         let source = &mut self.tags.source;
-        match self.walk.place_of(alloc, source, kind, order, ifd_index) {
-            Ok(Some(place)) => {
+        match self.walk.offset_of(alloc, source, kind, order, ifd_index) {
+            Ok(Some(offset)) => {
                 let (tags, page) = (&mut self.tags, &mut self.page);
-                return enter_place(alloc, tags, page, &mut self.standing, ifd_index, place);
+                return enter_offset(alloc, tags, page, &mut self.standing, ifd_index, offset);
             }
             Ok(None) => {
                 self.standing = Standing::past(&self.walk, self.standing.more);
@@ -491,7 +513,7 @@ impl<R: Source> Decoder<R> {
         }
     }
 
-    /// The directory at any place, as it stands there; the page and the pointer are untouched. Too few bytes:
+    /// The directory at any offset, as it stands there; the page and the pointer are untouched. Too few bytes:
     /// `IoError(UnexpectedEof)`.
     #[tactic(auto, unfolding(crate::specs::Outcome::read_directory))]
     pub fn read_directory(&mut self, pointer: IfdPointer) -> TiffResult<Directory>

@@ -1,7 +1,7 @@
 //! How many chunks the page has, how large they are, and how buffers for its samples are laid out.
 
 ghost use Rattle.std.specs.Prelude.{◌≡◌, ◌<◌, IfOk, IfSome};
-ghost use Rattle.tiff_decode.specs.Machine.{FollowsHere, FollowsPlainly};
+ghost use Rattle.tiff_decode.specs.Machine.{FollowsWithoutSource, FollowsWithoutEither};
 ghost use Rattle.tiff_decode.specs.Outcome as outcome;
 ghost use Rattle.tiff_page.specs.Laws.{HasSides};
 
@@ -35,7 +35,7 @@ impl<R: Source> Decoder<R> {
     /// one, past `u32::MAX` together: `IntSizeError`.
     #[tactic(auto, unfolding(crate::specs::Outcome::strip_count))]
     pub fn strip_count(&mut self) -> TiffResult<u32>
-        ensures { FollowsPlainly (λ n. n) (outcome.strip_count self.old) result self.old self.new }
+        ensures { FollowsWithoutEither (λ n. n) (outcome.strip_count self.old) result self.old self.new }
     {
         counts::strip_count(&self.page)
     }
@@ -43,7 +43,7 @@ impl<R: Source> Decoder<R> {
     /// The tiles of all planes. A page of strips: `InvalidChunkType(Tile, Strip)`.
     #[tactic(auto, unfolding(crate::specs::Outcome::tile_count))]
     pub fn tile_count(&mut self) -> TiffResult<u32>
-        ensures { FollowsPlainly (λ n. n) (outcome.tile_count self.old) result self.old self.new }
+        ensures { FollowsWithoutEither (λ n. n) (outcome.tile_count self.old) result self.old self.new }
     {
         counts::tile_count(&self.page)
     }
@@ -62,14 +62,14 @@ impl<R: Source> Decoder<R> {
         layout::chunk_data_dimensions(&self.page, chunk_index)
     }
 
-    /// A buffer for the image, its planes one behind the other. The first fault: of the colour, `InterpretationWithBits`; a
+    /// A buffer for the image, its planes one behind the other. The first fault: of the color, `InterpretationWithBits`; a
     /// plane, or its rows up to the stored height of a chunk, of 2^64 bytes or more: `LimitsExceeded`; chunks beside each
     /// other whose rows aren't of whole bytes: `MisalignedTileBoundaries`; YCbCr with fewer chroma samples:
     /// `ChromaSubsampling`; all planes of 2^64 bytes or more: `LimitsExceeded`. A page whose samples are of no number type
     /// has no `sample_type`.
     #[tactic(auto, unfolding(crate::specs::Outcome::image_buffer_layout))]
     pub fn image_buffer_layout(&mut self) -> TiffResult<BufferLayoutPreference>
-        ensures follows { FollowsHere (λ l. l) (outcome.image_buffer_layout self.old) result self.old self.new }
+        ensures follows { FollowsWithoutSource (λ l. l) (outcome.image_buffer_layout self.old) result self.old self.new }
         ensures rows { IfOk result (λ l. IfSome l.row_stride (λ n. 0 < n)) }
         ensures plane { IfOk result (λ l. IfSome l.plane_stride (λ n. 0 < n)) }
     {
@@ -84,7 +84,7 @@ impl<R: Source> Decoder<R> {
         &mut self,
         chunk_index: u32,
     ) -> TiffResult<BufferLayoutPreference>
-        ensures follows { FollowsHere (λ l. l) (outcome.image_chunk_buffer_layout self.old chunk_index) result self.old self.new }
+        ensures follows { FollowsWithoutSource (λ l. l) (outcome.image_chunk_buffer_layout self.old chunk_index) result self.old self.new }
         ensures rows { IfOk result (λ l. IfSome l.row_stride (λ n. 0 < n)) }
         ensures plane { IfOk result (λ l. IfSome l.plane_stride (λ n. 0 < n)) }
     {
@@ -99,7 +99,7 @@ impl<R: Source> Decoder<R> {
         &mut self,
         unit: TiffCodingUnit,
     ) -> TiffResult<BufferLayoutPreference>
-        ensures follows { FollowsHere (λ l. l) (outcome.image_coding_unit_layout self.old unit.0) result self.old self.new }
+        ensures follows { FollowsWithoutSource (λ l. l) (outcome.image_coding_unit_layout self.old unit.0) result self.old self.new }
         ensures rows { IfOk result (λ l. IfSome l.row_stride (λ n. 0 < n)) }
         ensures plane { IfOk result (λ l. IfSome l.plane_stride (λ n. 0 < n)) }
     {

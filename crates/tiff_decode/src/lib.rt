@@ -4,6 +4,7 @@
 pub mod buffer;
 mod call_name;
 pub mod decoder;
+pub mod ifd_decoder;
 pub mod layouts;
 pub mod low_level;
 pub mod pixels;
@@ -11,4 +12,3 @@ pub mod reply;
 pub mod result;
 pub mod script;
 pub mod tag_iter;
-pub mod tags;

@@ -1,10 +1,10 @@
-//! Bytes and numbers are read at a place of the file, as they stand there.
+//! Bytes and numbers are read at an offset of the file, as they stand there.
 
 ghost use Rattle.std.specs.Prelude.{string_bytes};
 ghost use Rattle.std.specs.Int.{w8};
-ghost use Rattle.tiff_base.specs.Answers.{AnswersExactly, IsKept};
+ghost use Rattle.tiff_base.specs.Answers.{AnswersWithoutMemory, IsKept};
 ghost use Rattle.tiff_base.specs.Number.{number_at};
-ghost use Rattle.tiff_decode.specs.Machine.{Follows, FollowsExactly, FollowsPlainly};
+ghost use Rattle.tiff_decode.specs.Machine.{Follows, FollowsWithoutMemory, FollowsWithoutEither};
 ghost use Rattle.tiff_decode.specs.Outcome as outcome;
 ghost use Rattle.tiff_decode.specs.Step.{bits_32, bits_64};
 
@@ -14,14 +14,15 @@ use tiff_base::io::Source;
 use tiff_base::read::{read_exact_at, read_u16_at, read_u32_at, read_u64_at};
 use tiff_base::tags::{Bits32, Bits64, ByteOrder, FileKind};
 use tiff_ifd::decode::read_link_at;
-use tiff_ifd::read_bytes::place_len;
+use tiff_ifd::read_bytes::offset_len;
 use tiff_ifd::read_value::read_text_at;
 
-// The byte at a place.
+// The byte at an offset.
 #[tactic(auto, unfolding(tiff_base::specs::Number::number))]
 fn read_u8_at<R: Source>(source: &mut R, at: u64, order: ByteOrder) -> TiffResult<u8>
     ensures kept { IsKept R.bytes R.failures result source.old source.new }
-    ensures answer { AnswersExactly (λ n. n) result (number_at order w8 (R.bytes source.old) at) (R.failures source.old) (R.failures source.new) }
+    ensures answer { AnswersWithoutMemory (λ n. n) result (number_at order w8 (R.bytes source.old) at) (R.failures source.old)
+        (R.failures source.new) }
 {
     let mut bytes = [0u8; 1];
     read_exact_at(source, at, &mut bytes)?;
@@ -31,62 +32,62 @@ fn read_u8_at<R: Source>(source: &mut R, at: u64, order: ByteOrder) -> TiffResul
     }
 }
 
-/// The low-level reads stand at a place, at first behind the header. A read goes behind what it gives, and a refused one stays:
+/// The low-level reads stand at an offset, at first behind the header. A read goes behind what it gives, and a refused one stays:
 /// where there are too few bytes, `IoError(UnexpectedEof)`.
 impl<R: Source> Decoder<R> {
-    /// The next low-level read is from here on; any place will do.
+    /// The next low-level read is from here on; any offset will do.
     #[tactic(auto, unfolding(crate::specs::Outcome::goto_offset))]
     pub fn goto_offset(&mut self, offset: u32) -> TiffResult<()>
-        ensures { FollowsPlainly (λ x. x) (outcome.goto_offset self.old offset) result self.old self.new }
+        ensures { FollowsWithoutEither (λ x. x) (outcome.goto_offset self.old offset) result self.old self.new }
     {
-        self.place = u64::from(offset);
+        self.offset = u64::from(offset);
         Ok(())
     }
 
-    /// The next low-level read is from here on; any place will do.
+    /// The next low-level read is from here on; any offset will do.
     #[tactic(auto, unfolding(crate::specs::Outcome::goto_offset))]
     pub fn goto_offset_u64(&mut self, offset: u64) -> TiffResult<()>
-        ensures { FollowsPlainly (λ x. x) (outcome.goto_offset self.old offset) result self.old self.new }
+        ensures { FollowsWithoutEither (λ x. x) (outcome.goto_offset self.old offset) result self.old self.new }
     {
-        self.place = offset;
+        self.offset = offset;
         Ok(())
     }
 
     /// The next number of 4 bytes, in BigTIFF of 8.
     #[tactic(auto, unfolding(crate::specs::Outcome::read_ifd_offset))]
     pub fn read_ifd_offset(&mut self) -> TiffResult<u64>
-        ensures { FollowsExactly (λ x. x) (outcome.read_ifd_offset self.old) result self.old self.new }
+        ensures { FollowsWithoutMemory (λ x. x) (outcome.read_ifd_offset self.old) result self.old self.new }
     {
         let kind = self.tags.kind;
-        let n = read_link_at(&mut self.tags.source, self.place, kind, self.tags.order)?;
-        self.place += place_len(kind);
+        let n = read_link_at(&mut self.tags.source, self.offset, kind, self.tags.order)?;
+        self.offset += offset_len(kind);
         Ok(n)
     }
 
     /// The next byte.
     #[tactic(auto, unfolding(crate::specs::Outcome::read_byte))]
     pub fn read_byte(&mut self) -> TiffResult<u8>
-        ensures { FollowsExactly (λ x. x) (outcome.read_byte self.old) result self.old self.new }
+        ensures { FollowsWithoutMemory (λ x. x) (outcome.read_byte self.old) result self.old self.new }
     {
-        let n = read_u8_at(&mut self.tags.source, self.place, self.tags.order)?;
-        self.place += 1;
+        let n = read_u8_at(&mut self.tags.source, self.offset, self.tags.order)?;
+        self.offset += 1;
         Ok(n)
     }
 
     /// The next number of two bytes.
     #[tactic(auto, unfolding(crate::specs::Outcome::read_short))]
     pub fn read_short(&mut self) -> TiffResult<u16>
-        ensures { FollowsExactly (λ x. x) (outcome.read_short self.old) result self.old self.new }
+        ensures { FollowsWithoutMemory (λ x. x) (outcome.read_short self.old) result self.old self.new }
     {
-        let n = read_u16_at(&mut self.tags.source, self.place, self.tags.order)?;
-        self.place += 2;
+        let n = read_u16_at(&mut self.tags.source, self.offset, self.tags.order)?;
+        self.offset += 2;
         Ok(n)
     }
 
     /// The next signed number of two bytes.
     #[tactic(auto, unfolding(crate::specs::Outcome::read_short, crate::specs::Outcome::read_sshort))]
     pub fn read_sshort(&mut self) -> TiffResult<i16>
-        ensures { FollowsExactly (λ x. x) (outcome.read_sshort self.old) result self.old self.new }
+        ensures { FollowsWithoutMemory (λ x. x) (outcome.read_sshort self.old) result self.old self.new }
     {
         Ok(self.read_short()?.cast_signed())
     }
@@ -94,17 +95,17 @@ impl<R: Source> Decoder<R> {
     /// The next number of four bytes.
     #[tactic(auto, unfolding(crate::specs::Outcome::read_long))]
     pub fn read_long(&mut self) -> TiffResult<u32>
-        ensures { FollowsExactly (λ x. x) (outcome.read_long self.old) result self.old self.new }
+        ensures { FollowsWithoutMemory (λ x. x) (outcome.read_long self.old) result self.old self.new }
     {
-        let n = read_u32_at(&mut self.tags.source, self.place, self.tags.order)?;
-        self.place += 4;
+        let n = read_u32_at(&mut self.tags.source, self.offset, self.tags.order)?;
+        self.offset += 4;
         Ok(n)
     }
 
     /// The next signed number of four bytes.
     #[tactic(auto, unfolding(crate::specs::Outcome::read_long, crate::specs::Outcome::read_slong))]
     pub fn read_slong(&mut self) -> TiffResult<i32>
-        ensures { FollowsExactly (λ x. x) (outcome.read_slong self.old) result self.old self.new }
+        ensures { FollowsWithoutMemory (λ x. x) (outcome.read_slong self.old) result self.old self.new }
     {
         Ok(self.read_long()?.cast_signed())
     }
@@ -112,17 +113,17 @@ impl<R: Source> Decoder<R> {
     /// The next number of eight bytes.
     #[tactic(auto, unfolding(crate::specs::Outcome::read_long8))]
     pub fn read_long8(&mut self) -> TiffResult<u64>
-        ensures { FollowsExactly (λ x. x) (outcome.read_long8 self.old) result self.old self.new }
+        ensures { FollowsWithoutMemory (λ x. x) (outcome.read_long8 self.old) result self.old self.new }
     {
-        let n = read_u64_at(&mut self.tags.source, self.place, self.tags.order)?;
-        self.place += 8;
+        let n = read_u64_at(&mut self.tags.source, self.offset, self.tags.order)?;
+        self.offset += 8;
         Ok(n)
     }
 
     /// The next signed number of eight bytes.
     #[tactic(auto, unfolding(crate::specs::Outcome::read_long8, crate::specs::Outcome::read_slong8))]
     pub fn read_slong8(&mut self) -> TiffResult<i64>
-        ensures { FollowsExactly (λ x. x) (outcome.read_slong8 self.old) result self.old self.new }
+        ensures { FollowsWithoutMemory (λ x. x) (outcome.read_slong8 self.old) result self.old self.new }
     {
         Ok(self.read_long8()?.cast_signed())
     }
@@ -130,7 +131,7 @@ impl<R: Source> Decoder<R> {
     /// The next floating number of four bytes.
     #[tactic(auto, unfolding(crate::specs::Outcome::read_long, crate::specs::Outcome::read_float))]
     pub fn read_float(&mut self) -> TiffResult<Bits32>
-        ensures { FollowsExactly bits_32 (outcome.read_float self.old) result self.old self.new }
+        ensures { FollowsWithoutMemory bits_32 (outcome.read_float self.old) result self.old self.new }
     {
         Ok(Bits32(self.read_long()?))
     }
@@ -138,7 +139,7 @@ impl<R: Source> Decoder<R> {
     /// The next floating number of eight bytes.
     #[tactic(auto, unfolding(crate::specs::Outcome::read_long8, crate::specs::Outcome::read_double))]
     pub fn read_double(&mut self) -> TiffResult<Bits64>
-        ensures { FollowsExactly bits_64 (outcome.read_double self.old) result self.old self.new }
+        ensures { FollowsWithoutMemory bits_64 (outcome.read_double self.old) result self.old self.new }
     {
         Ok(Bits64(self.read_long8()?))
     }
@@ -148,34 +149,34 @@ impl<R: Source> Decoder<R> {
     pub fn read_string(&mut self, length: usize) -> TiffResult<String>
         ensures { Follows string_bytes (outcome.read_string self.old length) result self.old self.new }
     {
-        let text = read_text_at(self.alloc, &mut self.tags.source, self.place, length)?;
-        self.place += length as u64;
+        let text = read_text_at(self.alloc, &mut self.tags.source, self.offset, length)?;
+        self.offset += length as u64;
         Ok(text)
     }
 
     /// The next four bytes as they stand. In BigTIFF: `InconsistentSizesEncountered`.
     #[tactic(auto, unfolding(crate::specs::Outcome::read_offset))]
     pub fn read_offset(&mut self) -> TiffResult<[u8; 4]>
-        ensures { FollowsExactly (λ x. x) (outcome.read_offset self.old) result self.old self.new }
+        ensures { FollowsWithoutMemory (λ x. x) (outcome.read_offset self.old) result self.old self.new }
     {
         match self.tags.kind {
             FileKind::Classic => (),
             FileKind::Big => return Err(TiffFormatError::InconsistentSizesEncountered.into()),
         }
         let mut bytes = [0u8; 4];
-        read_exact_at(&mut self.tags.source, self.place, &mut bytes)?;
-        self.place += 4;
+        read_exact_at(&mut self.tags.source, self.offset, &mut bytes)?;
+        self.offset += 4;
         Ok(bytes)
     }
 
     /// The next eight bytes as they stand.
     #[tactic(auto, unfolding(crate::specs::Outcome::read_offset_u64))]
     pub fn read_offset_u64(&mut self) -> TiffResult<[u8; 8]>
-        ensures { FollowsExactly (λ x. x) (outcome.read_offset_u64 self.old) result self.old self.new }
+        ensures { FollowsWithoutMemory (λ x. x) (outcome.read_offset_u64 self.old) result self.old self.new }
     {
         let mut bytes = [0u8; 8];
-        read_exact_at(&mut self.tags.source, self.place, &mut bytes)?;
-        self.place += 8;
+        read_exact_at(&mut self.tags.source, self.offset, &mut bytes)?;
+        self.offset += 8;
         Ok(bytes)
     }
 }

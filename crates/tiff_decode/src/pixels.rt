@@ -109,7 +109,8 @@ impl<R: Source> Decoder<R> {
         chunk_index: u32,
         output_width: usize,
     ) -> TiffResult<()>
-        ensures { Follows (λ _. decoded_as buffer.new) (outcome.read_chunk_to_buffer self.old chunk_index output_width) result self.old self.new }
+        ensures { Follows (λ _. decoded_as buffer.new) (outcome.read_chunk_to_buffer self.old chunk_index output_width) result
+            self.old self.new }
     {
         let (alloc, order) = (self.alloc, self.tags.order);
         let (source, limits) = (&mut self.tags.source, &self.tags.limits);

@@ -2,7 +2,7 @@
 
 ghost use Rattle.std.specs.Prelude.{◌≡◌, ◌≤◌, length, drop, replicate, IfOk, OnErr};
 ghost use Rattle.tiff_base.specs.Sparing.{GivesSparingly};
-ghost use Rattle.tiff_page.specs.Buffers.{resized};
+ghost use Rattle.tiff_page.specs.Buffers.{resized_samples};
 ghost use Rattle.tiff_page.specs.Samples.{samples_as};
 ghost use Rattle.tiff_decode.specs.Result.{buffered_as, decoded_as};
 
@@ -95,9 +95,9 @@ impl DecodingResult {
     /// Makes it zeros of a layout's number type for all the layout's bytes, in whole samples. A layout with no number type:
     /// `UnknownInterpretation`; more samples than `decoding_buffer_size` bytes hold: `LimitsExceeded`. Memory is taken after
     /// these. It stays as it was after a refusal, `OutOfMemory` too.
-    #[tactic(auto, unfolding(tiff_page::specs::Buffers::resized))]
+    #[tactic(auto, unfolding(tiff_page::specs::Buffers::resized_samples))]
     pub fn resize_to(&mut self, layout: &BufferLayoutPreference, limits: &Limits) -> TiffResult<()>
-        ensures resized { GivesSparingly (λ _. decoded_as self.new) result (resized layout.now limits.now) }
+        ensures resized { GivesSparingly (λ _. decoded_as self.new) result (resized_samples layout.now limits.now) }
         ensures stays { OnErr result (self.new ≡ self.old) }
     {
         let Some(sample_type) = layout.sample_type else {

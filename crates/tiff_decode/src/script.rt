@@ -197,7 +197,7 @@ fn chunk_samples<R: Source>(
 }
 
 // The image into a slice of zeros.
-#[tactic(auto, using(crate::proofs::Turns::stands_here, crate::proofs::Turns::image_bytes))]
+#[tactic(auto, using(crate::proofs::CallsMade::stands_here, crate::proofs::CallsMade::image_bytes))]
 fn image_bytes<R: Source>(decoder: &mut Decoder<R>, len: usize) -> (TiffResult<()>, Vec<u8>)
     ensures { Follows (λ _. items_of result.1) (outcome.read_image_bytes decoder.old (replicate len 0)) result.0 decoder.old decoder.new }
 {
@@ -210,13 +210,14 @@ fn image_bytes<R: Source>(decoder: &mut Decoder<R>, len: usize) -> (TiffResult<(
 }
 
 // A chunk into a slice of zeros.
-#[tactic(auto, using(crate::proofs::Turns::stands_here, crate::proofs::Turns::chunk_bytes))]
+#[tactic(auto, using(crate::proofs::CallsMade::stands_here, crate::proofs::CallsMade::chunk_bytes))]
 fn chunk_bytes<R: Source>(
     decoder: &mut Decoder<R>,
     chunk: u32,
     len: usize,
 ) -> (TiffResult<()>, Vec<u8>)
-    ensures { Follows (λ _. items_of result.1) (outcome.read_chunk_bytes decoder.old chunk (replicate len 0)) result.0 decoder.old decoder.new }
+    ensures { Follows (λ _. items_of result.1) (outcome.read_chunk_bytes decoder.old chunk (replicate len 0)) result.0
+        decoder.old decoder.new }
 {
     let alloc = decoder.alloc;
     let Ok(mut bytes) = zeros(alloc, len) else {
@@ -227,13 +228,14 @@ fn chunk_bytes<R: Source>(
 }
 
 // A coding unit into a slice of zeros.
-#[tactic(auto, using(crate::proofs::Turns::stands_here, crate::proofs::Turns::unit_bytes))]
+#[tactic(auto, using(crate::proofs::CallsMade::stands_here, crate::proofs::CallsMade::unit_bytes))]
 fn unit_bytes<R: Source>(
     decoder: &mut Decoder<R>,
     unit: TiffCodingUnit,
     len: usize,
 ) -> (TiffResult<()>, Vec<u8>)
-    ensures { Follows (λ _. items_of result.1) (outcome.read_coding_unit_bytes decoder.old unit.0 (replicate len 0)) result.0 decoder.old decoder.new }
+    ensures { Follows (λ _. items_of result.1) (outcome.read_coding_unit_bytes decoder.old unit.0 (replicate len 0)) result.0
+        decoder.old decoder.new }
 {
     let alloc = decoder.alloc;
     let Ok(mut bytes) = zeros(alloc, len) else {
@@ -248,7 +250,8 @@ fn tag_buffer<R: Source>(
     decoder: &mut Decoder<R>,
     tag: Tag,
 ) -> (TiffResult<Option<Entry>>, ValueBuffer)
-    ensures read { TagsRead (λ x. (x, result.1)) (outcome.find_tag_buf decoder.old tag (empty_buffer BYTE)) result.0 decoder.old decoder.new }
+    ensures read { TagsRead (λ x. (x, result.1)) (outcome.find_tag_buf decoder.old tag (empty_buffer BYTE)) result.0 decoder.old
+        decoder.new }
     ensures left { BufferLeft decoder.old.order (outcome.find_entry decoder.old tag) (empty_buffer BYTE) result.0 result.1 }
 {
     let mut buffer = ValueBuffer::empty(decoder.alloc, Type::BYTE);
@@ -257,14 +260,15 @@ fn tag_buffer<R: Source>(
 }
 
 // The bytes of a tag's values into a slice of zeros.
-#[tactic(auto, using(crate::proofs::Turns::nothing_read, crate::proofs::Turns::tag_bytes))]
+#[tactic(auto, using(crate::proofs::CallsMade::nothing_read, crate::proofs::CallsMade::tag_bytes))]
 fn tag_bytes<R: Source>(
     decoder: &mut Decoder<R>,
     tag: Tag,
     len: usize,
     at: u64,
 ) -> (TiffResult<Option<usize>>, Vec<u8>)
-    ensures { TagsRead (λ x. (x, items_of result.1)) (outcome.find_tag_bytes decoder.old tag (replicate len 0) at) result.0 decoder.old decoder.new }
+    ensures { TagsRead (λ x. (x, items_of result.1)) (outcome.find_tag_bytes decoder.old tag (replicate len 0) at) result.0
+        decoder.old decoder.new }
 {
     let alloc = decoder.alloc;
     let Ok(mut bytes) = zeros(alloc, len) else {
@@ -291,8 +295,8 @@ pub fn run_call<R: Source>(decoder: &mut Decoder<R>, call: &Call) -> Reply
         Call::MoreImages => Reply::MoreImages(decoder.more_images()),
         Call::ByteOrder => Reply::ByteOrder(decoder.byte_order()),
         Call::ReadDirectory(pointer) => Reply::ReadDirectory(decoder.read_directory(*pointer)),
-        Call::GotoOffset(place) => Reply::GotoOffset(decoder.goto_offset(*place)),
-        Call::GotoOffsetU64(place) => Reply::GotoOffsetU64(decoder.goto_offset_u64(*place)),
+        Call::GotoOffset(offset) => Reply::GotoOffset(decoder.goto_offset(*offset)),
+        Call::GotoOffsetU64(offset) => Reply::GotoOffsetU64(decoder.goto_offset_u64(*offset)),
         Call::ReadIfdOffset => Reply::ReadIfdOffset(decoder.read_ifd_offset()),
         Call::ReadByte => Reply::ReadByte(decoder.read_byte()),
         Call::ReadShort => Reply::ReadShort(decoder.read_short()),
@@ -387,7 +391,7 @@ fn put<T: Drop>(items: &mut Vec<T>, item: T)
 
 /// Makes calls of a decoder one after another, and puts the reply of each, a fault too, behind those in `replies`. Room for all
 /// replies is taken first; where that is refused, `OutOfMemory`: nothing is called, and `replies` holds what it held.
-#[tactic(auto, using(crate::proofs::Turns::turn, crate::proofs::Turns::none_made))]
+#[tactic(auto, using(crate::proofs::CallsMade::turn, crate::proofs::CallsMade::none_made))]
 pub fn run_calls<R: Source>(
     decoder: &mut Decoder<R>,
     calls: &[Call],

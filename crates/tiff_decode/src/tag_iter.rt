@@ -7,11 +7,11 @@ ghost use Rattle.tiff_base.specs.Answers.{IsKept};
 ghost use Rattle.tiff_base.specs.declared.error.TiffError.TheVariants.{OutOfMemory};
 ghost use Rattle.tiff_decode.specs.Items.{fields_left, item_of, items_left, tags_left, NextItem};
 ghost use Rattle.tiff_decode.specs.Outcome as outcome;
-ghost use Rattle.tiff_decode.specs.Reader.{reading, IsHeld};
+ghost use Rattle.tiff_decode.specs.Reader.{reader_of, IsBorrowed};
 ghost use Rattle.tiff_decode.specs.Step.{ItemIs, Items};
 
 use crate::decoder::Decoder;
-use crate::tags::{IfdDecoder, chosen};
+use crate::ifd_decoder::{IfdDecoder, chosen};
 use std::alloc::Global;
 use tiff_base::directory::{Directory, Entry};
 use tiff_base::error::TiffResult;
@@ -43,7 +43,8 @@ fn read_item<R: Source>(
     entry: &Entry,
 ) -> TiffResult<(Tag, Value)>
     ensures kept { IsKept R.bytes R.failures result source.old source.new }
-    ensures item { ItemIs (item_of kind order (R.bytes source.old) limits.now (number, entry.now)) result (R.failures source.old) (R.failures source.new) }
+    ensures item { ItemIs (item_of kind order (R.bytes source.old) limits.now (number, entry.now)) result (R.failures source.old)
+        (R.failures source.new) }
 {
     let value = read_value(alloc, source, kind, order, limits, entry)?;
     Ok((Tag::from_u16_exhaustive(number), value))
@@ -68,7 +69,8 @@ impl<R: Source> Decoder<R> {
     ) -> Option<TiffResult<(Tag, Value)>>
         ensures state { self.new ≡ record self.old { failures = self.new.failures } }
         ensures count { self.old.failures ≤ self.new.failures }
-        ensures item { NextItem (items_left (reading self.old (option_map (λ d. d.now) other.entry)) last.old) result (items_left (reading self.old (option_map (λ d. d.now) other.entry)) last.new) self.old.failures self.new.failures }
+        ensures item { NextItem (items_left (reader_of self.old (option_map (λ d. d.now) other.entry)) last.old) result
+            (items_left (reader_of self.old (option_map (λ d. d.now) other.entry)) last.new) self.old.failures self.new.failures }
     {
         let alloc = self.alloc;
         let tags = &mut self.tags;
@@ -101,7 +103,7 @@ impl<R: Source> Decoder<R> {
     }
 
     /// The tags of the page with their values, by ascending number, each or its fault: `IfdDecoder::tag_iter`.
-    #[tactic(auto, unfolding(crate::specs::Outcome::tag_iter, tiff_ifd::specs::Ask::tag_items))]
+    #[tactic(auto, unfolding(crate::specs::Outcome::tag_iter, tiff_ifd::specs::TagQueries::tag_items))]
     pub fn tag_iter(&mut self) -> TagIter<'_, R>
         ensures same_reference { result.reader.decoder.ghost_name ≡ self.entry.ghost_name }
         ensures decoder { result.reader.decoder.now ≡ self.old }
@@ -116,12 +118,13 @@ impl<'a, R: Source> IfdDecoder<'a, R> {
     /// The tags with their values, by ascending number. An item whose value is refused is a fault of `find_tag`; it doesn't name
     /// its tag, and the items after it still come. The iterator takes no memory of its own; an item takes a look-up and the read
     /// of its value.
-    #[tactic(auto, unfolding(crate::specs::Outcome::tag_iter, tiff_ifd::specs::Ask::tag_items))]
+    #[tactic(auto, unfolding(crate::specs::Outcome::tag_iter, tiff_ifd::specs::TagQueries::tag_items))]
     pub fn tag_iter(self) -> TagIter<'a, R>
         ensures same_reference { result.reader.decoder.ghost_name ≡ self.entry.decoder.ghost_name }
         ensures decoder { result.reader.decoder.now ≡ self.entry.decoder.now }
         ensures other { result.reader.other ≡ self.entry.other }
-        ensures left { items_left (reading self.entry.decoder.now (option_map (λ d. d.now) self.entry.other)) result.last ≡ outcome.tag_iter (reading self.entry.decoder.now (option_map (λ d. d.now) self.entry.other)) }
+        ensures left { items_left (reader_of self.entry.decoder.now (option_map (λ d. d.now) self.entry.other)) result.last ≡
+            outcome.tag_iter (reader_of self.entry.decoder.now (option_map (λ d. d.now) self.entry.other)) }
     {
         TagIter {
             reader: self,
@@ -141,7 +144,7 @@ impl<'a, R: Source> Iterator for TagIter<'a, R> {
     type Item = TiffResult<(Tag, Value)>;
 
     // The same decoder is borrowed, the directory is the same, and the next item is given, if one is left.
-    ghost next_gives = { λ s r t. IsHeld s.reader.decoder t.reader.decoder × (t.reader.other ≡ s.reader.other) × NextItem (tags_left s.reader.decoder s.reader.other s.last) r (tags_left t.reader.decoder t.reader.other t.last) s.reader.decoder.now.failures t.reader.decoder.now.failures };
+    ghost next_gives = { λ s r t. IsBorrowed s.reader.decoder t.reader.decoder × (t.reader.other ≡ s.reader.other) × NextItem (tags_left s.reader.decoder s.reader.other s.last) r (tags_left t.reader.decoder t.reader.other t.last) s.reader.decoder.now.failures t.reader.decoder.now.failures };
 
     ghost remaining = { λ s. at_most (length (tags_left s.reader.decoder s.reader.other s.last)) };
 

@@ -12,19 +12,19 @@ use Rattle.tiff_encode.proofs.Slices.{ok_inj}
 -- the target that a next directory is
 abbrev target : Option ℕ → ℕ
 target None = 0
-target (Some place) = place
+target (Some offset) = offset
 
 target_link : (t : ℕ) → target (link t) ≡ t
 target_link zero = refl
 target_link (suc t) = ap (λ b. target (cond b None (Some (suc t)))) (ne_eqb (suc t) 0 (λ e. omega arith))
 
--- what a model says of the directory at a place
+-- what a model says of the directory at an offset
 abbrev told_of : FileKind → Model → FinishedDirectory → DirectoryRecord
 told_of kind m d = record { entries = d.fields; next = link (m.links (own_link kind d)) }
 
 -- it is the same by two models
 same : (kind : FileKind) (m n : Model) (file : List ℕ) → Stands kind file m → Stands kind file n
-    → (d e : FinishedDirectory) → In d m.directories → In e n.directories → d.place ≡ e.place
+    → (d e : FinishedDirectory) → In d m.directories → In e n.directories → d.offset ≡ e.offset
     → told_of kind m d ≡ told_of kind n e
 same kind m n file s t d e in_m in_n p =
     ok_inj (told_of kind m d) (told_of kind n e)

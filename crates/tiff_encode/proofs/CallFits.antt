@@ -10,15 +10,15 @@ use Rattle.tiff_base.specs.declared.tags.FileKind.{FileKind}
 use Rattle.tiff_base.specs.declared.tags.FileKind.TheVariants.{Classic, Big}
 use Rattle.tiff_base.specs.declared.tags.ByteOrder.TheVariants.{LittleEndian}
 use Rattle.tiff_base.specs.Field.{Field}
-use Rattle.tiff_base.specs.FieldBytes.{field_place}
+use Rattle.tiff_base.specs.FieldBytes.{field_offset}
 use Rattle.tiff_base.specs.Number.{number, le}
 use Rattle.tiff_value.specs.Data.{FieldData, IsWhole}
-use Rattle.tiff_encode.specs.Written.{place_len}
+use Rattle.tiff_encode.specs.FileBytes.{offset_len}
 use Rattle.tiff_encode.specs.Model.{Region, Model, IsLink}
 use Rattle.tiff_encode.specs.Deeds.{Deed, Appended, Handed, Listed, bytes_after, model_after}
 use Rattle.tiff_encode.specs.Laws.{AreListable, DeedsFit}
-use Rattle.tiff_encode.specs.Value.{is_long, filled}
-use Rattle.tiff_encode.specs.Machine.{FileState, OpenDirectory, Writing, gives, does, by_cause, going_on, ◌>>=◌}
+use Rattle.tiff_encode.specs.Value.{is_long, filled_field}
+use Rattle.tiff_encode.specs.Machine.{FileState, OpenDirectory, Writing, gives, does, by_cause, and_then, ◌>>=◌}
 use Rattle.tiff_encode.specs.Causes.{is_past, end_of, finish_cause}
 use Rattle.tiff_encode.specs.Calls.{Offsets, links_to, chains, offsets_of, finish}
 use Rattle.tiff_encode.specs.CallLaws.{PlacedFits, FinishFits}
@@ -33,7 +33,7 @@ use Rattle.std.specs.FinMap.{len}
 going_on_fits : {A B : Type 0} (r : Result A TiffError) (deeds : List Deed) (next : FileState) (rest : A → Writing B)
     (kind : FileKind) (bytes : List ℕ) (m : Model) → DeedsFit kind bytes m deeds
     → ((x : A) → r ≡ Ok x → DeedsFit kind (bytes_after kind bytes deeds) (model_after kind bytes m deeds) (rest x next).deeds)
-    → DeedsFit kind bytes m (going_on r deeds next rest).deeds
+    → DeedsFit kind bytes m (and_then r deeds next rest).deeds
 going_on_fits (Ok x) deeds next rest kind bytes m f g = fits_joined kind bytes m deeds (rest x next).deeds f (g x refl)
 going_on_fits (Err e) deeds next rest kind bytes m f g = f
 
@@ -56,45 +56,45 @@ caused_fits (Some e) call file m f = tt
 
 -- ---- a value that is handed in
 
--- a place that is not past the kind's
-pub place_fits : (kind : FileKind) (n : ℕ) → is_past kind n ≡ false → n < 2 ^ 64 → n < 256 ^ place_len kind
-place_fits Classic n h l = leb-false (2 ^ 32) n h
-place_fits Big n h l = l
+-- an offset that is not past the kind's
+pub offset_fits : (kind : FileKind) (n : ℕ) → is_past kind n ≡ false → n < 2 ^ 64 → n < 256 ^ offset_len kind
+offset_fits Classic n h l = leb-false (2 ^ 32) n h
+offset_fits Big n h l = l
 
--- the place in an entry is the one that was written
-place_read : (kind : FileKind) (f : Field) (n : ℕ) → n < 256 ^ place_len kind
-    → field_place kind LittleEndian (record f { value = le 8 n }) ≡ n
+-- the offset in an entry is the one that was written
+offset_read : (kind : FileKind) (f : Field) (n : ℕ) → n < 256 ^ offset_len kind
+    → field_offset kind LittleEndian (record f { value = le 8 n }) ≡ n
 unfolding number
-place_read Classic f n l = number-le w32 n (inr (inl refl)) l
-place_read Big f n l = number-le w64 n (inr (inr refl)) l
+offset_read Classic f n l = number-le w32 n (inr (inl refl)) l
+offset_read Big f n l = number-le w64 n (inr (inr refl)) l
 
 -- a value field is no longer than eight bytes
-place_len_8 : (kind : FileKind) → place_len kind ≤ 8
-place_len_8 Classic = lit≤ tt
-place_len_8 Big = lit≤ tt
+offset_len_8 : (kind : FileKind) → offset_len kind ≤ 8
+offset_len_8 Classic = lit≤ tt
+offset_len_8 Big = lit≤ tt
 
 -- the field of a value, by whether it is long
 abbrev field_by : Bool → ℕ → FieldData → Field
-field_by long place value = record {
+field_by long offset value = record {
   field_type = value.field_type;
   count = value.count;
-  value = cond long (le 8 place) (filled value.bytes);
+  value = cond long (le 8 offset) (filled_field value.bytes);
 }
 
 -- and what is done to hand it in
 abbrev deeds_by : Bool → ℕ → FieldData → List Deed
-deeds_by long place value =
-    let handed : Deed = Handed (record { field = field_by long place value; bytes = value.bytes }) in
+deeds_by long offset value =
+    let handed : Deed = Handed (record { field = field_by long offset value; bytes = value.bytes }) in
     cond long (Appended value.bytes ∷ handed ∷ []) (handed ∷ [])
 
 -- it fits
 handed_fits : (kind : FileKind) (bytes : List ℕ) (m : Model) (value : FieldData) (long : Bool) → is_long kind value ≡ long
-    → IsWhole value → length value.bytes < 2 ^ 64 → (long ≡ true → length bytes < 256 ^ place_len kind)
+    → IsWhole value → length value.bytes < 2 ^ 64 → (long ≡ true → length bytes < 256 ^ offset_len kind)
     → DeedsFit kind bytes m (deeds_by long (length bytes) value)
 handed_fits kind bytes m value true t w s p =
     let n : ℕ = length bytes in
-    let r : Region = record { place = n; bytes = value.bytes } in
-    let above = ltb-true (place_len kind) (length value.bytes) t in (
+    let r : Region = record { offset = n; bytes = value.bytes } in
+    let above = ltb-true (offset_len kind) (length value.bytes) t in (
       tt,
       (
         inr (
@@ -102,7 +102,7 @@ handed_fits kind bytes m value true t w s p =
           (
             inl refl,
             record {
-              place = place_read kind (field_by true n value) n (p refl);
+              offset = offset_read kind (field_by true n value) n (p refl);
               whole = sym w;
               long = omega (arith, w, above);
               short = omega (arith, w, s);
@@ -116,11 +116,11 @@ handed_fits kind bytes m value true t w s p =
 handed_fits kind bytes m value false t w s p =
     let v : List ℕ = value.bytes in
     let n : ℕ = length v in
-    let below = ltb-false (place_len kind) n t in
-    let eight = place_len_8 kind in
-    let taken : take n (filled v) ≡ v =
+    let below = ltb-false (offset_len kind) n t in
+    let eight = offset_len_8 kind in
+    let taken : take n (filled_field v) ≡ v =
     take-take n 8 (v ++ replicate 8 0) (omega (arith, below, eight)) ∙ take_at v (replicate 8 0) n refl in
-    let P : ℕ → Type 0 = λ k. v ≡ take k (filled v) in
+    let P : ℕ → Type 0 = λ k. v ≡ take k (filled_field v) in
     (inl (record { short = omega (arith, w, below); bytes = subst P w (sym taken) }), tt)
 
 -- the tests of a field
@@ -136,18 +136,18 @@ placed_fits file m value w h l s =
     let deeds : List Deed = deeds_by long (end_of file) value in
     followed_fits (does deeds) (λ _. gives (field_by long (end_of file) value)) file m
     (handed_fits file.kind file.bytes m value long refl w s
-    (λ t. place_fits file.kind (end_of file) (tests _ long _ IntSizeError h t) l))
+    (λ t. offset_fits file.kind (end_of file) (tests _ long _ IntSizeError h t) l))
     (λ _ _. tt)
 
 -- ---- the end of a directory
 
 -- a directory is listed, and its parent's link is pointed to it
 listed_fits : (kind : FileKind) (bytes : List ℕ) (m : Model) (d : OpenDirectory) (parent : Option ℕ) → AreListable kind d.fields
-    → ((place : ℕ) → parent ≡ Some place → IsLink kind m place) → length bytes < 256 ^ place_len kind
+    → ((offset : ℕ) → parent ≡ Some offset → IsLink kind m offset) → length bytes < 256 ^ offset_len kind
     → DeedsFit kind bytes m (Listed d.fields ∷ links_to parent (length bytes))
 listed_fits kind bytes m d None a p l = (a, tt)
-listed_fits kind bytes m d (Some place) a p l =
-    (a, ((elim (p place refl) [ inl x ↦ inl x | inr y ↦ inr (y.0, (inr y.1.0, y.1.1)) ], l), tt))
+listed_fits kind bytes m d (Some offset) a p l =
+    (a, ((elim (p offset refl) [ inl x ↦ inl x | inr y ↦ inr (y.0, (inr y.1.0, y.1.1)) ], l), tt))
 
 pub finish_fits : FinishFits
 unfolding finish
@@ -156,4 +156,4 @@ finish_fits file m d a p l =
     let rest : Unit {0} → Writing Offsets = λ _. chains d.chained (offsets_of file.kind (end_of file) (len d.fields)) in
     caused_fits (finish_cause file d) (does deeds >>= rest) file m
     (λ h. followed_fits (does deeds) rest file m
-    (listed_fits file.kind file.bytes m d d.parent a p (place_fits file.kind (end_of file) (near file d h) l)) (λ _ _. tt))
+    (listed_fits file.kind file.bytes m d d.parent a p (offset_fits file.kind (end_of file) (near file d h) l)) (λ _ _. tt))

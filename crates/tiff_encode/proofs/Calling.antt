@@ -20,15 +20,15 @@ use Rattle.tiff_base.specs.Types.{type_size}
 use Rattle.tiff_value.specs.Buffer.{BufferRecord}
 use Rattle.tiff_value.specs.Data.{FieldData}
 use Rattle.tiff_value.specs.Values.{IsValue, IsWritable, byte_count}
-use Rattle.tiff_encode.specs.Written.{place_len}
-use Rattle.tiff_encode.specs.Value.{is_long, filled, field_at, data_in, buffer_data}
+use Rattle.tiff_encode.specs.FileBytes.{offset_len}
+use Rattle.tiff_encode.specs.Value.{is_long, filled_field, field_at, data_in, buffer_data}
 use Rattle.tiff_encode.specs.Deeds.{Deed, Appended, Handed, all_appended}
-use Rattle.tiff_encode.specs.Machine.{FileState, Told, Writing, gives, does, by_cause, answers, ◌>>=◌}
-use Rattle.tiff_encode.specs.Encoder.{IsCut, IsStopped}
-use Rattle.tiff_encode.specs.Steps.{grown}
+use Rattle.tiff_encode.specs.Machine.{FileState, WriteOutcome, Writing, gives, does, by_cause, answers, ◌>>=◌}
+use Rattle.tiff_encode.specs.Encoder.{AppendIsCut, AppendIsStopped}
+use Rattle.tiff_encode.specs.FileWrites.{file_with_bytes}
 use Rattle.tiff_encode.specs.Causes.{is_past, end_of, unless_ended, data_cause, order_cause, field_cause, write_tag_cause, write_buf_cause, write_entry_bytes_cause, write_data_cause, write_data_buf_cause}
-use Rattle.tiff_encode.specs.Calls.{placed, appends, write_entry, write_entry_buf, write_entry_bytes, write_data, write_data_buf}
-use Rattle.tiff_encode.specs.Ends.{IsTold, IsCutOff, HasBegun, Fails, Ends}
+use Rattle.tiff_encode.specs.Calls.{placed_field, appends, write_entry, write_entry_buf, write_entry_bytes, write_data, write_data_buf}
+use Rattle.tiff_encode.specs.Ends.{IsTold, IsCutOff, HasBegun, CallFails, Ends}
 use Rattle.tiff_encode.specs.Placing.{field_test, appended_for, Places}
 
 -- ---- causes
@@ -44,7 +44,7 @@ fresh_cause fault c f = ap (λ x. unless_ended x c) f
 -- ---- ends
 
 -- a beginning of what is appended
-pub cut_off : (deeds : List Deed) (e : TiffError) (old new : FileState) → IsCut (all_appended old.kind deeds) e old new
+pub cut_off : (deeds : List Deed) (e : TiffError) (old new : FileState) → AppendIsCut (all_appended old.kind deeds) e old new
     → IsCutOff deeds e old new
 cut_off deeds e old new c =
     record { fresh = c.fresh; fault = c.fault; answer = c.answer; count = c.count; within = c.within; state = c.state }
@@ -64,7 +64,7 @@ module _ {X Y : Type 0} (view : X → Y) where
       let P : Option TiffError → Type 0 = λ k. Ends view (by_cause k call old) r old new in subst P (sym c) h
 
   -- no memory, and nothing was done
-  pub wanting : (told : Told Y) (e : TiffError) (file : FileState) → file.fault ≡ None → e ≡ OutOfMemory
+  pub wanting : (told : WriteOutcome Y) (e : TiffError) (file : FileState) → file.fault ≡ None → e ≡ OutOfMemory
       → HasBegun told.answer told.deeds → Ends view told (Err e) file file
   wanting told e file f q b = inr (inr (inr (record {
     fresh = f;
@@ -80,31 +80,31 @@ module _ {X Y : Type 0} (view : X → Y) where
 -- what is told of it, by whether it is long
 abbrev placed_by : Bool → FieldData → Writing Field
 placed_by long value file =
-    let field : Field = record { field_type = value.field_type; count = value.count; value = cond long (le 8 (end_of file)) (filled value.bytes) } in
+    let field : Field = record { field_type = value.field_type; count = value.count; value = cond long (le 8 (end_of file)) (filled_field value.bytes) } in
     let handed : Deed = Handed (record { field = field; bytes = value.bytes }) in
     (does (cond long (Appended value.bytes ∷ handed ∷ []) (handed ∷ [])) >>= (λ _. gives field)) file
 
 -- and the field
 abbrev field_by : Bool → ℕ → FieldData → Field
 field_by long end value =
-    record { field_type = value.field_type; count = value.count; value = cond long (le 8 end) (filled value.bytes) }
+    record { field_type = value.field_type; count = value.count; value = cond long (le 8 end) (filled_field value.bytes) }
 
 -- it is done
 done_by : (long : Bool) (value : FieldData) (field : Field) (old new : FileState) → field ≡ field_by long (end_of old) value
-    → new ≡ grown old (cond long value.bytes []) → IsTold (placed_by long value old) (Ok field) new
+    → new ≡ file_with_bytes old (cond long value.bytes []) → IsTold (placed_by long value old) (Ok field) new
 done_by true value field old new f n = record { answer = ap Ok (sym f); state = n }
 done_by false value field old new f n =
     record { answer = ap Ok (sym f); state = n ∙ ap (λ bytes. record old { bytes = bytes }) (append-nil old.bytes) }
 
 -- or cut off
-cut_by : (long : Bool) (value : FieldData) (e : TiffError) (old new : FileState) → IsCut (cond long value.bytes []) e old new
+cut_by : (long : Bool) (value : FieldData) (e : TiffError) (old new : FileState) → AppendIsCut (cond long value.bytes []) e old new
     → IsCutOff (placed_by long value old).deeds e old new
 cut_by true value e old new c =
-    cut_off (placed_by true value old).deeds e old new (subst (λ xs. IsCut xs e old new) (sym (append-nil value.bytes)) c)
+    cut_off (placed_by true value old).deeds e old new (subst (λ xs. AppendIsCut xs e old new) (sym (append-nil value.bytes)) c)
 cut_by false value e old new c = absurd (let w : c.count < 0 = c.within in omega (arith, w))
 
 pub placed_ends : (value : FieldData) (r : Result Field TiffError) (old new : FileState) → Places value old new r
-    → Ends (λ field. field) (placed value old) r old new
+    → Ends (λ field. field) (placed_field value old) r old new
 placed_ends value (Ok field) old new p = done_by (is_long old.kind value) value field old new p.0 p.1
 placed_ends value (Err e) old new p = inr (inl (cut_by (is_long old.kind value) value e old new p))
 
@@ -141,9 +141,9 @@ long_by false p n e l =
 long_cut : (p n : ℕ) → p ≤ 8 → nat_lt p (min n (2 ^ 64 - 1)) ≡ nat_lt p n
 long_cut p n l = long_by (nat_lt p n) p n refl l
 
-place_len_8 : (kind : FileKind) → place_len kind ≤ 8
-place_len_8 Classic = lit≤ tt
-place_len_8 Big = lit≤ tt
+offset_len_8 : (kind : FileKind) → offset_len kind ≤ 8
+offset_len_8 Classic = lit≤ tt
+offset_len_8 Big = lit≤ tt
 
 -- the test is the cause
 pub test_is : (file : FileState) (kind : FileKind) (type : «Type») (count : ℕ) (d : FieldData) (end n len : ℕ) → kind ≡ file.kind
@@ -153,9 +153,9 @@ unfolding field_test
 test_is file kind type count d end n len k v at c l =
     let by : Bool → Bool → Bool → Option TiffError = λ past long far. cond past (Some IntSizeError) (cond (long && far) (Some IntSizeError) None) in
     let whole : count * type_size type ≡ length d.bytes = sym (v.2 ∙ (λ i. v.1 i * type_size (v.0 i))) in
-    let long : nat_lt (place_len kind) len ≡ nat_lt (place_len file.kind) (length d.bytes) =
-    (λ i. nat_lt (place_len (k i)) (l i)) ∙ long_cut (place_len file.kind) (count * type_size type) (place_len_8 file.kind)
-    ∙ ap (nat_lt (place_len file.kind)) whole in
+    let long : nat_lt (offset_len kind) len ≡ nat_lt (offset_len file.kind) (length d.bytes) =
+    (λ i. nat_lt (offset_len (k i)) (l i)) ∙ long_cut (offset_len file.kind) (count * type_size type) (offset_len_8 file.kind)
+    ∙ ap (nat_lt (offset_len file.kind)) whole in
     λ i. by (is_past (k i) ((c ∙ sym v.1) i)) (long i) (is_past (k i) (at i))
 
 module _ {X : Type 0} (view : X → Field) where
@@ -163,28 +163,28 @@ module _ {X : Type 0} (view : X → Field) where
       → Ends view (write_entry given file) (Err e) file file
   unfolding write_entry write_tag_cause
   entry_stopped given file e s q =
-      refused view (write_tag_cause file given) (λ f. (answers given >>= placed) f) file e (stopped_cause file.fault _ s ∙ ap Some (sym q))
+      refused view (write_tag_cause file given) (λ f. (answers given >>= placed_field) f) file e (stopped_cause file.fault _ s ∙ ap Some (sym q))
 
   pub entry_refused : (given : Result FieldData TiffError) (file : FileState) (e : TiffError) → file.fault ≡ None → given ≡ Err e
       → Ends view (write_entry given file) (Err e) file file
   unfolding write_entry write_tag_cause
   entry_refused given file e f g =
-      refused view (write_tag_cause file given) (λ f. (answers given >>= placed) f) file e
+      refused view (write_tag_cause file given) (λ f. (answers given >>= placed_field) f) file e
       (fresh_cause file.fault _ f ∙ ap (λ v. data_cause v (field_cause file)) g)
 
   pub entry_caused : (given : Result FieldData TiffError) (d : FieldData) (file : FileState) (e : TiffError) → file.fault ≡ None → given ≡ Ok d
       → field_cause file d ≡ Some e → Ends view (write_entry given file) (Err e) file file
   unfolding write_entry write_tag_cause
   entry_caused given d file e f g c =
-      refused view (write_tag_cause file given) (λ f. (answers given >>= placed) f) file e
+      refused view (write_tag_cause file given) (λ f. (answers given >>= placed_field) f) file e
       (fresh_cause file.fault _ f ∙ ap (λ v. data_cause v (field_cause file)) g ∙ c)
 
   pub entry_uncaused : (given : Result FieldData TiffError) (d : FieldData) (r : Result X TiffError) (old new : FileState) → old.fault ≡ None
-      → given ≡ Ok d → field_cause old d ≡ None → Ends view (placed d old) r old new → Ends view (write_entry given old) r old new
+      → given ≡ Ok d → field_cause old d ≡ None → Ends view (placed_field d old) r old new → Ends view (write_entry given old) r old new
   unfolding write_entry write_tag_cause
   entry_uncaused given d r old new f g c h =
       let P : Result FieldData TiffError → Type 0 = λ v. Ends view (write_entry v old) r old new in
-      subst P (sym g) (uncaused view (write_tag_cause old (Ok d)) (λ f. (answers (Ok d) >>= placed) f) r old new (fresh_cause old.fault _ f ∙ c) h)
+      subst P (sym g) (uncaused view (write_tag_cause old (Ok d)) (λ f. (answers (Ok d) >>= placed_field) f) r old new (fresh_cause old.fault _ f ∙ c) h)
 
 -- ---- bytes that are handed in
 
@@ -205,13 +205,13 @@ module _ {X Y : Type 0} (view : X → Y) where
       let P : Option TiffError → Type 0 = λ x. Ends view (by_cause x call old) r old new in subst P (sym q) h
 
 -- a value that fits into its entry
-pub placed_short : (kind : FileKind) (old : FileState) (value : FieldData) (field : Field) → kind ≡ old.kind → length value.bytes ≤ place_len kind
-    → field ≡ record { field_type = value.field_type; count = value.count; value = filled value.bytes }
-    → (field ≡ field_at old.kind (end_of old) value) × (old ≡ grown old (appended_for old.kind value))
+pub placed_short : (kind : FileKind) (old : FileState) (value : FieldData) (field : Field) → kind ≡ old.kind → length value.bytes ≤ offset_len kind
+    → field ≡ record { field_type = value.field_type; count = value.count; value = filled_field value.bytes }
+    → (field ≡ field_at old.kind (end_of old) value) × (old ≡ file_with_bytes old (appended_for old.kind value))
 placed_short kind old value field k l f =
-    let short : is_long old.kind value ≡ false = subst (λ x. is_long x value ≡ false) k (le-ltb (place_len kind) (length value.bytes) l) in (
+    let short : is_long old.kind value ≡ false = subst (λ x. is_long x value ≡ false) k (le-ltb (offset_len kind) (length value.bytes) l) in (
       f ∙ ap (λ b. field_by b (end_of old) value) (sym short),
-      ap (λ bytes. record old { bytes = bytes }) (sym (append-nil old.bytes)) ∙ ap (λ b. grown old (cond b value.bytes [])) (sym short),
+      ap (λ bytes. record old { bytes = bytes }) (sym (append-nil old.bytes)) ∙ ap (λ b. file_with_bytes old (cond b value.bytes [])) (sym short),
     )
 
 module _ {X : Type 0} (view : X → Field) where
@@ -219,49 +219,49 @@ module _ {X : Type 0} (view : X → Field) where
       → Ends view (write_entry_buf b file) (Err e) file file
   unfolding write_entry_buf write_buf_cause
   buf_stopped b file e s q =
-      refused view (write_buf_cause file b) (placed (buffer_data b)) file e (stopped_cause file.fault _ s ∙ ap Some (sym q))
+      refused view (write_buf_cause file b) (placed_field (buffer_data b)) file e (stopped_cause file.fault _ s ∙ ap Some (sym q))
 
   pub buf_refused : (b : BufferRecord) (file : FileState) (e : TiffError) → file.fault ≡ None → order_cause b.order None ≡ Some e
       → Ends view (write_entry_buf b file) (Err e) file file
   unfolding write_entry_buf write_buf_cause
   buf_refused b file e f o =
-      refused view (write_buf_cause file b) (placed (buffer_data b)) file e
+      refused view (write_buf_cause file b) (placed_field (buffer_data b)) file e
       (fresh_cause file.fault _ f ∙ order_some b.order e (field_cause file (buffer_data b)) o)
 
   pub buf_ends : (b : BufferRecord) (r : Result X TiffError) (old new : FileState) → old.fault ≡ None → order_cause b.order None ≡ None
-      → Ends view (by_cause (field_cause old (buffer_data b)) (placed (buffer_data b)) old) r old new → Ends view (write_entry_buf b old) r old new
+      → Ends view (by_cause (field_cause old (buffer_data b)) (placed_field (buffer_data b)) old) r old new → Ends view (write_entry_buf b old) r old new
   unfolding write_entry_buf write_buf_cause
   buf_ends b r old new f o h =
-      recaused view (write_buf_cause old b) (field_cause old (buffer_data b)) (placed (buffer_data b)) r old new
+      recaused view (write_buf_cause old b) (field_cause old (buffer_data b)) (placed_field (buffer_data b)) r old new
       (fresh_cause old.fault _ f ∙ order_none b.order (field_cause old (buffer_data b)) o) h
 
   pub bytes_stopped : (type : «Type») (bytes : List ℕ) (file : FileState) (e : TiffError) → IsSome file.fault → e ≡ UsageError WriterFailed
       → Ends view (write_entry_bytes type bytes file) (Err e) file file
   unfolding write_entry_bytes write_entry_bytes_cause
   bytes_stopped type bytes file e s q =
-      refused view (write_entry_bytes_cause file type bytes) (placed (data_in type bytes)) file e (stopped_cause file.fault _ s ∙ ap Some (sym q))
+      refused view (write_entry_bytes_cause file type bytes) (placed_field (data_in type bytes)) file e (stopped_cause file.fault _ s ∙ ap Some (sym q))
 
   pub bytes_refused : (type : «Type») (bytes : List ℕ) (file : FileState) → file.fault ≡ None → (length bytes % type_size type == 0) ≡ false
       → Ends view (write_entry_bytes type bytes file) (Err (UsageError (MismatchedEntryLength type (length bytes)))) file file
   unfolding write_entry_bytes write_entry_bytes_cause
   bytes_refused type bytes file f q =
-      refused view (write_entry_bytes_cause file type bytes) (placed (data_in type bytes)) file (UsageError (MismatchedEntryLength type (length bytes)))
+      refused view (write_entry_bytes_cause file type bytes) (placed_field (data_in type bytes)) file (UsageError (MismatchedEntryLength type (length bytes)))
       (fresh_cause file.fault _ f
       ∙ ap (λ b. cond (not b) (Some (UsageError (MismatchedEntryLength type (length bytes)))) (field_cause file (data_in type bytes))) q)
 
   pub bytes_ends : (type : «Type») (bytes : List ℕ) (r : Result X TiffError) (old new : FileState) → old.fault ≡ None
       → (length bytes % type_size type == 0) ≡ true
-      → Ends view (by_cause (field_cause old (data_in type bytes)) (placed (data_in type bytes)) old) r old new
+      → Ends view (by_cause (field_cause old (data_in type bytes)) (placed_field (data_in type bytes)) old) r old new
       → Ends view (write_entry_bytes type bytes old) r old new
   unfolding write_entry_bytes write_entry_bytes_cause
   bytes_ends type bytes r old new f q h =
-      recaused view (write_entry_bytes_cause old type bytes) (field_cause old (data_in type bytes)) (placed (data_in type bytes)) r old new
+      recaused view (write_entry_bytes_cause old type bytes) (field_cause old (data_in type bytes)) (placed_field (data_in type bytes)) r old new
       (fresh_cause old.fault _ f
       ∙ ap (λ b. cond (not b) (Some (UsageError (MismatchedEntryLength type (length bytes)))) (field_cause old (data_in type bytes))) q) h
 
 -- ---- bytes that are appended alone
 
-pub appends_done : (bytes : List ℕ) (n : ℕ) (old new : FileState) → n ≡ end_of old → new ≡ grown old bytes → IsTold (appends bytes old) (Ok n) new
+pub appends_done : (bytes : List ℕ) (n : ℕ) (old new : FileState) → n ≡ end_of old → new ≡ file_with_bytes old bytes → IsTold (appends bytes old) (Ok n) new
 appends_done bytes n old new at h = record { answer = ap Ok (sym at); state = h }
 
 pub none_some : (o : Option SinkFault) → o ≡ None → IsSome o → ⊥
@@ -269,10 +269,10 @@ none_some None f s = cc
 none_some (Some x) f s = cc
 
 pub appends_fails : (bytes : List ℕ) (e : TiffError) (old new : FileState) → old.fault ≡ None
-    → IsStopped e old new ⊎ IsCut bytes e old new → Fails (appends bytes old) e old new
-appends_fails bytes e old new f h = elim h as (λ _. Fails (appends bytes old) e old new) [
+    → AppendIsStopped e old new ⊎ AppendIsCut bytes e old new → CallFails (appends bytes old) e old new
+appends_fails bytes e old new f h = elim h as (λ _. CallFails (appends bytes old) e old new) [
   | inl s ↦ absurd (none_some old.fault f s.failed)
-  | inr c ↦ inr (inl (cut_off (appends bytes old).deeds e old new (subst (λ xs. IsCut xs e old new) (sym (append-nil bytes)) c)))
+  | inr c ↦ inr (inl (cut_off (appends bytes old).deeds e old new (subst (λ xs. AppendIsCut xs e old new) (sym (append-nil bytes)) c)))
 ]
 
 module _ {X : Type 0} (view : X → ℕ) where
@@ -331,6 +331,6 @@ data_test file kind type bytes size end k z at =
     sym (λ i. field_test (k i) (at i) (data_sized type bytes (z i)).count (length (data_sized type bytes (z i)).bytes))
 
 pub data_placed : (type : «Type») (bytes : List ℕ) (size : ℕ) (r : Result Field TiffError) (old new : FileState) → size ≡ type_size type
-    → Places (data_sized type bytes size) old new r → Ends (λ field. field) (placed (data_in type bytes) old) r old new
+    → Places (data_sized type bytes size) old new r → Ends (λ field. field) (placed_field (data_in type bytes) old) r old new
 data_placed type bytes size r old new z p =
     placed_ends (data_in type bytes) r old new (subst (λ s. Places (data_sized type bytes s) old new r) z p)

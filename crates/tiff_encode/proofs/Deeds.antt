@@ -2,9 +2,9 @@
 use Rattle.std.proofs.Common.{◌≡◌, ℕ, ◌≤◌, List, [], ◌∷◌, ◌++◌, length, take, refl, sym, ◌∙◌, inl, inr, subst, arith, append_assoc, append-nil}
 use Rattle.std.proofs.lemmas.List.{length-take}
 use Rattle.tiff_base.specs.declared.tags.FileKind.{FileKind}
-use Rattle.tiff_base.specs.Told.{put}
+use Rattle.tiff_base.specs.SourceAndSink.{put}
 use Rattle.tiff_base.specs.Number.{le}
-use Rattle.tiff_encode.specs.Written.{place_len, directory_bytes}
+use Rattle.tiff_encode.specs.FileBytes.{offset_len, directory_bytes}
 use Rattle.tiff_encode.specs.Model.{Region, Model, Stands, relinked, with_handed, IsLink, Grows}
 use Rattle.tiff_encode.specs.Deeds.{Deed, Appended, Handed, Listed, Linked, after_deed, bytes_after, all_appended, model_after_deed, model_after}
 use Rattle.tiff_encode.specs.Laws.{DeedFits, DeedsFit, DeedsStand, DeedsGrow, DeedsBegun, DeedsTorn, DeedsJoin, DeedsAppend}
@@ -58,7 +58,7 @@ deeds_append kind bytes (Handed handed ∷ deeds) a = deeds_append kind bytes de
 deeds_append kind bytes (Listed fields ∷ deeds) a =
     deeds_append kind (bytes ++ directory_bytes kind fields) deeds a
     ∙ append_assoc bytes (directory_bytes kind fields) (all_appended kind deeds)
-deeds_append kind bytes (Linked place target ∷ deeds) a = absurd a
+deeds_append kind bytes (Linked offset target ∷ deeds) a = absurd a
 
 -- ---- what stands
 
@@ -73,10 +73,10 @@ deed_stands kind bytes m (Handed handed) h f =
       | inl x ↦ subst P (sym x.bytes) (grown_by_inline kind m bytes handed.field x.short h)
       | inr y ↦ (let r : Region = y.0 in let a = y.1.1 in
           subst P (sym a.bytes)
-          (grown_by_placed kind m bytes handed.field r y.1.0 a.place a.whole a.long a.short h))
+          (grown_by_placed kind m bytes handed.field r y.1.0 a.offset a.whole a.long a.short h))
     ]
 deed_stands kind bytes m (Listed fields) h f = grown_by_listing kind m bytes fields f h
-deed_stands kind bytes m (Linked place target) h f = kept_by_patching kind m bytes place target f.0 f.1 h
+deed_stands kind bytes m (Linked offset target) h f = kept_by_patching kind m bytes offset target f.0 f.1 h
 
 -- some deeds
 pub deeds_stand : DeedsStand
@@ -92,7 +92,7 @@ deed_grows : (kind : FileKind) (n : ℕ) (m : Model) (deed : Deed) → Grows m (
 deed_grows kind n m (Appended more) = record { directories = λ d i. i; handed = λ h i. i; regions = λ r i. inr i }
 deed_grows kind n m (Handed handed) = record { directories = λ d i. i; handed = λ h i. inr i; regions = λ r i. i }
 deed_grows kind n m (Listed fields) = record { directories = λ d i. inr i; handed = λ h i. i; regions = λ r i. i }
-deed_grows kind n m (Linked place target) = record { directories = λ d i. i; handed = λ h i. i; regions = λ r i. i }
+deed_grows kind n m (Linked offset target) = record { directories = λ d i. i; handed = λ h i. i; regions = λ r i. i }
 
 -- nor do some
 pub deeds_grow : DeedsGrow
@@ -118,12 +118,12 @@ deeds_begun kind bytes m deeds count h = kept_by_appending kind m bytes (take co
 
 -- all but a link, which broke off
 pub deeds_torn : DeedsTorn
-deeds_torn kind bytes m before place target count a h f =
-    let over : List ℕ = take count (le (place_len kind) target) in
+deeds_torn kind bytes m before offset target count a h f =
+    let over : List ℕ = take count (le (offset_len kind) target) in
     let n : Model = model_after kind bytes m before in
-    let p = fits_parted kind bytes m before (Linked place target ∷ []) f in
-    let short : length over ≤ place_len kind =
-    omega (arith, length-take count (le (place_len kind) target), length-le 0 (place_len kind) target) in
-    let P : List ℕ → Type 0 = λ file. (t : ℕ) × Stands kind (put file place over) (relinked kind n place t) in
+    let p = fits_parted kind bytes m before (Linked offset target ∷ []) f in
+    let short : length over ≤ offset_len kind =
+    omega (arith, length-take count (le (offset_len kind) target), length-le 0 (offset_len kind) target) in
+    let P : List ℕ → Type 0 = λ file. (t : ℕ) × Stands kind (put file offset over) (relinked kind n offset t) in
     subst P (deeds_append kind bytes before a)
-    (kept_by_tearing kind n (bytes_after kind bytes before) place over p.1.0.0 short (deeds_stand kind bytes m before h p.0))
+    (kept_by_tearing kind n (bytes_after kind bytes before) offset over p.1.0.0 short (deeds_stand kind bytes m before h p.0))

@@ -12,11 +12,11 @@ use Rattle.tiff_encode.specs.declared.encoder.script.StepReply.{StepReply}
 use Rattle.tiff_encode.specs.declared.encoder.script.StepReply.TheVariants as reply
 use Rattle.tiff_encode.specs.Model.{Model, Stands}
 use Rattle.tiff_encode.specs.Deeds.{Deed, model_after}
-use Rattle.tiff_encode.specs.Machine.{FileState, OpenDirectory, Told, Writing, answers, gives, going_on, ◌>>=◌}
+use Rattle.tiff_encode.specs.Machine.{FileState, OpenDirectory, WriteOutcome, Writing, answers, gives, and_then, ◌>>=◌}
 use Rattle.tiff_encode.specs.Causes.{write_buf_cause, write_data_cause, write_data_buf_cause}
-use Rattle.tiff_encode.specs.Calls.{with_field, placed, appends, write_entry, write_entry_buf, write_tag, write_tag_buf, write_data, write_data_buf, write_entry_bytes, extend_from}
+use Rattle.tiff_encode.specs.Calls.{with_field, placed_field, appends, write_entry, write_entry_buf, write_tag, write_tag_buf, write_data, write_data_buf, write_entry_bytes, extend_from}
 use Rattle.tiff_encode.specs.Value.{buffer_data}
-use Rattle.tiff_encode.specs.Ends.{IsTold, Fails}
+use Rattle.tiff_encode.specs.Ends.{IsTold, CallFails}
 use Rattle.tiff_encode.specs.JobValues.{buffer_in, value_data}
 use Rattle.tiff_encode.specs.Jobs.{Standing, Changes, Replies, Extends, DirectoryStepped, AllStepped}
 use Rattle.tiff_encode.specs.Stepping.{Moves}
@@ -30,7 +30,7 @@ use Rattle.tiff_encode.proofs.Moving.{Seen, moves_so}
 -- `write_entry_buf`
 pub entry_buf_adds : (b : BufferRecord) (file : FileState) → Adds (write_entry_buf b file) file
 unfolding write_entry_buf
-entry_buf_adds b file = caused_adds (write_buf_cause file b) (placed (buffer_data b)) file (placed_adds (buffer_data b) file)
+entry_buf_adds b file = caused_adds (write_buf_cause file b) (placed_field (buffer_data b)) file (placed_adds (buffer_data b) file)
 
 -- `write_tag_buf`
 pub tag_buf_adds : (d : OpenDirectory) (t : Tag) (b : BufferRecord) (file : FileState) → Adds (write_tag_buf d t b file) file
@@ -60,10 +60,10 @@ module _ (d : OpenDirectory) (t : Tag) (field : Field) (old new : FileState) (m 
   -- what was done for the field stands
   given_kept : (r : Result Field TiffError) (deeds : List Deed) (next : FileState) → r ≡ Ok field
       → Stands old.kind new.bytes (model_after old.kind old.bytes m deeds)
-      → Stands old.kind new.bytes (model_after old.kind old.bytes m (going_on r deeds next (λ f. gives (with_field d t f))).deeds)
+      → Stands old.kind new.bytes (model_after old.kind old.bytes m (and_then r deeds next (λ f. gives (with_field d t f))).deeds)
   given_kept r deeds next h s =
       let P : Result Field TiffError → Type 0 = λ q.
-      Stands old.kind new.bytes (model_after old.kind old.bytes m (going_on q deeds next (λ f. gives (with_field d t f))).deeds) in
+      Stands old.kind new.bytes (model_after old.kind old.bytes m (and_then q deeds next (λ f. gives (with_field d t f))).deeds) in
       let Q : List Deed → Type 0 = λ ds. Stands old.kind new.bytes (model_after old.kind old.bytes m ds) in
       subst P (sym h) (subst Q (sym (append-nil deeds)) s)
 
@@ -73,7 +73,7 @@ module _ (d : OpenDirectory) (t : Tag) (field : Field) (old new : FileState) (m 
       → Stands old.kind new.bytes (model_after old.kind old.bytes m (write_tag d t value old).deeds)
   unfolding write_tag
   tag_kept value h s =
-      let told : Told Field = write_entry value old in given_kept told.answer told.deeds told.next h.answer s
+      let told : WriteOutcome Field = write_entry value old in given_kept told.answer told.deeds told.next h.answer s
 
   -- `write_tag_buf`
   pub tag_buf_kept : (b : BufferRecord) → IsTold (write_entry_buf b old) (Ok field) new
@@ -81,7 +81,7 @@ module _ (d : OpenDirectory) (t : Tag) (field : Field) (old new : FileState) (m 
       → Stands old.kind new.bytes (model_after old.kind old.bytes m (write_tag_buf d t b old).deeds)
   unfolding write_tag_buf
   tag_buf_kept b h s =
-      let told : Told Field = write_entry_buf b old in given_kept told.answer told.deeds told.next h.answer s
+      let told : WriteOutcome Field = write_entry_buf b old in given_kept told.answer told.deeds told.next h.answer s
 
 -- ---- what a step makes of its call
 
@@ -90,7 +90,7 @@ moves_as : (P Q : Standing → Standing → Type 0) (old new : FileState) → ((
 moves_as P Q old new f g known s q k = let x = g known s q k in (x.0, (x.1.0, (f s x.0 x.1.1.0, x.1.1.1)))
 
 -- what a call that was done leaves
-abbrev Kept : {A : Type 0} → Told A → FileState → FileState → Type 0
+abbrev Kept : {A : Type 0} → WriteOutcome A → FileState → FileState → Type 0
 Kept told old new = (m : Model) → Stands old.kind old.bytes m → Stands old.kind new.bytes (model_after old.kind old.bytes m told.deeds)
 
 -- and one that was not
@@ -110,7 +110,7 @@ module _ (d e : OpenDirectory) (old new : FileState) where
   changed call a h l =
       let view : OpenDirectory → OpenDirectory = λ x. x in moves_so view call (Ok e) old new (adding (call old) old a) h l
 
-  pub unchanged : (call : Writing OpenDirectory) (fault : TiffError) → Adds (call old) old → Fails (call old) fault old new
+  pub unchanged : (call : Writing OpenDirectory) (fault : TiffError) → Adds (call old) old → CallFails (call old) fault old new
       → Stood old new → e ≡ d → Moves (λ s t. Changes call d (Err fault) s t e) old new
   unchanged call fault a h l q =
       let view : OpenDirectory → OpenDirectory = λ x. x in
@@ -128,7 +128,7 @@ module _ (d e : OpenDirectory) (old new : FileState) where
       moves_as P Q old new (λ s t p. (q, (x, (refl, p)))) (moves_so same call (Ok x) old new (adding (call old) old a) h l)
 
   pub unreplied : {A : Type 0} (view : A → StepReply) (call : Writing A) (fault : TiffError) → Adds (call old) old
-      → Fails (call old) fault old new → Stood old new → e ≡ d → Moves (λ s t. Replies view call d (Err fault) s t e) old new
+      → CallFails (call old) fault old new → Stood old new → e ≡ d → Moves (λ s t. Replies view call d (Err fault) s t e) old new
   unreplied {A = A} view call fault a h l q =
       let same : A → A = λ y. y in
       let P : Standing → Standing → Type 0 = λ s t. Seen same (call s.file) (Err fault) s t in

@@ -2,12 +2,12 @@
 use Rattle.std.proofs.Common.{◌≡◌, ℕ, inl, inr, Bool, true, false, List, [], ◌∷◌, ◌++◌, Option, Some, None, Result, Ok, Err, refl, ap, sym, ◌∙◌, subst}
 use Rattle.std.specs.FinMap.{len}
 use Rattle.tiff_base.specs.declared.error.TiffError.{TiffError}
-use Rattle.tiff_base.specs.Directory.{link_place}
+use Rattle.tiff_base.specs.Directory.{link_offset}
 use Rattle.tiff_value.specs.Data.{Scalars}
 use Rattle.tiff_base.specs.declared.tags.Tag.{Tag}
 use Rattle.tiff_encode.specs.Model.{FinishedDirectory, Model, IsLink, with_directory}
 use Rattle.tiff_encode.specs.Deeds.{Deed, Listed, after_deed, model_after, standing_fields}
-use Rattle.tiff_encode.specs.Machine.{FileState, OpenDirectory, OpenImage, Told, Writing, does, behind, by_cause, going_on, ◌>>=◌}
+use Rattle.tiff_encode.specs.Machine.{FileState, OpenDirectory, OpenImage, WriteOutcome, Writing, does, after_deeds, by_cause, and_then, ◌>>=◌}
 use Rattle.tiff_encode.specs.Chunks.{parts_left}
 use Rattle.tiff_encode.specs.Causes.{end_of, finish_cause, write_image_data_cause}
 use Rattle.tiff_encode.specs.Calls.{Offsets, offsets_of, links_to, chain_after, chains, finish, write_tags, last_tags, finish_image, write_chunks, write_image_data}
@@ -17,13 +17,13 @@ use Rattle.tiff_encode.proofs.Standing.{len_standing}
 use Rattle.tiff_encode.proofs.Deeds.{deeds_grow, link_kept}
 use Rattle.tiff_encode.proofs.Leaving.{ok_err}
 use Rattle.tiff_encode.proofs.Joining.{IsAdding}
-use Rattle.tiff_encode.proofs.OpenTags.{tags_adding}
-use Rattle.tiff_encode.proofs.DataCalls.{adding_done, behind_model}
-use Rattle.tiff_encode.proofs.DataChunks.{chunks_adding}
+use Rattle.tiff_encode.proofs.Open.Tags.{tags_adding}
+use Rattle.tiff_encode.proofs.Data.Calls.{adding_done, behind_model}
+use Rattle.tiff_encode.proofs.Data.Chunks.{chunks_adding}
 
 -- What is told of an end: of a directory that ended the own link is one, and the chain's last link is one where it was; a
 -- refusal leaves the chain.
-pub record EndLinks (told : Told Offsets) (file : FileState) (m : Model) : Type 0 where
+pub record EndLinks (told : WriteOutcome Offsets) (file : FileState) (m : Model) : Type 0 where
   pub own : (offsets : Offsets) → told.answer ≡ Ok offsets → IsLink file.kind (model_by file m told) offsets.link
   pub chain : (offsets : Offsets) → told.answer ≡ Ok offsets → IsLink file.kind m file.chain
       → IsLink file.kind (model_by file m told) told.next.chain
@@ -42,21 +42,21 @@ caused_links (Some e) call file m l = record {
 -- what goes on with an end
 module _ {A : Type 0} (rest : A → Writing Offsets) (file : FileState) (m : Model) where
   joined_links : (r : Result A TiffError) (deeds : List Deed) (next : FileState)
-      → (let first : Told A = record { answer = r; deeds = deeds; next = next } in IsAdding first file)
+      → (let first : WriteOutcome A = record { answer = r; deeds = deeds; next = next } in IsAdding first file)
       → ((x : A) → r ≡ Ok x → EndLinks (rest x next) next (model_after file.kind file.bytes m deeds))
-      → EndLinks (going_on r deeds next rest) file m
+      → EndLinks (and_then r deeds next rest) file m
   joined_links (Err e) deeds next a l = record {
     own = λ offsets h. absurd (ok_err (sym h));
     chain = λ offsets h. absurd (ok_err (sym h));
     refused = λ f h. ap (λ s. s.chain) a.next;
   }
   joined_links (Ok x) deeds next a l =
-      let first : Told A = record { answer = Ok x; deeds = deeds; next = next } in
-      let second : Told Offsets = rest x next in
+      let first : WriteOutcome A = record { answer = Ok x; deeds = deeds; next = next } in
+      let second : WriteOutcome Offsets = rest x next in
       let n : Model = model_by file m first in
       let kind = ap (λ s. s.kind) a.next in
       let chain = ap (λ s. s.chain) a.next in
-      let here : (q : ℕ) → IsLink next.kind (model_by next n second) q → IsLink file.kind (model_by file m (behind deeds second)) q = λ q i.
+      let here : (q : ℕ) → IsLink next.kind (model_by next n second) q → IsLink file.kind (model_by file m (after_deeds deeds second)) q = λ q i.
       subst (λ k. IsLink file.kind k q) (sym (behind_model first second file m (adding_done first file a)))
       (subst (λ kind. IsLink kind (model_by next n second) q) kind i) in
       record {
@@ -85,20 +85,20 @@ chain_among false file offsets P own kept = kept
 pub finish_links : (d : OpenDirectory) (file : FileState) (m : Model) → EndLinks (finish d file) file m
 unfolding finish
 finish_links d file m =
-    let place : Offsets = offsets_of file.kind (end_of file) (len d.fields) in
+    let offset : Offsets = offsets_of file.kind (end_of file) (len d.fields) in
     let links : List Deed = links_to d.parent (end_of file) in
-    let call : Writing Offsets = does (Listed d.fields ∷ links) >>= (λ _. chains d.chained place) in
-    let listed : FinishedDirectory = record { place = end_of file; fields = standing_fields file.kind d.fields } in
+    let call : Writing Offsets = does (Listed d.fields ∷ links) >>= (λ _. chains d.chained offset) in
+    let listed : FinishedDirectory = record { offset = end_of file; fields = standing_fields file.kind d.fields } in
     let after : Model = model_by file m (call file) in
     let grown = deeds_grow file.kind (after_deed file.kind file.bytes (Listed d.fields)) (with_directory file.kind m listed) (links ++ []) in
-    let own : IsLink file.kind after place.link =
-    inr (listed, (grown.directories listed (inl refl), ap (link_place file.kind (end_of file)) (sym (len_standing file.kind d.fields)))) in
+    let own : IsLink file.kind after offset.link =
+    inr (listed, (grown.directories listed (inl refl), ap (link_offset file.kind (end_of file)) (sym (len_standing file.kind d.fields)))) in
     let kept : IsLink file.kind m file.chain → IsLink file.kind after file.chain =
     link_kept file.kind m after file.chain (deeds_grow file.kind file.bytes m (Listed d.fields ∷ links ++ [])) in
     let P : ℕ → Type 0 = λ q. IsLink file.kind after q in
     caused_links (finish_cause file d) call file m (record {
-      own = λ offsets h. subst (λ o. IsLink file.kind after o.link) (ok_inj place offsets h) own;
-      chain = λ offsets h i. chain_among d.chained (does (Listed d.fields ∷ links) file).next place P own (kept i);
+      own = λ offsets h. subst (λ o. IsLink file.kind after o.link) (ok_inj offset offsets h) own;
+      chain = λ offsets h i. chain_among d.chained (does (Listed d.fields ∷ links) file).next offset P own (kept i);
       refused = λ e h. absurd (ok_err h);
     })
 

@@ -10,15 +10,15 @@ use Rattle.tiff_base.specs.declared.error.TiffError.TheVariants.{IntSizeError, U
 use Rattle.tiff_base.specs.declared.error.UsageError.TheVariants.{WriterFailed}
 use Rattle.tiff_base.specs.declared.tags.FileKind.{FileKind}
 use Rattle.tiff_base.specs.declared.tags.FileKind.TheVariants.{Classic, Big}
-use Rattle.tiff_base.specs.Directory.{entry_len, link_place}
+use Rattle.tiff_base.specs.Directory.{entry_len, link_offset}
 use Rattle.tiff_base.specs.Field.{Field, In, IsEntry, AreEntries}
 use Rattle.tiff_base.specs.Number.{le}
-use Rattle.tiff_base.specs.Told.{put}
-use Rattle.tiff_encode.specs.Written.{place_len, count_len, entry_bytes, directory_bytes}
+use Rattle.tiff_base.specs.SourceAndSink.{put}
+use Rattle.tiff_encode.specs.FileBytes.{offset_len, count_len, entry_bytes, directory_bytes}
 use Rattle.tiff_encode.specs.Machine.{FileState, OpenDirectory, Writing, does, ◌>>=◌}
 use Rattle.tiff_encode.specs.Deeds.{Deed, Listed, bytes_after, all_appended}
-use Rattle.tiff_encode.specs.Encoder.{IsCut, IsTorn}
-use Rattle.tiff_encode.specs.Steps.{grown}
+use Rattle.tiff_encode.specs.Encoder.{AppendIsCut, IsTorn}
+use Rattle.tiff_encode.specs.FileWrites.{file_with_bytes}
 use Rattle.tiff_encode.specs.Causes.{is_past, is_past_count, end_of, parent_cause, finish_cause}
 use Rattle.tiff_encode.specs.Calls.{Offsets, offsets_of, links_to, chain_after, chains, finish}
 use Rattle.tiff_encode.specs.Ends.{IsTold, IsTornOff, Ends}
@@ -43,14 +43,14 @@ length-entries kind (e ∷ es) w =
     omega (arith, a, b, length-append (entry_bytes kind e) (flat_map (entry_bytes kind) es))
 
 -- its link is the last of it
-pub length-listed : (kind : FileKind) (place : ℕ) (fields : FinMap nat_cmp Field) → AreEntries fields
-    → place + length (directory_bytes kind fields) ≡ link_place kind place (len fields) + place_len kind
+pub length-listed : (kind : FileKind) (offset : ℕ) (fields : FinMap nat_cmp Field) → AreEntries fields
+    → offset + length (directory_bytes kind fields) ≡ link_offset kind offset (len fields) + offset_len kind
 unfolding directory_bytes
-length-listed kind place fields w =
+length-listed kind offset fields w =
     let n : ℕ = len fields in
     let C : List ℕ = le (count_len kind) n in
     let B : List ℕ = flat_map (entry_bytes kind) (entries fields) in
-    let Z : List ℕ = le (place_len kind) 0 in
+    let Z : List ℕ = le (offset_len kind) 0 in
     let x : length B ≡ entry_len kind * n =
     length-entries kind (entries fields) w ∙ ap (λ (n : ℕ). entry_len kind * n) (sym (len-entries fields)) in
     omega (
@@ -58,14 +58,14 @@ length-listed kind place fields w =
       length-append C (B ++ Z),
       length-append B Z,
       length-le 0 (count_len kind) n,
-      length-le 0 (place_len kind) 0,
+      length-le 0 (offset_len kind) 0,
       x,
     )
 
 -- and of the file that it is appended to
 pub own_link_is : (old new : FileState) (fields : FinMap nat_cmp Field) (width at : ℕ) → AreEntries fields
-    → new ≡ grown old (directory_bytes old.kind fields) → at ≡ end_of new → width ≡ place_len old.kind
-    → at - width ≡ link_place old.kind (end_of old) (len fields)
+    → new ≡ file_with_bytes old (directory_bytes old.kind fields) → at ≡ end_of new → width ≡ offset_len old.kind
+    → at - width ≡ link_offset old.kind (end_of old) (len fields)
 own_link_is old new fields width at w s a k =
     let D : List ℕ = directory_bytes old.kind fields in
     let l = length-listed old.kind (end_of old) fields w in
@@ -73,20 +73,20 @@ own_link_is old new fields width at w s a k =
     omega (arith, l, g, a, k)
 
 pub own_link_within : (old new : FileState) (fields : FinMap nat_cmp Field) (link : ℕ) (kind : FileKind) → AreEntries fields
-    → new ≡ grown old (directory_bytes old.kind fields) → link ≡ link_place old.kind (end_of old) (len fields) → old.kind ≡ kind
-    → link + place_len kind ≤ end_of new
+    → new ≡ file_with_bytes old (directory_bytes old.kind fields) → link ≡ link_offset old.kind (end_of old) (len fields) → old.kind ≡ kind
+    → link + offset_len kind ≤ end_of new
 own_link_within old new fields link kind w s l k =
     let D : List ℕ = directory_bytes old.kind fields in
     let x = length-listed old.kind (end_of old) fields w in
     let g : length new.bytes ≡ length old.bytes + length D = ap (λ m. length m.bytes) s ∙ length-append old.bytes D in
-    omega (arith, x, g, l, ap place_len k)
+    omega (arith, x, g, l, ap offset_len k)
 
 -- ---- causes
 
 -- a parent's link is tested in the same way
 parent_tested : (file : FileState) (parent : Option ℕ) → parent_cause file parent ≡ parent_test file.kind (end_of file) parent
 parent_tested file None = refl
-parent_tested file (Some place) = refl
+parent_tested file (Some offset) = refl
 
 -- the test of a directory's end is its cause, where no write failed before
 pub end_cause : (file : FileState) (d : OpenDirectory) (kind : FileKind) (end : ℕ) → file.fault ≡ None → kind ≡ file.kind
@@ -110,21 +110,21 @@ passed false e cause h = (refl, h)
 
 -- where nothing refuses the end of a directory, its parent's link lies within the file
 pub end_within : (file : FileState) (d : OpenDirectory) → file.fault ≡ None → finish_cause file d ≡ None
-    → (place : ℕ) → d.parent ≡ Some place → place + place_len file.kind ≤ end_of file
+    → (offset : ℕ) → d.parent ≡ Some offset → offset + offset_len file.kind ≤ end_of file
 unfolding finish_cause
-end_within file d f h place p =
+end_within file d f h offset p =
     let rest = (passed _ _ _ (sym (fresh_cause file.fault _ f) ∙ h)).1 in
-    let b = passed (nat_lt (end_of file) (place + place_len file.kind)) _ None (sym (ap (parent_cause file) p) ∙ rest) in
-    ltb-false (end_of file) (place + place_len file.kind) b.0
+    let b = passed (nat_lt (end_of file) (offset + offset_len file.kind)) _ None (sym (ap (parent_cause file) p) ∙ rest) in
+    ltb-false (end_of file) (offset + offset_len file.kind) b.0
 
 -- also after more was appended
 pub within_grown : (old mid : FileState) (d : OpenDirectory) (kind : FileKind) (more : List ℕ) (parent : Option ℕ) → old.kind ≡ kind
-    → old.fault ≡ None → finish_cause old d ≡ None → mid ≡ grown old more → parent ≡ d.parent
-    → (place : ℕ) → parent ≡ Some place → place + place_len kind ≤ length mid.bytes
-within_grown old mid d kind more parent k f h s q place p =
-    let w = end_within old d f h place (sym q ∙ p) in
+    → old.fault ≡ None → finish_cause old d ≡ None → mid ≡ file_with_bytes old more → parent ≡ d.parent
+    → (offset : ℕ) → parent ≡ Some offset → offset + offset_len kind ≤ length mid.bytes
+within_grown old mid d kind more parent k f h s q offset p =
+    let w = end_within old d f h offset (sym q ∙ p) in
     let g : length mid.bytes ≡ length old.bytes + length more = ap (λ m. length m.bytes) s ∙ length-append old.bytes more in
-    omega (arith, w, g, ap place_len k)
+    omega (arith, w, g, ap offset_len k)
 
 -- ---- links
 
@@ -140,7 +140,7 @@ chain_is file false offsets = refl
 appended_is : (kind : FileKind) (fields : FinMap nat_cmp Field) (parent : Option ℕ) (target : ℕ)
     → all_appended kind ((Listed fields ∷ links_to parent target) ++ []) ≡ directory_bytes kind fields
 appended_is kind fields None target = append-nil (directory_bytes kind fields)
-appended_is kind fields (Some place) target = append-nil (directory_bytes kind fields)
+appended_is kind fields (Some offset) target = append-nil (directory_bytes kind fields)
 
 module _ {X : Type 0} (view : X → Offsets) (d : OpenDirectory) (old : FileState) where
   -- what is told where nothing refuses it
@@ -162,12 +162,12 @@ module _ {X : Type 0} (view : X → Offsets) (d : OpenDirectory) (old : FileStat
   unfolding finish
   uncaused_end r new c h = uncaused view (finish_cause old d) call r old new c h
 
-  pub end_cut : (e : TiffError) (new : FileState) → finish_cause old d ≡ None → IsCut (directory_bytes old.kind d.fields) e old new
+  pub end_cut : (e : TiffError) (new : FileState) → finish_cause old d ≡ None → AppendIsCut (directory_bytes old.kind d.fields) e old new
       → Ends view (finish d old) (Err e) old new
   end_cut e new c cut =
       uncaused_end (Err e) new c
       (inr (inl (cut_off (call old).deeds e old new
-      (subst (λ xs. IsCut xs e old new) (sym (appended_is old.kind d.fields d.parent (end_of old))) cut))))
+      (subst (λ xs. AppendIsCut xs e old new) (sym (appended_is old.kind d.fields d.parent (end_of old))) cut))))
 
   pub end_wanting : (e : TiffError) → finish_cause old d ≡ None → old.fault ≡ None → e ≡ OutOfMemory
       → Ends view (finish d old) (Err e) old old
@@ -175,7 +175,7 @@ module _ {X : Type 0} (view : X → Offsets) (d : OpenDirectory) (old : FileStat
 
   -- the directory was not listed
   pub end_unlisted : (e : TiffError) (new : FileState) → finish_cause old d ≡ None → old.fault ≡ None
-      → IsCut (directory_bytes old.kind d.fields) e old new ⊎ ((e ≡ OutOfMemory) × (new ≡ old))
+      → AppendIsCut (directory_bytes old.kind d.fields) e old new ⊎ ((e ≡ OutOfMemory) × (new ≡ old))
       → Ends view (finish d old) (Err e) old new
   end_unlisted e new c f h = elim h as (λ _. Ends view (finish d old) (Err e) old new) [
     | inl cut ↦ end_cut e new c cut
@@ -184,29 +184,29 @@ module _ {X : Type 0} (view : X → Offsets) (d : OpenDirectory) (old : FileStat
 
   -- it was, and its parent's link was torn
   pub end_torn : (e : TiffError) (mid new : FileState) (target : ℕ) (parent : Option ℕ) → finish_cause old d ≡ None → old.fault ≡ None
-      → target ≡ end_of old → mid ≡ grown old (directory_bytes old.kind d.fields) → parent ≡ d.parent
-      → (place : ℕ) × ((parent ≡ Some place) × IsTorn [] place target e mid new)
+      → target ≡ end_of old → mid ≡ file_with_bytes old (directory_bytes old.kind d.fields) → parent ≡ d.parent
+      → (offset : ℕ) × ((parent ≡ Some offset) × IsTorn [] offset target e mid new)
       → Ends view (finish d old) (Err e) old new
-  end_torn e mid new target parent c f a s q (place, (p, t)) =
+  end_torn e mid new target parent c f a s q (offset, (p, t)) =
       let D : List ℕ = directory_bytes old.kind d.fields in
       let torn : IsTornOff (call old).deeds e old new = record {
         fresh = f;
         fault = t.fault;
         answer = t.answer;
         before = Listed d.fields ∷ [];
-        place = place;
+        offset = offset;
         target = end_of old;
         last = ap (λ x. Listed d.fields ∷ (links_to x (end_of old) ++ [])) (sym q ∙ p);
         count = t.count;
-        within = subst (λ m. t.count < place_len m.kind) s t.within;
+        within = subst (λ m. t.count < offset_len m.kind) s t.within;
         state = t.state
             ∙ (λ i. record (s i) {
-              bytes = put ((s i).bytes ++ []) place (take t.count (le (place_len (s i).kind) (a i)));
+              bytes = put ((s i).bytes ++ []) offset (take t.count (le (offset_len (s i).kind) (a i)));
               failures = (s i).failures + 1;
               fault = Some t.fault;
             })
             ∙ (λ i. record old {
-              bytes = put (append_assoc old.bytes D [] i) place (take t.count (le (place_len old.kind) (end_of old)));
+              bytes = put (append_assoc old.bytes D [] i) offset (take t.count (le (offset_len old.kind) (end_of old)));
               failures = old.failures + 1;
               fault = Some t.fault;
             });
@@ -215,10 +215,10 @@ module _ {X : Type 0} (view : X → Offsets) (d : OpenDirectory) (old : FileStat
 
   -- all was done
   pub end_done : (x : X) (mid linked new : FileState) (target link : ℕ) (parent : Option ℕ) (chained : Bool) → finish_cause old d ≡ None → target ≡ end_of old
-      → mid ≡ grown old (directory_bytes old.kind d.fields)
+      → mid ≡ file_with_bytes old (directory_bytes old.kind d.fields)
       → linked ≡ record mid { bytes = bytes_after mid.kind mid.bytes (links_to parent target) }
       → parent ≡ d.parent → chained ≡ d.chained
-      → link ≡ link_place old.kind (end_of old) (len d.fields) → view x ≡ record { pointer = target; link = link }
+      → link ≡ link_offset old.kind (end_of old) (len d.fields) → view x ≡ record { pointer = target; link = link }
       → new ≡ cond chained (record linked { chain = link }) linked
       → Ends view (finish d old) (Ok x) old new
   end_done x mid linked new target link parent chained c a s l q b k v n =

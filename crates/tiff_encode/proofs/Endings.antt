@@ -14,43 +14,43 @@ use Rattle.tiff_base.specs.declared.tags.Tag.TheVariants as tag
 use Rattle.tiff_base.specs.Number.{le}
 use Rattle.tiff_value.specs.Data.{FieldData, Scalars, u16s, formats, data_by, data_of}
 use Rattle.tiff_value.specs.Values.{values_in}
-use Rattle.tiff_encode.specs.declared.encoder.endings.Part.TheVariants.{Place, Stored}
-use Rattle.tiff_encode.specs.Calls.{Offsets, repeated, chunk_tags, last_tags, write_tag, write_tags, finish, finish_image}
-use Rattle.tiff_encode.specs.Ends.{IsTold, Fails, Ends}
-use Rattle.tiff_encode.specs.LastTags.{count_tags, bits_tags, samples_tags, part_of, list_tags_of, list_tags, place_type}
+use Rattle.tiff_encode.specs.declared.encoder.endings.Part.TheVariants.{Offset, Stored}
+use Rattle.tiff_encode.specs.Calls.{Offsets, extended_by_first, chunk_tags, last_tags, write_tag, write_tags, finish, finish_image}
+use Rattle.tiff_encode.specs.Ends.{IsTold, CallFails, Ends}
+use Rattle.tiff_encode.specs.LastTags.{count_tags, bits_tags, samples_tags, number_of_part, list_tags_of, list_tags, offset_type}
 use Rattle.tiff_encode.specs.Machine.{Chunk, FileState, OpenDirectory, OpenImage, Writing}
 use Rattle.tiff_encode.specs.Tagging.{write_fields, fields_of}
-use Rattle.tiff_encode.specs.Value.{places}
-use Rattle.tiff_encode.specs.Written.{place_len}
+use Rattle.tiff_encode.specs.Value.{offset_values}
+use Rattle.tiff_encode.specs.FileBytes.{offset_len}
 use Rattle.tiff_encode.proofs.Joining.{Adds, tag_adds, bind_told, bind_ends, bind_fails}
 use Rattle.tiff_encode.proofs.Tagging.{tags_are_fields, fields_adds, fields_end, fields_fail}
 
--- places are written as their numbers
-places_are : (kind : FileKind) (ns : List ℕ) → data_of (places kind ns) ≡ data_by (place_type kind) (le (place_len kind)) ns
+-- offsets are written as their numbers
+offsets_are : (kind : FileKind) (ns : List ℕ) → data_of (offset_values kind ns) ≡ data_by (offset_type kind) (le (offset_len kind)) ns
 unfolding data_of
-places_are Classic ns = refl
-places_are Big ns = refl
+offsets_are Classic ns = refl
+offsets_are Big ns = refl
 
--- the bytes of places
-pub places_bytes : (k kind : FileKind) (ns empty bytes : List ℕ) → kind ≡ k → empty ≡ [] → bytes ≡ empty ++ flat_map (le (place_len kind)) ns
-    → data_of (places k ns) ≡ values_in (place_type k) (length ns) bytes
-places_bytes k kind ns empty bytes q z b =
-    places_are k ns ∙ ap (values_in (place_type k) (length ns)) (sym (b ∙ (λ i. z i ++ flat_map (le (place_len (q i))) ns)))
+-- the bytes of offsets
+pub offsets_bytes : (k kind : FileKind) (ns empty bytes : List ℕ) → kind ≡ k → empty ≡ [] → bytes ≡ empty ++ flat_map (le (offset_len kind)) ns
+    → data_of (offset_values k ns) ≡ values_in (offset_type k) (length ns) bytes
+offsets_bytes k kind ns empty bytes q z b =
+    offsets_are k ns ∙ ap (values_in (offset_type k) (length ns)) (sym (b ∙ (λ i. z i ++ flat_map (le (offset_len (q i))) ns)))
 
 -- ---- two tags
 
 module _ (d : OpenDirectory) (t : Tag) (v : FieldData) where
   -- the first fails, and so do all
-  pub first_fails : (rest : List (Tag × FieldData)) (e : TiffError) (old new : FileState) → Fails (write_tag d t (Ok v) old) e old new
-      → Fails (write_fields d ((t, v) ∷ rest) old) e old new
+  pub first_fails : (rest : List (Tag × FieldData)) (e : TiffError) (old new : FileState) → CallFails (write_tag d t (Ok v) old) e old new
+      → CallFails (write_fields d ((t, v) ∷ rest) old) e old new
   first_fails rest e old new h =
       let others : OpenDirectory → Writing OpenDirectory = λ next. write_fields next rest in
       bind_fails (write_tag d t (Ok v)) others e old new (tag_adds d t (Ok v) old) h
 
   -- the first is written, and the second fails
   pub second_fails : (next : OpenDirectory) (u : Tag) (w : FieldData) (e : TiffError) (old mid new : FileState)
-      → IsTold (write_tag d t (Ok v) old) (Ok next) mid → Fails (write_tag next u (Ok w) mid) e mid new
-      → Fails (write_fields d ((t, v) ∷ (u, w) ∷ []) old) e old new
+      → IsTold (write_tag d t (Ok v) old) (Ok next) mid → CallFails (write_tag next u (Ok w) mid) e mid new
+      → CallFails (write_fields d ((t, v) ∷ (u, w) ∷ []) old) e old new
   second_fails next u w e old mid new h f =
       let others : OpenDirectory → Writing OpenDirectory = λ n. write_fields n ((u, w) ∷ []) in
       let last : OpenDirectory → Writing OpenDirectory = λ n. write_fields n [] in
@@ -76,25 +76,25 @@ told_as v = (v.0, data_of v.1)
 
 -- what the bits are given
 abbrev bits_data : List ℕ → ℕ → FieldData
-bits_data bits extra = data_of (u16s (repeated bits extra))
+bits_data bits extra = data_of (u16s (extended_by_first bits extra))
 
 -- the bits are not written
-pub bits_unwritten : (d : OpenDirectory) (bits said : List ℕ) (extra : ℕ) (e : TiffError) (old new : FileState) → said ≡ repeated bits extra
-    → Fails (write_tag d tag.BitsPerSample (Ok (data_of (u16s said))) old) e old new
-    → Fails (write_fields d (fields_of (bits_tags bits extra)) old) e old new
+pub bits_unwritten : (d : OpenDirectory) (bits said : List ℕ) (extra : ℕ) (e : TiffError) (old new : FileState) → said ≡ extended_by_first bits extra
+    → CallFails (write_tag d tag.BitsPerSample (Ok (data_of (u16s said))) old) e old new
+    → CallFails (write_fields d (fields_of (bits_tags bits extra)) old) e old new
 bits_unwritten d bits said extra e old new q h =
     first_fails d tag.BitsPerSample (bits_data bits extra) (fields_of (count_tags bits extra)) e old new
-    (subst (λ xs. Fails (write_tag d tag.BitsPerSample (Ok (data_of (u16s xs))) old) e old new) q h)
+    (subst (λ xs. CallFails (write_tag d tag.BitsPerSample (Ok (data_of (u16s xs))) old) e old new) q h)
 
 -- they are, and their number is not
 pub count_unwritten : (d next : OpenDirectory) (bits said : List ℕ) (extra : ℕ) (e : TiffError) (old mid new : FileState)
-    → said ≡ repeated bits extra → (extra ≡ 0 → ⊥)
+    → said ≡ extended_by_first bits extra → (extra ≡ 0 → ⊥)
     → IsTold (write_tag d tag.BitsPerSample (Ok (data_of (u16s said))) old) (Ok next) mid
-    → Fails (write_tag next tag.SamplesPerPixel (Ok (data_of (u16s ((length bits + extra) ∷ [])))) mid) e mid new
-    → Fails (write_fields d (fields_of (bits_tags bits extra)) old) e old new
+    → CallFails (write_tag next tag.SamplesPerPixel (Ok (data_of (u16s ((length bits + extra) ∷ [])))) mid) e mid new
+    → CallFails (write_fields d (fields_of (bits_tags bits extra)) old) e old new
 count_unwritten d next bits said extra e old mid new q some h f =
     let count : Tag × Scalars = (tag.SamplesPerPixel, u16s ((length bits + extra) ∷ [])) in
-    subst (λ b. Fails (write_fields d (fields_of ((tag.BitsPerSample, u16s (repeated bits extra)) ∷ cond b [] (count ∷ []))) old) e old new)
+    subst (λ b. CallFails (write_fields d (fields_of ((tag.BitsPerSample, u16s (extended_by_first bits extra)) ∷ cond b [] (count ∷ []))) old) e old new)
     (sym (ne_eqb extra 0 some))
     (second_fails d tag.BitsPerSample (bits_data bits extra) next tag.SamplesPerPixel (data_of count.1) e old mid new
     (subst (λ xs. IsTold (write_tag d tag.BitsPerSample (Ok (data_of (u16s xs))) old) (Ok next) mid) q h) f)
@@ -102,30 +102,30 @@ count_unwritten d next bits said extra e old mid new q some h f =
 module _ (d : OpenDirectory) (bits : List ℕ) (kinds : List SampleFormat) (extra : ℕ) where
   -- the bits and the count, then the formats
   abbrev formats_tag : Tag × Scalars
-  formats_tag = (tag.SampleFormat, formats (repeated kinds extra))
+  formats_tag = (tag.SampleFormat, formats (extended_by_first kinds extra))
 
   samples_split : fields_of (bits_tags bits extra) ++ told_as formats_tag ∷ [] ≡ fields_of (samples_tags bits kinds extra)
   samples_split = sym (map-append told_as (bits_tags bits extra) (formats_tag ∷ []))
 
   -- the first of them fail
-  pub bits_fail : (e : TiffError) (old new : FileState) → Fails (write_fields d (fields_of (bits_tags bits extra)) old) e old new
-      → Fails (write_fields d (fields_of (samples_tags bits kinds extra)) old) e old new
+  pub bits_fail : (e : TiffError) (old new : FileState) → CallFails (write_fields d (fields_of (bits_tags bits extra)) old) e old new
+      → CallFails (write_fields d (fields_of (samples_tags bits kinds extra)) old) e old new
   bits_fail e old new h =
-      subst (λ vs. Fails (write_fields d vs old) e old new) samples_split
+      subst (λ vs. CallFails (write_fields d vs old) e old new) samples_split
       (fields_fail d (tag.BitsPerSample, bits_data bits extra)
       (fields_of (count_tags bits extra)) (told_as formats_tag ∷ []) e old new h)
 
   -- the last one fails
-  pub formats_fail : (said : List SampleFormat) (next : OpenDirectory) (e : TiffError) (old mid new : FileState) → said ≡ repeated kinds extra
+  pub formats_fail : (said : List SampleFormat) (next : OpenDirectory) (e : TiffError) (old mid new : FileState) → said ≡ extended_by_first kinds extra
       → IsTold (write_fields d (fields_of (bits_tags bits extra)) old) (Ok next) mid
-      → Fails (write_tag next tag.SampleFormat (Ok (data_of (formats said))) mid) e mid new
-      → Fails (write_fields d (fields_of (samples_tags bits kinds extra)) old) e old new
+      → CallFails (write_tag next tag.SampleFormat (Ok (data_of (formats said))) mid) e mid new
+      → CallFails (write_fields d (fields_of (samples_tags bits kinds extra)) old) e old new
   formats_fail said next e old mid new q h f =
       let view : OpenDirectory → OpenDirectory = λ x. x in
-      subst (λ vs. Fails (write_fields d vs old) e old new) samples_split
+      subst (λ vs. CallFails (write_fields d vs old) e old new) samples_split
       (fields_end view d next (fields_of (bits_tags bits extra)) (told_as formats_tag ∷ []) (Err e) old mid new h
       (first_fails next tag.SampleFormat (data_of formats_tag.1) [] e mid new
-      (subst (λ fs. Fails (write_tag next tag.SampleFormat (Ok (data_of (formats fs))) mid) e mid new) q f)))
+      (subst (λ fs. CallFails (write_tag next tag.SampleFormat (Ok (data_of (formats fs))) mid) e mid new) q f)))
 
 -- ---- the lists of the chunks
 
@@ -136,46 +136,46 @@ lists_split Strip a b = refl
 lists_split Tile a b = refl
 
 module _ (kind : FileKind) (type : ChunkType) (chunks : List Chunk) (tags : Tag × Tag) (q : tags ≡ list_tags_of type) where
-  abbrev at_places : FieldData
-  at_places = data_of (places kind (map (part_of Place) chunks))
+  abbrev at_offsets : FieldData
+  at_offsets = data_of (offset_values kind (map (number_of_part Offset) chunks))
 
   abbrev stored_there : FieldData
-  stored_there = data_of (places kind (map (part_of Stored) chunks))
+  stored_there = data_of (offset_values kind (map (number_of_part Stored) chunks))
 
-  lists_are : (tags.0, at_places) ∷ (tags.1, stored_there) ∷ [] ≡ fields_of (list_tags kind type chunks)
+  lists_are : (tags.0, at_offsets) ∷ (tags.1, stored_there) ∷ [] ≡ fields_of (list_tags kind type chunks)
   lists_are =
-      ap (λ ts. (ts.0, at_places) ∷ (ts.1, stored_there) ∷ []) q
-      ∙ lists_split type (places kind (map (part_of Place) chunks)) (places kind (map (part_of Stored) chunks))
+      ap (λ ts. (ts.0, at_offsets) ∷ (ts.1, stored_there) ∷ []) q
+      ∙ lists_split type (offset_values kind (map (number_of_part Offset) chunks)) (offset_values kind (map (number_of_part Stored) chunks))
 
   -- the first list fails
-  pub offsets_fail : (d : OpenDirectory) (e : TiffError) (old new : FileState) → Fails (write_tag d tags.0 (Ok at_places) old) e old new
-      → Fails (write_fields d (fields_of (list_tags kind type chunks)) old) e old new
+  pub offsets_fail : (d : OpenDirectory) (e : TiffError) (old new : FileState) → CallFails (write_tag d tags.0 (Ok at_offsets) old) e old new
+      → CallFails (write_fields d (fields_of (list_tags kind type chunks)) old) e old new
   offsets_fail d e old new h =
-      subst (λ vs. Fails (write_fields d vs old) e old new) lists_are
-      (first_fails d tags.0 at_places ((tags.1, stored_there) ∷ []) e old new h)
+      subst (λ vs. CallFails (write_fields d vs old) e old new) lists_are
+      (first_fails d tags.0 at_offsets ((tags.1, stored_there) ∷ []) e old new h)
 
   -- the second one fails
   pub counts_fail : (d next : OpenDirectory) (e : TiffError) (old mid new : FileState)
-      → IsTold (write_tag d tags.0 (Ok at_places) old) (Ok next) mid → Fails (write_tag next tags.1 (Ok stored_there) mid) e mid new
-      → Fails (write_fields d (fields_of (list_tags kind type chunks)) old) e old new
+      → IsTold (write_tag d tags.0 (Ok at_offsets) old) (Ok next) mid → CallFails (write_tag next tags.1 (Ok stored_there) mid) e mid new
+      → CallFails (write_fields d (fields_of (list_tags kind type chunks)) old) e old new
   counts_fail d next e old mid new h f =
-      subst (λ vs. Fails (write_fields d vs old) e old new) lists_are
-      (second_fails d tags.0 at_places next tags.1 stored_there e old mid new h f)
+      subst (λ vs. CallFails (write_fields d vs old) e old new) lists_are
+      (second_fails d tags.0 at_offsets next tags.1 stored_there e old mid new h f)
 
   -- both are written
   pub lists_told : (d next after : OpenDirectory) (old mid new : FileState)
-      → IsTold (write_tag d tags.0 (Ok at_places) old) (Ok next) mid → IsTold (write_tag next tags.1 (Ok stored_there) mid) (Ok after) new
+      → IsTold (write_tag d tags.0 (Ok at_offsets) old) (Ok next) mid → IsTold (write_tag next tags.1 (Ok stored_there) mid) (Ok after) new
       → IsTold (write_fields d (fields_of (list_tags kind type chunks)) old) (Ok after) new
   lists_told d next after old mid new h f =
       subst (λ vs. IsTold (write_fields d vs old) (Ok after) new) lists_are
-      (second_told d tags.0 at_places next after tags.1 stored_there old mid new h f)
+      (second_told d tags.0 at_offsets next after tags.1 stored_there old mid new h f)
 
 -- ---- all last tags
 
 module _ (kind : FileKind) (i : OpenImage) where
   -- what the samples are, and the lists
   abbrev first_part : List (Tag × Scalars)
-  first_part = samples_tags i.colour.bits i.colour.formats (length i.extra)
+  first_part = samples_tags i.color.bits i.color.formats (length i.extra)
 
   abbrev last_part : List (Tag × Scalars)
   last_part = list_tags kind i.form.chunk_type i.chunks
@@ -184,26 +184,26 @@ module _ (kind : FileKind) (i : OpenImage) where
   unfolding last_tags
   last_split =
       sym (map-append told_as first_part last_part)
-      ∙ ap (λ vs. fields_of vs) (append_assoc (bits_tags i.colour.bits (length i.extra))
-      ((tag.SampleFormat, formats (repeated i.colour.formats (length i.extra))) ∷ []) last_part)
+      ∙ ap (λ vs. fields_of vs) (append_assoc (bits_tags i.color.bits (length i.extra))
+      ((tag.SampleFormat, formats (extended_by_first i.color.formats (length i.extra))) ∷ []) last_part)
 
   -- of what a call is given
-  module _ (d : OpenDirectory) (bits : List ℕ) (kinds : List SampleFormat) (extra : ℕ) (at : d ≡ i.directory) (b : bits ≡ i.colour.bits)
-      (f : kinds ≡ i.colour.formats) (x : extra ≡ length i.extra) where
+  module _ (d : OpenDirectory) (bits : List ℕ) (kinds : List SampleFormat) (extra : ℕ) (at : d ≡ i.directory) (b : bits ≡ i.color.bits)
+      (f : kinds ≡ i.color.formats) (x : extra ≡ length i.extra) where
     first_given : (old : FileState)
         → write_fields d (fields_of (samples_tags bits kinds extra)) old ≡ write_fields i.directory (fields_of first_part) old
     first_given old j = write_fields (at j) (fields_of (samples_tags (b j) (f j) (x j))) old
 
     -- what the samples are is not written
     pub samples_unwritten : (e : TiffError) (old new : FileState)
-        → Fails (write_fields d (fields_of (samples_tags bits kinds extra)) old) e old new
-        → Fails (write_fields i.directory (fields_of (last_tags kind i)) old) e old new
+        → CallFails (write_fields d (fields_of (samples_tags bits kinds extra)) old) e old new
+        → CallFails (write_fields i.directory (fields_of (last_tags kind i)) old) e old new
     samples_unwritten e old new h =
         let others : List (Tag × Scalars) =
-        count_tags i.colour.bits (length i.extra) ++ (tag.SampleFormat, formats (repeated i.colour.formats (length i.extra))) ∷ [] in
-        subst (λ vs. Fails (write_fields i.directory vs old) e old new) last_split
-        (fields_fail i.directory (tag.BitsPerSample, bits_data i.colour.bits (length i.extra)) (fields_of others) (fields_of last_part) e old new
-        (subst (λ told. Fails told e old new) (first_given old) h))
+        count_tags i.color.bits (length i.extra) ++ (tag.SampleFormat, formats (extended_by_first i.color.formats (length i.extra))) ∷ [] in
+        subst (λ vs. CallFails (write_fields i.directory vs old) e old new) last_split
+        (fields_fail i.directory (tag.BitsPerSample, bits_data i.color.bits (length i.extra)) (fields_of others) (fields_of last_part) e old new
+        (subst (λ told. CallFails told e old new) (first_given old) h))
 
     -- it is, and the lists end
     pub last_set : {X : Type 0} (view : X → OpenDirectory) (next : OpenDirectory) (k : FileKind) (type : ChunkType) (chunks : List Chunk)
@@ -228,18 +228,18 @@ module _ (i : OpenImage) (old : FileState) where
   unfolding last_tags
   last_add =
       let others : List (Tag × Scalars) =
-      count_tags i.colour.bits (length i.extra)
-      ++ (tag.SampleFormat, formats (repeated i.colour.formats (length i.extra))) ∷ list_tags old.kind i.form.chunk_type i.chunks in
+      count_tags i.color.bits (length i.extra)
+      ++ (tag.SampleFormat, formats (extended_by_first i.color.formats (length i.extra))) ∷ list_tags old.kind i.form.chunk_type i.chunks in
       subst (λ told. Adds told old) (sym (tags_are_fields i.directory tags_last old))
-      (fields_adds i.directory (tag.BitsPerSample, bits_data i.colour.bits (length i.extra)) (fields_of others) old)
+      (fields_adds i.directory (tag.BitsPerSample, bits_data i.color.bits (length i.extra)) (fields_of others) old)
 
   -- its last tags fail
-  pub image_unfinished : (e : TiffError) (new : FileState) → Fails (write_fields i.directory (fields_of tags_last) old) e old new
-      → Fails (finish_image i old) e old new
+  pub image_unfinished : (e : TiffError) (new : FileState) → CallFails (write_fields i.directory (fields_of tags_last) old) e old new
+      → CallFails (finish_image i old) e old new
   unfolding finish_image
   image_unfinished e new h =
       bind_fails (write_tags i.directory tags_last) finish e old new last_add
-      (subst (λ told. Fails told e old new) (sym (tags_are_fields i.directory tags_last old)) h)
+      (subst (λ told. CallFails told e old new) (sym (tags_are_fields i.directory tags_last old)) h)
 
   -- they are written, and its directory ends
   pub image_ends : {X : Type 0} (view : X → Offsets) (last given : OpenDirectory) (r : Result X TiffError) (mid new : FileState)

@@ -17,12 +17,12 @@ use Rattle.tiff_base.specs.declared.tags.«Type».{«Type»}
 use Rattle.tiff_base.specs.declared.tags.«Type».TheVariants.{BYTE, ASCII, SHORT, LONG, RATIONAL, SBYTE, UNDEFINED, SSHORT, SLONG, SRATIONAL, FLOAT, DOUBLE, IFD, LONG8, SLONG8, IFD8}
 use Rattle.tiff_base.specs.Tags.{type_number, type_of}
 use Rattle.tiff_base.specs.Field.{Field}
-use Rattle.tiff_base.specs.Told.{bytes_at}
+use Rattle.tiff_base.specs.SourceAndSink.{bytes_at}
 use Rattle.tiff_base.specs.Number.{number, le}
-use Rattle.tiff_base.specs.Directory.{place_width, entry_len, value_of, field_of, entry_of, entries_from, last_of_each}
-use Rattle.tiff_encode.specs.Written.{place_len, entry_bytes}
+use Rattle.tiff_base.specs.Directory.{offset_width, entry_len, value_of, field_of, entry_of, entries_from, last_of_each}
+use Rattle.tiff_encode.specs.FileBytes.{offset_len, entry_bytes}
 use Rattle.tiff_encode.specs.Model.{In}
-use Rattle.tiff_encode.proofs.Slices.{exact_mid, is_exact, length-le, number-le, is_place_width}
+use Rattle.tiff_encode.proofs.Slices.{exact_mid, is_exact, length-le, number-le, is_offset_width}
 
 -- ---- the map of a list in order
 
@@ -101,7 +101,7 @@ last_of_entries fields =
 -- a field that stands in an entry as it is
 pub record IsWritable (kind : FileKind) (tag : ℕ) (f : Field) : Type 0 where
   pub tag_fits : tag < 2 ^ 16
-  pub count : f.count < 256 ^ place_len kind
+  pub count : f.count < 256 ^ offset_len kind
   pub whole : length f.value ≡ 8
   pub filled : (kind ≡ Classic) → f.value ≡ take 4 f.value ++ (0 ∷ 0 ∷ 0 ∷ 0 ∷ [])
 
@@ -143,14 +143,14 @@ pub entry_read : (kind : FileKind) (e : ℕ × Field) → IsWritable kind e.0 e.
     → entry_of kind LittleEndian (entry_bytes kind e) ≡ Some e
 unfolding entry_of
 entry_read kind e w =
-    let k : ℕ = place_len kind in
+    let k : ℕ = offset_len kind in
     let f : Field = e.1 in
     let S : List ℕ = entry_bytes kind e in
     let F : «Type» → ℕ × Field = λ t. (number LittleEndian w16 (bytes_at S 0 2), field_of kind LittleEndian S t) in
     let tag : number LittleEndian w16 (le 2 e.0) ≡ e.0 = number-le w16 e.0 (inl refl) w.tag_fits in
-    let count : number LittleEndian (place_width kind) (take k (le k f.count ++ take k f.value)) ≡ f.count =
-    ap (number LittleEndian (place_width kind)) (take_at (le k f.count) (take k f.value) k (length-le 0 k f.count))
-    ∙ number-le (place_width kind) f.count (is_place_width kind) w.count in
+    let count : number LittleEndian (offset_width kind) (take k (le k f.count ++ take k f.value)) ≡ f.count =
+    ap (number LittleEndian (offset_width kind)) (take_at (le k f.count) (take k f.value) k (length-le 0 k f.count))
+    ∙ number-le (offset_width kind) f.count (is_offset_width kind) w.count in
     let value = value_read kind e w in
     ap (option_map F) (type_read f.field_type)
     ∙ (λ i. Some (tag i, record { field_type = f.field_type; count = count i; value = value i }))
@@ -182,11 +182,11 @@ length-entries kind (e ∷ es) w =
     let b = length-entries kind es (λ x i. w x (inr i)) in
     omega (arith, length-append (entry_bytes kind e) (flat_map (entry_bytes kind) es), a, b)
 
--- the entry read from the i-th place on
+-- the entry read from the i-th offset on
 nth_entry : FileKind → ℕ → List ℕ → ℕ → Option (ℕ × Field)
 nth_entry kind first file i = entry_of kind LittleEndian (bytes_at file (first + entry_len kind * i) (entry_len kind))
 
--- the entries that are written are the ones that are read, from the a-th place on
+-- the entries that are written are the ones that are read, from the a-th offset on
 entries_back : (kind : FileKind) (es : List (ℕ × Field)) (before rest : List ℕ) (first a : ℕ) → AllWritable kind es
     → length before ≡ first + entry_len kind * a
     → filter_map (nth_entry kind first (before ++ (flat_map (entry_bytes kind) es ++ rest)))

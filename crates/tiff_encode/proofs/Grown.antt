@@ -10,15 +10,15 @@ use Rattle.tiff_base.specs.declared.tags.FileKind.{FileKind}
 use Rattle.tiff_base.specs.declared.tags.FileKind.TheVariants.{Classic, Big}
 use Rattle.tiff_base.specs.declared.tags.ByteOrder.TheVariants.{LittleEndian}
 use Rattle.tiff_base.specs.Field.{Field}
-use Rattle.tiff_base.specs.FieldBytes.{field_len, field_place, field_bytes}
-use Rattle.tiff_base.specs.Told.{exactly_at}
+use Rattle.tiff_base.specs.FieldBytes.{field_len, field_offset, field_bytes}
+use Rattle.tiff_base.specs.SourceAndSink.{exactly_at}
 use Rattle.tiff_base.specs.Number.{number_at, le}
-use Rattle.tiff_base.specs.Directory.{count_width, place_width, entry_len, entries_from, last_of_each, link, first_entry, directory_at}
-use Rattle.tiff_encode.specs.Written.{place_len, count_len, entry_bytes, directory_bytes}
-use Rattle.tiff_encode.specs.Model.{AreApart, In, FinishedDirectory, HandedField, Region, Model, header_link, own_link, IsLink, IsClear, body_len, whole_len, IsApart, Stands, with_directory, with_handed}
-use Rattle.tiff_encode.specs.Laws.{GrownByRegion, GrownByInline, GrownByPlaced, GrownByListing, Finished}
+use Rattle.tiff_base.specs.Directory.{count_width, offset_width, entry_len, entries_from, last_of_each, link, first_entry, directory_at}
+use Rattle.tiff_encode.specs.FileBytes.{offset_len, count_len, entry_bytes, directory_bytes}
+use Rattle.tiff_encode.specs.Model.{BytesAreApart, In, FinishedDirectory, HandedField, Region, Model, header_link, own_link, IsLink, IsClear, body_len, whole_len, IsApart, Stands, with_directory, with_handed}
+use Rattle.tiff_encode.specs.Laws.{GrownByRegion, GrownByInline, GrownByPlaced, GrownByListing, FinishStep}
 use Rattle.tiff_encode.specs.Deeds.{standing_fields}
-use Rattle.tiff_encode.proofs.Slices.{is_exact, exact_end, length-le, number_mid, is_place_width, is_count_width}
+use Rattle.tiff_encode.proofs.Slices.{is_exact, exact_end, length-le, number_mid, is_offset_width, is_count_width}
 use Rattle.tiff_encode.proofs.Kept.{directory_from, directory_within, kept_by_appending, kept_by_patching}
 use Rattle.tiff_encode.proofs.Header.{zero_fits}
 use Rattle.tiff_encode.proofs.Entries.{AllWritable, length-entries, entries_read, last_of_entries}
@@ -30,8 +30,8 @@ use Rattle.tiff_encode.proofs.Standing.{len_standing, bytes_standing, standing_w
 pub grown_by_region : GrownByRegion
 grown_by_region kind m file more h =
     let g = kept_by_appending kind m file more h in
-    let new : Region = record { place = length file; bytes = more } in
-    let behind : (r : Region) → In r m.regions → r.place + length r.bytes ≤ length file = h.within in
+    let new : Region = record { offset = length file; bytes = more } in
+    let behind : (r : Region) → In r m.regions → r.offset + length r.bytes ≤ length file = h.within in
     record {
       header = g.header;
       first = g.first;
@@ -39,12 +39,12 @@ grown_by_region kind m file more h =
       counts = g.counts;
       handed = g.handed;
       regions = λ r i. elim i [
-        | inl e ↦ (let P : Region → Type 0 = λ x. exactly_at (file ++ more) x.place (length x.bytes) ≡ Ok x.bytes in
+        | inl e ↦ (let P : Region → Type 0 = λ x. exactly_at (file ++ more) x.offset (length x.bytes) ≡ Ok x.bytes in
             subst P (sym e) (exact_end file more))
         | inr j ↦ g.regions r j
       ];
       within = λ r i. elim i [
-        | inl e ↦ (let P : Region → Type 0 = λ x. x.place + length x.bytes ≤ length (file ++ more) in
+        | inl e ↦ (let P : Region → Type 0 = λ x. x.offset + length x.bytes ≤ length (file ++ more) in
             subst P (sym e) (omega (arith, length-append file more)))
         | inr j ↦ g.within r j
       ];
@@ -52,12 +52,12 @@ grown_by_region kind m file more h =
         | inl e ↦ elim j [
           | inl f ↦ inl (e ∙ sym f)
           | inr b ↦ (let P : Region → Type 0 =
-              λ x. (x ≡ s) ⊎ AreApart x.place (length x.bytes) s.place (length s.bytes) in
+              λ x. (x ≡ s) ⊎ BytesAreApart x.offset (length x.bytes) s.offset (length s.bytes) in
               subst P (sym e) (inr (inr (behind s b))))
         ]
         | inr a ↦ elim j [
           | inl f ↦ (let P : Region → Type 0 =
-              λ x. (r ≡ x) ⊎ AreApart r.place (length r.bytes) x.place (length x.bytes) in
+              λ x. (r ≡ x) ⊎ BytesAreApart r.offset (length r.bytes) x.offset (length x.bytes) in
               subst P (sym f) (inr (inl (behind r a))))
           | inr b ↦ h.disjoint r s a b
         ]
@@ -65,7 +65,7 @@ grown_by_region kind m file more h =
       directories_within = g.directories_within;
       directories_apart = h.directories_apart;
       regions_apart = λ d r i j. elim j [
-        | inl e ↦ (let P : Region → Type 0 = λ x. AreApart d.place (whole_len kind d) x.place (length x.bytes) in
+        | inl e ↦ (let P : Region → Type 0 = λ x. BytesAreApart d.offset (whole_len kind d) x.offset (length x.bytes) in
             subst P (sym e) (inl (h.directories_within d i)))
         | inr b ↦ h.regions_apart d r i b
       ];
@@ -78,7 +78,7 @@ grown_by_region kind m file more h =
             directories = a.directories;
             handed = a.handed;
             regions = λ r i. elim i [
-              | inl e ↦ (let P : Region → Type 0 = λ x. IsClear kind q x.place (length x.bytes) in
+              | inl e ↦ (let P : Region → Type 0 = λ x. IsClear kind q x.offset (length x.bytes) in
                   subst P (sym e) (inr f))
               | inr j ↦ a.regions r j
             ];
@@ -92,8 +92,8 @@ grown_by_region kind m file more h =
 grown_by_handed : (kind : FileKind) (m : Model) (file : List ℕ) (new : HandedField)
     → field_bytes kind LittleEndian file new.field ≡ Ok new.bytes
     → ((q : ℕ) → IsLink kind m q
-    → (field_len new.field ≤ place_len kind)
-    ⊎ IsClear kind q (field_place kind LittleEndian new.field) (field_len new.field))
+    → (field_len new.field ≤ offset_len kind)
+    ⊎ IsClear kind q (field_offset kind LittleEndian new.field) (field_len new.field))
     → Stands kind file m → Stands kind file (with_handed m new)
 grown_by_handed kind m file new b c h = record {
   header = h.header;
@@ -119,8 +119,8 @@ grown_by_handed kind m file new b c h = record {
         directories = a.directories;
         handed = λ y i. elim i [
           | inl e ↦ (let P : HandedField → Type 0 =
-              λ x. (field_len x.field ≤ place_len kind)
-              ⊎ IsClear kind q (field_place kind LittleEndian x.field) (field_len x.field) in
+              λ x. (field_len x.field ≤ offset_len kind)
+              ⊎ IsClear kind q (field_offset kind LittleEndian x.field) (field_len x.field) in
               subst P (sym e) (c q l))
           | inr j ↦ a.handed y j
         ];
@@ -130,48 +130,48 @@ grown_by_handed kind m file new b c h = record {
 }
 
 -- the bytes of a field that fits its entry
-inline_bytes : (kind : FileKind) (file : List ℕ) (f : Field) → field_len f ≤ place_len kind → field_len f < 2 ^ 64
+inline_bytes : (kind : FileKind) (file : List ℕ) (f : Field) → field_len f ≤ offset_len kind → field_len f < 2 ^ 64
     → field_bytes kind LittleEndian file f ≡ Ok (take (field_len f) f.value)
 unfolding field_bytes
 inline_bytes kind file f l b =
     let n : ℕ = field_len f in
     let x : Result (List ℕ) TiffError = Ok (take n f.value) in
-    let y : Result (List ℕ) TiffError = exactly_at file (field_place kind LittleEndian f) n in
+    let y : Result (List ℕ) TiffError = exactly_at file (field_offset kind LittleEndian f) n in
     let z : Result (List ℕ) TiffError = Err LimitsExceeded in
-    ap (λ t. cond t (cond (leb n (place_len kind)) x y) z) (le-leb _ _ b) ∙ ap (λ t. cond t x y) (le-leb _ _ l)
+    ap (λ t. cond t (cond (leb n (offset_len kind)) x y) z) (le-leb _ _ b) ∙ ap (λ t. cond t x y) (le-leb _ _ l)
 
--- the bytes of a field that stands at a place
-placed_bytes : (kind : FileKind) (file : List ℕ) (f : Field) → place_len kind < field_len f → field_len f < 2 ^ 64
-    → field_bytes kind LittleEndian file f ≡ exactly_at file (field_place kind LittleEndian f) (field_len f)
+-- the bytes of a field that stands at an offset
+placed_bytes : (kind : FileKind) (file : List ℕ) (f : Field) → offset_len kind < field_len f → field_len f < 2 ^ 64
+    → field_bytes kind LittleEndian file f ≡ exactly_at file (field_offset kind LittleEndian f) (field_len f)
 unfolding field_bytes
 placed_bytes kind file f l b =
     let n : ℕ = field_len f in
     let x : Result (List ℕ) TiffError = Ok (take n f.value) in
-    let y : Result (List ℕ) TiffError = exactly_at file (field_place kind LittleEndian f) n in
+    let y : Result (List ℕ) TiffError = exactly_at file (field_offset kind LittleEndian f) n in
     let z : Result (List ℕ) TiffError = Err LimitsExceeded in
-    ap (λ t. cond t (cond (leb n (place_len kind)) x y) z) (le-leb _ _ b) ∙ ap (λ t. cond t x y) (lt-leb _ _ l)
+    ap (λ t. cond t (cond (leb n (offset_len kind)) x y) z) (le-leb _ _ b) ∙ ap (λ t. cond t x y) (lt-leb _ _ l)
 
 -- a value field is short
-place_short : (kind : FileKind) → place_len kind < 2 ^ 64
-place_short Classic = lit< tt
-place_short Big = lit< tt
+offset_short : (kind : FileKind) → offset_len kind < 2 ^ 64
+offset_short Classic = lit< tt
+offset_short Big = lit< tt
 
 -- a field whose bytes fit its entry is handed in
 pub grown_by_inline : GrownByInline
 grown_by_inline kind m file f l h =
-    let s = place_short kind in
+    let s = offset_short kind in
     grown_by_handed kind m file (record { field = f; bytes = take (field_len f) f.value })
     (inline_bytes kind file f l (omega (arith, s))) (λ q i. inl l) h
 
 -- a field whose bytes are a region is handed in
 pub grown_by_placed : GrownByPlaced
 grown_by_placed kind m file f r i p n l b h =
-    let e : exactly_at file (field_place kind LittleEndian f) (field_len f) ≡ Ok r.bytes =
-    ap (λ (x : ℕ). exactly_at file x (field_len f)) p ∙ ap (λ (x : ℕ). exactly_at file r.place x) n ∙ h.regions r i in
+    let e : exactly_at file (field_offset kind LittleEndian f) (field_len f) ≡ Ok r.bytes =
+    ap (λ (x : ℕ). exactly_at file x (field_len f)) p ∙ ap (λ (x : ℕ). exactly_at file r.offset x) n ∙ h.regions r i in
     let c : (q : ℕ) → IsLink kind m q
-    → (field_len f ≤ place_len kind) ⊎ IsClear kind q (field_place kind LittleEndian f) (field_len f) = λ q j.
+    → (field_len f ≤ offset_len kind) ⊎ IsClear kind q (field_offset kind LittleEndian f) (field_len f) = λ q j.
     let P : ℕ → Type 0 = λ x. IsClear kind q x (field_len f) in
-    let Q : ℕ → Type 0 = λ x. IsClear kind q r.place x in
+    let Q : ℕ → Type 0 = λ x. IsClear kind q r.offset x in
     inr (subst P (sym p) (subst Q (sym n) ((h.apart q j).regions r i))) in
     grown_by_handed kind m file (record { field = f; bytes = r.bytes }) (placed_bytes kind file f l b ∙ e) c h
 
@@ -184,21 +184,21 @@ last_answer true true x y e z f h = absurd cc
 last_answer true false x y e z f h = h
 last_answer false b x y e z f h = absurd cc
 
--- a field that stands at a place lies in the file
-placed_within : (kind : FileKind) (file : List ℕ) (f : Field) (b : List ℕ) → place_len kind < field_len f
+-- a field that stands at an offset lies in the file
+placed_within : (kind : FileKind) (file : List ℕ) (f : Field) (b : List ℕ) → offset_len kind < field_len f
     → field_bytes kind LittleEndian file f ≡ Ok b
-    → field_place kind LittleEndian f + field_len f ≤ length file
+    → field_offset kind LittleEndian f + field_len f ≤ length file
 unfolding field_bytes
 placed_within kind file f b l e =
     let n : ℕ = field_len f in
     let x : Result (List ℕ) TiffError = Ok (take n f.value) in
-    let y : Result (List ℕ) TiffError = exactly_at file (field_place kind LittleEndian f) n in
-    let o = last_answer _ (leb n (place_len kind)) x y LimitsExceeded b (lt-leb _ _ l) e in
-    let w = (is_exact file (field_place kind LittleEndian f) n b o).0 in
+    let y : Result (List ℕ) TiffError = exactly_at file (field_offset kind LittleEndian f) n in
+    let o = last_answer _ (leb n (offset_len kind)) x y LimitsExceeded b (lt-leb _ _ l) e in
+    let w = (is_exact file (field_offset kind LittleEndian f) n b o).0 in
     omega (arith, w)
 
 -- a link has some bytes
-wide : (kind : FileKind) → 0 < place_len kind
+wide : (kind : FileKind) → 0 < offset_len kind
 wide Classic = lit< tt
 wide Big = lit< tt
 
@@ -206,9 +206,9 @@ wide Big = lit< tt
 module _ (kind : FileKind) (m : Model) (file : List ℕ) (fields : FinMap nat_cmp Field)
     (w : AllWritable kind (entries fields))
     (b : len fields < 256 ^ count_len kind) (h : Stands kind file m) where
-  -- the new directory, the place of its link, and the file with it
+  -- the new directory, the offset of its link, and the file with it
   abbrev fresh : FinishedDirectory
-  fresh = record { place = length file; fields = fields }
+  fresh = record { offset = length file; fields = fields }
 
   abbrev own : ℕ
   own = own_link kind fresh
@@ -225,7 +225,7 @@ module _ (kind : FileKind) (m : Model) (file : List ℕ) (fields : FinMap nat_cm
   unfolding directory_bytes
   count_at =
       let B : List ℕ = flat_map (entry_bytes kind) (entries fields) in
-      let Z : List ℕ = le (place_len kind) 0 in
+      let Z : List ℕ = le (offset_len kind) 0 in
       number_mid (count_width kind) file (B ++ Z) (length file) (len fields) (is_count_width kind) refl b
 
   -- its fields are read
@@ -238,7 +238,7 @@ module _ (kind : FileKind) (m : Model) (file : List ℕ) (fields : FinMap nat_cm
       let n : ℕ = len fields in
       let C : List ℕ = le (count_len kind) n in
       let B : List ℕ = flat_map (entry_bytes kind) es in
-      let Z : List ℕ = le (place_len kind) 0 in
+      let Z : List ℕ = le (offset_len kind) 0 in
       let g : file ++ (C ++ (B ++ Z)) ≡ (file ++ C) ++ (B ++ Z) = sym (append_assoc file C (B ++ Z)) in
       let l : length (file ++ C) ≡ first = omega (arith, length-append file C, length-le 0 (count_len kind) n) in
       ap (λ (f : List ℕ). last_of_each (entries_from kind LittleEndian f first n)) g
@@ -248,30 +248,30 @@ module _ (kind : FileKind) (m : Model) (file : List ℕ) (fields : FinMap nat_cm
       ∙ last_of_entries fields
 
   -- its link is read
-  own_at : number_at LittleEndian (place_width kind) grown_file own ≡ Ok 0
+  own_at : number_at LittleEndian (offset_width kind) grown_file own ≡ Ok 0
   unfolding directory_bytes
   own_at =
       let n : ℕ = len fields in
       let C : List ℕ = le (count_len kind) n in
       let B : List ℕ = flat_map (entry_bytes kind) (entries fields) in
-      let Z : List ℕ = le (place_len kind) 0 in
+      let Z : List ℕ = le (offset_len kind) 0 in
       let x = length-body in
       let l : length ((file ++ C) ++ B) ≡ own =
       omega (arith, length-append (file ++ C) B, length-append file C, length-le 0 (count_len kind) n, x) in
       let g : file ++ (C ++ (B ++ Z)) ≡ ((file ++ C) ++ B) ++ (Z ++ []) =
       sym (append_assoc file C (B ++ Z)) ∙ sym (append_assoc (file ++ C) B Z)
       ∙ ap (λ z. ((file ++ C) ++ B) ++ z) (sym (append-nil Z)) in
-      ap (λ (f : List ℕ). number_at LittleEndian (place_width kind) f own) g
-      ∙ number_mid (place_width kind) ((file ++ C) ++ B) [] own 0 (is_place_width kind) l (zero_fits kind)
+      ap (λ (f : List ℕ). number_at LittleEndian (offset_width kind) f own) g
+      ∙ number_mid (offset_width kind) ((file ++ C) ++ B) [] own 0 (is_offset_width kind) l (zero_fits kind)
 
   -- its link is the last of the file
-  length-grown : length grown_file ≡ own + place_len kind
+  length-grown : length grown_file ≡ own + offset_len kind
   unfolding directory_bytes
   length-grown =
       let n : ℕ = len fields in
       let C : List ℕ = le (count_len kind) n in
       let B : List ℕ = flat_map (entry_bytes kind) (entries fields) in
-      let Z : List ℕ = le (place_len kind) 0 in
+      let Z : List ℕ = le (offset_len kind) 0 in
       let x = length-body in
       omega (
         arith,
@@ -279,7 +279,7 @@ module _ (kind : FileKind) (m : Model) (file : List ℕ) (fields : FinMap nat_cm
         length-append C (B ++ Z),
         length-append B Z,
         length-le 0 (count_len kind) n,
-        length-le 0 (place_len kind) 0,
+        length-le 0 (offset_len kind) 0,
         x,
       )
 
@@ -288,11 +288,11 @@ module _ (kind : FileKind) (m : Model) (file : List ℕ) (fields : FinMap nat_cm
   fresh_within = let x = length-grown in omega (arith, x)
 
   -- each former link lies in the former file
-  old_within : (p : ℕ) → IsLink kind m p → p + place_len kind ≤ length file
+  old_within : (p : ℕ) → IsLink kind m p → p + offset_len kind ≤ length file
   old_within p l = (h.apart p l).within
 
   -- and is not the new one
-  not_own : (p : ℕ) → p + place_len kind ≤ length file → p ≢ own
+  not_own : (p : ℕ) → p + offset_len kind ≤ length file → p ≢ own
   not_own p f s = let x = wide kind in omega arith
 
   -- the links are the former ones and the new one
@@ -311,7 +311,7 @@ module _ (kind : FileKind) (m : Model) (file : List ℕ) (fields : FinMap nat_cm
         header = a.header;
         within = a.within;
         directories = λ d i. elim i [
-          | inl s ↦ (let P : FinishedDirectory → Type 0 = λ x. IsClear kind q x.place (body_len kind x) in
+          | inl s ↦ (let P : FinishedDirectory → Type 0 = λ x. IsClear kind q x.offset (body_len kind x) in
               subst P (sym s) (inr f))
           | inr j ↦ a.directories d j
         ];
@@ -329,11 +329,11 @@ module _ (kind : FileKind) (m : Model) (file : List ℕ) (fields : FinMap nat_cm
     header = (let x = old_within (header_link kind) (inl refl) in omega (arith, x));
     within = (let x = length-grown in omega (arith, x));
     directories = λ d i. elim i [
-      | inl s ↦ (let P : FinishedDirectory → Type 0 = λ x. IsClear kind own x.place (body_len kind x) in
+      | inl s ↦ (let P : FinishedDirectory → Type 0 = λ x. IsClear kind own x.offset (body_len kind x) in
           subst P (sym s) (inl (omega arith)))
       | inr j ↦ inl (let x = directory_within kind m file d j h in omega (arith, x))
     ];
-    handed = λ y i. elim (cases_Bool (leb (field_len y.field) (place_len kind))) [
+    handed = λ y i. elim (cases_Bool (leb (field_len y.field) (offset_len kind))) [
       | inl t ↦ inl (leb-true _ _ t)
       | inr f ↦ inr (inl (let x = placed_within kind file y.field y.bytes (leb-false _ _ f) (h.handed y i) in
           omega (arith, x)))
@@ -347,9 +347,9 @@ module _ (kind : FileKind) (m : Model) (file : List ℕ) (fields : FinMap nat_cm
 
   -- all directories lie in the file
   all_within : Stands kind grown_file m → (d : FinishedDirectory) → In d (with_directory kind m fresh).directories
-      → d.place + whole_len kind d ≤ length grown_file
+      → d.offset + whole_len kind d ≤ length grown_file
   all_within g d i = elim i [
-    | inl s ↦ (let P : FinishedDirectory → Type 0 = λ x. x.place + whole_len kind x ≤ length grown_file in
+    | inl s ↦ (let P : FinishedDirectory → Type 0 = λ x. x.offset + whole_len kind x ≤ length grown_file in
         subst P (sym s) fresh_within)
     | inr j ↦ g.directories_within d j
   ]
@@ -357,17 +357,17 @@ module _ (kind : FileKind) (m : Model) (file : List ℕ) (fields : FinMap nat_cm
   -- no two overlap
   all_apart : (d e : FinishedDirectory) → In d (with_directory kind m fresh).directories
       → In e (with_directory kind m fresh).directories
-      → (d ≡ e) ⊎ AreApart d.place (whole_len kind d) e.place (whole_len kind e)
+      → (d ≡ e) ⊎ BytesAreApart d.offset (whole_len kind d) e.offset (whole_len kind e)
   all_apart d e i j = elim i [
     | inl s ↦ elim j [
       | inl t ↦ inl (s ∙ sym t)
       | inr b ↦ (let P : FinishedDirectory → Type 0 =
-          λ x. (x ≡ e) ⊎ AreApart x.place (whole_len kind x) e.place (whole_len kind e) in
+          λ x. (x ≡ e) ⊎ BytesAreApart x.offset (whole_len kind x) e.offset (whole_len kind e) in
           subst P (sym s) (inr (inr (h.directories_within e b))))
     ]
     | inr a ↦ elim j [
       | inl t ↦ (let P : FinishedDirectory → Type 0 =
-          λ x. (d ≡ x) ⊎ AreApart d.place (whole_len kind d) x.place (whole_len kind x) in
+          λ x. (d ≡ x) ⊎ BytesAreApart d.offset (whole_len kind d) x.offset (whole_len kind x) in
           subst P (sym t) (inr (inl (h.directories_within d a))))
       | inr b ↦ h.directories_apart d e a b
     ]
@@ -376,10 +376,10 @@ module _ (kind : FileKind) (m : Model) (file : List ℕ) (fields : FinMap nat_cm
   -- nor does one overlap a region
   all_apart_of_regions : (d : FinishedDirectory) (r : Region) → In d (with_directory kind m fresh).directories
       → In r m.regions
-      → AreApart d.place (whole_len kind d) r.place (length r.bytes)
+      → BytesAreApart d.offset (whole_len kind d) r.offset (length r.bytes)
   all_apart_of_regions d r i j = elim i [
     | inl s ↦ (let P : FinishedDirectory → Type 0 =
-        λ x. AreApart x.place (whole_len kind x) r.place (length r.bytes) in
+        λ x. BytesAreApart x.offset (whole_len kind x) r.offset (length r.bytes) in
         subst P (sym s) (inr (h.within r j)))
     | inr a ↦ h.regions_apart d r a j
   ]
@@ -395,7 +395,7 @@ module _ (kind : FileKind) (m : Model) (file : List ℕ) (fields : FinMap nat_cm
             (not_own (header_link kind) (old_within (header_link kind) (inl refl)))) g.first;
         directories = λ d i. elim i [
           | inl s ↦ (let P : FinishedDirectory → Type 0 = λ x.
-              directory_at kind LittleEndian grown_file x.place
+              directory_at kind LittleEndian grown_file x.offset
               ≡ Ok (record { entries = x.fields; next = link (links (own_link kind x)) }) in
               subst P (sym s) (directory_from kind grown_file (length file) (len fields) fields
               (links own) count_at fields_at
@@ -405,7 +405,7 @@ module _ (kind : FileKind) (m : Model) (file : List ℕ) (fields : FinMap nat_cm
         ];
         counts = λ d i. elim i [
           | inl s ↦ (let P : FinishedDirectory → Type 0 =
-              λ x. number_at LittleEndian (count_width kind) grown_file x.place ≡ Ok (len x.fields) in
+              λ x. number_at LittleEndian (count_width kind) grown_file x.offset ≡ Ok (len x.fields) in
               subst P (sym s) count_at)
           | inr j ↦ g.counts d j
         ];
@@ -430,15 +430,15 @@ module _ (kind : FileKind) (m : Model) (file : List ℕ) (fields : FinMap nat_cm
 pub grown_by_listing : GrownByListing
 grown_by_listing kind m file fields a h =
     let stood : FinMap nat_cmp Field = standing_fields kind fields in
-    let d : FinishedDirectory = record { place = length file; fields = stood } in
+    let d : FinishedDirectory = record { offset = length file; fields = stood } in
     let few : len stood < 256 ^ count_len kind = (let f = a.few in omega (arith, f, len_standing kind fields)) in
     let P : List ℕ → Type 0 = λ bytes. Stands kind (file ++ bytes) (with_directory kind m d) in
     subst P (sym (bytes_standing kind fields a.each))
     (directory_stands kind m file stood (standing_writable kind fields a.each) few h)
 
 -- a directory that is appended and linked to stands
-pub finished : Finished
+pub finished : FinishStep
 finished kind m file fields parent a l i h =
-    let d : FinishedDirectory = record { place = length file; fields = standing_fields kind fields } in
+    let d : FinishedDirectory = record { offset = length file; fields = standing_fields kind fields } in
     kept_by_patching kind (with_directory kind m d) (file ++ directory_bytes kind fields) parent (length file)
     (elim i [ inl x ↦ inl x | inr y ↦ inr (y.0, (inr y.1.0, y.1.1)) ]) l (grown_by_listing kind m file fields a h)

@@ -18,16 +18,16 @@ use Rattle.tiff_base.specs.Field.{Field, AreEntries}
 use Rattle.tiff_value.specs.Buffer.{BufferRecord}
 use Rattle.tiff_value.specs.Data.{FieldData}
 use Rattle.tiff_value.specs.Values.{IsValue}
-use Rattle.tiff_encode.specs.Written.{place_len, padding}
+use Rattle.tiff_encode.specs.FileBytes.{offset_len, padding}
 use Rattle.tiff_encode.specs.Value.{data_in, buffer_data, is_long, field_at}
 use Rattle.tiff_encode.specs.Model.{HandedField, Model, IsLink, Stands}
 use Rattle.tiff_encode.specs.Deeds.{Deed, Appended, Handed, Listed, all_appended, model_after}
-use Rattle.tiff_encode.specs.Machine.{FileState, OpenDirectory, Told, Writing, answers, gives, does, by_cause, going_on, ◌>>=◌}
-use Rattle.tiff_encode.specs.Encoder.{IsStopped, IsCut}
-use Rattle.tiff_encode.specs.Steps.{grown}
+use Rattle.tiff_encode.specs.Machine.{FileState, OpenDirectory, WriteOutcome, Writing, answers, gives, does, by_cause, and_then, ◌>>=◌}
+use Rattle.tiff_encode.specs.Encoder.{AppendIsStopped, AppendIsCut}
+use Rattle.tiff_encode.specs.FileWrites.{file_with_bytes}
 use Rattle.tiff_encode.specs.Causes.{unless_ended, end_of, begin_cause, write_tag_cause, write_buf_cause, write_entry_bytes_cause, finish_cause}
-use Rattle.tiff_encode.specs.Calls.{Offsets, offsets_of, links_to, chains, opened, pad, image_directory, extra_directory, with_field, placed, write_entry, write_tag, write_entry_buf, write_entry_bytes, write_tag_buf, extend_from, finish}
-use Rattle.tiff_encode.specs.Ends.{IsTold, IsCutOff, IsTornOff, Fails, Ends}
+use Rattle.tiff_encode.specs.Calls.{Offsets, offsets_of, links_to, chains, new_directory, pad, image_directory, extra_directory, with_field, placed_field, write_entry, write_tag, write_entry_buf, write_entry_bytes, write_tag_buf, extend_from, finish}
+use Rattle.tiff_encode.specs.Ends.{IsTold, IsCutOff, IsTornOff, CallFails, Ends}
 use Rattle.tiff_encode.specs.Leaves.{IsGiven, LeavesTorn, LeavesLinked}
 use Rattle.tiff_encode.proofs.Calling.{cut_off, refused, uncaused, stopped_cause, fresh_cause}
 use Rattle.tiff_encode.proofs.Leaving.{IsPlain, count_last, refused_leaves, begun_leaves, ok_err, begin_leaves, extra_leaves, entry_leaves, entry_buf_leaves, entry_bytes_leaves, tag_leaves, tag_buf_leaves, finish_plain, finish_leaves}
@@ -37,7 +37,7 @@ use Rattle.tiff_encode.proofs.Leaving.{IsPlain, count_last, refused_leaves, begu
 abbrev opens : OpenDirectory → Writing OpenDirectory
 opens d = pad >>= (λ _. gives d)
 
-opens_told : (d : OpenDirectory) (old new : FileState) → old.fault ≡ None → new ≡ grown old (padding (end_of old))
+opens_told : (d : OpenDirectory) (old new : FileState) → old.fault ≡ None → new ≡ file_with_bytes old (padding (end_of old))
     → IsTold (by_cause (begin_cause old) (opens d) old) (Ok d) new
 unfolding begin_cause
 opens_told d old new f s =
@@ -45,55 +45,55 @@ opens_told d old new f s =
     uncaused view (begin_cause old) (opens d) (Ok d) old new (fresh_cause old.fault None f) (record { answer = refl; state = s })
 
 opens_fails : (d : OpenDirectory) (e : TiffError) (old new : FileState)
-    → IsStopped e old new ⊎ IsCut (padding (end_of old)) e old new
-    → Fails (by_cause (begin_cause old) (opens d) old) e old new
+    → AppendIsStopped e old new ⊎ AppendIsCut (padding (end_of old)) e old new
+    → CallFails (by_cause (begin_cause old) (opens d) old) e old new
 unfolding begin_cause
 opens_fails d e old new h =
     let view : OpenDirectory → OpenDirectory = λ x. x in
-    let told : Told OpenDirectory = by_cause (begin_cause old) (opens d) old in
-    elim h as (λ _. Fails told e old new) [
-      | inl s ↦ subst (λ n. Fails told e old n) (sym s.same)
+    let told : WriteOutcome OpenDirectory = by_cause (begin_cause old) (opens d) old in
+    elim h as (λ _. CallFails told e old new) [
+      | inl s ↦ subst (λ n. CallFails told e old n) (sym s.same)
           (refused view (begin_cause old) (opens d) old e (stopped_cause old.fault None s.failed ∙ ap Some (sym s.fault)))
       | inr c ↦ uncaused view (begin_cause old) (opens d) (Err e) old new (fresh_cause old.fault None c.fresh)
           (inr (inl (cut_off (Appended (padding (end_of old)) ∷ []) e old new
-          (subst (λ xs. IsCut xs e old new) (sym (append-nil (padding (end_of old)))) c))))
+          (subst (λ xs. AppendIsCut xs e old new) (sym (append-nil (padding (end_of old)))) c))))
     ]
 
 -- `image_directory`
 pub begun_told : (old new : FileState) (fields : FinMap nat_cmp Field) (chain : ℕ)
-    → (old.fault ≡ None) × (new ≡ grown old (padding (end_of old))) → fields ≡ empty → chain ≡ new.chain
+    → (old.fault ≡ None) × (new ≡ file_with_bytes old (padding (end_of old))) → fields ≡ empty → chain ≡ new.chain
     → IsTold (image_directory old) (Ok (record { fields = fields; parent = Some chain; chained = true })) new
 unfolding image_directory
 begun_told old new fields chain h f c =
     let last : chain ≡ old.chain = c ∙ ap (λ s. s.chain) h.1 in
     subst (λ d. IsTold (image_directory old) (Ok d) new)
     (sym (λ i. record { fields = f i; parent = Some (last i); chained = true }))
-    (opens_told (opened (Some old.chain) true) old new h.0 h.1)
+    (opens_told (new_directory (Some old.chain) true) old new h.0 h.1)
 
-pub begun_fails : (e : TiffError) (old new : FileState) → IsStopped e old new ⊎ IsCut (padding (end_of old)) e old new
-    → Fails (image_directory old) e old new
+pub begun_fails : (e : TiffError) (old new : FileState) → AppendIsStopped e old new ⊎ AppendIsCut (padding (end_of old)) e old new
+    → CallFails (image_directory old) e old new
 unfolding image_directory
-begun_fails e old new h = opens_fails (opened (Some old.chain) true) e old new h
+begun_fails e old new h = opens_fails (new_directory (Some old.chain) true) e old new h
 
 -- `extra_directory`
 pub extra_told : (old new : FileState) (fields : FinMap nat_cmp Field)
-    → (old.fault ≡ None) × (new ≡ grown old (padding (end_of old))) → fields ≡ empty
+    → (old.fault ≡ None) × (new ≡ file_with_bytes old (padding (end_of old))) → fields ≡ empty
     → IsTold (extra_directory old) (Ok (record { fields = fields; parent = None; chained = false })) new
 unfolding extra_directory
 extra_told old new fields h f =
     subst (λ d. IsTold (extra_directory old) (Ok d) new) (sym (λ i. record { fields = f i; parent = None; chained = false }))
-    (opens_told (opened None false) old new h.0 h.1)
+    (opens_told (new_directory None false) old new h.0 h.1)
 
-pub extra_fails : (e : TiffError) (old new : FileState) → IsStopped e old new ⊎ IsCut (padding (end_of old)) e old new
-    → Fails (extra_directory old) e old new
+pub extra_fails : (e : TiffError) (old new : FileState) → AppendIsStopped e old new ⊎ AppendIsCut (padding (end_of old)) e old new
+    → CallFails (extra_directory old) e old new
 unfolding extra_directory
-extra_fails e old new h = opens_fails (opened None false) e old new h
+extra_fails e old new h = opens_fails (new_directory None false) e old new h
 
 -- ---- a call, and an answer made of its own
 
 module _ {A B : Type 0} (g : A → B) where
-  abbrev viewed : Result A TiffError → List Deed → FileState → Told B
-  viewed r deeds next = going_on r deeds next (λ x. gives (g x))
+  abbrev viewed : Result A TiffError → List Deed → FileState → WriteOutcome B
+  viewed r deeds next = and_then r deeds next (λ x. gives (g x))
 
   viewed_told : (r : Result A TiffError) (deeds : List Deed) (next : FileState) (x : A) (new : FileState) → r ≡ Ok x
       → new ≡ next → IsTold (viewed r deeds next) (Ok (g x)) new
@@ -106,11 +106,11 @@ module _ {A B : Type 0} (g : A → B) where
   other_fault (Err e) = Err e
 
   viewed_fails : (r : Result A TiffError) (deeds : List Deed) (next : FileState) (e : TiffError) (old new : FileState)
-      → (let told : Told A = record { answer = r; deeds = deeds; next = next } in Fails told e old new)
-      → Fails (viewed r deeds next) e old new
+      → (let told : WriteOutcome A = record { answer = r; deeds = deeds; next = next } in CallFails told e old new)
+      → CallFails (viewed r deeds next) e old new
   viewed_fails (Err f) deeds next e old new h =
-      let told : Told B = viewed (Err f) deeds next in
-      elim h as (λ _. Fails told e old new) [
+      let told : WriteOutcome B = viewed (Err f) deeds next in
+      elim h as (λ _. CallFails told e old new) [
         | inl t ↦ inl (record { answer = ap other_fault t.answer; state = t.state })
         | inr h ↦ elim h [
           | inl c ↦ inr (inl c)
@@ -128,9 +128,9 @@ module _ {A B : Type 0} (g : A → B) where
         ]
       ]
   viewed_fails (Ok x) deeds next e old new h =
-      let told : Told B = viewed (Ok x) deeds next in
+      let told : WriteOutcome B = viewed (Ok x) deeds next in
       let same : deeds ≡ deeds ++ [] = sym (append-nil deeds) in
-      elim h as (λ _. Fails told e old new) [
+      elim h as (λ _. CallFails told e old new) [
         | inl t ↦ absurd (ok_err t.answer)
         | inr h ↦ elim h [
           | inl c ↦ inr (inl (subst (λ ds. IsCutOff ds e old new) same c))
@@ -142,33 +142,33 @@ module _ {A B : Type 0} (g : A → B) where
               begun = tt;
               count = s.count;
               within = subst (λ ds. s.count ≤ length (all_appended old.kind ds)) same s.within;
-              state = s.state ∙ ap (λ ds. grown old (take s.count (all_appended old.kind ds))) same;
+              state = s.state ∙ ap (λ ds. file_with_bytes old (take s.count (all_appended old.kind ds))) same;
             })))
           ]
         ]
       ]
 
   viewed_short : (r : Result A TiffError) (deeds : List Deed) (next : FileState) (x : A) (e : TiffError) (old new : FileState)
-      → r ≡ Ok x → new ≡ next → old.fault ≡ None → next ≡ grown old (all_appended old.kind deeds) → e ≡ OutOfMemory
-      → Fails (viewed r deeds next) e old new
+      → r ≡ Ok x → new ≡ next → old.fault ≡ None → next ≡ file_with_bytes old (all_appended old.kind deeds) → e ≡ OutOfMemory
+      → CallFails (viewed r deeds next) e old new
   viewed_short r deeds next x e old new h s f n q =
       let all : List ℕ = all_appended old.kind (deeds ++ []) in
       let same : all_appended old.kind deeds ≡ all = ap (all_appended old.kind) (sym (append-nil deeds)) in
-      subst (λ q. Fails (viewed q deeds next) e old new) (sym h)
+      subst (λ q. CallFails (viewed q deeds next) e old new) (sym h)
       (inr (inr (inr (record {
         fresh = f;
         fault = q;
         begun = tt;
         count = length all;
         within = omega arith;
-        state = s ∙ n ∙ ap (grown old) (same ∙ sym (take-length all));
+        state = s ∙ n ∙ ap (file_with_bytes old) (same ∙ sym (take-length all));
       }))))
 
 -- ---- a value is handed in
 
 -- What a call is told to append is all that it does to the file.
-record IsGrowing {A : Type 0} (told : Told A) (file : FileState) : Type 0 where
-  pub next : told.next ≡ grown file (all_appended file.kind told.deeds)
+record IsGrowing {A : Type 0} (told : WriteOutcome A) (file : FileState) : Type 0 where
+  pub next : told.next ≡ file_with_bytes file (all_appended file.kind told.deeds)
 
 caused_growing : {A : Type 0} (cause : Option TiffError) (call : Writing A) (file : FileState) → IsGrowing (call file) file
     → IsGrowing (by_cause cause call file) file
@@ -178,11 +178,11 @@ caused_growing (Some e) call file g = record { next = ap (λ bytes. record file 
 -- some deeds that only append
 handed_growing : (long : Bool) (bytes : List ℕ) (h : HandedField) (field : Field) (file : FileState)
     → IsGrowing ((does (cond long (Appended bytes ∷ Handed h ∷ []) (Handed h ∷ [])) >>= (λ _. gives field)) file) file
-handed_growing true bytes h field file = record { next = ap (grown file) (sym (append-nil bytes)) }
+handed_growing true bytes h field file = record { next = ap (file_with_bytes file) (sym (append-nil bytes)) }
 handed_growing false bytes h field file =
     record { next = ap (λ bytes. record file { bytes = bytes }) (sym (append-nil file.bytes)) }
 
-placed_growing : (value : FieldData) (file : FileState) → IsGrowing (placed value file) file
+placed_growing : (value : FieldData) (file : FileState) → IsGrowing (placed_field value file) file
 placed_growing value file =
     let field : Field = field_at file.kind (end_of file) value in
     handed_growing (is_long file.kind value) value.bytes (record { field = field; bytes = value.bytes }) field file
@@ -201,44 +201,44 @@ fresh_by (Some f) cause h = absurd cc
 entry_growing : (value : Result FieldData TiffError) (file : FileState) → IsGrowing (write_entry value file) file
 unfolding write_entry
 entry_growing (Ok value) file =
-    caused_growing (write_tag_cause file (Ok value)) (answers (Ok value) >>= placed) file (placed_growing value file)
+    caused_growing (write_tag_cause file (Ok value)) (answers (Ok value) >>= placed_field) file (placed_growing value file)
 entry_growing (Err e) file =
-    caused_growing (write_tag_cause file (Err e)) (answers (Err e) >>= placed) file
+    caused_growing (write_tag_cause file (Err e)) (answers (Err e) >>= placed_field) file
     (record { next = ap (λ bytes. record file { bytes = bytes }) (sym (append-nil file.bytes)) })
 
 entry_fresh : (value : Result FieldData TiffError) (file : FileState) (field : Field)
     → (write_entry value file).answer ≡ Ok field → file.fault ≡ None
 unfolding write_entry write_tag_cause
 entry_fresh value file field h =
-    fresh_by file.fault _ (uncaused_by (write_tag_cause file value) (λ f. (answers value >>= placed) f) file field h)
+    fresh_by file.fault _ (uncaused_by (write_tag_cause file value) (λ f. (answers value >>= placed_field) f) file field h)
 
 -- `write_tag`
 pub tag_told : (d : OpenDirectory) (t : Tag) (value : Result FieldData TiffError) (field : Field) (old new : FileState)
     → IsTold (write_entry value old) (Ok field) new → IsTold (write_tag d t value old) (Ok (with_field d t field)) new
 unfolding write_tag
 tag_told d t value field old new h =
-    let told : Told Field = write_entry value old in
+    let told : WriteOutcome Field = write_entry value old in
     viewed_told (with_field d t) told.answer told.deeds told.next field new h.answer h.state
 
 pub tag_fails : (d : OpenDirectory) (t : Tag) (value : Result FieldData TiffError) (e : TiffError) (old new : FileState)
-    → Fails (write_entry value old) e old new → Fails (write_tag d t value old) e old new
+    → CallFails (write_entry value old) e old new → CallFails (write_tag d t value old) e old new
 unfolding write_tag
 tag_fails d t value e old new h =
-    let told : Told Field = write_entry value old in
+    let told : WriteOutcome Field = write_entry value old in
     viewed_fails (with_field d t) told.answer told.deeds told.next e old new h
 
 pub tag_short : (d : OpenDirectory) (t : Tag) (value : Result FieldData TiffError) (field : Field) (e : TiffError) (old new : FileState)
-    → IsTold (write_entry value old) (Ok field) new → e ≡ OutOfMemory → Fails (write_tag d t value old) e old new
+    → IsTold (write_entry value old) (Ok field) new → e ≡ OutOfMemory → CallFails (write_tag d t value old) e old new
 unfolding write_tag
 tag_short d t value field e old new h q =
-    let told : Told Field = write_entry value old in
+    let told : WriteOutcome Field = write_entry value old in
     viewed_short (with_field d t) told.answer told.deeds told.next field e old new h.answer h.state
     (entry_fresh value old field h.answer) (entry_growing value old).next q
 
 -- `write_entry_buf`, `write_entry_bytes`
 placed_call_growing : (cause : Option TiffError) (value : FieldData) (file : FileState)
-    → IsGrowing (by_cause cause (placed value) file) file
-placed_call_growing cause value file = caused_growing cause (placed value) file (placed_growing value file)
+    → IsGrowing (by_cause cause (placed_field value) file) file
+placed_call_growing cause value file = caused_growing cause (placed_field value) file (placed_growing value file)
 
 buf_growing : (b : BufferRecord) (file : FileState) → IsGrowing (write_entry_buf b file) file
 unfolding write_entry_buf
@@ -246,7 +246,7 @@ buf_growing b file = placed_call_growing (write_buf_cause file b) (buffer_data b
 
 buf_fresh : (b : BufferRecord) (file : FileState) (field : Field) → (write_entry_buf b file).answer ≡ Ok field → file.fault ≡ None
 unfolding write_entry_buf write_buf_cause
-buf_fresh b file field h = fresh_by file.fault _ (uncaused_by (write_buf_cause file b) (placed (buffer_data b)) file field h)
+buf_fresh b file field h = fresh_by file.fault _ (uncaused_by (write_buf_cause file b) (placed_field (buffer_data b)) file field h)
 
 bytes_growing : (type : «Type») (bytes : List ℕ) (file : FileState) → IsGrowing (write_entry_bytes type bytes file) file
 unfolding write_entry_bytes
@@ -256,43 +256,43 @@ bytes_fresh : (type : «Type») (bytes : List ℕ) (file : FileState) (field : F
     → (write_entry_bytes type bytes file).answer ≡ Ok field → file.fault ≡ None
 unfolding write_entry_bytes write_entry_bytes_cause
 bytes_fresh type bytes file field h =
-    fresh_by file.fault _ (uncaused_by (write_entry_bytes_cause file type bytes) (placed (data_in type bytes)) file field h)
+    fresh_by file.fault _ (uncaused_by (write_entry_bytes_cause file type bytes) (placed_field (data_in type bytes)) file field h)
 
 -- `write_tag_buf`
 pub tag_buf_told : (d : OpenDirectory) (t : Tag) (b : BufferRecord) (field : Field) (old new : FileState)
     → IsTold (write_entry_buf b old) (Ok field) new → IsTold (write_tag_buf d t b old) (Ok (with_field d t field)) new
 unfolding write_tag_buf
 tag_buf_told d t b field old new h =
-    let told : Told Field = write_entry_buf b old in
+    let told : WriteOutcome Field = write_entry_buf b old in
     viewed_told (with_field d t) told.answer told.deeds told.next field new h.answer h.state
 
 pub tag_buf_fails : (d : OpenDirectory) (t : Tag) (b : BufferRecord) (e : TiffError) (old new : FileState)
-    → Fails (write_entry_buf b old) e old new → Fails (write_tag_buf d t b old) e old new
+    → CallFails (write_entry_buf b old) e old new → CallFails (write_tag_buf d t b old) e old new
 unfolding write_tag_buf
 tag_buf_fails d t b e old new h =
-    let told : Told Field = write_entry_buf b old in
+    let told : WriteOutcome Field = write_entry_buf b old in
     viewed_fails (with_field d t) told.answer told.deeds told.next e old new h
 
 pub tag_buf_short : (d : OpenDirectory) (t : Tag) (b : BufferRecord) (field : Field) (e : TiffError) (old new : FileState)
-    → IsTold (write_entry_buf b old) (Ok field) new → e ≡ OutOfMemory → Fails (write_tag_buf d t b old) e old new
+    → IsTold (write_entry_buf b old) (Ok field) new → e ≡ OutOfMemory → CallFails (write_tag_buf d t b old) e old new
 unfolding write_tag_buf
 tag_buf_short d t b field e old new h q =
-    let told : Told Field = write_entry_buf b old in
+    let told : WriteOutcome Field = write_entry_buf b old in
     viewed_short (with_field d t) told.answer told.deeds told.next field e old new h.answer h.state
     (buf_fresh b old field h.answer) (buf_growing b old).next q
 
 -- ---- what stood in the file
 
 -- an appending call that fails leaves it
-pub failed_leaves : {Y : Type 0} (told : Told Y) (e : TiffError) (old new : FileState) (m : Model) → IsPlain 0 told old
-    → Fails told e old new → Stands old.kind old.bytes m → Stands old.kind new.bytes m
+pub failed_leaves : {Y : Type 0} (told : WriteOutcome Y) (e : TiffError) (old new : FileState) (m : Model) → IsPlain 0 told old
+    → CallFails told e old new → Stands old.kind old.bytes m → Stands old.kind new.bytes m
 failed_leaves told e old new m p h s =
     elim h as (λ _. Stands old.kind new.bytes m) [
       | inl t ↦ refused_leaves 0 told e old new m p s t
       | inr h ↦ elim h [
         | inl c ↦ begun_leaves told.deeds c.count old new.bytes m (ap (λ f. f.bytes) c.state) s
         | inr h ↦ elim h [
-          | inl t ↦ (let l = p.links in absurd (omega (arith, l, count_last told.deeds t.before t.place t.target t.last)))
+          | inl t ↦ (let l = p.links in absurd (omega (arith, l, count_last told.deeds t.before t.offset t.target t.last)))
           | inr c ↦ begun_leaves told.deeds c.count old new.bytes m (ap (λ f. f.bytes) c.state) s
         ]
       ]
@@ -303,12 +303,12 @@ abbrev EndFits : FileState → Type 0
 EndFits file = file.fault ≡ None → end_of file < 2 ^ 64
 
 -- what is appended to a file, and what was there, is as short
-module _ {A : Type 0} (told : Told A) (old new : FileState) (g : IsGrowing told old) (s : new ≡ told.next) (f : old.fault ≡ None)
+module _ {A : Type 0} (told : WriteOutcome A) (old new : FileState) (g : IsGrowing told old) (s : new ≡ told.next) (f : old.fault ≡ None)
     (fits : EndFits new) where
   grown_short : end_of old + length (all_appended old.kind told.deeds) < 2 ^ 64
   grown_short =
       let all : List ℕ = all_appended old.kind told.deeds in
-      let same : new ≡ grown old all = s ∙ g.next in
+      let same : new ≡ file_with_bytes old all = s ∙ g.next in
       let sum : end_of new ≡ end_of old + length all = ap end_of same ∙ length-append old.bytes all in
       let short = fits (ap (λ file. file.fault) same ∙ f) in
       omega (arith, short, sum)
@@ -317,18 +317,18 @@ module _ {A : Type 0} (told : Told A) (old new : FileState) (g : IsGrowing told 
   old_short = let h = grown_short in omega (arith, h)
 
 -- a value field is no longer than eight bytes
-place_len_8 : (kind : FileKind) → place_len kind ≤ 8
-place_len_8 Classic = lit≤ tt
-place_len_8 Big = lit≤ tt
+offset_len_8 : (kind : FileKind) → offset_len kind ≤ 8
+offset_len_8 Classic = lit≤ tt
+offset_len_8 Big = lit≤ tt
 
 -- so are the bytes of a value that is handed in
-value_short : (kind : FileKind) (long : Bool) (bytes : List ℕ) (h : HandedField) → nat_lt (place_len kind) (length bytes) ≡ long
+value_short : (kind : FileKind) (long : Bool) (bytes : List ℕ) (h : HandedField) → nat_lt (offset_len kind) (length bytes) ≡ long
     → length (all_appended kind (cond long (Appended bytes ∷ Handed h ∷ []) (Handed h ∷ []) ++ [])) < 2 ^ 64
     → length bytes < 2 ^ 64
 value_short kind true bytes h t l = subst (λ xs. length xs < 2 ^ 64) (append-nil bytes) l
 value_short kind false bytes h t l =
-    let below = ltb-false (place_len kind) (length bytes) t in
-    let eight = place_len_8 kind in
+    let below = ltb-false (offset_len kind) (length bytes) t in
+    let eight = offset_len_8 kind in
     omega (arith, below, eight)
 
 -- a value that was handed in
@@ -336,16 +336,16 @@ entry_given : (value : Result FieldData TiffError) (type : «Type») (count : �
     → IsValue type count value → EndFits new → IsTold (write_entry value old) (Ok field) new → IsGiven value × (end_of old < 2 ^ 64)
 unfolding write_entry
 entry_given (Err e) type count field old new v fits h =
-    let told : Told Field = write_entry (Err e) old in
+    let told : WriteOutcome Field = write_entry (Err e) old in
     (tt, old_short told old new (entry_growing (Err e) old) h.state (entry_fresh (Err e) old field h.answer) fits)
 entry_given (Ok d) type count field old new v fits h =
-    let told : Told Field = write_entry (Ok d) old in
+    let told : WriteOutcome Field = write_entry (Ok d) old in
     let fresh : old.fault ≡ None = entry_fresh (Ok d) old field h.answer in
     let short = grown_short told old new (entry_growing (Ok d) old) h.state fresh fits in
-    let call : Writing Field = answers (Ok d) >>= placed in
-    let done : told ≡ placed d old =
+    let call : Writing Field = answers (Ok d) >>= placed_field in
+    let done : told ≡ placed_field d old =
     ap (λ c. by_cause c call old) (uncaused_by (write_tag_cause old (Ok d)) call old field h.answer) in
-    let appended : length (all_appended old.kind (placed d old).deeds) < 2 ^ 64 =
+    let appended : length (all_appended old.kind (placed_field d old).deeds) < 2 ^ 64 =
     subst (λ t. length (all_appended old.kind t.deeds) < 2 ^ 64) done (omega (arith, short)) in (
       (
         v.2,
@@ -424,7 +424,7 @@ no_fault : {fault : SinkFault} → let a : Option SinkFault = Some fault in a �
 no_fault h = cc
 
 module _ (old new : FileState) (m : Model) (d : OpenDirectory) (a : AreEntries d.fields) (n : len d.fields < 2 ^ 64) (fits : EndFits old)
-    (s : Stands old.kind old.bytes m) (p : (place : ℕ) → d.parent ≡ Some place → IsLink old.kind m place) where
+    (s : Stands old.kind old.bytes m) (p : (offset : ℕ) → d.parent ≡ Some offset → IsLink old.kind m offset) where
   -- after a fault of the sink it is refused
   ended_left : {X : Type 0} (view : X → Offsets) (fault : Option SinkFault) (r : Result X TiffError) → old.fault ≡ fault
       → Ends view (finish d old) r old new → LeavesLinked (finish d old) r old new m

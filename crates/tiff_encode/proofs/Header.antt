@@ -4,14 +4,14 @@ use Rattle.tiff_base.specs.declared.tags.FileKind.{FileKind}
 use Rattle.tiff_base.specs.declared.tags.FileKind.TheVariants.{Classic, Big}
 use Rattle.tiff_base.specs.declared.tags.ByteOrder.TheVariants.{LittleEndian}
 use Rattle.tiff_base.specs.Number.{number_at, le}
-use Rattle.tiff_base.specs.Directory.{place_width}
-use Rattle.tiff_encode.specs.Written.{place_len, header_mark, header_bytes}
+use Rattle.tiff_base.specs.Directory.{offset_width}
+use Rattle.tiff_encode.specs.FileBytes.{offset_len, header_mark, header_bytes}
 use Rattle.tiff_encode.specs.Model.{IsLink, header_link, header_model}
 use Rattle.tiff_encode.specs.Laws.{HeaderStands}
-use Rattle.tiff_encode.proofs.Slices.{exact_mid, number_mid, is_place_width, length-le}
+use Rattle.tiff_encode.proofs.Slices.{exact_mid, number_mid, is_offset_width, length-le}
 
 -- 0 fits a link
-pub zero_fits : (kind : FileKind) → 0 < 256 ^ place_len kind
+pub zero_fits : (kind : FileKind) → 0 < 256 ^ offset_len kind
 zero_fits Classic = lit< tt
 zero_fits Big = lit< tt
 
@@ -22,12 +22,12 @@ only_link kind q l = elim l [ inl e ↦ e | inr y ↦ absurd y.1.0 ]
 -- a header that was written stands
 pub header_stands : HeaderStands
 header_stands kind =
-    let k : ℕ = place_len kind in
+    let k : ℕ = offset_len kind in
     let mark : List ℕ = header_mark kind in
     let file : List ℕ = header_bytes kind in
-    let first : number_at LittleEndian (place_width kind) file (header_link kind) ≡ Ok 0 =
-    ap (λ (z : List ℕ). number_at LittleEndian (place_width kind) (mark ++ z) (length mark)) (sym (append-nil (le k 0)))
-    ∙ number_mid (place_width kind) mark [] (length mark) 0 (is_place_width kind) refl (zero_fits kind) in
+    let first : number_at LittleEndian (offset_width kind) file (header_link kind) ≡ Ok 0 =
+    ap (λ (z : List ℕ). number_at LittleEndian (offset_width kind) (mark ++ z) (length mark)) (sym (append-nil (le k 0)))
+    ∙ number_mid (offset_width kind) mark [] (length mark) 0 (is_offset_width kind) refl (zero_fits kind) in
     record {
       header = exact_mid [] mark (le k 0) 0 (length mark) refl refl;
       first = first;

@@ -6,10 +6,10 @@ use Rattle.std.proofs.Math.Seq.{take-append-add}
 use Rattle.tiff_base.specs.declared.error.TiffError.{TiffError}
 use Rattle.tiff_base.specs.declared.tags.FileKind.{FileKind}
 use Rattle.tiff_base.specs.Number.{le}
-use Rattle.tiff_base.specs.Told.{put}
+use Rattle.tiff_base.specs.SourceAndSink.{put}
 use Rattle.tiff_value.proofs.Put.{put-put}
-use Rattle.tiff_value.specs.Written.{Written, moved, written, IsStopped, IsCut}
-use Rattle.tiff_encode.specs.Written.{place_len, header_mark, header_bytes}
+use Rattle.tiff_value.specs.Written.{Written, writer_after, writer_after_counted, IsStopped, IsCut}
+use Rattle.tiff_encode.specs.FileBytes.{offset_len, header_mark, header_bytes}
 use Rattle.tiff_encode.proofs.Slices.{length-le}
 
 -- a piece at the end, or behind it
@@ -34,14 +34,14 @@ put_on file at xs ys = elim (cases_Bool (leb at (length file))) [
 ]
 
 -- a header went out
-pub header_written : (kind : FileKind) (old mid new : Written) → mid ≡ moved old (header_mark kind)
-    → new ≡ written mid (le (place_len kind) 0) → new ≡ record (moved old (header_bytes kind)) { last = place_len kind }
+pub header_written : (kind : FileKind) (old mid new : Written) → mid ≡ writer_after old (header_mark kind)
+    → new ≡ writer_after_counted mid (le (offset_len kind) 0) → new ≡ record (writer_after old (header_bytes kind)) { last = offset_len kind }
 header_written kind old mid new s t =
     let mark : List ℕ = header_mark kind in
-    let zeros : List ℕ = le (place_len kind) 0 in
+    let zeros : List ℕ = le (offset_len kind) 0 in
     let at : old.at + length mark + length zeros ≡ old.at + length (mark ++ zeros) = omega (arith, length-append mark zeros) in
-    let l : length zeros ≡ place_len kind = length-le 0 (place_len kind) 0 in
-    t ∙ ap (λ m. written m zeros) s ∙ λ i. record old { bytes = put_on old.bytes old.at mark zeros i; at = at i; last = l i }
+    let l : length zeros ≡ offset_len kind = length-le 0 (offset_len kind) 0 in
+    t ∙ ap (λ m. writer_after_counted m zeros) s ∙ λ i. record old { bytes = put_on old.bytes old.at mark zeros i; at = at i; last = l i }
 
 -- its first piece did not
 pub mark_fails : (kind : FileKind) (old new : Written) (e : TiffError) → IsStopped e old new ⊎ IsCut (header_mark kind) e old new
@@ -53,9 +53,9 @@ mark_fails kind old new e h = elim h [
     fault = c.fault;
     answer = c.answer;
     count = c.count;
-    within = let w : c.count < length (header_mark kind) = c.within in omega (arith, length-append (header_mark kind) (le (place_len kind) 0));
+    within = let w : c.count < length (header_mark kind) = c.within in omega (arith, length-append (header_mark kind) (le (offset_len kind) 0));
     state = let w : c.count < length (header_mark kind) = c.within in c.state ∙ λ i. record old {
-      bytes = put old.bytes old.at (sym (take-append-le c.count (header_mark kind) (le (place_len kind) 0) (omega (arith, w))) i);
+      bytes = put old.bytes old.at (sym (take-append-le c.count (header_mark kind) (le (offset_len kind) 0) (omega (arith, w))) i);
       at = old.at + c.count;
       fault = Some c.fault;
       failures = old.failures + 1;
@@ -65,13 +65,13 @@ mark_fails kind old new e h = elim h [
 
 -- its link did not
 pub link_fails : (kind : FileKind) (old mid new : Written) (e : TiffError) → old.fault ≡ None
-    → mid ≡ moved old (header_mark kind) → IsStopped e mid new ⊎ IsCut (le (place_len kind) 0) e mid new
+    → mid ≡ writer_after old (header_mark kind) → IsStopped e mid new ⊎ IsCut (le (offset_len kind) 0) e mid new
     → IsStopped e old new ⊎ IsCut (header_bytes kind) e old new
 link_fails kind old mid new e fresh s f = elim f [
   | inl r ↦ absurd (false≢true (subst IsSome (ap (λ (m : Written). m.fault) s ∙ fresh) r.failed))
   | inr c ↦ (
       let mark : List ℕ = header_mark kind in
-      let zeros : List ℕ = le (place_len kind) 0 in
+      let zeros : List ℕ = le (offset_len kind) 0 in
       let bytes = put_on old.bytes old.at mark (take c.count zeros) ∙ ap (λ l. put old.bytes old.at l) (sym (take-append-add mark zeros c.count)) in
       let at : old.at + length mark + c.count ≡ old.at + (length mark + c.count) = omega arith in
       inr (record {

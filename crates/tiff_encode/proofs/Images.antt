@@ -13,11 +13,11 @@ use Rattle.tiff_base.specs.declared.tags.Tag.TheVariants as tag
 use Rattle.tiff_value.specs.ColorType.{ColorTypeRecord}
 use Rattle.tiff_value.specs.Data.{FieldData, Scalars, u32s, data_of}
 use Rattle.tiff_encode.specs.Machine.{FileState, OpenDirectory, OpenImage, Writing, gives, ◌>>=◌}
-use Rattle.tiff_encode.specs.Encoder.{IsStopped, IsCut}
-use Rattle.tiff_encode.specs.Steps.{grown}
-use Rattle.tiff_encode.specs.Written.{padding}
-use Rattle.tiff_encode.specs.Ends.{IsTold, Fails, Ends}
-use Rattle.tiff_encode.specs.Calls.{opened, pad, image_directory, write_tags, meaning_tags, chroma_tags, layout_tags, first_tags, image_in, new_image}
+use Rattle.tiff_encode.specs.Encoder.{AppendIsStopped, AppendIsCut}
+use Rattle.tiff_encode.specs.FileWrites.{file_with_bytes}
+use Rattle.tiff_encode.specs.FileBytes.{padding}
+use Rattle.tiff_encode.specs.Ends.{IsTold, CallFails, Ends}
+use Rattle.tiff_encode.specs.Calls.{new_directory, pad, image_directory, write_tags, meaning_tags, chroma_tags, layout_tags, first_tags, image_in, new_image}
 use Rattle.tiff_encode.specs.Causes.{begin_cause, end_of, image_cause, new_image_cause}
 use Rattle.tiff_encode.specs.Tagging.{write_fields, fields_of}
 use Rattle.tiff_encode.proofs.Calling.{refused, uncaused, wanting, fresh_cause}
@@ -27,23 +27,23 @@ use Rattle.tiff_encode.proofs.Tagging.{tags_are_fields, fields_adds}
 
 -- the tags of a new image, part by part
 pub first_of : (i : OpenImage) (head chroma tail all : List (Tag × FieldData)) → head ≡ fields_of (meaning_tags i)
-    → fields_of (chroma_tags i.colour.interpretation) ≡ chroma → tail ≡ fields_of (layout_tags i) → all ≡ (head ++ chroma) ++ tail
+    → fields_of (chroma_tags i.color.interpretation) ≡ chroma → tail ≡ fields_of (layout_tags i) → all ≡ (head ++ chroma) ++ tail
     → all ≡ fields_of (first_tags i)
 unfolding first_tags
 first_of i head chroma tail all h c t a =
     let tell : Tag × Scalars → Tag × FieldData = λ v. (v.0, data_of v.1) in
-    let C = fields_of (chroma_tags i.colour.interpretation) in
+    let C = fields_of (chroma_tags i.color.interpretation) in
     a ∙ (λ j. (h j ++ sym c j) ++ t j) ∙ append_assoc (fields_of (meaning_tags i)) C (fields_of (layout_tags i))
-    ∙ ap (λ x. fields_of (meaning_tags i) ++ x) (sym (map-append tell (chroma_tags i.colour.interpretation) (layout_tags i)))
-    ∙ sym (map-append tell (meaning_tags i) (chroma_tags i.colour.interpretation ++ layout_tags i))
+    ∙ ap (λ x. fields_of (meaning_tags i) ++ x) (sym (map-append tell (chroma_tags i.color.interpretation) (layout_tags i)))
+    ∙ sym (map-append tell (meaning_tags i) (chroma_tags i.color.interpretation ++ layout_tags i))
 
 -- where nothing refuses an image
-pub begins_uncaused : (file : FileState) (colour : ColorTypeRecord) (kind : FileKind) (end : ℕ) (predictor : Predictor)
+pub begins_uncaused : (file : FileState) (color : ColorTypeRecord) (kind : FileKind) (end : ℕ) (predictor : Predictor)
     (formats : List SampleFormat) (width height : ℕ) (cause : Option TiffError) → file.fault ≡ None → kind ≡ file.kind → end ≡ end_of file
-    → predictor ≡ file.predictor → formats ≡ colour.formats → image_cause kind end predictor formats width height ≡ cause
-    → new_image_cause file colour width height ≡ cause
+    → predictor ≡ file.predictor → formats ≡ color.formats → image_cause kind end predictor formats width height ≡ cause
+    → new_image_cause file color width height ≡ cause
 unfolding new_image_cause
-begins_uncaused file colour kind end predictor formats width height cause f k e p s c =
+begins_uncaused file color kind end predictor formats width height cause f k e p s c =
     fresh_cause file.fault _ f ∙ sym (λ i. image_cause (k i) (e i) (p i) (s i) width height) ∙ c
 
 none_by : (b : Bool) (e : TiffError) (cause : Option TiffError) → cond b (Some e) cause ≡ None → b ≡ false
@@ -68,16 +68,16 @@ sides_by kind end predictor formats width height c =
 
 -- ---- `new_image`
 
-module _ (colour : ColorTypeRecord) (size width height : ℕ) (old : FileState) where
+module _ (color : ColorTypeRecord) (size width height : ℕ) (old : FileState) where
   -- its directory before a tag, and what follows where nothing refuses it
   abbrev blank : OpenDirectory
-  blank = opened (Some old.chain) true
+  blank = new_directory (Some old.chain) true
 
   abbrev tags_in : OpenDirectory → List (Tag × Scalars)
-  tags_in d = first_tags (image_in old d colour size width height)
+  tags_in d = first_tags (image_in old d color size width height)
 
   abbrev ends_with : OpenDirectory → Writing OpenImage
-  ends_with last = gives (image_in old last colour size width height)
+  ends_with last = gives (image_in old last color size width height)
 
   abbrev tagged : OpenDirectory → Writing OpenImage
   tagged d = write_tags d (tags_in d) >>= ends_with
@@ -85,26 +85,26 @@ module _ (colour : ColorTypeRecord) (size width height : ℕ) (old : FileState) 
   abbrev begun_image : Writing OpenImage
   begun_image = image_directory >>= tagged
 
-  uncaused_image : (r : Result OpenImage TiffError) (new : FileState) → new_image_cause old colour width height ≡ None
-      → Ends (λ i. i) (begun_image old) r old new → Ends (λ i. i) (new_image colour size width height old) r old new
+  uncaused_image : (r : Result OpenImage TiffError) (new : FileState) → new_image_cause old color width height ≡ None
+      → Ends (λ i. i) (begun_image old) r old new → Ends (λ i. i) (new_image color size width height old) r old new
   unfolding new_image
-  uncaused_image r new c h = uncaused (λ i. i) (new_image_cause old colour width height) begun_image r old new c h
+  uncaused_image r new c h = uncaused (λ i. i) (new_image_cause old color width height) begun_image r old new c h
 
-  pub image_refused : (e : TiffError) → new_image_cause old colour width height ≡ Some e
-      → Ends (λ i. i) (new_image colour size width height old) (Err e) old old
+  pub image_refused : (e : TiffError) → new_image_cause old color width height ≡ Some e
+      → Ends (λ i. i) (new_image color size width height old) (Err e) old old
   unfolding new_image
-  image_refused e c = refused (λ i. i) (new_image_cause old colour width height) begun_image old e c
+  image_refused e c = refused (λ i. i) (new_image_cause old color width height) begun_image old e c
 
   -- its tags do something
   tags_add : (d : OpenDirectory) (file : FileState) → Adds (write_tags d (tags_in d) file) file
   unfolding first_tags
   tags_add d file =
-      let i : OpenImage = image_in old d colour size width height in
+      let i : OpenImage = image_in old d color size width height in
       let first : Tag × FieldData = (tag.ImageWidth, data_of (u32s (width ∷ []))) in
-      let others : List (Tag × FieldData) = fields_of (drop 1 (meaning_tags i) ++ (chroma_tags colour.interpretation ++ layout_tags i)) in
+      let others : List (Tag × FieldData) = fields_of (drop 1 (meaning_tags i) ++ (chroma_tags color.interpretation ++ layout_tags i)) in
       subst (λ told. Adds told file) (sym (tags_are_fields d (tags_in d) file)) (fields_adds d first others file)
 
-  directory_short : (e : TiffError) → old.fault ≡ None → e ≡ OutOfMemory → Fails (image_directory old) e old old
+  directory_short : (e : TiffError) → old.fault ≡ None → e ≡ OutOfMemory → CallFails (image_directory old) e old old
   unfolding image_directory begin_cause
   directory_short e f q =
       let opens : Writing OpenDirectory = pad >>= (λ _. gives blank) in
@@ -112,38 +112,38 @@ module _ (colour : ColorTypeRecord) (size width height : ℕ) (old : FileState) 
       uncaused d (begin_cause old) opens (Err e) old old (fresh_cause old.fault None f) (wanting d (opens old) e old f q tt)
 
   -- there was no memory for its tags
-  pub image_short : (e : TiffError) → new_image_cause old colour width height ≡ None → old.fault ≡ None → e ≡ OutOfMemory
-      → Ends (λ i. i) (new_image colour size width height old) (Err e) old old
+  pub image_short : (e : TiffError) → new_image_cause old color width height ≡ None → old.fault ≡ None → e ≡ OutOfMemory
+      → Ends (λ i. i) (new_image color size width height old) (Err e) old old
   image_short e c f q = uncaused_image (Err e) old c (bind_fails image_directory tagged e old old (begin_adds old) (directory_short e f q))
 
   -- zeros were not appended
-  pub image_unpadded : (e : TiffError) (new : FileState) → new_image_cause old colour width height ≡ None
-      → IsStopped e old new ⊎ IsCut (padding (end_of old)) e old new → Ends (λ i. i) (new_image colour size width height old) (Err e) old new
+  pub image_unpadded : (e : TiffError) (new : FileState) → new_image_cause old color width height ≡ None
+      → AppendIsStopped e old new ⊎ AppendIsCut (padding (end_of old)) e old new → Ends (λ i. i) (new_image color size width height old) (Err e) old new
   image_unpadded e new c h =
       uncaused_image (Err e) new c (bind_fails image_directory tagged e old new (begin_adds old) (begun_fails e old new h))
 
   -- they were, and then
-  image_padded : (r : Result OpenImage TiffError) (mid new : FileState) → new_image_cause old colour width height ≡ None
-      → old.fault ≡ None → mid ≡ grown old (padding (end_of old)) → Ends (λ i. i) (tagged blank mid) r mid new
-      → Ends (λ i. i) (new_image colour size width height old) r old new
+  image_padded : (r : Result OpenImage TiffError) (mid new : FileState) → new_image_cause old color width height ≡ None
+      → old.fault ≡ None → mid ≡ file_with_bytes old (padding (end_of old)) → Ends (λ i. i) (tagged blank mid) r mid new
+      → Ends (λ i. i) (new_image color size width height old) r old new
   image_padded r mid new c f s h =
       let told : IsTold (image_directory old) (Ok blank) mid = begun_told old mid empty old.chain (f, s) refl (sym (ap (λ n. n.chain) s)) in
       uncaused_image r new c (bind_ends (λ i. i) image_directory tagged blank r old mid new (begin_adds old) told h)
 
   -- the tags failed
-  pub image_untagged : (values : List (Tag × FieldData)) (e : TiffError) (mid new : FileState) → new_image_cause old colour width height ≡ None
-      → old.fault ≡ None → mid ≡ grown old (padding (end_of old)) → values ≡ fields_of (tags_in blank)
-      → Fails (write_fields blank values mid) e mid new → Ends (λ i. i) (new_image colour size width height old) (Err e) old new
+  pub image_untagged : (values : List (Tag × FieldData)) (e : TiffError) (mid new : FileState) → new_image_cause old color width height ≡ None
+      → old.fault ≡ None → mid ≡ file_with_bytes old (padding (end_of old)) → values ≡ fields_of (tags_in blank)
+      → CallFails (write_fields blank values mid) e mid new → Ends (λ i. i) (new_image color size width height old) (Err e) old new
   image_untagged values e mid new c f s v h =
       image_padded (Err e) mid new c f s
       (bind_fails (write_tags blank (tags_in blank)) ends_with e mid new (tags_add blank mid)
-      (subst (λ told. Fails told e mid new) (ap (λ xs. write_fields blank xs mid) v ∙ sym (tags_are_fields blank (tags_in blank) mid)) h))
+      (subst (λ told. CallFails told e mid new) (ap (λ xs. write_fields blank xs mid) v ∙ sym (tags_are_fields blank (tags_in blank) mid)) h))
 
   -- all was done
   pub image_begun : (values : List (Tag × FieldData)) (last : OpenDirectory) (i : OpenImage) (mid new : FileState)
-      → new_image_cause old colour width height ≡ None → old.fault ≡ None → mid ≡ grown old (padding (end_of old))
+      → new_image_cause old color width height ≡ None → old.fault ≡ None → mid ≡ file_with_bytes old (padding (end_of old))
       → values ≡ fields_of (tags_in blank) → IsTold (write_fields blank values mid) (Ok last) new
-      → i ≡ image_in old last colour size width height → Ends (λ i. i) (new_image colour size width height old) (Ok i) old new
+      → i ≡ image_in old last color size width height → Ends (λ i. i) (new_image color size width height old) (Ok i) old new
   image_begun values last i mid new c f s v h q =
       let tagged_so : IsTold (write_tags blank (tags_in blank) mid) (Ok last) new =
       subst (λ told. IsTold told (Ok last) new) (ap (λ xs. write_fields blank xs mid) v ∙ sym (tags_are_fields blank (tags_in blank) mid)) h in

@@ -9,18 +9,18 @@ use Rattle.tiff_base.specs.declared.tags.Tag.{Tag}
 use Rattle.tiff_base.specs.declared.tags.«Type».{«Type»}
 use Rattle.tiff_base.specs.Field.{Field}
 use Rattle.tiff_base.specs.Number.{le}
-use Rattle.tiff_base.specs.Told.{put}
+use Rattle.tiff_base.specs.SourceAndSink.{put}
 use Rattle.tiff_value.specs.Data.{FieldData}
-use Rattle.tiff_encode.specs.Written.{place_len, directory_bytes, padding}
+use Rattle.tiff_encode.specs.FileBytes.{offset_len, directory_bytes, padding}
 use Rattle.tiff_encode.specs.Model.{HandedField}
 use Rattle.tiff_encode.specs.Deeds.{Deed, Appended, Handed, Listed, Linked, all_appended}
 use Rattle.tiff_encode.specs.Laws.{AreAppending}
 use Rattle.tiff_encode.specs.Value.{is_long, field_at, data_in}
-use Rattle.tiff_encode.specs.Machine.{FileState, OpenDirectory, Told, Writing, answers, gives, does, behind, by_cause, going_on, ◌>>=◌}
-use Rattle.tiff_encode.specs.Steps.{grown}
+use Rattle.tiff_encode.specs.Machine.{FileState, OpenDirectory, WriteOutcome, Writing, answers, gives, does, after_deeds, by_cause, and_then, ◌>>=◌}
+use Rattle.tiff_encode.specs.FileWrites.{file_with_bytes}
 use Rattle.tiff_encode.specs.Causes.{end_of, begin_cause, write_tag_cause, write_entry_bytes_cause}
-use Rattle.tiff_encode.specs.Calls.{opened, pad, image_directory, extra_directory, with_field, placed, appends, write_entry, write_entry_bytes, write_tag}
-use Rattle.tiff_encode.specs.Ends.{IsTold, HasBegun, Fails, Ends}
+use Rattle.tiff_encode.specs.Calls.{new_directory, pad, image_directory, extra_directory, with_field, placed_field, appends, write_entry, write_entry_bytes, write_tag}
+use Rattle.tiff_encode.specs.Ends.{IsTold, HasBegun, CallFails, Ends}
 use Rattle.tiff_encode.proofs.Deeds.{deeds_append}
 use Rattle.tiff_encode.proofs.Leaving.{ok_err}
 
@@ -33,17 +33,17 @@ HasDeeds (Ok x) (deed ∷ deeds) = Unit {0}
 HasDeeds (Err e) deeds = Unit {0}
 
 -- What a call is told to append is all that it does to the file; it may do nothing.
-pub record IsAdding {A : Type 0} (told : Told A) (file : FileState) : Type 0 where
-  pub next : told.next ≡ grown file (all_appended file.kind told.deeds)
+pub record IsAdding {A : Type 0} (told : WriteOutcome A) (file : FileState) : Type 0 where
+  pub next : told.next ≡ file_with_bytes file (all_appended file.kind told.deeds)
   pub appending : AreAppending told.deeds
 
 -- The same, and it does something unless it is refused.
-pub record Adds {A : Type 0} (told : Told A) (file : FileState) : Type 0 where
-  pub next : told.next ≡ grown file (all_appended file.kind told.deeds)
+pub record Adds {A : Type 0} (told : WriteOutcome A) (file : FileState) : Type 0 where
+  pub next : told.next ≡ file_with_bytes file (all_appended file.kind told.deeds)
   pub appending : AreAppending told.deeds
   pub some : HasDeeds told.answer told.deeds
 
-pub adding : {A : Type 0} (told : Told A) (file : FileState) → Adds told file → IsAdding told file
+pub adding : {A : Type 0} (told : WriteOutcome A) (file : FileState) → Adds told file → IsAdding told file
 adding told file a = record { next = a.next; appending = a.appending }
 
 -- ---- deeds, and more after them
@@ -58,7 +58,7 @@ appended_joined kind (Handed handed ∷ deeds) more = appended_joined kind deeds
 appended_joined kind (Listed fields ∷ deeds) more =
     ap (λ ys. directory_bytes kind fields ++ ys) (appended_joined kind deeds more)
     ∙ sym (append_assoc (directory_bytes kind fields) (all_appended kind deeds) (all_appended kind more))
-appended_joined kind (Linked place target ∷ deeds) more = appended_joined kind deeds more
+appended_joined kind (Linked offset target ∷ deeds) more = appended_joined kind deeds more
 
 -- a file that both were appended to
 pub appended_both : (kind : FileKind) (bytes : List ℕ) (deeds more : List Deed)
@@ -94,15 +94,15 @@ appending_joined [] more a b = b
 appending_joined (Appended xs ∷ deeds) more a b = appending_joined deeds more a b
 appending_joined (Handed handed ∷ deeds) more a b = appending_joined deeds more a b
 appending_joined (Listed fields ∷ deeds) more a b = appending_joined deeds more a b
-appending_joined (Linked place target ∷ deeds) more a b = absurd a
+appending_joined (Linked offset target ∷ deeds) more a b = absurd a
 
 -- a link last is none of those that only append
-pub ends_torn : (before : List Deed) (place target : ℕ) → AreAppending (before ++ Linked place target ∷ []) → ⊥
-ends_torn [] place target a = a
-ends_torn (Appended xs ∷ before) place target a = ends_torn before place target a
-ends_torn (Handed handed ∷ before) place target a = ends_torn before place target a
-ends_torn (Listed fields ∷ before) place target a = ends_torn before place target a
-ends_torn (Linked p t ∷ before) place target a = a
+pub ends_torn : (before : List Deed) (offset target : ℕ) → AreAppending (before ++ Linked offset target ∷ []) → ⊥
+ends_torn [] offset target a = a
+ends_torn (Appended xs ∷ before) offset target a = ends_torn before offset target a
+ends_torn (Handed handed ∷ before) offset target a = ends_torn before offset target a
+ends_torn (Listed fields ∷ before) offset target a = ends_torn before offset target a
+ends_torn (Linked p t ∷ before) offset target a = a
 
 -- some are some with more after them
 more_begun : {A B : Type 0} (x : A) (r : Result B TiffError) (deeds more : List Deed)
@@ -127,13 +127,13 @@ more_deeds x (Err e) deeds more h = tt
 
 module _ {X B : Type 0} (view : X → B) where
   -- The second call ended in the file that the first had left: both end so.
-  behind_ends : (deeds : List Deed) (told : Told B) (r : Result X TiffError) (old new : FileState)
-      → Ends view told r (grown old (all_appended old.kind deeds)) new → Ends view (behind deeds told) r old new
+  behind_ends : (deeds : List Deed) (told : WriteOutcome B) (r : Result X TiffError) (old new : FileState)
+      → Ends view told r (file_with_bytes old (all_appended old.kind deeds)) new → Ends view (after_deeds deeds told) r old new
   behind_ends deeds told (Ok x) old new h = record { answer = h.answer; state = h.state }
   behind_ends deeds told (Err e) old new h =
-      let mid : FileState = grown old (all_appended old.kind deeds) in
+      let mid : FileState = file_with_bytes old (all_appended old.kind deeds) in
       let n : ℕ = length (all_appended old.kind deeds) in
-      elim h as (λ _. Fails (behind deeds told) e old new) [
+      elim h as (λ _. CallFails (after_deeds deeds told) e old new) [
         | inl t ↦ inl (record { answer = t.answer; state = t.state })
         | inr h ↦ elim h [
           | inl c ↦ inr (inl (record {
@@ -150,12 +150,12 @@ module _ {X B : Type 0} (view : X → B) where
               fault = t.fault;
               answer = t.answer;
               before = deeds ++ t.before;
-              place = t.place;
+              offset = t.offset;
               target = t.target;
-              last = ap (λ ds. deeds ++ ds) t.last ∙ sym (append_assoc deeds t.before (Linked t.place t.target ∷ []));
+              last = ap (λ ds. deeds ++ ds) t.last ∙ sym (append_assoc deeds t.before (Linked t.offset t.target ∷ []));
               count = t.count;
               within = t.within;
-              state = t.state ∙ ap (λ bytes. record old { bytes = put bytes t.place (take t.count (le (place_len old.kind) t.target)); failures = old.failures + 1; fault = Some t.fault }) (appended_both old.kind old.bytes deeds t.before);
+              state = t.state ∙ ap (λ bytes. record old { bytes = put bytes t.offset (take t.count (le (offset_len old.kind) t.target)); failures = old.failures + 1; fault = Some t.fault }) (appended_both old.kind old.bytes deeds t.before);
             })))
             | inr s ↦ inr (inr (inr (record {
               fresh = s.fresh;
@@ -171,7 +171,7 @@ module _ {X B : Type 0} (view : X → B) where
 
 module _ {A B : Type 0} (rest : A → Writing B) where
   -- what was told of the first
-  abbrev first_told : Result A TiffError → List Deed → FileState → Told A
+  abbrev first_told : Result A TiffError → List Deed → FileState → WriteOutcome A
   first_told r deeds next = record { answer = r; deeds = deeds; next = next }
 
   -- a fault of the first as one of both
@@ -181,10 +181,10 @@ module _ {A B : Type 0} (rest : A → Writing B) where
 
   -- The first fails, and so do both.
   first_fails : (r : Result A TiffError) (deeds : List Deed) (next : FileState) (e : TiffError) (old new : FileState)
-      → AreAppending deeds → HasDeeds r deeds → Fails (first_told r deeds next) e old new → Fails (going_on r deeds next rest) e old new
+      → AreAppending deeds → HasDeeds r deeds → CallFails (first_told r deeds next) e old new → CallFails (and_then r deeds next rest) e old new
   first_fails (Err f) deeds next e old new a d h =
-      let told : Told B = record { answer = Err f; deeds = deeds; next = next } in
-      elim h as (λ _. Fails told e old new) [
+      let told : WriteOutcome B = record { answer = Err f; deeds = deeds; next = next } in
+      elim h as (λ _. CallFails told e old new) [
         | inl t ↦ inl (record { answer = ap (fault_or e) t.answer; state = t.state })
         | inr h ↦ elim h [
           | inl c ↦ inr (inl c)
@@ -202,8 +202,8 @@ module _ {A B : Type 0} (rest : A → Writing B) where
         ]
       ]
   first_fails (Ok x) deeds next e old new a d h =
-      let second : Told B = rest x next in
-      elim h as (λ _. Fails (behind deeds second) e old new) [
+      let second : WriteOutcome B = rest x next in
+      elim h as (λ _. CallFails (after_deeds deeds second) e old new) [
         | inl t ↦ absurd (ok_err t.answer)
         | inr h ↦ elim h [
           | inl c ↦ inr (inl (record {
@@ -215,7 +215,7 @@ module _ {A B : Type 0} (rest : A → Writing B) where
             state = c.state ∙ ap (λ xs. record old { bytes = old.bytes ++ xs; failures = old.failures + 1; fault = Some c.fault }) (begun_first old.kind deeds second.deeds c.count (let w = c.within in omega (arith, w)));
           }))
           | inr h ↦ elim h [
-            | inl t ↦ absurd (ends_torn t.before t.place t.target (subst (λ ds. AreAppending ds) t.last a))
+            | inl t ↦ absurd (ends_torn t.before t.offset t.target (subst (λ ds. AreAppending ds) t.last a))
             | inr s ↦ inr (inr (inr (record {
               fresh = s.fresh;
               fault = s.fault;
@@ -230,39 +230,39 @@ module _ {A B : Type 0} (rest : A → Writing B) where
 
   -- The second is told on from where the first left the file.
   after_told : (r : Result A TiffError) (deeds : List Deed) (next : FileState) (x : A) (mid new : FileState) (s : Result B TiffError)
-      → r ≡ Ok x → mid ≡ next → IsTold (rest x mid) s new → IsTold (going_on r deeds next rest) s new
+      → r ≡ Ok x → mid ≡ next → IsTold (rest x mid) s new → IsTold (and_then r deeds next rest) s new
   after_told r deeds next x mid new s a m h =
       let t : IsTold (rest x next) s new = subst (λ f. IsTold (rest x f) s new) m h in
-      let done : IsTold (behind deeds (rest x next)) s new = record { answer = t.answer; state = t.state } in
-      subst (λ q. IsTold (going_on q deeds next rest) s new) (sym a) done
+      let done : IsTold (after_deeds deeds (rest x next)) s new = record { answer = t.answer; state = t.state } in
+      subst (λ q. IsTold (and_then q deeds next rest) s new) (sym a) done
 
   -- and ends so
   after_ends : {X : Type 0} (view : X → B) (r : Result A TiffError) (deeds : List Deed) (next : FileState) (x : A) (old mid new : FileState)
-      (s : Result X TiffError) → next ≡ grown old (all_appended old.kind deeds) → r ≡ Ok x → mid ≡ next → Ends view (rest x mid) s mid new
-      → Ends view (going_on r deeds next rest) s old new
+      (s : Result X TiffError) → next ≡ file_with_bytes old (all_appended old.kind deeds) → r ≡ Ok x → mid ≡ next → Ends view (rest x mid) s mid new
+      → Ends view (and_then r deeds next rest) s old new
   after_ends view r deeds next x old mid new s n a m h =
       let at_next : Ends view (rest x next) s next new = subst (λ f. Ends view (rest x f) s f new) m h in
-      let at_grown : Ends view (rest x next) s (grown old (all_appended old.kind deeds)) new =
+      let at_grown : Ends view (rest x next) s (file_with_bytes old (all_appended old.kind deeds)) new =
       subst (λ f. Ends view (rest x next) s f new) n at_next in
-      let P : Result A TiffError → Type 0 = λ q. Ends view (going_on q deeds next rest) s old new in
+      let P : Result A TiffError → Type 0 = λ q. Ends view (and_then q deeds next rest) s old new in
       subst P (sym a) (behind_ends view deeds (rest x next) s old new at_grown)
 
   -- Both append.
   joined_adding : (r : Result A TiffError) (deeds : List Deed) (next : FileState) (old : FileState) → IsAdding (first_told r deeds next) old
-      → ((x : A) → r ≡ Ok x → IsAdding (rest x next) next) → IsAdding (going_on r deeds next rest) old
+      → ((x : A) → r ≡ Ok x → IsAdding (rest x next) next) → IsAdding (and_then r deeds next rest) old
   joined_adding (Err e) deeds next old a b = record { next = a.next; appending = a.appending }
   joined_adding (Ok x) deeds next old a b =
-      let second : Told B = rest x next in
-      let at_grown : IsAdding second (grown old (all_appended old.kind deeds)) = subst (λ f. IsAdding second f) a.next (b x refl) in
+      let second : WriteOutcome B = rest x next in
+      let at_grown : IsAdding second (file_with_bytes old (all_appended old.kind deeds)) = subst (λ f. IsAdding second f) a.next (b x refl) in
       record {
         next = at_grown.next ∙ ap (λ bytes. record old { bytes = bytes }) (appended_both old.kind old.bytes deeds second.deeds);
         appending = appending_joined deeds second.deeds a.appending at_grown.appending;
       }
 
   joined_some : (r : Result A TiffError) (deeds : List Deed) (next : FileState) → HasDeeds r deeds
-      → HasDeeds (going_on r deeds next rest).answer (going_on r deeds next rest).deeds
+      → HasDeeds (and_then r deeds next rest).answer (and_then r deeds next rest).deeds
   joined_some (Err e) deeds next d = tt
-  joined_some (Ok x) deeds next d = let second : Told B = rest x next in more_deeds x second.answer deeds second.deeds d
+  joined_some (Ok x) deeds next d = let second : WriteOutcome B = rest x next in more_deeds x second.answer deeds second.deeds d
 
 -- The first call is done, and the second is told to answer so: both are.
 pub bind_told : {A B : Type 0} (call : Writing A) (rest : A → Writing B) (x : A) (r : Result B TiffError) (old mid new : FileState)
@@ -286,7 +286,7 @@ bind_ends_adding view call rest x r old mid new a h e =
 
 -- The first call fails, and so do both.
 pub bind_fails : {A B : Type 0} (call : Writing A) (rest : A → Writing B) (e : TiffError) (old new : FileState) → Adds (call old) old
-    → Fails (call old) e old new → Fails ((call >>= rest) old) e old new
+    → CallFails (call old) e old new → CallFails ((call >>= rest) old) e old new
 bind_fails call rest e old new a h =
     first_fails rest (call old).answer (call old).deeds (call old).next e old new a.appending a.some h
 
@@ -313,7 +313,7 @@ pub answers_adding : {A : Type 0} (r : Result A TiffError) (file : FileState) �
 answers_adding r file = record { next = ap (λ bytes. record file { bytes = bytes }) (sym (append-nil file.bytes)); appending = tt }
 
 -- nor does a refusal
-pub refusal_adds : {A : Type 0} (e : TiffError) (file : FileState) → let told : Told A = answers (Err e) file in Adds told file
+pub refusal_adds : {A : Type 0} (e : TiffError) (file : FileState) → let told : WriteOutcome A = answers (Err e) file in Adds told file
 refusal_adds e file =
     record { next = ap (λ bytes. record file { bytes = bytes }) (sym (append-nil file.bytes)); appending = tt; some = tt }
 
@@ -345,11 +345,11 @@ opens_adds cause d file =
 
 pub begin_adds : (file : FileState) → Adds (image_directory file) file
 unfolding image_directory
-begin_adds file = opens_adds (begin_cause file) (opened (Some file.chain) true) file
+begin_adds file = opens_adds (begin_cause file) (new_directory (Some file.chain) true) file
 
 pub extra_adds : (file : FileState) → Adds (extra_directory file) file
 unfolding extra_directory
-extra_adds file = opens_adds (begin_cause file) (opened None false) file
+extra_adds file = opens_adds (begin_cause file) (new_directory None false) file
 
 -- bytes are appended
 pub appends_adds : (bytes : List ℕ) (file : FileState) → Adds (appends bytes file) file
@@ -361,7 +361,7 @@ handed_adds : (long : Bool) (bytes : List ℕ) (h : HandedField) (field : Field)
 handed_adds true bytes h field file = done_adds field (Appended bytes) (Handed h ∷ []) file tt
 handed_adds false bytes h field file = done_adds field (Handed h) [] file tt
 
-pub placed_adds : (value : FieldData) (file : FileState) → Adds (placed value file) file
+pub placed_adds : (value : FieldData) (file : FileState) → Adds (placed_field value file) file
 placed_adds value file =
     let field : Field = field_at file.kind (end_of file) value in
     handed_adds (is_long file.kind value) value.bytes (record { field = field; bytes = value.bytes }) field file
@@ -370,16 +370,16 @@ placed_adds value file =
 pub entry_adds : (value : Result FieldData TiffError) (file : FileState) → Adds (write_entry value file) file
 unfolding write_entry
 entry_adds (Ok value) file =
-    caused_adds (write_tag_cause file (Ok value)) (answers (Ok value) >>= placed) file (placed_adds value file)
+    caused_adds (write_tag_cause file (Ok value)) (answers (Ok value) >>= placed_field) file (placed_adds value file)
 entry_adds (Err e) file =
-    caused_adds (write_tag_cause file (Err e)) (answers (Err e) >>= placed) file (refusal_adds e file)
+    caused_adds (write_tag_cause file (Err e)) (answers (Err e) >>= placed_field) file (refusal_adds e file)
 
 -- `write_entry_bytes`
 pub entry_bytes_adds : (type : «Type») (bytes : List ℕ) (file : FileState) → Adds (write_entry_bytes type bytes file) file
 unfolding write_entry_bytes
 entry_bytes_adds type bytes file =
     let value : FieldData = data_in type bytes in
-    caused_adds (write_entry_bytes_cause file type bytes) (placed value) file (placed_adds value file)
+    caused_adds (write_entry_bytes_cause file type bytes) (placed_field value) file (placed_adds value file)
 
 -- `write_tag`
 pub tag_adds : (d : OpenDirectory) (t : Tag) (value : Result FieldData TiffError) (file : FileState) → Adds (write_tag d t value file) file

@@ -5,20 +5,20 @@ use Rattle.tiff_base.specs.declared.error.TiffError.{TiffError}
 use Rattle.tiff_encode.specs.Model.{Model, Stands}
 use Rattle.tiff_encode.specs.Deeds.{all_appended, model_after}
 use Rattle.tiff_encode.specs.Laws.{AreAppending, DeedsFit}
-use Rattle.tiff_encode.specs.Machine.{FileState, Told}
+use Rattle.tiff_encode.specs.Machine.{FileState, WriteOutcome}
 use Rattle.tiff_encode.specs.Ends.{Ends}
 use Rattle.tiff_encode.specs.Leaves.{Leaves}
 use Rattle.tiff_encode.proofs.Deeds.{deeds_append, deeds_stand}
 use Rattle.tiff_encode.proofs.Joining.{IsAdding, ends_torn}
 use Rattle.tiff_encode.proofs.Leaving.{begun_leaves}
 
-module _ {Y : Type 0} (told : Told Y) (old new : FileState) (a : IsAdding told old) where
+module _ {Y : Type 0} (told : WriteOutcome Y) (old new : FileState) (a : IsAdding told old) where
   -- all that it appends
   told_bytes : new ≡ told.next → new.bytes ≡ old.bytes ++ all_appended old.kind told.deeds
   told_bytes h = ap (λ f. f.bytes) (h ∙ a.next)
 
 -- Where its answer is not a fault, its deeds fit: what it did stands; else what stood stands.
-pub left_so : {X Y : Type 0} (view : X → Y) (told : Told Y) (r : Result X TiffError) (old new : FileState) (m : Model)
+pub left_so : {X Y : Type 0} (view : X → Y) (told : WriteOutcome Y) (r : Result X TiffError) (old new : FileState) (m : Model)
     → IsAdding told old → ((x : X) → r ≡ Ok x → DeedsFit old.kind old.bytes m told.deeds) → Stands old.kind old.bytes m
     → Ends view told r old new → Leaves told r old new m
 left_so view told (Ok x) old new m a f s e =
@@ -33,7 +33,7 @@ left_so view told (Err fault) old new m a f s e =
       | inr e ↦ elim e [
         | inl c ↦ begun_leaves told.deeds c.count old new.bytes m (ap (λ file. file.bytes) c.state) s
         | inr e ↦ elim e [
-          | inl t ↦ absurd (ends_torn t.before t.place t.target (subst (λ ds. AreAppending ds) t.last a.appending))
+          | inl t ↦ absurd (ends_torn t.before t.offset t.target (subst (λ ds. AreAppending ds) t.last a.appending))
           | inr c ↦ begun_leaves told.deeds c.count old new.bytes m (ap (λ file. file.bytes) c.state) s
         ]
       ]

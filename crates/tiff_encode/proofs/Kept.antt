@@ -11,16 +11,16 @@ use Rattle.tiff_base.specs.declared.tags.FileKind.{FileKind}
 use Rattle.tiff_base.specs.declared.tags.ByteOrder.TheVariants.{LittleEndian}
 use Rattle.tiff_base.specs.Answers.{◌>>=◌}
 use Rattle.tiff_base.specs.Field.{Field, DirectoryRecord}
-use Rattle.tiff_base.specs.FieldBytes.{field_len, field_place, field_bytes}
-use Rattle.tiff_base.specs.Told.{bytes_at, exactly_at, put}
+use Rattle.tiff_base.specs.FieldBytes.{field_len, field_offset, field_bytes}
+use Rattle.tiff_base.specs.SourceAndSink.{bytes_at, exactly_at, put}
 use Rattle.tiff_base.specs.Number.{number, number_at, le}
-use Rattle.tiff_base.specs.Directory.{count_width, place_width, entry_len, entry_of, entries_from, last_of_each, link, first_entry, link_place, directory_at}
-use Rattle.tiff_encode.specs.Written.{place_len, count_len, header_mark}
+use Rattle.tiff_base.specs.Directory.{count_width, offset_width, entry_len, entry_of, entries_from, last_of_each, link, first_entry, link_offset, directory_at}
+use Rattle.tiff_encode.specs.FileBytes.{offset_len, count_len, header_mark}
 use Rattle.tiff_encode.specs.Model.{In, FinishedDirectory, Model, header_link, own_link, IsClear, body_len, IsApart, Stands, relinked}
 use Rattle.tiff_encode.specs.Laws.{KeptByAppending, KeptByPatching, KeptByTearing}
-use Rattle.tiff_encode.proofs.Slices.{bind_ok, ok_bind, ok_inj, exact, is_exact, exact_append, length_put, exact_put_before, exact_put_behind, exact_put_here, length-le, number-le, is_place_width, number_kept}
+use Rattle.tiff_encode.proofs.Slices.{bind_ok, ok_bind, ok_inj, exact, is_exact, exact_append, length_put, exact_put_before, exact_put_behind, exact_put_here, length-le, number-le, is_offset_width, number_kept}
 
--- the bytes of the file between two places stand in another too
+-- the bytes of the file between two offsets stand in another too
 pub Keeps : List ℕ → List ℕ → ℕ → ℕ → Type 0
 Keeps file new from to = (p n : ℕ) (s : List ℕ) → from ≤ p → p + n ≤ to → exactly_at file p n ≡ Ok s
     → exactly_at new p n ≡ Ok s
@@ -65,12 +65,12 @@ entries_kept kind file new first count f b =
 
 -- ---- directories
 
--- the place that a link names, where 0 is none
+-- the offset that a link names, where 0 is none
 linked : Option ℕ → ℕ
 linked None = 0
-linked (Some place) = place
+linked (Some offset) = offset
 
--- the place that a link of a number names is that number
+-- the offset that a link of a number names is that number
 linked_link : (a : ℕ) → linked (link a) ≡ a
 unfolding linked
 linked_link a = elim (cases_eq a 0) as (λ _. linked (link a) ≡ a) [
@@ -78,14 +78,14 @@ linked_link a = elim (cases_eq a 0) as (λ _. linked (link a) ≡ a) [
   | inr d ↦ rw (ne_eqb a 0 d) refl
 ]
 
--- two links that are the same name the same place
+-- two links that are the same name the same offset
 link_inj : (a b : ℕ) → link a ≡ link b → a ≡ b
 link_inj a b e = sym (linked_link a) ∙ ap linked e ∙ linked_link b
 
 -- a directory's answer once its count is known
 counted : FileKind → List ℕ → ℕ → ℕ → Result DirectoryRecord TiffError
 counted kind file p count =
-    number_at LittleEndian (place_width kind) file (link_place kind p count)
+    number_at LittleEndian (offset_width kind) file (link_offset kind p count)
     >>= λ next. Ok (record {
       entries = last_of_each (entries_from kind LittleEndian file (first_entry kind p) count);
       next = link next;
@@ -96,7 +96,7 @@ pub directory_parts : (kind : FileKind) (file : List ℕ) (p n : ℕ) (fields : 
     → number_at LittleEndian (count_width kind) file p ≡ Ok n
     → directory_at kind LittleEndian file p ≡ Ok (record { entries = fields; next = link t })
     → (last_of_each (entries_from kind LittleEndian file (first_entry kind p) n) ≡ fields)
-    × (number_at LittleEndian (place_width kind) file (link_place kind p n) ≡ Ok t)
+    × (number_at LittleEndian (offset_width kind) file (link_offset kind p n) ≡ Ok t)
 unfolding directory_at counted
 directory_parts kind file p n fields t c e =
     let found : DirectoryRecord = record { entries = fields; next = link t } in
@@ -107,7 +107,7 @@ directory_parts kind file p n fields t c e =
     } in
     let F : ℕ → Result DirectoryRecord TiffError = λ next. Ok (made next) in
     let g : counted kind file p n ≡ Ok found = sym (ap (λ r. r >>= counted kind file p) c) ∙ e in
-    let i = bind_ok (number_at LittleEndian (place_width kind) file (link_place kind p n)) F found g in
+    let i = bind_ok (number_at LittleEndian (offset_width kind) file (link_offset kind p n)) F found g in
     let same : made i.0 ≡ found = ok_inj (made i.0) found i.1.1 in
     let x : i.0 ≡ t = link_inj i.0 t (ap (λ (d : DirectoryRecord). d.next) same) in
     (ap (λ (d : DirectoryRecord). d.entries) same, i.1.0 ∙ ap (λ y. Ok y) x)
@@ -116,7 +116,7 @@ directory_parts kind file p n fields t c e =
 pub directory_from : (kind : FileKind) (file : List ℕ) (p n : ℕ) (fields : FinMap nat_cmp Field) (t : ℕ)
     → number_at LittleEndian (count_width kind) file p ≡ Ok n
     → last_of_each (entries_from kind LittleEndian file (first_entry kind p) n) ≡ fields
-    → number_at LittleEndian (place_width kind) file (link_place kind p n) ≡ Ok t
+    → number_at LittleEndian (offset_width kind) file (link_offset kind p n) ≡ Ok t
     → directory_at kind LittleEndian file p ≡ Ok (record { entries = fields; next = link t })
 unfolding directory_at counted
 directory_from kind file p n fields t c e l =
@@ -155,16 +155,16 @@ tests_kept false b x y new e z h k = absurd cc
 -- a field's bytes stay: they stand in its entry, or where they stand stays
 handed_kept : (kind : FileKind) (file new : List ℕ) (f : Field) (b : List ℕ)
     → field_bytes kind LittleEndian file f ≡ Ok b
-    → (field_len f ≤ place_len kind) ⊎ (exactly_at file (field_place kind LittleEndian f) (field_len f) ≡ Ok b
-    → exactly_at new (field_place kind LittleEndian f) (field_len f) ≡ Ok b)
+    → (field_len f ≤ offset_len kind) ⊎ (exactly_at file (field_offset kind LittleEndian f) (field_len f) ≡ Ok b
+    → exactly_at new (field_offset kind LittleEndian f) (field_len f) ≡ Ok b)
     → field_bytes kind LittleEndian new f ≡ Ok b
 unfolding field_bytes
 handed_kept kind file new f b e c =
     let n : ℕ = field_len f in
-    let p : ℕ = field_place kind LittleEndian f in
-    tests_kept _ (leb n (place_len kind)) (Ok (take n f.value)) (exactly_at file p n)
+    let p : ℕ = field_offset kind LittleEndian f in
+    tests_kept _ (leb n (offset_len kind)) (Ok (take n f.value)) (exactly_at file p n)
     (exactly_at new p n) LimitsExceeded b e
-    (elim c as (λ _. (leb n (place_len kind) ≡ true)
+    (elim c as (λ _. (leb n (offset_len kind) ≡ true)
     ⊎ (exactly_at file p n ≡ Ok b → exactly_at new p n ≡ Ok b)) [ inl l ↦ inl (le-leb _ _ l) | inr g ↦ inr g ])
 
 -- ---- appending
@@ -172,16 +172,16 @@ handed_kept kind file new f b e c =
 -- the number in a directory's own link, and the room of the directory
 pub own_parts : (kind : FileKind) (m : Model) (file : List ℕ) (d : FinishedDirectory) → In d m.directories
     → Stands kind file m
-    → (last_of_each (entries_from kind LittleEndian file (first_entry kind d.place) (len d.fields)) ≡ d.fields)
-    × (number_at LittleEndian (place_width kind) file (own_link kind d) ≡ Ok (m.links (own_link kind d)))
+    → (last_of_each (entries_from kind LittleEndian file (first_entry kind d.offset) (len d.fields)) ≡ d.fields)
+    × (number_at LittleEndian (offset_width kind) file (own_link kind d) ≡ Ok (m.links (own_link kind d)))
 own_parts kind m file d i h =
-    directory_parts kind file d.place (len d.fields) d.fields (m.links (own_link kind d)) (h.counts d i)
+    directory_parts kind file d.offset (len d.fields) d.fields (m.links (own_link kind d)) (h.counts d i)
     (h.directories d i)
 
 -- a finished directory lies in the file, and its link behind it
 pub directory_within : (kind : FileKind) (m : Model) (file : List ℕ) (d : FinishedDirectory) → In d m.directories
     → Stands kind file m
-    → d.place + body_len kind d + place_len kind ≤ length file
+    → d.offset + body_len kind d + offset_len kind ≤ length file
 directory_within kind m file d i h = let w = (h.apart (own_link kind d) (inr (d, (i, refl)))).within in omega (arith, w)
 
 -- what stands in a file stands in each longer one
@@ -191,15 +191,15 @@ kept_by_appending kind m file more h =
     let new : List ℕ = file ++ more in
     record {
       header = exact_append file more _ _ _ h.header;
-      first = number_kept file new (place_width kind) _ _ (exact_append file more _ _) h.first;
+      first = number_kept file new (offset_width kind) _ _ (exact_append file more _ _) h.first;
       directories = λ d i.
           let o = own_parts kind m file d i h in
           let w = directory_within kind m file d i h in
-          directory_from kind new d.place (len d.fields) d.fields _
+          directory_from kind new d.offset (len d.fields) d.fields _
           (number_kept file new (count_width kind) _ _ (exact_append file more _ _) (h.counts d i))
-          (body_kept kind file new d.place (len d.fields) d.fields (λ p n s _ _. exact_append file more p n s)
+          (body_kept kind file new d.offset (len d.fields) d.fields (λ p n s _ _. exact_append file more p n s)
           (omega (arith, w)) o.0)
-          (number_kept file new (place_width kind) _ _ (exact_append file more _ _) o.1);
+          (number_kept file new (offset_width kind) _ _ (exact_append file more _ _) o.1);
       counts = λ d i. number_kept file new (count_width kind) _ _ (exact_append file more _ _) (h.counts d i);
       handed = λ y i. handed_kept kind file new y.field y.bytes (h.handed y i)
           (inr (exact_append file more _ _ y.bytes));
@@ -225,9 +225,9 @@ kept_by_appending kind m file more h =
 -- ---- patching
 
 -- bytes are written over a link field at q, which then holds t
-module _ (kind : FileKind) (file : List ℕ) (q : ℕ) (over : List ℕ) (t : ℕ) (room : q + place_len kind ≤ length file)
-    (short : length over ≤ place_len kind)
-    (here : number_at LittleEndian (place_width kind) (put file q over) q ≡ Ok t) where
+module _ (kind : FileKind) (file : List ℕ) (q : ℕ) (over : List ℕ) (t : ℕ) (room : q + offset_len kind ≤ length file)
+    (short : length over ≤ offset_len kind)
+    (here : number_at LittleEndian (offset_width kind) (put file q over) q ≡ Ok t) where
   -- the patched file
   patched : List ℕ
   patched = put file q over
@@ -242,15 +242,15 @@ module _ (kind : FileKind) (file : List ℕ) (q : ℕ) (over : List ℕ) (t : �
       ]
 
   -- a link is read: the patched one holds t, and each other what it held
-  link_kept : (p x : ℕ) → (p ≡ q) ⊎ IsClear kind q p (place_len kind)
-      → number_at LittleEndian (place_width kind) file p ≡ Ok x
-      → number_at LittleEndian (place_width kind) patched p ≡ Ok (cond (eqb p q) t x)
+  link_kept : (p x : ℕ) → (p ≡ q) ⊎ IsClear kind q p (offset_len kind)
+      → number_at LittleEndian (offset_width kind) file p ≡ Ok x
+      → number_at LittleEndian (offset_width kind) patched p ≡ Ok (cond (eqb p q) t x)
   unfolding patched
   link_kept p x c e = elim (cases_eq p q) [
-    | inl s ↦ rw (eq-eqb p q s) (ap (λ n. number_at LittleEndian (place_width kind) patched n) s ∙ here)
+    | inl s ↦ rw (eq-eqb p q s) (ap (λ n. number_at LittleEndian (offset_width kind) patched n) s ∙ here)
     | inr d ↦ rw (ne_eqb p q d) (elim c [
       | inl s ↦ absurd (d s)
-      | inr a ↦ number_kept file patched (place_width kind) p x (λ z. clear_kept p (place_len kind) z a) e
+      | inr a ↦ number_kept file patched (offset_width kind) p x (λ z. clear_kept p (offset_len kind) z a) e
     ])
   ]
 
@@ -273,23 +273,23 @@ module _ (kind : FileKind) (file : List ℕ) (q : ℕ) (over : List ℕ) (t : �
         let o = own_parts kind m file d i h in
         let w = directory_within kind m file d i h in
         let c = a.directories d i in
-        directory_from kind patched d.place (len d.fields) d.fields _
+        directory_from kind patched d.offset (len d.fields) d.fields _
         (number_kept file patched (count_width kind) _ _
-        (λ z. clear_kept _ _ z (front_clear d.place (body_len kind d) (count_len kind) (omega arith) c))
+        (λ z. clear_kept _ _ z (front_clear d.offset (body_len kind d) (count_len kind) (omega arith) c))
         (h.counts d i))
-        (body_kept kind file patched d.place (len d.fields) d.fields (body_keeps d.place (body_len kind d) c)
+        (body_kept kind file patched d.offset (len d.fields) d.fields (body_keeps d.offset (body_len kind d) c)
         (omega (arith, w)) o.0)
         (link_kept (own_link kind d) (m.links (own_link kind d)) (a.links (own_link kind d) (inr (d, (i, refl)))) o.1);
     counts = λ d i. number_kept file patched (count_width kind) _ _
         (λ z. clear_kept _ _ z
-        (front_clear d.place (body_len kind d) (count_len kind) (omega arith) (a.directories d i))) (h.counts d i);
+        (front_clear d.offset (body_len kind d) (count_len kind) (omega arith) (a.directories d i))) (h.counts d i);
     handed = λ y i. handed_kept kind file patched y.field y.bytes (h.handed y i)
         (elim (a.handed y i) [
           | inl x ↦ inl x
           | inr c ↦
-              inr (clear_kept (field_place kind LittleEndian y.field) (field_len y.field) y.bytes c)
+              inr (clear_kept (field_offset kind LittleEndian y.field) (field_len y.field) y.bytes c)
         ]);
-    regions = λ r i. clear_kept r.place (length r.bytes) r.bytes (a.regions r i) (h.regions r i);
+    regions = λ r i. clear_kept r.offset (length r.bytes) r.bytes (a.regions r i) (h.regions r i);
     within = λ r i. let w = h.within r i in omega (arith, w, length_put file q over (omega arith));
     disjoint = h.disjoint;
     directories_within = λ d i.
@@ -314,29 +314,29 @@ module _ (kind : FileKind) (file : List ℕ) (q : ℕ) (over : List ℕ) (t : �
 pub kept_by_patching : KeptByPatching
 unfolding patched
 kept_by_patching kind m file q t l b h =
-    let k : ℕ = place_len kind in
+    let k : ℕ = offset_len kind in
     let w : length (le k t) ≡ k = length-le 0 k t in
     let a = h.apart q l in
     let room = a.within in
     let over : List ℕ = le k t in
     let e : exactly_at (put file q over) q k ≡ Ok over = ap (λ n. exactly_at (put file q over) q n) (sym w)
     ∙ exact_put_here file q over (omega (arith, w, room)) in
-    let F : List ℕ → Result ℕ TiffError = λ s. Ok (number LittleEndian (place_width kind) s) in
+    let F : List ℕ → Result ℕ TiffError = λ s. Ok (number LittleEndian (offset_width kind) s) in
     relinked_stands kind file q over t room (omega (arith, w))
     (ok_bind (exactly_at (put file q over) q k) F over t e
-    (ap (λ x. Ok x) (number-le (place_width kind) t (is_place_width kind) b))) m a h
+    (ap (λ x. Ok x) (number-le (offset_width kind) t (is_offset_width kind) b))) m a h
 
 -- what stands in a file stands, with one link changed, after a patch of that link that broke off
 pub kept_by_tearing : KeptByTearing
 unfolding patched
 kept_by_tearing kind m file q over l s h =
-    let k : ℕ = place_len kind in
+    let k : ℕ = offset_len kind in
     let a = h.apart q l in
     let room = a.within in
     let new : List ℕ = put file q over in
     let z : List ℕ = take k (drop q new) in
     let r = length_put file q over (omega (arith, room)) in
     let e : exactly_at new q k ≡ Ok z = exact new q k z (omega (arith, r, room)) refl in
-    let F : List ℕ → Result ℕ TiffError = λ x. Ok (number LittleEndian (place_width kind) x) in
-    let t : ℕ = number LittleEndian (place_width kind) z in
+    let F : List ℕ → Result ℕ TiffError = λ x. Ok (number LittleEndian (offset_width kind) x) in
+    let t : ℕ = number LittleEndian (offset_width kind) z in
     (t, relinked_stands kind file q over t room s (ok_bind (exactly_at new q k) F z t e refl) m a h)

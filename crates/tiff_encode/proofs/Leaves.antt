@@ -2,8 +2,8 @@
 use Rattle.std.proofs.Common.{◌≡◌, ℕ, ◌+◌, ◌-◌, List, [], length, ap, sym, subst, ◌∙◌, arith, length-append, inl}
 use Rattle.tiff_base.specs.declared.tags.FileKind.{FileKind}
 use Rattle.tiff_base.specs.Number.{le}
-use Rattle.tiff_value.specs.Written.{Written, new_writer, moved}
-use Rattle.tiff_encode.specs.Written.{place_len, header_mark, header_bytes}
+use Rattle.tiff_value.specs.Written.{Written, new_writer, writer_after}
+use Rattle.tiff_encode.specs.FileBytes.{offset_len, header_mark, header_bytes}
 use Rattle.tiff_encode.specs.Model.{Stands, header_link, header_model}
 use Rattle.tiff_encode.specs.Shows.{LeavesHeader}
 use Rattle.tiff_encode.proofs.Slices.{length-le}
@@ -12,15 +12,15 @@ use Rattle.tiff_encode.proofs.Headers.{put_end}
 
 -- a header that was written on an empty sink stands
 pub leaves_header : (kind : FileKind) (told : List ℕ) (failures at width : ℕ) (first last : Written) → first ≡ new_writer told failures
-    → last ≡ record (moved first (header_bytes kind)) { last = place_len kind } → at ≡ last.at → width ≡ place_len kind → told ≡ []
+    → last ≡ record (writer_after first (header_bytes kind)) { last = offset_len kind } → at ≡ last.at → width ≡ offset_len kind → told ≡ []
     → LeavesHeader kind last.bytes (at - width)
 leaves_header kind told failures at width first last s t a k empty =
     let header : List ℕ = header_bytes kind in
-    let new = λ (w : Written). record (moved w header) { last = place_len kind } in
+    let new = λ (w : Written). record (writer_after w header) { last = offset_len kind } in
     let whole : last ≡ new (new_writer [] failures) = t ∙ ap new (s ∙ ap (λ (l : List ℕ). new_writer l failures) empty) in
     let bytes : header ≡ last.bytes = sym (ap (λ (w : Written). w.bytes) whole ∙ put_end [] header 0 (omega arith)) in
     let end : last.at ≡ 0 + length header = ap (λ (w : Written). w.at) whole in
-    let chain : at - width ≡ header_link kind = omega (arith, a, k, end, length-append (header_mark kind) (le (place_len kind) 0), length-le 0 (place_len kind) 0) in
+    let chain : at - width ≡ header_link kind = omega (arith, a, k, end, length-append (header_mark kind) (le (offset_len kind) 0), length-le 0 (offset_len kind) 0) in
     record {
       stands = subst (λ (l : List ℕ). Stands kind l (header_model kind)) bytes (header_stands kind);
       link = inl chain;

@@ -18,14 +18,14 @@ use Rattle.tiff_base.specs.Field.{Field, In, AreEntries}
 use Rattle.tiff_base.specs.Types.{type_size}
 use Rattle.tiff_value.specs.Buffer.{BufferRecord}
 use Rattle.tiff_value.specs.Data.{FieldData, IsWhole}
-use Rattle.tiff_encode.specs.Written.{place_len, count_len, padding}
+use Rattle.tiff_encode.specs.FileBytes.{offset_len, count_len, padding}
 use Rattle.tiff_encode.specs.Model.{HandedField, Model, IsLink, Stands, relinked}
 use Rattle.tiff_encode.specs.Deeds.{Deed, Appended, Handed, Listed, Linked, bytes_after, all_appended, model_after}
 use Rattle.tiff_encode.specs.Laws.{AreListable, AreAppending, DeedsFit}
 use Rattle.tiff_encode.specs.Value.{data_in, buffer_data, is_long, field_at}
-use Rattle.tiff_encode.specs.Machine.{FileState, OpenDirectory, Told, Writing, answers, gives, does, by_cause, going_on, ◌>>=◌}
+use Rattle.tiff_encode.specs.Machine.{FileState, OpenDirectory, WriteOutcome, Writing, answers, gives, does, by_cause, and_then, ◌>>=◌}
 use Rattle.tiff_encode.specs.Causes.{unless_ended, is_past, is_past_count, end_of, begin_cause, field_cause, order_cause, write_tag_cause, write_buf_cause, write_entry_bytes_cause, write_data_cause, write_data_buf_cause, finish_cause}
-use Rattle.tiff_encode.specs.Calls.{Offsets, offsets_of, links_to, chain_after, chains, with_field, opened, pad, image_directory, extra_directory, placed, write_entry, write_entry_buf, write_entry_bytes, write_tag, write_tag_buf, appends, write_data, write_data_buf, finish}
+use Rattle.tiff_encode.specs.Calls.{Offsets, offsets_of, links_to, chain_after, chains, with_field, new_directory, pad, image_directory, extra_directory, placed_field, write_entry, write_entry_buf, write_entry_bytes, write_tag, write_tag_buf, appends, write_data, write_data_buf, finish}
 use Rattle.tiff_encode.specs.Ends.{IsTold, IsTornOff, Ends}
 use Rattle.tiff_encode.specs.Leaves.{LeavesTorn, Leaves, LeavesLinked, IsGiven}
 use Rattle.tiff_encode.proofs.Deeds.{bytes_joined, deeds_stand, deeds_begun, deeds_torn}
@@ -39,14 +39,14 @@ link_count [] = 0
 link_count (Appended more ∷ deeds) = link_count deeds
 link_count (Handed handed ∷ deeds) = link_count deeds
 link_count (Listed fields ∷ deeds) = link_count deeds
-link_count (Linked place target ∷ deeds) = suc (link_count deeds)
+link_count (Linked offset target ∷ deeds) = suc (link_count deeds)
 
 pub count_joined : (deeds more : List Deed) → link_count (deeds ++ more) ≡ link_count deeds + link_count more
 count_joined [] more = omega arith
 count_joined (Appended x ∷ deeds) more = count_joined deeds more
 count_joined (Handed x ∷ deeds) more = count_joined deeds more
 count_joined (Listed x ∷ deeds) more = count_joined deeds more
-count_joined (Linked place target ∷ deeds) more = let e = count_joined deeds more in omega (arith, e)
+count_joined (Linked offset target ∷ deeds) more = let e = count_joined deeds more in omega (arith, e)
 
 -- with none they only append
 pub appending : (deeds : List Deed) → link_count deeds ≡ 0 → AreAppending deeds
@@ -54,18 +54,18 @@ appending [] h = tt
 appending (Appended x ∷ deeds) h = appending deeds h
 appending (Handed x ∷ deeds) h = appending deeds h
 appending (Listed x ∷ deeds) h = appending deeds h
-appending (Linked place target ∷ deeds) h = absurd (omega (arith, h))
+appending (Linked offset target ∷ deeds) h = absurd (omega (arith, h))
 
 -- those with a link last have one more than those before it
-pub count_last : (deeds before : List Deed) (place target : ℕ) → deeds ≡ before ++ Linked place target ∷ []
+pub count_last : (deeds before : List Deed) (offset target : ℕ) → deeds ≡ before ++ Linked offset target ∷ []
     → link_count deeds ≡ link_count before + 1
-count_last deeds before place target h =
-    ap (λ ds. link_count ds) h ∙ count_joined before (Linked place target ∷ [])
+count_last deeds before offset target h =
+    ap (λ ds. link_count ds) h ∙ count_joined before (Linked offset target ∷ [])
 
 -- ---- calls that are plain
 
 -- What a call is told to do is done to the bytes alone; a refusal does nothing; and so many deeds at most are links.
-pub record IsPlain {A : Type 0} (most : ℕ) (told : Told A) (file : FileState) : Type 0 where
+pub record IsPlain {A : Type 0} (most : ℕ) (told : WriteOutcome A) (file : FileState) : Type 0 where
   pub kind : told.next.kind ≡ file.kind
   pub bytes : told.next.bytes ≡ bytes_after file.kind file.bytes told.deeds
   pub refused : (e : TiffError) → told.answer ≡ Err e → told.deeds ≡ []
@@ -73,7 +73,7 @@ pub record IsPlain {A : Type 0} (most : ℕ) (told : Told A) (file : FileState) 
 
 -- a refusal
 refusal_plain : {A : Type 0} (most : ℕ) (e : TiffError) (file : FileState)
-    → let told : Told A = answers (Err e) file in IsPlain most told file
+    → let told : WriteOutcome A = answers (Err e) file in IsPlain most told file
 refusal_plain most e file = record { kind = refl; bytes = refl; refused = λ _ _. refl; links = omega arith }
 
 -- a call that may have a cause to be refused
@@ -102,8 +102,8 @@ done_plain most x deeds file l = record {
 
 -- what is told, and an answer made of its own
 viewed_plain : {A B : Type 0} (most : ℕ) (r : Result A TiffError) (deeds : List Deed) (next : FileState) (g : A → B)
-    (file : FileState) → (let told : Told A = record { answer = r; deeds = deeds; next = next } in IsPlain most told file)
-    → IsPlain most (going_on r deeds next (λ x. gives (g x))) file
+    (file : FileState) → (let told : WriteOutcome A = record { answer = r; deeds = deeds; next = next } in IsPlain most told file)
+    → IsPlain most (and_then r deeds next (λ x. gives (g x))) file
 viewed_plain most (Ok x) deeds next g file p = record {
   kind = p.kind;
   bytes = p.bytes ∙ sym (bytes_joined file.kind file.bytes deeds []);
@@ -120,7 +120,7 @@ given_plain most call g file p = viewed_plain most (call file).answer (call file
 -- ---- what a plain call leaves
 
 -- a refusal leaves what it found
-pub refused_leaves : {Y : Type 0} (most : ℕ) (told : Told Y) (e : TiffError) (old new : FileState) (m : Model)
+pub refused_leaves : {Y : Type 0} (most : ℕ) (told : WriteOutcome Y) (e : TiffError) (old new : FileState) (m : Model)
     → IsPlain most told old → Stands old.kind old.bytes m → IsTold told (Err e) new → Stands old.kind new.bytes m
 refused_leaves most told e old new m p s t =
     let same : new.bytes ≡ old.bytes =
@@ -128,7 +128,7 @@ refused_leaves most told e old new m p s t =
     subst (λ b. Stands old.kind b m) (sym same) s
 
 -- an answer leaves what was done
-told_leaves : {Y : Type 0} (most : ℕ) (told : Told Y) (y : Y) (old new : FileState) (m : Model) → IsPlain most told old
+told_leaves : {Y : Type 0} (most : ℕ) (told : WriteOutcome Y) (y : Y) (old new : FileState) (m : Model) → IsPlain most told old
     → DeedsFit old.kind old.bytes m told.deeds → Stands old.kind old.bytes m → IsTold told (Ok y) new
     → Stands old.kind new.bytes (model_after old.kind old.bytes m told.deeds)
 told_leaves most told y old new m p f s t =
@@ -143,24 +143,24 @@ begun_leaves deeds count old bytes m h s =
     subst (λ b. Stands old.kind b m) (sym h) (deeds_begun old.kind old.bytes m deeds count s)
 
 -- a link that broke off leaves some number in its field
-pub torn_leaves : {Y : Type 0} (told : Told Y) (e : TiffError) (old new : FileState) (m : Model) → IsPlain 1 told old
+pub torn_leaves : {Y : Type 0} (told : WriteOutcome Y) (e : TiffError) (old new : FileState) (m : Model) → IsPlain 1 told old
     → DeedsFit old.kind old.bytes m told.deeds → Stands old.kind old.bytes m → IsTornOff told.deeds e old new
     → LeavesTorn told e old new m
 torn_leaves told e old new m p f s t =
     let l = p.links in
-    let few : link_count t.before ≡ 0 = omega (arith, l, count_last told.deeds t.before t.place t.target t.last) in
-    let fit : DeedsFit old.kind old.bytes m (t.before ++ Linked t.place t.target ∷ []) =
+    let few : link_count t.before ≡ 0 = omega (arith, l, count_last told.deeds t.before t.offset t.target t.last) in
+    let fit : DeedsFit old.kind old.bytes m (t.before ++ Linked t.offset t.target ∷ []) =
     subst (λ ds. DeedsFit old.kind old.bytes m ds) t.last f in
-    let x = deeds_torn old.kind old.bytes m t.before t.place t.target t.count (appending t.before few) s fit in
+    let x = deeds_torn old.kind old.bytes m t.before t.offset t.target t.count (appending t.before few) s fit in
     record {
       torn = t;
       holds = x.0;
-      stands = subst (λ b. Stands old.kind b (relinked old.kind (model_after old.kind old.bytes m t.before) t.place x.0))
+      stands = subst (λ b. Stands old.kind b (relinked old.kind (model_after old.kind old.bytes m t.before) t.offset x.0))
           (sym (ap (λ f. f.bytes) t.state)) x.1;
     }
 
 -- a call that may patch a link last
-linked_leaves : {X Y : Type 0} (view : X → Y) (told : Told Y) (r : Result X TiffError) (old new : FileState) (m : Model)
+linked_leaves : {X Y : Type 0} (view : X → Y) (told : WriteOutcome Y) (r : Result X TiffError) (old new : FileState) (m : Model)
     → IsPlain 1 told old → DeedsFit old.kind old.bytes m told.deeds → Stands old.kind old.bytes m
     → Ends view told r old new → LeavesLinked told r old new m
 linked_leaves view told (Ok x) old new m p f s e = told_leaves 1 told (view x) old new m p f s e
@@ -177,7 +177,7 @@ linked_leaves view told (Err fault) old new m p f s e =
     ]
 
 -- a call that patches none
-plain_leaves : {X Y : Type 0} (view : X → Y) (told : Told Y) (r : Result X TiffError) (old new : FileState) (m : Model)
+plain_leaves : {X Y : Type 0} (view : X → Y) (told : WriteOutcome Y) (r : Result X TiffError) (old new : FileState) (m : Model)
     → IsPlain 0 told old → DeedsFit old.kind old.bytes m told.deeds → Stands old.kind old.bytes m
     → Ends view told r old new → Leaves told r old new m
 plain_leaves view told (Ok x) old new m p f s e = told_leaves 0 told (view x) old new m p f s e
@@ -187,7 +187,7 @@ plain_leaves view told (Err fault) old new m p f s e =
       | inr e ↦ elim e [
         | inl c ↦ begun_leaves told.deeds c.count old new.bytes m (ap (λ f. f.bytes) c.state) s
         | inr e ↦ elim e [
-          | inl t ↦ (let l = p.links in absurd (omega (arith, l, count_last told.deeds t.before t.place t.target t.last)))
+          | inl t ↦ (let l = p.links in absurd (omega (arith, l, count_last told.deeds t.before t.offset t.target t.last)))
           | inr c ↦ begun_leaves told.deeds c.count old new.bytes m (ap (λ f. f.bytes) c.state) s
         ]
       ]
@@ -215,19 +215,19 @@ opens_leaves cause d view r old new m s e =
 
 pub begin_plain : (file : FileState) → IsPlain 0 (image_directory file) file
 unfolding image_directory
-begin_plain file = opens_plain (begin_cause file) (opened (Some file.chain) true) file
+begin_plain file = opens_plain (begin_cause file) (new_directory (Some file.chain) true) file
 
 pub begin_leaves : {X : Type 0} (view : X → OpenDirectory) (r : Result X TiffError) (old new : FileState) (m : Model)
     → Stands old.kind old.bytes m → Ends view (image_directory old) r old new → Leaves (image_directory old) r old new m
 unfolding image_directory
 begin_leaves view r old new m s e =
-    opens_leaves (begin_cause old) (opened (Some old.chain) true) view r old new m s e
+    opens_leaves (begin_cause old) (new_directory (Some old.chain) true) view r old new m s e
 
 pub extra_leaves : {X : Type 0} (view : X → OpenDirectory) (r : Result X TiffError) (old new : FileState) (m : Model)
     → Stands old.kind old.bytes m → Ends view (extra_directory old) r old new → Leaves (extra_directory old) r old new m
 unfolding extra_directory
 extra_leaves view r old new m s e =
-    opens_leaves (begin_cause old) (opened None false) view r old new m s e
+    opens_leaves (begin_cause old) (new_directory None false) view r old new m s e
 
 -- ---- a value is handed in
 
@@ -269,7 +269,7 @@ handed_links : (long : Bool) (bytes : List ℕ) (h : HandedField)
 handed_links true bytes h = omega arith
 handed_links false bytes h = omega arith
 
-pub placed_plain : (value : FieldData) (file : FileState) → IsPlain 0 (placed value file) file
+pub placed_plain : (value : FieldData) (file : FileState) → IsPlain 0 (placed_field value file) file
 placed_plain value file =
     let field : Field = field_at file.kind (end_of file) value in
     let h : HandedField = record { field = field; bytes = value.bytes } in
@@ -280,18 +280,18 @@ placed_plain value file =
 pub entry_plain : (value : Result FieldData TiffError) (file : FileState) → IsPlain 0 (write_entry value file) file
 unfolding write_entry
 entry_plain (Ok value) file =
-    caused_plain 0 (write_tag_cause file (Ok value)) (answers (Ok value) >>= placed) file (placed_plain value file)
+    caused_plain 0 (write_tag_cause file (Ok value)) (answers (Ok value) >>= placed_field) file (placed_plain value file)
 entry_plain (Err e) file =
-    caused_plain 0 (write_tag_cause file (Err e)) (answers (Err e) >>= placed) file (refusal_plain 0 e file)
+    caused_plain 0 (write_tag_cause file (Err e)) (answers (Err e) >>= placed_field) file (refusal_plain 0 e file)
 
 entry_fits : (value : Result FieldData TiffError) (file : FileState) (m : Model) → IsGiven value → end_of file < 2 ^ 64
     → DeedsFit file.kind file.bytes m (write_entry value file).deeds
 unfolding write_entry write_tag_cause
 entry_fits (Ok value) file m g l =
-    caused_fits (write_tag_cause file (Ok value)) (answers (Ok value) >>= placed) file m
+    caused_fits (write_tag_cause file (Ok value)) (answers (Ok value) >>= placed_field) file m
     (λ h. placed_fits file m value g.0 (unended file.fault (field_cause file value) h) l g.1)
 entry_fits (Err e) file m g l =
-    caused_fits (write_tag_cause file (Err e)) (answers (Err e) >>= placed) file m (λ _. tt)
+    caused_fits (write_tag_cause file (Err e)) (answers (Err e) >>= placed_field) file m (λ _. tt)
 
 pub entry_leaves : {X : Type 0} (view : X → Field) (r : Result X TiffError) (old new : FileState) (m : Model)
     (value : Result FieldData TiffError) → IsGiven value → end_of old < 2 ^ 64 → Stands old.kind old.bytes m
@@ -303,13 +303,13 @@ entry_leaves view r old new m value g l s e =
 pub buf_plain : (b : BufferRecord) (file : FileState) → IsPlain 0 (write_entry_buf b file) file
 unfolding write_entry_buf
 buf_plain b file =
-    caused_plain 0 (write_buf_cause file b) (placed (buffer_data b)) file (placed_plain (buffer_data b) file)
+    caused_plain 0 (write_buf_cause file b) (placed_field (buffer_data b)) file (placed_plain (buffer_data b) file)
 
 buf_fits : (b : BufferRecord) (file : FileState) (m : Model) → length b.bytes < 2 ^ 64 → end_of file < 2 ^ 64
     → DeedsFit file.kind file.bytes m (write_entry_buf b file).deeds
 unfolding write_entry_buf write_buf_cause
 buf_fits b file m n l =
-    caused_fits (write_buf_cause file b) (placed (buffer_data b)) file m
+    caused_fits (write_buf_cause file b) (placed_field (buffer_data b)) file m
     (λ h. placed_fits file m (buffer_data b) (data_whole b.data_type b.bytes)
     (in_order b.order (field_cause file (buffer_data b)) (unended file.fault _ h)) l (data_short b.data_type b.bytes n))
 
@@ -323,7 +323,7 @@ entry_buf_leaves view r old new m b n l s e =
 pub bytes_plain : (type : «Type») (bytes : List ℕ) (file : FileState) → IsPlain 0 (write_entry_bytes type bytes file) file
 unfolding write_entry_bytes
 bytes_plain type bytes file =
-    caused_plain 0 (write_entry_bytes_cause file type bytes) (placed (data_in type bytes)) file
+    caused_plain 0 (write_entry_bytes_cause file type bytes) (placed_field (data_in type bytes)) file
     (placed_plain (data_in type bytes) file)
 
 pub entry_bytes_leaves : {X : Type 0} (view : X → Field) (r : Result X TiffError) (old new : FileState) (m : Model)
@@ -335,7 +335,7 @@ entry_bytes_leaves view r old new m type bytes n l s e =
     let cause : Option TiffError = write_entry_bytes_cause old type bytes in
     plain_leaves view (write_entry_bytes type bytes old) r old new m
     (bytes_plain type bytes old)
-    (caused_fits cause (placed value) old m
+    (caused_fits cause (placed_field value) old m
     (λ h. placed_fits old m value (data_whole type bytes) (passed _ _ _ (unended old.fault _ h)).1 l (data_short type bytes n)))
     s e
 
@@ -432,7 +432,7 @@ none_past kind (x ∷ xs) h e i =
     ]
 
 -- a count that is not past the kind's
-count_fits : (kind : FileKind) (n : ℕ) → is_past kind n ≡ false → n < 2 ^ 64 → n < 256 ^ place_len kind
+count_fits : (kind : FileKind) (n : ℕ) → is_past kind n ≡ false → n < 2 ^ 64 → n < 256 ^ offset_len kind
 count_fits Classic n h l = leb-false (2 ^ 32) n h
 count_fits Big n h l = l
 
@@ -481,9 +481,9 @@ chained_plain most chained offsets deeds file l =
     }
 
 -- a parent has one link
-parent_links : (parent : Option ℕ) (place : ℕ) → link_count (links_to parent place) ≤ 1
-parent_links None place = omega arith
-parent_links (Some parent) place = omega arith
+parent_links : (parent : Option ℕ) (offset : ℕ) → link_count (links_to parent offset) ≤ 1
+parent_links None offset = omega arith
+parent_links (Some parent) offset = omega arith
 
 -- `finish`
 pub finish_plain : (d : OpenDirectory) (file : FileState) → IsPlain 1 (finish d file) file
@@ -495,7 +495,7 @@ finish_plain d file =
     (chained_plain 1 d.chained offsets deeds file (parent_links d.parent (end_of file)))
 
 pub entries_fit : (file : FileState) (m : Model) (d : OpenDirectory) → AreEntries d.fields → len d.fields < 2 ^ 64
-    → ((place : ℕ) → d.parent ≡ Some place → IsLink file.kind m place) → end_of file < 2 ^ 64
+    → ((offset : ℕ) → d.parent ≡ Some offset → IsLink file.kind m offset) → end_of file < 2 ^ 64
     → DeedsFit file.kind file.bytes m (finish d file).deeds
 unfolding finish
 entries_fit file m d a n p l =
@@ -508,7 +508,7 @@ entries_fit file m d a n p l =
 
 pub finish_leaves : {X : Type 0} (view : X → Offsets) (r : Result X TiffError) (old new : FileState) (m : Model)
     (d : OpenDirectory) → AreEntries d.fields → len d.fields < 2 ^ 64
-    → ((place : ℕ) → d.parent ≡ Some place → IsLink old.kind m place) → end_of old < 2 ^ 64 → Stands old.kind old.bytes m
+    → ((offset : ℕ) → d.parent ≡ Some offset → IsLink old.kind m offset) → end_of old < 2 ^ 64 → Stands old.kind old.bytes m
     → Ends view (finish d old) r old new → LeavesLinked (finish d old) r old new m
 finish_leaves view r old new m d a n p l s e =
     linked_leaves view (finish d old) r old new m (finish_plain d old) (entries_fit old m d a n p l) s e

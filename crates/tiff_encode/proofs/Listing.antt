@@ -5,19 +5,19 @@ use Rattle.std.specs.Prelude.{replicate}
 use Rattle.tiff_base.specs.declared.tags.FileKind.{FileKind}
 use Rattle.tiff_base.specs.declared.tags.FileKind.TheVariants.{Classic, Big}
 use Rattle.tiff_base.specs.Number.{le}
-use Rattle.tiff_encode.specs.Written.{place_len, count_len}
-use Rattle.tiff_encode.specs.Value.{filled}
+use Rattle.tiff_encode.specs.FileBytes.{offset_len, count_len}
+use Rattle.tiff_encode.specs.Value.{filled_field}
 
-pub le_place : (kind : FileKind) (n : ℕ) → take (place_len kind) (le 8 n) ≡ le (place_len kind) n
-le_place Classic n = refl
-le_place Big n = refl
+pub le_offset : (kind : FileKind) (n : ℕ) → take (offset_len kind) (le 8 n) ≡ le (offset_len kind) n
+le_offset Classic n = refl
+le_offset Big n = refl
 
 pub le_count : (kind : FileKind) (n : ℕ) → take (count_len kind) (le 8 n) ≡ le (count_len kind) n
 le_count Classic n = refl
 le_count Big n = refl
 
-pub le_zero : (kind : FileKind) → take (place_len kind) (le 8 0) ≡ le (place_len kind) 0
-le_zero kind = le_place kind 0
+pub le_zero : (kind : FileKind) → take (offset_len kind) (le 8 0) ≡ le (offset_len kind) 0
+le_zero kind = le_offset kind 0
 
 -- ---- value fields
 
@@ -29,5 +29,5 @@ filled_by (suc n) m (x ∷ xs) l h = ap (λ ys. x ∷ ys) (filled_by n m xs (ome
 filled_by zero m (x ∷ xs) l h = absurd (omega (arith, l))
 
 -- a value field of 8 zeros, with bytes over its first
-pub filled_whole : (xs : List ℕ) → length xs ≤ 8 → xs ++ drop (length xs) (replicate 8 0) ≡ filled xs
+pub filled_whole : (xs : List ℕ) → length xs ≤ 8 → xs ++ drop (length xs) (replicate 8 0) ≡ filled_field xs
 filled_whole xs l = filled_by 8 8 xs l (omega arith)

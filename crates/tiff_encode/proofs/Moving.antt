@@ -4,11 +4,11 @@ use Rattle.tiff_base.specs.declared.error.TiffError.{TiffError}
 use Rattle.tiff_encode.specs.Model.{Model, Stands, Grows}
 use Rattle.tiff_encode.specs.Deeds.{model_after}
 use Rattle.tiff_encode.specs.Laws.{AreAppending}
-use Rattle.tiff_encode.specs.Machine.{FileState, Told, Writing}
+use Rattle.tiff_encode.specs.Machine.{FileState, WriteOutcome, Writing}
 use Rattle.tiff_encode.specs.Ends.{Ends}
 use Rattle.tiff_encode.specs.Leaves.{Leaves}
 use Rattle.tiff_encode.specs.Jobs.{Standing, IsDone, Refuses}
-use Rattle.tiff_encode.specs.Stepping.{Known, Moves}
+use Rattle.tiff_encode.specs.Stepping.{StandsIfKnown, Moves}
 use Rattle.tiff_encode.proofs.Deeds.{deeds_grow}
 use Rattle.tiff_encode.proofs.Joining.{IsAdding, ends_torn}
 
@@ -24,15 +24,15 @@ grows_on m n o g h = record {
 }
 
 -- what is told of a call is done, or it fails
-abbrev pub Seen : {X Y : Type 0} → (X → Y) → Told Y → Result X TiffError → Standing → Standing → Type 0
+abbrev pub Seen : {X Y : Type 0} → (X → Y) → WriteOutcome Y → Result X TiffError → Standing → Standing → Type 0
 Seen view told (Ok x) s t = IsDone told (Ok (view x)) s t
 Seen view told (Err e) s t = Refuses told e s t
 
 -- a standing of a file that such a call left
 abbrev pub Led : (Standing → Type 0) → Bool → Standing → FileState → Type 0
-Led P known s new = (t : Standing) × ((t.file ≡ new) × (P t × (Known known t × Grows s.model t.model)))
+Led P known s new = (t : Standing) × ((t.file ≡ new) × (P t × (StandsIfKnown known t × Grows s.model t.model)))
 
-module _ {X Y : Type 0} (view : X → Y) (told : Told Y) (s : Standing) (new : FileState) (known : Bool) (k : Known known s)
+module _ {X Y : Type 0} (view : X → Y) (told : WriteOutcome Y) (s : Standing) (new : FileState) (known : Bool) (k : StandsIfKnown known s)
     (a : IsAdding told s.file) where
   abbrev here : Standing
   here = record { file = new; model = s.model }
@@ -66,7 +66,7 @@ module _ {X Y : Type 0} (view : X → Y) (told : Told Y) (s : Standing) (new : F
         | inr e ↦ elim e [
           | inl c ↦ stays_known P (ap (λ f. f.kind) c.state) l (inr (inr (inl (refl, c))))
           | inr e ↦ elim e [
-            | inl t ↦ absurd (ends_torn t.before t.place t.target (subst (λ ds. AreAppending ds) t.last a.appending))
+            | inl t ↦ absurd (ends_torn t.before t.offset t.target (subst (λ ds. AreAppending ds) t.last a.appending))
             | inr c ↦ stays_known P (ap (λ f. f.kind) c.state) l (inr (inr (inr (refl, c))))
           ]
         ]

@@ -9,12 +9,12 @@ use Rattle.tiff_base.specs.declared.error.UsageError.TheVariants.{ZeroIfdPointer
 use Rattle.tiff_base.specs.declared.io.SinkFault.{SinkFault}
 use Rattle.tiff_base.specs.declared.tags.CompressionMethod.{CompressionMethod}
 use Rattle.tiff_base.specs.declared.tags.FileKind.{FileKind}
-use Rattle.tiff_base.specs.Directory.{link_place}
+use Rattle.tiff_base.specs.Directory.{link_offset}
 use Rattle.tiff_base.specs.Field.{Field}
 use Rattle.tiff_encode.specs.Machine.{FileState, OpenDirectory, OpenImage, Writing, by_cause}
 use Rattle.tiff_encode.specs.Causes.{is_past, end_of, unless_ended, finish_cause, offset_cause}
 use Rattle.tiff_encode.specs.Calls.{Offsets, offsets_of, result_by, finish, new_offset}
-use Rattle.tiff_encode.specs.Stored.{chunk_bytes}
+use Rattle.tiff_encode.specs.Stored.{unpacked_chunk}
 use Rattle.tiff_encode.specs.RunLaws.{IsOneStep, OneStep, OneStored, OffsetsAgree}
 use Rattle.tiff_value.specs.Packed.{IsStored}
 use Rattle.tiff_encode.proofs.Slices.{ok_inj}
@@ -30,9 +30,9 @@ one_step = (one_of Field, (one_of ℕ, (one_of OpenDirectory, (one_of OpenImage,
 
 pub one_stored : OneStored
 one_stored i samples stored other p a b =
-    let P : CompressionMethod → List ℕ → Type 0 = λ m xs. IsStored m xs (chunk_bytes i samples) in
-    let x : stored ≡ chunk_bytes i samples = subst (λ m. P m stored) p a in
-    let y : other ≡ chunk_bytes i samples = subst (λ m. P m other) p b in
+    let P : CompressionMethod → List ℕ → Type 0 = λ m xs. IsStored m xs (unpacked_chunk i samples) in
+    let x : stored ≡ unpacked_chunk i samples = subst (λ m. P m stored) p a in
+    let y : other ≡ unpacked_chunk i samples = subst (λ m. P m other) p b in
     x ∙ sym y
 
 -- a fault is no answer, and some cause is not none
@@ -62,12 +62,12 @@ unfolding finish_cause
 near file d h = last_test file.fault _ _ _ _ _ h
 
 -- the tests of an offset
-tests : (kind : FileKind) (p n : ℕ) → is_past kind p ≡ false → 0 < p → link_place kind p n < 2 ^ 64 → offset_cause kind p n ≡ None
+tests : (kind : FileKind) (p n : ℕ) → is_past kind p ≡ false → 0 < p → link_offset kind p n < 2 ^ 64 → offset_cause kind p n ≡ None
 unfolding offset_cause
 tests kind p n a z l =
-    ap (λ b. cond b (Some IntSizeError) (cond (p == 0 || nat_le (2 ^ 64) (link_place kind p n)) (Some (UsageError ZeroIfdPointer)) None)) a
-    ∙ ap (λ b. cond (b || nat_le (2 ^ 64) (link_place kind p n)) (Some (UsageError ZeroIfdPointer)) None) (ne_eqb p 0 (λ e. omega arith))
-    ∙ ap (λ b. cond b (Some (UsageError ZeroIfdPointer)) None) (lt-leb (2 ^ 64) (link_place kind p n) l)
+    ap (λ b. cond b (Some IntSizeError) (cond (p == 0 || nat_le (2 ^ 64) (link_offset kind p n)) (Some (UsageError ZeroIfdPointer)) None)) a
+    ∙ ap (λ b. cond (b || nat_le (2 ^ 64) (link_offset kind p n)) (Some (UsageError ZeroIfdPointer)) None) (ne_eqb p 0 (λ e. omega arith))
+    ∙ ap (λ b. cond b (Some (UsageError ZeroIfdPointer)) None) (lt-leb (2 ^ 64) (link_offset kind p n) l)
 
 pub offsets_agree : OffsetsAgree
 unfolding finish new_offset

@@ -5,7 +5,7 @@ use Rattle.tiff_base.specs.declared.tags.CompressionMethod.TheVariants as method
 use Rattle.tiff_value.specs.ColorType.{sample_number}
 use Rattle.tiff_encode.specs.declared.encoder.settings.Compression.{Compression}
 use Rattle.tiff_encode.specs.declared.encoder.settings.Compression.TheVariants.{Uncompressed, Packbits}
-use Rattle.tiff_encode.specs.Machine.{FileState, method_of}
+use Rattle.tiff_encode.specs.Machine.{FileState, compression_method}
 use Rattle.tiff_encode.specs.ImageData.{AreNumbers}
 
 -- a number of so many bytes is below as many as they can tell
@@ -20,7 +20,7 @@ are_numbers size bits (x ∷ xs) zero = mod-lt (bits x) (some_bytes size)
 are_numbers size bits (x ∷ xs) (suc n) = are_numbers size bits xs n
 
 -- images are packed by one of two methods
-pub some_method : (file : FileState) (c : Compression) → file.method ≡ method_of c
+pub some_method : (file : FileState) (c : Compression) → file.method ≡ compression_method c
     → (file.method ≡ method.None) ⊎ (file.method ≡ method.PackBits)
 some_method file Uncompressed h = inl h
 some_method file Packbits h = inr h

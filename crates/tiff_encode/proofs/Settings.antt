@@ -25,8 +25,8 @@ use Rattle.tiff_encode.specs.Machine.{FileState, OpenDirectory, OpenImage, Writi
 use Rattle.tiff_encode.specs.Placing.{field_test}
 use Rattle.tiff_encode.specs.Chunks.{is_begun}
 use Rattle.tiff_encode.specs.Causes.{end_of, field_cause, extra_samples_cause, tiles_cause}
-use Rattle.tiff_encode.specs.Calls.{placed, write_tag, write_tags, extend_from}
-use Rattle.tiff_encode.specs.Ends.{IsTold, Fails}
+use Rattle.tiff_encode.specs.Calls.{placed_field, write_tag, write_tags, extend_from}
+use Rattle.tiff_encode.specs.Ends.{IsTold, CallFails}
 use Rattle.tiff_encode.specs.Tagging.{write_fields, StopsInPart, fields_of}
 use Rattle.tiff_encode.proofs.Calling.{refused, uncaused, wanting, entry_uncaused}
 use Rattle.tiff_encode.proofs.Entries.{last_of_entries}
@@ -89,15 +89,15 @@ module _ (cause : Option TiffError) (call : OpenDirectory → Writing OpenDirect
   view i = i
 
   -- it is refused
-  pub set_refused : (e : TiffError) → cause ≡ Some e → Fails (by_cause cause set_in old) e old old
+  pub set_refused : (e : TiffError) → cause ≡ Some e → CallFails (by_cause cause set_in old) e old old
   set_refused e c = refused view cause set_in old e c
 
   -- its tags fail
   pub set_fails : (e : TiffError) (b : OpenDirectory) (new : FileState) → cause ≡ None → b ≡ d → Adds (call d old) old
-      → Fails (call b old) e old new → Fails (by_cause cause set_in old) e old new
+      → CallFails (call b old) e old new → CallFails (by_cause cause set_in old) e old new
   set_fails e b new c s a h =
       uncaused view cause set_in (Err e) old new c
-      (bind_fails (call d) (λ x. gives (g x)) e old new a (subst (λ x. Fails (call x old) e old new) s h))
+      (bind_fails (call d) (λ x. gives (g x)) e old new a (subst (λ x. CallFails (call x old) e old new) s h))
 
   -- it is done
   pub set_so : (b next : OpenDirectory) (i : OpenImage) (new : FileState) → cause ≡ None → b ≡ d → IsTold (call b old) (Ok next) new
@@ -118,15 +118,15 @@ module _ (t : Tag) (value : Scalars) where
 
   -- there is no memory for it
   pub one_short : (d : OpenDirectory) (e : TiffError) (file : FileState) → file.fault ≡ None → field_cause file (data_of value) ≡ None
-      → e ≡ OutOfMemory → Fails (one_tag d file) e file file
+      → e ≡ OutOfMemory → CallFails (one_tag d file) e file file
   one_short d e file f c q =
       let same : Field → Field = λ x. x in
       tag_fails d t (Ok (data_of value)) e file file
-      (entry_uncaused same (Ok (data_of value)) (data_of value) (Err e) file file f refl c (wanting same (placed (data_of value) file) e file f q tt))
+      (entry_uncaused same (Ok (data_of value)) (data_of value) (Err e) file file f refl c (wanting same (placed_field (data_of value) file) e file f q tt))
 
   -- one of several
-  pub tags_of_one : (d : OpenDirectory) (e : TiffError) (old new : FileState) → Fails (one_tag d old) e old new
-      → Fails (write_tags d ((t, value) ∷ []) old) e old new
+  pub tags_of_one : (d : OpenDirectory) (e : TiffError) (old new : FileState) → CallFails (one_tag d old) e old new
+      → CallFails (write_tags d ((t, value) ∷ []) old) e old new
   tags_of_one d e old new h = bind_fails (one_tag d) (λ next. gives next) e old new (one_adds d old) h
 
   pub tags_are_one : (d next : OpenDirectory) (old new : FileState) → IsTold (one_tag d old) (Ok next) new
@@ -141,10 +141,10 @@ several_adds t value values d file =
     (fields_adds d (t, data_of value) (fields_of values) file)
 
 module _ (values : List (Tag × FieldData)) (tags : List (Tag × Scalars)) (same : values ≡ fields_of tags) where
-  pub tags_fail : (d : OpenDirectory) (e : TiffError) (old new : FileState) → Fails (write_fields d values old) e old new
-      → Fails (write_tags d tags old) e old new
+  pub tags_fail : (d : OpenDirectory) (e : TiffError) (old new : FileState) → CallFails (write_fields d values old) e old new
+      → CallFails (write_tags d tags old) e old new
   tags_fail d e old new h =
-      subst (λ told. Fails told e old new) (ap (λ vs. write_fields d vs old) same ∙ sym (tags_are_fields d tags old)) h
+      subst (λ told. CallFails told e old new) (ap (λ vs. write_fields d vs old) same ∙ sym (tags_are_fields d tags old)) h
 
   pub tags_so : (d next : OpenDirectory) (old new : FileState) → IsTold (write_fields d values old) (Ok next) new
       → IsTold (write_tags d tags old) (Ok next) new
@@ -174,13 +174,13 @@ extra_parts : (file : FileState) (i : OpenImage) (extra : List ExtraSamples) →
 unfolding extra_samples_cause
 extra_parts file i extra c =
     let field : Option TiffError = field_cause file (data_of (extras extra)) in
-    let many = nat_lt 65535 (length i.colour.bits + length extra) in
+    let many = nat_lt 65535 (length i.color.bits + length extra) in
     let rest : Option TiffError = cond many (Some IntSizeError) field in
     let first = passed (is_begun i) (UsageError ReconfiguredAfterImageWrite) rest (unended file.fault _ c) in
     (fresh_by file.fault _ c, (passed many IntSizeError field first.1).1)
 
 pub extra_short : (file : FileState) (i : OpenImage) (extra : List ExtraSamples) (e : TiffError) → extra_samples_cause file i extra ≡ None
-    → e ≡ OutOfMemory → Fails (one_tag tag.ExtraSamples (extras extra) i.directory file) e file file
+    → e ≡ OutOfMemory → CallFails (one_tag tag.ExtraSamples (extras extra) i.directory file) e file file
 extra_short file i extra e c q =
     let p = extra_parts file i extra c in one_short tag.ExtraSamples (extras extra) i.directory e file p.0 p.1 q
 
@@ -193,7 +193,7 @@ unfolding tiles_cause
 tiles_fresh file i width length c = fresh_by file.fault _ c
 
 pub tiles_short : (file : FileState) (i : OpenImage) (width length : ℕ) (e : TiffError) → tiles_cause file i width length ≡ None
-    → e ≡ OutOfMemory → Fails (write_tags i.directory (side_tags width length) file) e file file
+    → e ≡ OutOfMemory → CallFails (write_tags i.directory (side_tags width length) file) e file file
 tiles_short file i width length e c q =
     let first : Writing OpenDirectory = one_tag tag.TileWidth (u32s (width ∷ [])) i.directory in
     let rest : OpenDirectory → Writing OpenDirectory = λ d. write_tags d ((tag.TileLength, u32s (length ∷ [])) ∷ []) in

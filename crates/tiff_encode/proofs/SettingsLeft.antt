@@ -9,13 +9,13 @@ use Rattle.tiff_base.specs.Field.{AreEntries}
 use Rattle.tiff_value.specs.Data.{u32s, planars, units, extras, rationals}
 use Rattle.tiff_encode.specs.Model.{Model, Stands}
 use Rattle.tiff_encode.specs.Laws.{DeedsFit}
-use Rattle.tiff_encode.specs.Machine.{FileState, OpenDirectory, OpenImage, Told, Writing, gives, by_cause, ◌>>=◌}
+use Rattle.tiff_encode.specs.Machine.{FileState, OpenDirectory, OpenImage, WriteOutcome, Writing, gives, by_cause, ◌>>=◌}
 use Rattle.tiff_encode.specs.Causes.{end_of, extra_samples_cause, rows_per_strip_cause, tiles_cause, planar_cause, resolution_cause, one_resolution_cause, resolution_unit_cause}
 use Rattle.tiff_encode.specs.Calls.{write_tags, without_field, strips_of, tiles_of, with_directory_of, extra_samples, set_rows_per_strip, tiles, planar, resolution_tags, resolution, x_resolution, y_resolution, resolution_unit}
 use Rattle.tiff_encode.specs.Ends.{Ends}
 use Rattle.tiff_encode.specs.Leaves.{Leaves}
 use Rattle.tiff_encode.proofs.Guarding.{fresh_by, uncaused_by}
-use Rattle.tiff_encode.proofs.ImageFits.{settings_fit, resolutions_fit}
+use Rattle.tiff_encode.proofs.Image.Fits.{settings_fit, resolutions_fit}
 use Rattle.tiff_encode.proofs.Joining.{IsAdding, Adds, adding, answers_adding, caused_adds, bind_adds}
 use Rattle.tiff_encode.proofs.Keeping.{left_so}
 use Rattle.tiff_encode.proofs.Leaving.{ok_err}
@@ -26,12 +26,12 @@ abbrev pub EndFits : FileState → Type 0
 EndFits file = file.fault ≡ None → end_of file < 2 ^ 64
 
 -- what an answered call of an image did fits, and the fields of the image's directory are entries
-abbrev pub DoneFits : FileState → Model → Told OpenImage → Type 0
+abbrev pub DoneFits : FileState → Model → WriteOutcome OpenImage → Type 0
 DoneFits old m told = (x : OpenImage) → told.answer ≡ Ok x → end_of told.next < 2 ^ 64
     → DeedsFit old.kind old.bytes m told.deeds × AreEntries x.directory.fields
 
 -- a call of an image that appends
-pub image_left : {X : Type 0} (view : X → OpenImage) (told : Told OpenImage) (r : Result X TiffError) (old new : FileState) (m : Model)
+pub image_left : {X : Type 0} (view : X → OpenImage) (told : WriteOutcome OpenImage) (r : Result X TiffError) (old new : FileState) (m : Model)
     → IsAdding told old → ((x : OpenImage) → told.answer ≡ Ok x → old.fault ≡ None) → DoneFits old m told → EndFits new
     → Stands old.kind old.bytes m → Ends view told r old new → Leaves told r old new m
 image_left view told (Ok x) old new m a f d l s e =

@@ -9,9 +9,9 @@ use Rattle.tiff_base.specs.declared.tags.FileKind.{FileKind}
 use Rattle.tiff_base.specs.declared.tags.FileKind.TheVariants.{Classic, Big}
 use Rattle.tiff_base.specs.declared.tags.ByteOrder.TheVariants.{LittleEndian}
 use Rattle.tiff_base.specs.Answers.{◌>>=◌}
-use Rattle.tiff_base.specs.Told.{exactly_at, put}
+use Rattle.tiff_base.specs.SourceAndSink.{exactly_at, put}
 use Rattle.tiff_base.specs.Number.{number, number_at, le}
-use Rattle.tiff_base.specs.Directory.{count_width, place_width}
+use Rattle.tiff_base.specs.Directory.{count_width, offset_width}
 
 -- ---- answers
 
@@ -150,11 +150,11 @@ number-le w n c =
       ]
     ]
 
--- the width of places is one of those that numbers have
-pub is_place_width : (kind : FileKind)
-    → (place_width kind ≡ w16) ⊎ ((place_width kind ≡ w32) ⊎ (place_width kind ≡ w64))
-is_place_width Classic = inr (inl refl)
-is_place_width Big = inr (inr refl)
+-- the width of offsets is one of those that numbers have
+pub is_offset_width : (kind : FileKind)
+    → (offset_width kind ≡ w16) ⊎ ((offset_width kind ≡ w32) ⊎ (offset_width kind ≡ w64))
+is_offset_width Classic = inr (inl refl)
+is_offset_width Big = inr (inr refl)
 
 -- likewise those of counts of entries
 pub is_count_width : (kind : FileKind)

@@ -11,7 +11,7 @@ use Rattle.tiff_base.specs.declared.tags.FileKind.TheVariants.{Classic, Big}
 use Rattle.tiff_base.specs.Tags.{type_number}
 use Rattle.tiff_base.specs.Field.{Field}
 use Rattle.tiff_base.specs.Number.{le}
-use Rattle.tiff_encode.specs.Written.{place_len, count_len, entry_bytes, directory_bytes}
+use Rattle.tiff_encode.specs.FileBytes.{offset_len, count_len, entry_bytes, directory_bytes}
 use Rattle.tiff_encode.specs.Model.{In}
 use Rattle.tiff_encode.specs.Deeds.{standing_field, standing_fields}
 use Rattle.tiff_encode.specs.Laws.{IsListable}
@@ -64,7 +64,7 @@ entry_standing : (kind : FileKind) (e : ℕ × Field) → IsListable kind e.0 e.
 entry_standing Classic e w =
     let t : take 4 (take 4 e.1.value ++ (0 ∷ 0 ∷ 0 ∷ 0 ∷ [])) ≡ take 4 e.1.value =
     take_at (take 4 e.1.value) (0 ∷ 0 ∷ 0 ∷ 0 ∷ []) 4 (four e.1.value w.whole) in
-    ap (λ (v : List ℕ). le 2 e.0 ++ (le 2 (type_number e.1.field_type) ++ (le (place_len Classic) e.1.count ++ v))) t
+    ap (λ (v : List ℕ). le 2 e.0 ++ (le 2 (type_number e.1.field_type) ++ (le (offset_len Classic) e.1.count ++ v))) t
 entry_standing Big e w = refl
 
 -- so have all entries
@@ -80,7 +80,7 @@ unfolding directory_bytes
 bytes_standing kind fields w =
     let body : flat_map (entry_bytes kind) (entries (standing_fields kind fields)) ≡ flat_map (entry_bytes kind) (entries fields) =
     ap (flat_map (entry_bytes kind)) (entries_standing kind fields) ∙ all_standing kind (entries fields) w in
-    sym (λ i. le (count_len kind) (len_standing kind fields i) ++ (body i ++ le (place_len kind) 0))
+    sym (λ i. le (count_len kind) (len_standing kind fields i) ++ (body i ++ le (offset_len kind) 0))
 
 -- ---- what can be written
 

@@ -29,7 +29,7 @@ module _ {S A : Type 0} (Stepped : Standing → S → A → Result StepReply Tif
   all_more old mid new s next t (x ∷ steps) step (y ∷ rs) r h one =
       (h.0, (h.1.0, (h.1.1.0, all_more h.0 mid new h.1.0 next t steps step rs r h.1.1.1 one)))
 
-  -- the step at a place, behind the ones before it
+  -- the step at an index, behind the ones before it
   pub all_next : (old mid new : Standing) (s next t : S) (steps : List A) (step : A) (n : ℕ) (rs : List (Result StepReply TiffError))
       (r : Result StepReply TiffError) → n < length steps → step ≡ get_or steps n step → All old s (take n steps) rs mid next
       → Stepped mid next step r new t → All old s (take (n + 1) steps) (rs ++ r ∷ []) new t

@@ -8,14 +8,14 @@ use Rattle.tiff_base.specs.declared.error.TiffError.TheVariants.{IoError, IntSiz
 use Rattle.tiff_base.specs.declared.io.IoKind.TheVariants.{InvalidData}
 use Rattle.tiff_base.specs.declared.io.SinkFault.{SinkFault}
 use Rattle.tiff_value.specs.Packed.{IsStored}
-use Rattle.tiff_encode.specs.Machine.{FileState, OpenImage, Told, Writing, by_cause}
+use Rattle.tiff_encode.specs.Machine.{FileState, OpenImage, WriteOutcome, Writing, by_cause}
 use Rattle.tiff_encode.specs.Chunks.{image_page, row_samples, chunk_rows, is_left, next_chunk_sample_count}
 use Rattle.tiff_encode.specs.Causes.{is_past, is_past_chunks, unless_ended, end_of, write_chunk_cause}
 use Rattle.tiff_encode.specs.Calls.{with_chunk, appends_chunk, write_chunk}
-use Rattle.tiff_encode.specs.Encoder.{IsStopped, IsCut}
+use Rattle.tiff_encode.specs.Encoder.{AppendIsStopped, AppendIsCut}
 use Rattle.tiff_encode.specs.Ends.{IsTold, IsCutOff}
-use Rattle.tiff_encode.specs.Steps.{grown}
-use Rattle.tiff_encode.specs.Stored.{chunk_bytes}
+use Rattle.tiff_encode.specs.FileWrites.{file_with_bytes}
+use Rattle.tiff_encode.specs.Stored.{unpacked_chunk}
 use Rattle.tiff_encode.specs.Storing.{AppendsChunk, StoresChunk, WritesChunk}
 use Rattle.tiff_encode.proofs.Calling.{none_some, cut_off}
 
@@ -44,7 +44,7 @@ module _ (old : FileState) (i : OpenImage) (n : ℕ) (stored : List ℕ) where
   Appended r new next = AppendsChunk (write_chunk i n stored old) i r old new next
 
   -- what is told of the call, by its cause
-  abbrev told_by : Option TiffError → Told OpenImage
+  abbrev told_by : Option TiffError → WriteOutcome OpenImage
   told_by cause = by_cause cause (appends_chunk i stored) old
 
   abbrev AppendedBy : Option TiffError → Result (Unit {0}) TiffError → FileState → OpenImage → Type 0
@@ -71,20 +71,20 @@ module _ (old : FileState) (i : OpenImage) (n : ℕ) (stored : List ℕ) where
 
   -- the sink failed
   pub append_cut : (m : ℕ) (e : TiffError) (new : FileState) (next : OpenImage) → m ≡ length stored → old.fault ≡ None
-      → write_chunk_cause old i n m ≡ None → IsStopped e old new ⊎ IsCut stored e old new → next ≡ i → Appended (Err e) new next
+      → write_chunk_cause old i n m ≡ None → AppendIsStopped e old new ⊎ AppendIsCut stored e old new → next ≡ i → Appended (Err e) new next
   append_cut m e new next l f c h q =
       by_none m (Err e) new next l c (
         q,
         inr (inl (elim h as (λ _. IsCutOff (told_by None).deeds e old new) [
           | inl s ↦ absurd (none_some old.fault f s.failed)
-          | inr x ↦ cut_off (told_by None).deeds e old new (subst (λ xs. IsCut xs e old new) (sym (append-nil stored)) x)
+          | inr x ↦ cut_off (told_by None).deeds e old new (subst (λ xs. AppendIsCut xs e old new) (sym (append-nil stored)) x)
         ])),
       )
 
   -- it is stored
-  pub append_done : (m place : ℕ) (new : FileState) (next : OpenImage) → m ≡ length stored → write_chunk_cause old i n m ≡ None
-      → place ≡ end_of old → new ≡ grown old stored → next ≡ with_chunk i place (length stored) → Appended (Ok tt) new next
-  append_done m place new next l c at g q =
+  pub append_done : (m offset : ℕ) (new : FileState) (next : OpenImage) → m ≡ length stored → write_chunk_cause old i n m ≡ None
+      → offset ≡ end_of old → new ≡ file_with_bytes old stored → next ≡ with_chunk i offset (length stored) → Appended (Ok tt) new next
+  append_done m offset new next l c at g q =
       by_none m (Ok tt) new next l c
       (record { answer = ap Ok (ap (λ p. with_chunk i p (length stored)) (sym at) ∙ sym q); state = g })
 
@@ -107,11 +107,11 @@ chunk_counted old i n stored h =
     (counted_by old.fault (is_past_chunks i) (is_left i) (n == next_chunk_sample_count i) (is_past old.kind (end_of old) || is_past old.kind stored) h)
 
 module _ (old : FileState) (i : OpenImage) (samples : List ℕ) (n count : ℕ) (stored : List ℕ) (new : FileState) (next : OpenImage) (e : TiffError) where
-  abbrev told : Told OpenImage
+  abbrev told : WriteOutcome OpenImage
   told = write_chunk i (length samples) stored old
 
   -- the call fails once they are packed
-  pub chunk_fails : write_chunk_cause old i n 0 ≡ None → count ≡ length samples → IsStored i.method stored (chunk_bytes i samples)
+  pub chunk_fails : write_chunk_cause old i n 0 ≡ None → count ≡ length samples → IsStored i.method stored (unpacked_chunk i samples)
       → (let r : Result (Unit {0}) TiffError = Err e in AppendsChunk (write_chunk i count stored old) i r old new next)
       → (let r : Result (Unit {0}) TiffError = Err e in WritesChunk write_chunk (write_chunk_cause old i n 0) i samples r old new next)
   chunk_fails uncaused counted is_stored h =
@@ -119,10 +119,10 @@ module _ (old : FileState) (i : OpenImage) (samples : List ℕ) (n count : ℕ) 
       let same : write_chunk i count stored old ≡ told = ap (λ k. write_chunk i k stored old) counted in
       let ends : StoresChunk write_chunk i samples r old new next = (
         h.0,
-        elim h.1 as (λ _. ((e ≡ OutOfMemory) × (new ≡ old)) ⊎ ((xs : List ℕ) × (IsStored i.method xs (chunk_bytes i samples) × (IsTold (write_chunk i (length samples) xs old) (Err e) new ⊎ IsCutOff (write_chunk i (length samples) xs old).deeds e old new)))) [
+        elim h.1 as (λ _. ((e ≡ OutOfMemory) × (new ≡ old)) ⊎ ((xs : List ℕ) × (IsStored i.method xs (unpacked_chunk i samples) × (IsTold (write_chunk i (length samples) xs old) (Err e) new ⊎ IsCutOff (write_chunk i (length samples) xs old).deeds e old new)))) [
           | inl t ↦ inr (stored, (is_stored, inl (subst (λ t. IsTold t (Err e) new) same t)))
           | inr h ↦ elim h [
-            | inl c ↦ inr (stored, (is_stored, inr (subst (λ (t : Told OpenImage). IsCutOff t.deeds e old new) same c)))
+            | inl c ↦ inr (stored, (is_stored, inr (subst (λ (t : WriteOutcome OpenImage). IsCutOff t.deeds e old new) same c)))
             | inr w ↦ inl w
           ]
         ],

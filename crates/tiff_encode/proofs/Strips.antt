@@ -6,16 +6,16 @@ use Rattle.tiff_base.specs.declared.error.TiffError.TheVariants.{UsageError}
 use Rattle.tiff_base.specs.declared.error.UsageError.TheVariants.{InvalidChunkType, WriterFailed}
 use Rattle.tiff_base.specs.Field.{AreEntries}
 use Rattle.tiff_encode.specs.Model.{Model, Stands}
-use Rattle.tiff_encode.specs.Machine.{FileState, OpenImage, Told, Writing, by_cause, gives}
+use Rattle.tiff_encode.specs.Machine.{FileState, OpenImage, WriteOutcome, Writing, by_cause, gives}
 use Rattle.tiff_encode.specs.Chunks.{is_tile}
 use Rattle.tiff_encode.specs.Causes.{unless_failed, end_of, chunk_cause, write_chunk_cause, write_strip_cause}
 use Rattle.tiff_encode.specs.Calls.{appends, appends_chunk, with_chunk, write_chunk, write_strip}
-use Rattle.tiff_encode.specs.Ends.{IsTold, IsCutOff, Fails}
+use Rattle.tiff_encode.specs.Ends.{IsTold, IsCutOff, CallFails}
 use Rattle.tiff_encode.specs.CallLaws.{CallFits}
 use Rattle.tiff_encode.specs.ImageData.{LeavesChunk}
 use Rattle.tiff_encode.specs.Storing.{WritesChunk}
 use Rattle.tiff_encode.proofs.Calling.{stopped_cause, fresh_cause}
-use Rattle.tiff_encode.proofs.ImageFits.{chunks_fit}
+use Rattle.tiff_encode.proofs.Image.Fits.{chunks_fit}
 use Rattle.tiff_encode.proofs.Joining.{Adds, IsAdding, adding, answers_adding, bind_adds, appends_adds, caused_adds}
 use Rattle.tiff_encode.proofs.Keeping.{left_so}
 
@@ -37,7 +37,7 @@ module _ {A : Type 0} (call other : OpenImage → ℕ → List ℕ → Writing O
           s.1.0,
           elim s.1.1 [
             | inl t ↦ inl (subst (λ t. IsTold t (Err e) new) (same s.0) t)
-            | inr c ↦ inr (subst (λ (t : Told OpenImage). IsCutOff t.deeds e old new) (same s.0) c)
+            | inr c ↦ inr (subst (λ (t : WriteOutcome OpenImage). IsCutOff t.deeds e old new) (same s.0) c)
           ],
         ),
       )
@@ -85,8 +85,8 @@ module _ (old : FileState) (i : OpenImage) where
 appending_adds : (cause : Option TiffError) (i : OpenImage) (stored : List ℕ) (file : FileState) → Adds (by_cause cause (appends_chunk i stored) file) file
 appending_adds cause i stored file =
     caused_adds cause (appends_chunk i stored) file
-    (bind_adds (appends stored) (λ place. gives (with_chunk i place (length stored))) file (appends_adds stored file)
-    (λ place _. answers_adding (Ok (with_chunk i place (length stored))) (appends stored file).next))
+    (bind_adds (appends stored) (λ offset. gives (with_chunk i offset (length stored))) file (appends_adds stored file)
+    (λ offset _. answers_adding (Ok (with_chunk i offset (length stored))) (appends stored file).next))
 
 module _ (call : OpenImage → ℕ → List ℕ → Writing OpenImage) (i : OpenImage) (samples : List ℕ) (old new : FileState) (next : OpenImage) (m : Model)
     (adds : (stored : List ℕ) → IsAdding (call i (length samples) stored old) old)
@@ -116,8 +116,8 @@ module _ (call : OpenImage → ℕ → List ℕ → Writing OpenImage) (i : Open
         | inl z ↦ subst (λ f. Stands old.kind f.bytes m) (sym z.1) s
         | inr w ↦ (let view : OpenImage → OpenImage = λ j. j in
             let r : Result OpenImage TiffError = Err e in
-            let told : Told OpenImage = call i (length samples) w.0 old in
-            left_so view told r old new m (adds w.0) (λ x q. absurd cc) s (elim w.1.1 as (λ _. Fails told e old new) [
+            let told : WriteOutcome OpenImage = call i (length samples) w.0 old in
+            left_so view told r old new m (adds w.0) (λ x q. absurd cc) s (elim w.1.1 as (λ _. CallFails told e old new) [
               | inl t ↦ inl t
               | inr c ↦ inr (inl c)
             ]))

@@ -16,12 +16,12 @@ use Rattle.tiff_base.specs.Field.{Field}
 use Rattle.tiff_base.specs.Number.{le}
 use Rattle.tiff_base.specs.Types.{type_size}
 use Rattle.tiff_value.specs.Data.{FieldData, Scalars, u16s, u32s, rationals, data_of}
-use Rattle.tiff_encode.specs.Value.{data_in, filled}
+use Rattle.tiff_encode.specs.Value.{data_in, filled_field}
 use Rattle.tiff_encode.specs.Deeds.{Deed}
-use Rattle.tiff_encode.specs.Machine.{FileState, OpenDirectory, Told, Writing, gives, behind, by_cause, going_on, ◌>>=◌}
+use Rattle.tiff_encode.specs.Machine.{FileState, OpenDirectory, WriteOutcome, Writing, gives, after_deeds, by_cause, and_then, ◌>>=◌}
 use Rattle.tiff_encode.specs.Causes.{unless_ended, field_cause, write_tag_cause, write_entry_bytes_cause}
-use Rattle.tiff_encode.specs.Calls.{placed, write_entry, write_entry_bytes, write_tag, write_tags}
-use Rattle.tiff_encode.specs.Ends.{IsTold, Fails, Ends}
+use Rattle.tiff_encode.specs.Calls.{placed_field, write_entry, write_entry_bytes, write_tag, write_tags}
+use Rattle.tiff_encode.specs.Ends.{IsTold, CallFails, Ends}
 use Rattle.tiff_encode.specs.Tagging.{write_fields, StopsInPart, fields_of}
 use Rattle.tiff_encode.proofs.Listing.{filled_whole}
 use Rattle.tiff_encode.proofs.Joining.{IsAdding, Adds, adding, answers_adding, tag_adds, bind_told, bind_ends_adding, bind_fails, bind_adding, bind_adds}
@@ -30,24 +30,24 @@ use Rattle.tiff_encode.proofs.Joining.{IsAdding, Adds, adding, answers_adding, t
 
 -- what goes on alike ends alike
 pub going_alike : {A B : Type 0} (r : Result A TiffError) (deeds : List Deed) (next : FileState) (rest other : A → Writing B)
-    → ((x : A) (file : FileState) → rest x file ≡ other x file) → going_on r deeds next rest ≡ going_on r deeds next other
-going_alike (Ok x) deeds next rest other h = ap (behind deeds) (h x next)
+    → ((x : A) (file : FileState) → rest x file ≡ other x file) → and_then r deeds next rest ≡ and_then r deeds next other
+going_alike (Ok x) deeds next rest other h = ap (after_deeds deeds) (h x next)
 going_alike (Err e) deeds next rest other h = refl
 
 module _ {A B : Type 0} (deeds : List Deed) (rest : A → Writing B) where
   -- the deeds of two calls before a third
   behind_on : (r : Result A TiffError) (more : List Deed) (next : FileState)
-      → behind deeds (going_on r more next rest) ≡ going_on r (deeds ++ more) next rest
+      → after_deeds deeds (and_then r more next rest) ≡ and_then r (deeds ++ more) next rest
   behind_on (Err e) more next = refl
   behind_on (Ok x) more next =
-      let third : Told B = rest x next in
+      let third : WriteOutcome B = rest x next in
       ap (λ ds. record { answer = third.answer; deeds = ds; next = third.next }) (sym (append_assoc deeds more third.deeds))
 
 -- three calls
 pub going_further : {A B C : Type 0} (r : Result A TiffError) (deeds : List Deed) (next : FileState) (second : A → Writing B)
     (third : B → Writing C)
-    → going_on r deeds next (λ x. second x >>= third)
-    ≡ (let both : Told B = going_on r deeds next second in going_on both.answer both.deeds both.next third)
+    → and_then r deeds next (λ x. second x >>= third)
+    ≡ (let both : WriteOutcome B = and_then r deeds next second in and_then both.answer both.deeds both.next third)
 going_further (Err e) deeds next second third = refl
 going_further (Ok x) deeds next second third =
     let told = second x next in behind_on deeds third told.answer told.deeds told.next
@@ -58,7 +58,7 @@ pub tags_are_fields : (d : OpenDirectory) (values : List (Tag × Scalars)) (file
     → write_tags d values file ≡ write_fields d (fields_of values) file
 tags_are_fields d [] file = refl
 tags_are_fields d (value ∷ values) file =
-    let first : Told OpenDirectory = write_tag d value.0 (Ok (data_of value.1)) file in
+    let first : WriteOutcome OpenDirectory = write_tag d value.0 (Ok (data_of value.1)) file in
     going_alike first.answer first.deeds first.next (λ next. write_tags next values) (λ next. write_fields next (fields_of values))
     (λ next now. tags_are_fields next values now)
 
@@ -67,7 +67,7 @@ pub fields_joined : (d : OpenDirectory) (xs ys : List (Tag × FieldData)) (file 
     → write_fields d (xs ++ ys) file ≡ (write_fields d xs >>= (λ next. write_fields next ys)) file
 fields_joined d [] ys file = refl
 fields_joined d (x ∷ xs) ys file =
-    let first : Told OpenDirectory = write_tag d x.0 (Ok x.1) file in
+    let first : WriteOutcome OpenDirectory = write_tag d x.0 (Ok x.1) file in
     let rest : OpenDirectory → Writing OpenDirectory = λ next. write_fields next ys in
     going_alike first.answer first.deeds first.next (λ next. write_fields next (xs ++ ys)) (λ next. write_fields next xs >>= rest)
     (λ next now. fields_joined next xs ys now)
@@ -109,10 +109,10 @@ fields_told d next xs ys r old mid new h e =
 
 -- Some fail, one at least, and so do all.
 pub fields_fail : (d : OpenDirectory) (x : Tag × FieldData) (xs ys : List (Tag × FieldData)) (e : TiffError) (old new : FileState)
-    → Fails (write_fields d (x ∷ xs) old) e old new → Fails (write_fields d ((x ∷ xs) ++ ys) old) e old new
+    → CallFails (write_fields d (x ∷ xs) old) e old new → CallFails (write_fields d ((x ∷ xs) ++ ys) old) e old new
 fields_fail d x xs ys e old new h =
     let rest : OpenDirectory → Writing OpenDirectory = λ n. write_fields n ys in
-    subst (λ told. Fails told e old new) (sym (fields_joined d (x ∷ xs) ys old))
+    subst (λ told. CallFails told e old new) (sym (fields_joined d (x ∷ xs) ys old))
     (bind_fails (write_fields d (x ∷ xs)) rest e old new (fields_adds d x xs old) h)
 
 -- ---- one field more
@@ -129,15 +129,15 @@ one_more d now next done value old mid new h t =
 -- or fails: the first ones were written
 pub one_fails : (d now : OpenDirectory) (done rest all : List (Tag × FieldData)) (value : Tag × FieldData) (e : TiffError)
     (old mid new : FileState) → done ++ value ∷ rest ≡ all → IsTold (write_fields d done old) (Ok now) mid
-    → Fails (write_tag now value.0 (Ok value.1) mid) e mid new → Fails (write_fields d all old) e old new
+    → CallFails (write_tag now value.0 (Ok value.1) mid) e mid new → CallFails (write_fields d all old) e old new
 one_fails d now done rest all value e old mid new q h f =
     let view : OpenDirectory → OpenDirectory = λ x. x in
     let others : OpenDirectory → Writing OpenDirectory = λ n. write_fields n rest in
-    subst (λ vs. Fails (write_fields d vs old) e old new) q
+    subst (λ vs. CallFails (write_fields d vs old) e old new) q
     (fields_end view d now done (value ∷ rest) (Err e) old mid new h
     (bind_fails (write_tag now value.0 (Ok value.1)) others e mid new (tag_adds now value.0 (Ok value.1) mid) f))
 
--- ---- the field at a place
+-- ---- the field at an offset
 
 -- one more of the first
 pub next_set : (d now next : OpenDirectory) (values : List (Tag × FieldData)) (value : Tag × FieldData) (n : ℕ) (old mid new : FileState)
@@ -151,7 +151,7 @@ next_set d now next values value n old mid new l v h t =
 -- or it fails
 pub next_fails : (d now : OpenDirectory) (values : List (Tag × FieldData)) (value : Tag × FieldData) (n : ℕ) (e : TiffError)
     (old mid new : FileState) → n < length values → value ≡ get_or values n value → IsTold (write_fields d (take n values) old) (Ok now) mid
-    → Fails (write_tag now value.0 (Ok value.1) mid) e mid new → Fails (write_fields d values old) e old new
+    → CallFails (write_tag now value.0 (Ok value.1) mid) e mid new → CallFails (write_fields d values old) e old new
 next_fails d now values value n e old mid new l v h f =
     let rest : List (Tag × FieldData) = drop (n + 1) values in
     let more : take (n + 1) values ≡ take n values ++ value ∷ [] =
@@ -163,7 +163,7 @@ next_fails d now values value n e old mid new l v h f =
 -- so the first ones are set, and the others fail
 pub next_stops : (d now next : OpenDirectory) (values : List (Tag × FieldData)) (value : Tag × FieldData) (n : ℕ) (e : TiffError)
     (old mid new : FileState) → n < length values → value ≡ get_or values n value → IsTold (write_fields d (take n values) old) (Ok now) mid
-    → Fails (write_tag now value.0 (Ok value.1) mid) e mid new → next ≡ now → StopsInPart d values e old new next
+    → CallFails (write_tag now value.0 (Ok value.1) mid) e mid new → next ≡ now → StopsInPart d values e old new next
 next_stops d now next values value n e old mid new l v h f s =
     let rest : List (Tag × FieldData) = drop (n + 1) values in
     let others : OpenDirectory → Writing OpenDirectory = λ x. write_fields x rest in
@@ -173,8 +173,8 @@ next_stops d now next values value n e old mid new l v h f s =
     sym (append_assoc (take n values) (value ∷ []) rest) ∙ ap (λ xs. xs ++ rest) (sym more) ∙ take-append-drop (n + 1) values in
     let left : value ∷ rest ≡ drop n values =
     sym (drop_at (take n values) (value ∷ rest) n (length-take-le n values (omega (arith, l)))) ∙ ap (drop n) whole in
-    let fails : Fails (write_fields now (drop n values) mid) e mid new =
-    subst (λ vs. Fails (write_fields now vs mid) e mid new) left
+    let fails : CallFails (write_fields now (drop n values) mid) e mid new =
+    subst (λ vs. CallFails (write_fields now vs mid) e mid new) left
     (bind_fails (write_tag now value.0 (Ok value.1)) others e mid new (tag_adds now value.0 (Ok value.1) mid) f) in
     subst (λ x. StopsInPart d values e old new x) (sym s) (n, (l, (mid, (h, fails))))
 
@@ -197,13 +197,13 @@ pub whole_entry : (type : «Type») (bytes : List ℕ) (file : FileState) → le
     → write_entry_bytes type bytes file ≡ write_entry (Ok (whole_data type bytes)) file
 unfolding write_entry_bytes write_entry write_entry_bytes_cause write_tag_cause
 whole_entry type bytes file w =
-    let by : Bool → FieldData → Told Field = λ b d.
+    let by : Bool → FieldData → WriteOutcome Field = λ b d.
     by_cause (unless_ended file.fault (cond (not b) (Some (UsageError (MismatchedEntryLength type (length bytes)))) (field_cause file d)))
-    (placed d) file in
+    (placed_field d) file in
     λ i. by (eq-eqb (length bytes % type_size type) 0 w i) (whole_in type bytes w i)
 
 -- bytes that were filled up, cut again
-pub filled_back : (xs : List ℕ) → length xs ≤ 8 → take (length xs) (filled xs) ≡ xs
+pub filled_back : (xs : List ℕ) → length xs ≤ 8 → take (length xs) (filled_field xs) ≡ xs
 filled_back xs l =
     ap (take (length xs)) (sym (filled_whole xs l)) ∙ take-append_seam xs (drop (length xs) (replicate 8 0))
 
@@ -251,8 +251,8 @@ module _ (v : Tag × FieldData) (tag : Tag) (type : «Type») (len : ℕ) (bytes
   kept_told field old new l w m h t = subst (λ told. IsTold told (Ok field) new) (kept_entry old l w m h) t
 
   pub kept_fails : (e : TiffError) (old new : FileState) → len ≤ 8 → length bytes ≡ 8 → len % type_size type ≡ 0 → kept ≡ v
-      → Fails (write_entry_bytes type (take len bytes) old) e old new → Fails (write_entry (Ok v.1) old) e old new
-  kept_fails e old new l w m h f = subst (λ told. Fails told e old new) (kept_entry old l w m h) f
+      → CallFails (write_entry_bytes type (take len bytes) old) e old new → CallFails (write_entry (Ok v.1) old) e old new
+  kept_fails e old new l w m h f = subst (λ told. CallFails told e old new) (kept_entry old l w m h) f
 
 -- ---- two parts of an array
 

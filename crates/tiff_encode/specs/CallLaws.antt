@@ -9,17 +9,17 @@ use Rattle.tiff_encode.specs.Model.{Model, IsLink}
 use Rattle.tiff_encode.specs.Laws.{AreListable, DeedsFit}
 use Rattle.tiff_encode.specs.Machine.{FileState, OpenDirectory, OpenImage, Writing}
 use Rattle.tiff_encode.specs.Causes.{end_of, field_cause}
-use Rattle.tiff_encode.specs.Calls.{Offsets, placed, finish, new_image, extra_samples, set_rows_per_strip, tiles, planar, resolution, x_resolution, y_resolution, resolution_unit, write_strip, write_chunk, finish_image}
+use Rattle.tiff_encode.specs.Calls.{Offsets, placed_field, finish, new_image, extra_samples, set_rows_per_strip, tiles, planar, resolution, x_resolution, y_resolution, resolution_unit, write_strip, write_chunk, finish_image}
 
 -- a value that is handed in, and not refused
 abbrev pub PlacedFits : Type 0
 PlacedFits = (file : FileState) (m : Model) (value : FieldData) → IsWhole value → field_cause file value ≡ None
-    → end_of file < 2 ^ 64 → length value.bytes < 2 ^ 64 → DeedsFit file.kind file.bytes m (placed value file).deeds
+    → end_of file < 2 ^ 64 → length value.bytes < 2 ^ 64 → DeedsFit file.kind file.bytes m (placed_field value file).deeds
 
 -- the end of a directory, whose parent is a link
 abbrev pub FinishFits : Type 0
 FinishFits = (file : FileState) (m : Model) (d : OpenDirectory) → AreListable file.kind d.fields
-    → ((place : ℕ) → d.parent ≡ Some place → IsLink file.kind m place)
+    → ((offset : ℕ) → d.parent ≡ Some offset → IsLink file.kind m offset)
     → end_of file < 2 ^ 64 → DeedsFit file.kind file.bytes m (finish d file).deeds
 
 -- ---- images
@@ -32,9 +32,9 @@ CallFits call = (file : FileState) (m : Model) (i next : OpenImage) → AreEntri
 
 -- a new image
 abbrev pub NewImageFits : Type 0
-NewImageFits = (file : FileState) (m : Model) (colour : ColorTypeRecord) (size width height : ℕ) (i : OpenImage)
-    → (new_image colour size width height file).answer ≡ Ok i → end_of (new_image colour size width height file).next < 2 ^ 64
-    → DeedsFit file.kind file.bytes m (new_image colour size width height file).deeds × AreEntries i.directory.fields
+NewImageFits = (file : FileState) (m : Model) (color : ColorTypeRecord) (size width height : ℕ) (i : OpenImage)
+    → (new_image color size width height file).answer ≡ Ok i → end_of (new_image color size width height file).next < 2 ^ 64
+    → DeedsFit file.kind file.bytes m (new_image color size width height file).deeds × AreEntries i.directory.fields
 
 abbrev pub SettingsFit : Type 0
 SettingsFit =
@@ -58,5 +58,5 @@ ChunksFit = (count : ℕ) (stored : List ℕ) → CallFits (λ i. write_strip i 
 abbrev pub FinishImageFits : Type 0
 FinishImageFits = (file : FileState) (m : Model) (i : OpenImage) (offsets : Offsets) → AreEntries i.directory.fields
     → (finish_image i file).answer ≡ Ok offsets → end_of (finish_image i file).next < 2 ^ 64
-    → ((place : ℕ) → i.directory.parent ≡ Some place → IsLink file.kind m place)
+    → ((offset : ℕ) → i.directory.parent ≡ Some offset → IsLink file.kind m offset)
     → DeedsFit file.kind file.bytes m (finish_image i file).deeds

@@ -19,17 +19,17 @@ use Rattle.tiff_base.specs.declared.tags.ResolutionUnit.TheVariants as unit
 use Rattle.tiff_base.specs.declared.tags.Tag.{Tag}
 use Rattle.tiff_base.specs.declared.tags.Tag.TheVariants as tag
 use Rattle.tiff_base.specs.declared.tags.«Type».{«Type»}
-use Rattle.tiff_base.specs.Directory.{link_place}
+use Rattle.tiff_base.specs.Directory.{link_offset}
 use Rattle.tiff_base.specs.Field.{Field}
 use Rattle.tiff_base.specs.Tags.{tag_number}
 use Rattle.tiff_value.specs.ColorType.{ColorTypeRecord}
 use Rattle.tiff_encode.specs.declared.encoder.settings.Compression.{Compression}
-use Rattle.tiff_encode.specs.Written.{padding, rows_per_strip}
+use Rattle.tiff_encode.specs.FileBytes.{padding, rows_per_strip}
 use Rattle.tiff_value.specs.Buffer.{BufferRecord}
 use Rattle.tiff_value.specs.Data.{FieldData, Scalars, u16s, u32s, methods, interpretations, planars, predictors, units, formats, extras, rationals, data_of}
-use Rattle.tiff_encode.specs.Value.{places, data_in, buffer_data, is_long, field_at}
+use Rattle.tiff_encode.specs.Value.{offset_values, data_in, buffer_data, is_long, field_at}
 use Rattle.tiff_encode.specs.Deeds.{Deed, Appended, Handed, Listed, Linked}
-use Rattle.tiff_encode.specs.Machine.{FileState, method_of, OpenDirectory, Form, OpenImage, Writing, answers, gives, does, by_cause, ◌>>=◌}
+use Rattle.tiff_encode.specs.Machine.{FileState, compression_method, OpenDirectory, Form, OpenImage, Writing, answers, gives, does, by_cause, ◌>>=◌}
 use Rattle.tiff_encode.specs.Chunks.{all_samples, parts_left}
 use Rattle.tiff_encode.specs.Causes.{begin_cause, write_tag_cause, write_buf_cause, write_entry_bytes_cause, write_data_cause, write_data_buf_cause, finish_cause, offset_cause, new_image_cause, extra_samples_cause, rows_per_strip_cause, tiles_cause, planar_cause, resolution_cause, one_resolution_cause, resolution_unit_cause, write_strip_cause, write_chunk_cause, write_image_data_cause, end_of}
 
@@ -39,13 +39,13 @@ abbrev pub with_predictor : Predictor → FileState → FileState
 with_predictor predictor file = record file { predictor = predictor }
 
 abbrev pub with_compression : Compression → FileState → FileState
-with_compression compression file = record file { method = method_of compression }
+with_compression compression file = record file { method = compression_method compression }
 
 -- ---- directories
 
 -- an open directory with no field
-abbrev pub opened : Option ℕ → Bool → OpenDirectory
-opened parent chained = record { fields = empty; parent = parent; chained = chained }
+abbrev pub new_directory : Option ℕ → Bool → OpenDirectory
+new_directory parent chained = record { fields = empty; parent = parent; chained = chained }
 
 -- to append zeros up to a multiple of 4
 abbrev pub pad : Writing (Unit {0})
@@ -55,13 +55,13 @@ pad file = does (Appended (padding (end_of file)) ∷ []) file
 unfoldable pub image_directory : Writing OpenDirectory
 image_directory file = by_cause (begin_cause file) (do
   _ ← pad
-  gives (opened (Some file.chain) true)) file
+  gives (new_directory (Some file.chain) true)) file
 
 -- `extra_directory`: linked from nowhere yet
 unfoldable pub extra_directory : Writing OpenDirectory
 extra_directory file = by_cause (begin_cause file) (do
   _ ← pad
-  gives (opened None false)) file
+  gives (new_directory None false)) file
 
 -- the directory with a field for a tag, in place of one that it had
 abbrev pub with_field : OpenDirectory → Tag → Field → OpenDirectory
@@ -72,8 +72,8 @@ abbrev pub without_field : OpenDirectory → Tag → OpenDirectory
 without_field d t = record d { fields = remove d.fields (tag_number t) }
 
 -- a value is handed in for a field: its bytes are appended, where they don't fit into the entry
-abbrev pub placed : FieldData → Writing Field
-placed value file =
+abbrev pub placed_field : FieldData → Writing Field
+placed_field value file =
     let field = field_at file.kind (end_of file) value in
     let handed = Handed (record { field = field; bytes = value.bytes }) in
     (do
@@ -84,14 +84,14 @@ placed value file =
 unfoldable pub write_entry : Result FieldData TiffError → Writing Field
 write_entry value file = by_cause (write_tag_cause file value) (do
   known ← answers value
-  placed known) file
+  placed_field known) file
 
 unfoldable pub write_entry_buf : BufferRecord → Writing Field
-write_entry_buf b file = by_cause (write_buf_cause file b) (placed (buffer_data b)) file
+write_entry_buf b file = by_cause (write_buf_cause file b) (placed_field (buffer_data b)) file
 
 unfoldable pub write_entry_bytes : «Type» → List ℕ → Writing Field
 write_entry_bytes type bytes file =
-    by_cause (write_entry_bytes_cause file type bytes) (placed (data_in type bytes)) file
+    by_cause (write_entry_bytes_cause file type bytes) (placed_field (data_in type bytes)) file
 
 -- `write_tag`, `write_tag_buf`: the same, and the directory has the field
 unfoldable pub write_tag : OpenDirectory → Tag → Result FieldData TiffError → Writing OpenDirectory
@@ -104,13 +104,13 @@ write_tag_buf d t b = do
   field ← write_entry_buf b
   gives (with_field d t field)
 
--- bytes are appended, and their place is answered
+-- bytes are appended, and their offset is answered
 abbrev pub appends : List ℕ → Writing ℕ
 appends bytes file = (do
   _ ← does (Appended bytes ∷ [])
   gives (end_of file)) file
 
--- `write_data` of a directory, `write_data_buf`: they answer the place
+-- `write_data` of a directory, `write_data_buf`: they answer the offset
 unfoldable pub write_data : Result FieldData TiffError → Writing ℕ
 write_data value file = by_cause (write_data_cause file value) (do
   known ← answers value
@@ -128,9 +128,9 @@ pub record Offsets : Type 0 where
   pub pointer : ℕ
   pub link : ℕ
 
--- those of a directory at a place of so many entries
+-- those of a directory at an offset of so many entries
 abbrev pub offsets_of : FileKind → ℕ → ℕ → Offsets
-offsets_of kind place count = record { pointer = place; link = link_place kind place count }
+offsets_of kind offset count = record { pointer = offset; link = link_offset kind offset count }
 
 -- what has no cause to be refused
 abbrev pub result_by : {A : Type 0} → Option TiffError → A → Result A TiffError
@@ -145,10 +145,10 @@ new_offset kind pointer count = result_by (offset_cause kind pointer count) (off
 unfoldable pub set_parent : OpenDirectory → Offsets → OpenDirectory
 set_parent d parent = record d { parent = Some parent.link }
 
--- a link is pointed to a place, where there is one
+-- a link is pointed to an offset, where there is one
 abbrev pub links_to : Option ℕ → ℕ → List Deed
-links_to None place = []
-links_to (Some parent) place = Linked parent place ∷ []
+links_to None offset = []
+links_to (Some parent) offset = Linked parent offset ∷ []
 
 -- where the chain's last link stands, after a directory
 abbrev pub chain_after : FileState → Bool → Offsets → FileState
@@ -199,14 +199,14 @@ meaning_tags i =
     ∷ (tag.ImageLength, u32s (i.height ∷ []))
     ∷ (tag.Compression, methods (i.method ∷ []))
     ∷ (tag.Predictor, predictors (i.predictor ∷ []))
-    ∷ (tag.PhotometricInterpretation, interpretations (i.colour.interpretation ∷ []))
+    ∷ (tag.PhotometricInterpretation, interpretations (i.color.interpretation ∷ []))
     ∷ []
 
 -- the rows of a strip, the samples of a pixel, and a resolution that says nothing
 abbrev pub layout_tags : OpenImage → List (Tag × Scalars)
 layout_tags i =
     (tag.RowsPerStrip, u32s (i.form.chunk_height ∷ []))
-    ∷ (tag.SamplesPerPixel, u16s (length i.colour.bits ∷ []))
+    ∷ (tag.SamplesPerPixel, u16s (length i.color.bits ∷ []))
     ∷ (tag.XResolution, rationals ((1, 1) ∷ []))
     ∷ (tag.YResolution, rationals ((1, 1) ∷ []))
     ∷ (tag.ResolutionUnit, units (unit.None ∷ []))
@@ -214,20 +214,20 @@ layout_tags i =
 
 -- the tags that a new image writes, in their order
 unfoldable pub first_tags : OpenImage → List (Tag × Scalars)
-first_tags i = meaning_tags i ++ (chroma_tags i.colour.interpretation ++ layout_tags i)
+first_tags i = meaning_tags i ++ (chroma_tags i.color.interpretation ++ layout_tags i)
 
 -- an image of these sides with no chunk yet, in a directory; `size` is that of a sample in bytes
 abbrev pub image_in : FileState → OpenDirectory → ColorTypeRecord → ℕ → ℕ → ℕ → OpenImage
-image_in file d colour size width height = record {
+image_in file d color size width height = record {
   directory = d;
   width = width;
   height = height;
-  colour = colour;
+  color = color;
   size = size;
   extra = [];
   predictor = file.predictor;
   method = file.method;
-  form = strips_of width (default_rows file.method (width * (length colour.bits * size))) Chunky;
+  form = strips_of width (default_rows file.method (width * (length color.bits * size))) Chunky;
   chunks = [];
 }
 
@@ -237,10 +237,10 @@ with_directory_of i d = record i { directory = d }
 
 -- `new_image`
 unfoldable pub new_image : ColorTypeRecord → ℕ → ℕ → ℕ → Writing OpenImage
-new_image colour size width height file = by_cause (new_image_cause file colour width height) (do
+new_image color size width height file = by_cause (new_image_cause file color width height) (do
   d ← image_directory
-  last ← write_tags d (first_tags (image_in file d colour size width height))
-  gives (image_in file last colour size width height)) file
+  last ← write_tags d (first_tags (image_in file d color size width height))
+  gives (image_in file last color size width height)) file
 
 -- `extra_samples`: the list takes the place of an earlier one
 unfoldable pub extra_samples : OpenImage → List ExtraSamples → Writing OpenImage
@@ -294,13 +294,13 @@ resolution_unit i u file = by_cause (resolution_unit_cause file) (with_tags i ((
 
 -- the image with one more chunk
 abbrev pub with_chunk : OpenImage → ℕ → ℕ → OpenImage
-with_chunk i place stored = record i { chunks = i.chunks ++ (record { place = place; stored = stored }) ∷ [] }
+with_chunk i offset stored = record i { chunks = i.chunks ++ (record { offset = offset; stored = stored }) ∷ [] }
 
 -- a chunk is appended, as these bytes
 abbrev pub appends_chunk : OpenImage → List ℕ → Writing OpenImage
 appends_chunk i stored = do
-  place ← appends stored
-  gives (with_chunk i place (length stored))
+  offset ← appends stored
+  gives (with_chunk i offset (length stored))
 
 -- `write_strip`, `write_chunk`, of so many samples, which are stored as these bytes
 unfoldable pub write_strip : OpenImage → ℕ → List ℕ → Writing OpenImage
@@ -310,9 +310,9 @@ unfoldable pub write_chunk : OpenImage → ℕ → List ℕ → Writing OpenImag
 write_chunk i count stored file = by_cause (write_chunk_cause file i count (length stored)) (appends_chunk i stored) file
 
 -- one more for each extra sample, as the first is
-abbrev pub repeated : {A : Type 0} → List A → ℕ → List A
-repeated [] count = []
-repeated (x ∷ xs) count = (x ∷ xs) ++ replicate count x
+abbrev pub extended_by_first : {A : Type 0} → List A → ℕ → List A
+extended_by_first [] count = []
+extended_by_first (x ∷ xs) count = (x ∷ xs) ++ replicate count x
 
 -- the number of samples is written again where there are extra ones
 abbrev pub sample_tags : OpenImage → List (Tag × Scalars)
@@ -326,10 +326,10 @@ chunk_tags Tile offsets byte_counts = (tag.TileOffsets, offsets) ∷ (tag.TileBy
 -- the tags that the end of an image writes, in their order
 unfoldable pub last_tags : FileKind → OpenImage → List (Tag × Scalars)
 last_tags kind i =
-    (tag.BitsPerSample, u16s (repeated i.colour.bits (length i.extra)))
+    (tag.BitsPerSample, u16s (extended_by_first i.color.bits (length i.extra)))
     ∷ sample_tags i
-    ++ ((tag.SampleFormat, formats (repeated i.colour.formats (length i.extra)))
-    ∷ chunk_tags i.form.chunk_type (places kind (map (λ chunk. chunk.place) i.chunks)) (places kind (map (λ chunk. chunk.stored) i.chunks)))
+    ++ ((tag.SampleFormat, formats (extended_by_first i.color.formats (length i.extra)))
+    ∷ chunk_tags i.form.chunk_type (offset_values kind (map (λ chunk. chunk.offset) i.chunks)) (offset_values kind (map (λ chunk. chunk.stored) i.chunks)))
 
 -- `finish` and `discard` of an image, with chunks missing too: tag by tag, then as of its directory
 unfoldable pub finish_image : OpenImage → Writing Offsets
@@ -353,6 +353,6 @@ write_image_data i samples stored file = by_cause (write_image_data_cause file i
 
 -- `write_image`
 unfoldable pub write_image : ColorTypeRecord → ℕ → ℕ → ℕ → List ℕ → List (List ℕ) → Writing Offsets
-write_image colour size width height samples stored = do
-  i ← new_image colour size width height
+write_image color size width height samples stored = do
+  i ← new_image color size width height
   write_image_data i samples stored

@@ -19,14 +19,14 @@ use Rattle.tiff_base.specs.declared.tags.Predictor.TheVariants as predictor
 use Rattle.tiff_base.specs.declared.tags.SampleFormat.{SampleFormat}
 use Rattle.tiff_base.specs.declared.tags.SampleFormat.TheVariants.{IEEEFP, Void}
 use Rattle.tiff_base.specs.declared.tags.«Type».{«Type»}
-use Rattle.tiff_base.specs.Directory.{link_place}
+use Rattle.tiff_base.specs.Directory.{link_offset}
 use Rattle.tiff_base.specs.Types.{type_size}
 use Rattle.tiff_value.specs.ColorType.{ColorTypeRecord}
 use Rattle.tiff_value.specs.Buffer.{BufferRecord}
 use Rattle.tiff_value.specs.Data.{FieldData, extras, rationals, data_of}
 use Rattle.tiff_page.specs.Counts.{all_chunks}
 use Rattle.tiff_encode.specs.Encoder.{is_too_far}
-use Rattle.tiff_encode.specs.Written.{place_len, resolutions_place}
+use Rattle.tiff_encode.specs.FileBytes.{offset_len, resolutions_offset}
 use Rattle.tiff_encode.specs.Value.{data_in, buffer_data, is_long}
 use Rattle.tiff_encode.specs.Machine.{FileState, OpenDirectory, OpenImage}
 use Rattle.tiff_encode.specs.Chunks.{all_samples, image_page, is_tile, is_begun, is_left, is_in_order, next_chunk_sample_count}
@@ -39,7 +39,7 @@ unless_ended (Some fault) cause = Some (UsageError WriterFailed)
 abbrev pub unless_failed : FileState → Option TiffError → Option TiffError
 unless_failed file cause = unless_ended file.fault cause
 
--- a number that no place, count or length of a kind of file can be: none is too large for a BigTIFF file
+-- a number that no offset, count or length of a kind of file can be: none is too large for a BigTIFF file
 abbrev pub is_past : FileKind → ℕ → Bool
 is_past Classic n = is_too_far n
 is_past Big n = false
@@ -59,7 +59,7 @@ begin_cause file = unless_failed file None
 
 -- ---- fields
 
--- a field: its count; its place, where it stands at one
+-- a field: its count; its offset, where it stands at one
 abbrev pub field_cause : FileState → FieldData → Option TiffError
 field_cause file value =
     if is_past file.kind value.count then Some IntSizeError
@@ -104,10 +104,10 @@ write_data_buf_cause file b = unless_failed file (order_cause b.order None)
 -- the parent's link lies within what was written before
 abbrev pub parent_cause : FileState → Option ℕ → Option TiffError
 parent_cause file None = None
-parent_cause file (Some place) =
-    if nat_lt (end_of file) (place + place_len file.kind) then Some (UsageError ParentNotWritten) else None
+parent_cause file (Some offset) =
+    if nat_lt (end_of file) (offset + offset_len file.kind) then Some (UsageError ParentNotWritten) else None
 
--- `finish`, `finish_with_offsets`, `discard`: the number of entries, a count of one, the directory's place; the parent
+-- `finish`, `finish_with_offsets`, `discard`: the number of entries, a count of one, the directory's offset; the parent
 unfoldable pub finish_cause : FileState → OpenDirectory → Option TiffError
 finish_cause file d =
     unless_failed file
@@ -120,7 +120,7 @@ finish_cause file d =
 unfoldable pub offset_cause : FileKind → ℕ → ℕ → Option TiffError
 offset_cause kind pointer count =
     if is_past kind pointer then Some IntSizeError
-    else if pointer == 0 || nat_le (2 ^ 64) (link_place kind pointer count) then Some (UsageError ZeroIfdPointer)
+    else if pointer == 0 || nat_le (2 ^ 64) (link_offset kind pointer count) then Some (UsageError ZeroIfdPointer)
     else None
 
 -- ---- images
@@ -138,24 +138,24 @@ predictor_cause predictor.None formats rest = rest
 predictor_cause predictor.Horizontal formats rest = if is_not_whole formats then Some (UsageError PredictorIncompatible) else rest
 predictor_cause predictor.FloatingPoint formats rest = Some (UsageError PredictorUnavailable)
 
--- an image of these sides, at the end of a file of this length: the sides; the predictor; a resolution's place, which no
+-- an image of these sides, at the end of a file of this length: the sides; the predictor; a resolution's offset, which no
 -- BigTIFF file needs
 unfoldable pub image_cause : FileKind → ℕ → Predictor → List SampleFormat → ℕ → ℕ → Option TiffError
 image_cause kind end predictor formats width height =
     if width == 0 || height == 0 then Some (FormatError (InvalidDimensions width height))
-    else predictor_cause predictor formats (if is_past kind (resolutions_place end + 8) then Some IntSizeError else None)
+    else predictor_cause predictor formats (if is_past kind (resolutions_offset end + 8) then Some IntSizeError else None)
 
 -- `new_image`
 unfoldable pub new_image_cause : FileState → ColorTypeRecord → ℕ → ℕ → Option TiffError
-new_image_cause file colour width height =
-    unless_failed file (image_cause file.kind (end_of file) file.predictor colour.formats width height)
+new_image_cause file color width height =
+    unless_failed file (image_cause file.kind (end_of file) file.predictor color.formats width height)
 
 -- `extra_samples`
 unfoldable pub extra_samples_cause : FileState → OpenImage → List ExtraSamples → Option TiffError
 extra_samples_cause file i extra =
     unless_failed file
     (if is_begun i then Some (UsageError ReconfiguredAfterImageWrite)
-    else if nat_lt 65535 (length i.colour.bits + length extra) then Some IntSizeError
+    else if nat_lt 65535 (length i.color.bits + length extra) then Some IntSizeError
     else field_cause file (data_of (extras extra)))
 
 -- `rows_per_strip`: tiles have none
@@ -179,7 +179,7 @@ tiles_cause file i width length =
 unfoldable pub planar_cause : FileState → OpenImage → Option TiffError
 planar_cause file i = unless_failed file (if is_begun i then Some (UsageError ReconfiguredAfterImageWrite) else None)
 
--- `resolution`: the place of either of its two, before one is written
+-- `resolution`: the offset of either of its two, before one is written
 unfoldable pub resolution_cause : FileState → Option TiffError
 resolution_cause file = unless_failed file (if is_past file.kind (end_of file + 8) then Some IntSizeError else None)
 

@@ -15,9 +15,9 @@ use Rattle.tiff_encode.specs.Machine.{Form, OpenImage}
 
 -- all samples of a pixel
 abbrev pub all_samples : OpenImage → ℕ
-all_samples i = length i.colour.bits + length i.extra
+all_samples i = length i.color.bits + length i.extra
 
--- YCbCr is written without subsampling; a page of another colour has what is there by default
+-- YCbCr is written without subsampling; a page of another color has what is there by default
 abbrev pub subsampling_of : PhotometricInterpretation → ℕ × ℕ
 subsampling_of YCbCr = (1, 1)
 subsampling_of _ = (2, 2)
@@ -27,19 +27,19 @@ abbrev pub image_page : OpenImage → PageRecord
 image_page i = record {
   width = i.width;
   height = i.height;
-  interpretation = i.colour.interpretation;
+  interpretation = i.color.interpretation;
   method = i.method;
   samples = all_samples i;
   extra = i.extra;
-  format = get_or i.colour.formats 0 Void;
-  depth = get_or i.colour.bits 0 0;
+  format = get_or i.color.formats 0 Void;
+  depth = get_or i.color.bits 0 0;
   predictor = i.predictor;
   planar = i.form.planar;
-  subsampling = subsampling_of i.colour.interpretation;
+  subsampling = subsampling_of i.color.interpretation;
   chunk_type = i.form.chunk_type;
   chunk_width = i.form.chunk_width;
   chunk_height = i.form.chunk_height;
-  offsets = map (λ chunk. chunk.place) i.chunks;
+  offsets = map (λ chunk. chunk.offset) i.chunks;
   byte_counts = map (λ chunk. chunk.stored) i.chunks;
 }
 

@@ -6,12 +6,12 @@ use Rattle.tiff_base.specs.declared.tags.FileKind.{FileKind}
 use Rattle.tiff_base.specs.declared.tags.FileKind.TheVariants.{Classic, Big}
 use Rattle.tiff_base.specs.Field.{Field}
 use Rattle.tiff_base.specs.Number.{le}
-use Rattle.tiff_base.specs.Told.{put}
-use Rattle.tiff_encode.specs.Written.{place_len, directory_bytes}
+use Rattle.tiff_base.specs.SourceAndSink.{put}
+use Rattle.tiff_encode.specs.FileBytes.{offset_len, directory_bytes}
 use Rattle.tiff_encode.specs.Model.{HandedField, Model, with_region, with_handed, with_directory, relinked}
 
 -- what is done to a file: bytes are appended; bytes are handed in for a field, which stand in it or were appended
--- before; a directory is appended, with link 0; the link at a place is pointed to another
+-- before; a directory is appended, with link 0; the link at an offset is pointed to another
 pub data Deed : Type 0 where
   Appended : List ℕ → Deed
   Handed : HandedField → Deed
@@ -23,7 +23,7 @@ abbrev pub after_deed : FileKind → List ℕ → Deed → List ℕ
 after_deed kind bytes (Appended more) = bytes ++ more
 after_deed kind bytes (Handed handed) = bytes
 after_deed kind bytes (Listed fields) = bytes ++ directory_bytes kind fields
-after_deed kind bytes (Linked place target) = put bytes place (le (place_len kind) target)
+after_deed kind bytes (Linked offset target) = put bytes offset (le (offset_len kind) target)
 
 abbrev pub bytes_after : FileKind → List ℕ → List Deed → List ℕ
 bytes_after kind bytes [] = bytes
@@ -35,7 +35,7 @@ all_appended kind [] = []
 all_appended kind (Appended more ∷ deeds) = more ++ all_appended kind deeds
 all_appended kind (Handed handed ∷ deeds) = all_appended kind deeds
 all_appended kind (Listed fields ∷ deeds) = directory_bytes kind fields ++ all_appended kind deeds
-all_appended kind (Linked place target ∷ deeds) = all_appended kind deeds
+all_appended kind (Linked offset target ∷ deeds) = all_appended kind deeds
 
 -- a field as it stands in an entry: in a classic file four bytes of its value field do, filled up by zeros
 abbrev pub standing_field : FileKind → Field → Field
@@ -48,10 +48,10 @@ standing_fields kind fields = from_entries (map (λ entry. (entry.0, standing_fi
 
 -- the model after one deed to a file of so many bytes, and after some
 abbrev pub model_after_deed : FileKind → ℕ → Model → Deed → Model
-model_after_deed kind n m (Appended more) = with_region m (record { place = n; bytes = more })
+model_after_deed kind n m (Appended more) = with_region m (record { offset = n; bytes = more })
 model_after_deed kind n m (Handed handed) = with_handed m handed
-model_after_deed kind n m (Listed fields) = with_directory kind m (record { place = n; fields = standing_fields kind fields })
-model_after_deed kind n m (Linked place target) = relinked kind m place target
+model_after_deed kind n m (Listed fields) = with_directory kind m (record { offset = n; fields = standing_fields kind fields })
+model_after_deed kind n m (Linked offset target) = relinked kind m offset target
 
 abbrev pub model_after : FileKind → List ℕ → Model → List Deed → Model
 model_after kind bytes m [] = m

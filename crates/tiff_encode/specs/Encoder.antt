@@ -6,9 +6,9 @@ use Rattle.tiff_base.specs.declared.error.UsageError.TheVariants.{WriterFailed}
 use Rattle.tiff_base.specs.declared.io.SinkFault.{SinkFault}
 use Rattle.tiff_base.specs.declared.tags.FileKind.{FileKind}
 use Rattle.tiff_base.specs.Number.{le}
-use Rattle.tiff_base.specs.Told.{put, sink_error}
+use Rattle.tiff_base.specs.SourceAndSink.{put, sink_error}
 use Rattle.tiff_encode.specs.Machine.{FileState}
-use Rattle.tiff_encode.specs.Written.{place_len, header_bytes}
+use Rattle.tiff_encode.specs.FileBytes.{offset_len, header_bytes}
 
 -- The sink failed while the header was written: it was left with a beginning of it, one more failure, and its fault.
 pub record HeaderFails {S : Type 0} (kind : FileKind) (told : S → List ℕ) (failures : S → ℕ) (fault : S → Option SinkFault)
@@ -22,18 +22,18 @@ pub record HeaderFails {S : Type 0} (kind : FileKind) (told : S → List ℕ) (f
   pub tells : fault last ≡ Some cause
   pub answer : e ≡ sink_error cause
 
--- a place or a length that a classic file can't hold
+-- an offset or a length that a classic file can't hold
 abbrev pub is_too_far : ℕ → Bool
 is_too_far n = nat_le (2 ^ 32) n
 
 -- An earlier write failed: nothing is done.
-pub record IsStopped (e : TiffError) (old new : FileState) : Type 0 where
+pub record AppendIsStopped (e : TiffError) (old new : FileState) : Type 0 where
   pub fault : e ≡ UsageError WriterFailed
   pub failed : IsSome old.fault
   pub same : new ≡ old
 
 -- The sink failed while this was appended: a beginning of it stands, and nothing is written after it.
-pub record IsCut (appended : List ℕ) (e : TiffError) (old new : FileState) : Type 0 where
+pub record AppendIsCut (appended : List ℕ) (e : TiffError) (old new : FileState) : Type 0 where
   pub fresh : old.fault ≡ None
   pub fault : SinkFault
   pub answer : e ≡ sink_error fault
@@ -45,15 +45,15 @@ pub record IsCut (appended : List ℕ) (e : TiffError) (old new : FileState) : T
     fault = Some fault;
   }
 
--- All was appended, and the sink failed while the link at a place was written: it holds a beginning of the new bytes.
+-- All was appended, and the sink failed while the link at an offset was written: it holds a beginning of the new bytes.
 pub record IsTorn (appended : List ℕ) (parent directory : ℕ) (e : TiffError) (old new : FileState) : Type 0 where
   pub fresh : old.fault ≡ None
   pub fault : SinkFault
   pub answer : e ≡ sink_error fault
   pub count : ℕ
-  pub within : count < place_len old.kind
+  pub within : count < offset_len old.kind
   pub state : new ≡ record old {
-    bytes = put (old.bytes ++ appended) parent (take count (le (place_len old.kind) directory));
+    bytes = put (old.bytes ++ appended) parent (take count (le (offset_len old.kind) directory));
     failures = old.failures + 1;
     fault = Some fault;
   }

@@ -4,13 +4,13 @@ use Rattle.tiff_base.specs.declared.error.TiffError.{TiffError}
 use Rattle.tiff_base.specs.declared.error.TiffError.TheVariants.{OutOfMemory}
 use Rattle.tiff_base.specs.declared.io.SinkFault.{SinkFault}
 use Rattle.tiff_base.specs.Number.{le}
-use Rattle.tiff_base.specs.Told.{put, sink_error}
-use Rattle.tiff_encode.specs.Written.{place_len}
+use Rattle.tiff_base.specs.SourceAndSink.{put, sink_error}
+use Rattle.tiff_encode.specs.FileBytes.{offset_len}
 use Rattle.tiff_encode.specs.Deeds.{Deed, Linked, all_appended}
-use Rattle.tiff_encode.specs.Machine.{FileState, Told}
+use Rattle.tiff_encode.specs.Machine.{FileState, WriteOutcome}
 
 -- The call answers what is told, which may be its refusal, and the file is as told.
-pub record IsTold {A : Type 0} (told : Told A) (r : Result A TiffError) (new : FileState) : Type 0 where
+pub record IsTold {A : Type 0} (told : WriteOutcome A) (r : Result A TiffError) (new : FileState) : Type 0 where
   pub answer : told.answer ≡ r
   pub state : new ≡ told.next
 
@@ -35,14 +35,14 @@ pub record IsTornOff (deeds : List Deed) (e : TiffError) (old new : FileState) :
   pub fault : SinkFault
   pub answer : e ≡ sink_error fault
   pub before : List Deed
-  pub place : ℕ
+  pub offset : ℕ
   pub target : ℕ
-  pub last : deeds ≡ before ++ Linked place target ∷ []
+  pub last : deeds ≡ before ++ Linked offset target ∷ []
   pub count : ℕ
-  pub within : count < place_len old.kind
+  pub within : count < offset_len old.kind
   pub state : new
       ≡ record old {
-        bytes = put (old.bytes ++ all_appended old.kind before) place (take count (le (place_len old.kind) target));
+        bytes = put (old.bytes ++ all_appended old.kind before) offset (take count (le (offset_len old.kind) target));
         failures = old.failures + 1;
         fault = Some fault;
       }
@@ -55,7 +55,7 @@ HasBegun (Err e) (deed ∷ deeds) = Unit {0}
 HasBegun (Ok x) deeds = Unit {0}
 
 -- The encoder itself found no memory: a beginning of what the call appends stands, unused.
-pub record IsShortOfMemory {A : Type 0} (told : Told A) (e : TiffError) (old new : FileState) : Type 0 where
+pub record IsShortOfMemory {A : Type 0} (told : WriteOutcome A) (e : TiffError) (old new : FileState) : Type 0 where
   pub fresh : old.fault ≡ None
   pub fault : e ≡ OutOfMemory
   pub begun : HasBegun told.answer told.deeds
@@ -64,22 +64,22 @@ pub record IsShortOfMemory {A : Type 0} (told : Told A) (e : TiffError) (old new
   pub state : new ≡ record old { bytes = old.bytes ++ take count (all_appended old.kind told.deeds) }
 
 -- Why a call answers a fault: as it is told; or the sink failed; or there was no memory.
-abbrev pub Fails : {A : Type 0} → Told A → TiffError → FileState → FileState → Type 0
-Fails told e old new =
+abbrev pub CallFails : {A : Type 0} → WriteOutcome A → TiffError → FileState → FileState → Type 0
+CallFails told e old new =
     IsTold told (Err e) new
     ⊎ (IsCutOff told.deeds e old new ⊎ (IsTornOff told.deeds e old new ⊎ IsShortOfMemory told e old new))
 
 -- A call's result, seen by view, and the file before and after it.
-abbrev pub Ends : {X Y : Type 0} → (X → Y) → Told Y → Result X TiffError → FileState → FileState → Type 0
+abbrev pub Ends : {X Y : Type 0} → (X → Y) → WriteOutcome Y → Result X TiffError → FileState → FileState → Type 0
 Ends view told (Ok x) old new = IsTold told (Ok (view x)) new
-Ends view told (Err e) old new = Fails told e old new
+Ends view told (Err e) old new = CallFails told e old new
 
 -- The same where it is a fault.
-abbrev pub EndsRefused : {X Y : Type 0} → Told Y → Result X TiffError → FileState → FileState → Type 0
+abbrev pub EndsRefused : {X Y : Type 0} → WriteOutcome Y → Result X TiffError → FileState → FileState → Type 0
 EndsRefused told (Ok x) old new = Unit {0}
-EndsRefused told (Err e) old new = Fails told e old new
+EndsRefused told (Err e) old new = CallFails told e old new
 
 -- The same where the answer is not told on.
-abbrev pub EndsSilently : {X Y : Type 0} → Told Y → Result X TiffError → FileState → FileState → Type 0
+abbrev pub EndsSilently : {X Y : Type 0} → WriteOutcome Y → Result X TiffError → FileState → FileState → Type 0
 EndsSilently {Y = Y} told (Ok x) old new = (y : Y) × IsTold told (Ok y) new
-EndsSilently told (Err e) old new = Fails told e old new
+EndsSilently told (Err e) old new = CallFails told e old new

@@ -20,36 +20,36 @@ use Rattle.tiff_base.specs.declared.tags.Tag.TheVariants as tag
 use Rattle.tiff_base.specs.Color.{num_samples}
 use Rattle.tiff_base.specs.Field.{Field}
 use Rattle.tiff_base.specs.Tags.{tag_number}
-use Rattle.tiff_base.specs.Told.{exactly_at}
+use Rattle.tiff_base.specs.SourceAndSink.{exactly_at}
 use Rattle.tiff_value.specs.declared.encoder.colortype.ColorTypeName.{ColorTypeName}
-use Rattle.tiff_value.specs.ColorTypes.{colour_type, inner_size}
+use Rattle.tiff_value.specs.ColorTypes.{color_type, inner_size}
 use Rattle.tiff_value.specs.Data.{Scalars, u16s, u32s, methods, interpretations, planars, predictors, formats, extras, data_of}
 use Rattle.tiff_value.specs.Packed.{IsStored}
 use Rattle.tiff_ifd.specs.Limits.{unlimited}
 use Rattle.tiff_page.specs.Page.{PageRecord}
 use Rattle.tiff_page.specs.Counts.{all_chunks}
-use Rattle.tiff_page.specs.Layout.{colour_of}
+use Rattle.tiff_page.specs.Layout.{color_of}
 use Rattle.tiff_page.specs.Pixels.{is_short, shown_sample}
-use Rattle.tiff_encode.specs.Written.{place_len}
-use Rattle.tiff_encode.specs.Value.{places}
+use Rattle.tiff_encode.specs.FileBytes.{offset_len}
+use Rattle.tiff_encode.specs.Value.{offset_values}
 use Rattle.tiff_encode.specs.Model.{In, FinishedDirectory, Model, Stands}
 use Rattle.tiff_encode.specs.Deeds.{standing_fields}
 use Rattle.tiff_encode.specs.Machine.{Chunk, OpenImage}
 use Rattle.tiff_encode.specs.Drawn.{IsSide, IsForm}
 use Rattle.tiff_encode.specs.Chunks.{all_samples, image_page, chunk_samples, sample_in}
-use Rattle.tiff_encode.specs.Calls.{repeated}
-use Rattle.tiff_encode.specs.Stored.{chunk_bytes}
+use Rattle.tiff_encode.specs.Calls.{extended_by_first}
+use Rattle.tiff_encode.specs.Stored.{unpacked_chunk}
 use Rattle.tiff_encode.specs.Shows.{Image, Shows, page_at}
 
 -- the tags that a page is read by
-abbrev pub page_tags : List ℕ
-page_tags = map tag_number (tag.ImageWidth ∷ tag.ImageLength ∷ tag.BitsPerSample ∷ tag.Compression
+abbrev pub page_tag_numbers : List ℕ
+page_tag_numbers = map tag_number (tag.ImageWidth ∷ tag.ImageLength ∷ tag.BitsPerSample ∷ tag.Compression
     ∷ tag.PhotometricInterpretation ∷ tag.StripOffsets ∷ tag.SamplesPerPixel ∷ tag.RowsPerStrip
     ∷ tag.StripByteCounts ∷ tag.PlanarConfiguration ∷ tag.Predictor ∷ tag.TileWidth ∷ tag.TileLength
     ∷ tag.TileOffsets ∷ tag.TileByteCounts ∷ tag.ExtraSamples ∷ tag.SampleFormat ∷ tag.ChromaSubsampling ∷ [])
 
 abbrev pub is_page_tag : ℕ → Bool
-is_page_tag n = list_any (λ m. m == n) page_tags
+is_page_tag n = list_any (λ m. m == n) page_tag_numbers
 
 -- ---- what was handed in for tags
 
@@ -71,8 +71,8 @@ HoldsAt m None None = Unit {0}
 HoldsAt m _ _ = ⊥
 
 -- the fields of a directory hold these values at the tags that a page is read by
-abbrev pub Holds : Model → FinMap nat_cmp Field → Given → Type 0
-Holds m fields given = (t : ℕ) → is_page_tag t ≡ true → HoldsAt m (get fields t) (given t)
+abbrev pub HoldsValues : Model → FinMap nat_cmp Field → Given → Type 0
+HoldsValues m fields given = (t : ℕ) → is_page_tag t ≡ true → HoldsAt m (get fields t) (given t)
 
 -- ---- what an image says of itself
 
@@ -93,8 +93,8 @@ ExtraGiven extra given = (given ≡ Some (extras extra)) ⊎ ((extra ≡ []) × 
 -- the rows of a strip, where the strips stand and how many bytes each has there; no tiles
 pub record TellsStrips (kind : FileKind) (i : OpenImage) (given : Given) : Type 0 where
   pub rows : given (tag_number tag.RowsPerStrip) ≡ Some (u32s (i.form.chunk_height ∷ []))
-  pub offsets : given (tag_number tag.StripOffsets) ≡ Some (places kind (map (λ chunk. chunk.place) i.chunks))
-  pub byte_counts : given (tag_number tag.StripByteCounts) ≡ Some (places kind (map (λ chunk. chunk.stored) i.chunks))
+  pub offsets : given (tag_number tag.StripOffsets) ≡ Some (offset_values kind (map (λ chunk. chunk.offset) i.chunks))
+  pub byte_counts : given (tag_number tag.StripByteCounts) ≡ Some (offset_values kind (map (λ chunk. chunk.stored) i.chunks))
   pub no_offsets : given (tag_number tag.TileOffsets) ≡ None
   pub no_byte_counts : given (tag_number tag.TileByteCounts) ≡ None
 
@@ -102,8 +102,8 @@ pub record TellsStrips (kind : FileKind) (i : OpenImage) (given : Given) : Type 
 pub record TellsTiles (kind : FileKind) (i : OpenImage) (given : Given) : Type 0 where
   pub width : given (tag_number tag.TileWidth) ≡ Some (u32s (i.form.chunk_width ∷ []))
   pub height : given (tag_number tag.TileLength) ≡ Some (u32s (i.form.chunk_height ∷ []))
-  pub offsets : given (tag_number tag.TileOffsets) ≡ Some (places kind (map (λ chunk. chunk.place) i.chunks))
-  pub byte_counts : given (tag_number tag.TileByteCounts) ≡ Some (places kind (map (λ chunk. chunk.stored) i.chunks))
+  pub offsets : given (tag_number tag.TileOffsets) ≡ Some (offset_values kind (map (λ chunk. chunk.offset) i.chunks))
+  pub byte_counts : given (tag_number tag.TileByteCounts) ≡ Some (offset_values kind (map (λ chunk. chunk.stored) i.chunks))
   pub no_offsets : given (tag_number tag.StripOffsets) ≡ None
   pub no_byte_counts : given (tag_number tag.StripByteCounts) ≡ None
 
@@ -115,25 +115,25 @@ TellsChunks Tile kind i given = TellsTiles kind i given
 pub record TellsImage (kind : FileKind) (i : OpenImage) (given : Given) : Type 0 where
   pub width : given (tag_number tag.ImageWidth) ≡ Some (u32s (i.width ∷ []))
   pub height : given (tag_number tag.ImageLength) ≡ Some (u32s (i.height ∷ []))
-  pub bits : given (tag_number tag.BitsPerSample) ≡ Some (u16s (repeated i.colour.bits (length i.extra)))
+  pub bits : given (tag_number tag.BitsPerSample) ≡ Some (u16s (extended_by_first i.color.bits (length i.extra)))
   pub packed_by : given (tag_number tag.Compression) ≡ Some (methods (i.method ∷ []))
-  pub interpretation : given (tag_number tag.PhotometricInterpretation) ≡ Some (interpretations (i.colour.interpretation ∷ []))
+  pub interpretation : given (tag_number tag.PhotometricInterpretation) ≡ Some (interpretations (i.color.interpretation ∷ []))
   pub samples : given (tag_number tag.SamplesPerPixel) ≡ Some (u16s (all_samples i ∷ []))
   pub predicted_by : given (tag_number tag.Predictor) ≡ Some (predictors (i.predictor ∷ []))
   pub planar : given (tag_number tag.PlanarConfiguration) ≡ planar_given i.form.planar
   pub extra : ExtraGiven i.extra (given (tag_number tag.ExtraSamples))
-  pub sample_formats : given (tag_number tag.SampleFormat) ≡ Some (formats (repeated i.colour.formats (length i.extra)))
-  pub subsampling : given (tag_number tag.ChromaSubsampling) ≡ chroma_given i.colour.interpretation
+  pub sample_formats : given (tag_number tag.SampleFormat) ≡ Some (formats (extended_by_first i.color.formats (length i.extra)))
+  pub subsampling : given (tag_number tag.ChromaSubsampling) ≡ chroma_given i.color.interpretation
   pub chunks : TellsChunks i.form.chunk_type kind i given
 
 -- ---- an image with all its chunks
 
--- An image as an encoder of a file of a kind makes one, all of whose chunks were written: of a named colour type; with
--- sides; with fewer samples a pixel than 2^16; packed and differenced in a way that is written; and its chunks' places
+-- An image as an encoder of a file of a kind makes one, all of whose chunks were written: of a named color type; with
+-- sides; with fewer samples a pixel than 2^16; packed and differenced in a way that is written; and its chunks' offsets
 -- and lengths are numbers that the kind can hold.
 pub record IsWholeImage (kind : FileKind) (i : OpenImage) : Type 0 where
   pub name : ColorTypeName
-  pub colour : i.colour ≡ colour_type name
+  pub color : i.color ≡ color_type name
   pub size : i.size ≡ inner_size name
   pub wide : IsSide i.width
   pub high : IsSide i.height
@@ -143,24 +143,24 @@ pub record IsWholeImage (kind : FileKind) (i : OpenImage) : Type 0 where
   pub form : IsForm i.width i.form
   pub chunks : length i.chunks ≡ all_chunks (image_page i)
   pub count : all_chunks (image_page i) < 2 ^ 32
-  pub fit : (c : Chunk) → In c i.chunks → (c.place < 256 ^ place_len kind) × (c.stored < 256 ^ place_len kind)
+  pub fit : (c : Chunk) → In c i.chunks → (c.offset < 256 ^ offset_len kind) × (c.stored < 256 ^ offset_len kind)
 
 -- ---- the samples of its chunks
 
 -- the samples of a chunk
-abbrev pub samples_of : List (List ℕ) → ℕ → List ℕ
-samples_of samples k = get_or samples k []
+abbrev pub samples_of_chunk : List (List ℕ) → ℕ → List ℕ
+samples_of_chunk samples k = get_or samples k []
 
 -- Each chunk of an image was handed as many samples as it has, each a number of the bytes of a sample.
 pub record AreHanded (i : OpenImage) (samples : List (List ℕ)) : Type 0 where
-  pub lengths : (k : ℕ) → k < all_chunks (image_page i) → length (samples_of samples k) ≡ chunk_samples (image_page i) k
-  pub small : (k n : ℕ) → get_or (samples_of samples k) n 0 < 256 ^ i.size
+  pub lengths : (k : ℕ) → k < all_chunks (image_page i) → length (samples_of_chunk samples k) ≡ chunk_samples (image_page i) k
+  pub small : (k n : ℕ) → get_or (samples_of_chunk samples k) n 0 < 256 ^ i.size
 
 -- these bytes stand for the samples of a chunk
 abbrev pub StandsFor : OpenImage → List (List ℕ) → ℕ → List ℕ → Type 0
 StandsFor i samples k stored =
     (length stored ≡ slice_index (image_page i).byte_counts k)
-    × IsStored i.method stored (chunk_bytes i (samples_of samples k))
+    × IsStored i.method stored (unpacked_chunk i (samples_of_chunk samples k))
 
 -- the file has bytes that stand for the samples of each chunk
 abbrev pub HasChunks : List ℕ → OpenImage → List (List ℕ) → Type 0
@@ -172,28 +172,28 @@ HasChunks file i samples =
 abbrev pub RegionsHaveChunks : Model → OpenImage → List (List ℕ) → Type 0
 RegionsHaveChunks m i samples =
     (k : ℕ) → k < all_chunks (image_page i)
-    → (stored : List ℕ) × (In (record { place = slice_index (image_page i).offsets k; bytes = stored }) m.regions × StandsFor i samples k stored)
+    → (stored : List ℕ) × (In (record { offset = slice_index (image_page i).offsets k; bytes = stored }) m.regions × StandsFor i samples k stored)
 
 -- an image of these samples
-abbrev pub image_of : OpenImage → List (List ℕ) → Image
-image_of i samples = record { page = image_page i; sample_at = sample_in (image_page i) samples }
+abbrev pub image_with : OpenImage → List (List ℕ) → Image
+image_with i samples = record { page = image_page i; sample_at = sample_in (image_page i) samples }
 
 -- ---- the laws
 
--- The page has a colour, none of its chunks has too few data, and each sample that its colour shows is this one.
+-- The page has a color, none of its chunks has too few data, and each sample that its color shows is this one.
 pub record ShowsSamples (file : List ℕ) (page : PageRecord) (sample_at : ℕ → ℕ → ℕ → ℕ) : Type 0 where
-  pub colour : ColorType
-  pub is_colour : colour_of page ≡ Ok colour
-  pub whole : (chunk : ℕ) → chunk < all_chunks page → is_short file LittleEndian page colour chunk ≡ false
-  pub shows : (x y sample : ℕ) → x < page.width → y < page.height → sample < num_samples colour
+  pub color : ColorType
+  pub is_color : color_of page ≡ Ok color
+  pub whole : (chunk : ℕ) → chunk < all_chunks page → is_short file LittleEndian page color chunk ≡ false
+  pub shows : (x y sample : ℕ) → x < page.width → y < page.height → sample < num_samples color
       → shown_sample file LittleEndian page x y sample ≡ sample_at x y sample
 
 -- a directory that holds what an image says of itself is the image's page
 abbrev pub PageTold : Type 0
 PageTold = (kind : FileKind) (file : List ℕ) (m : Model) (d : FinishedDirectory) (fields : FinMap nat_cmp Field) (given : Given) (i : OpenImage)
-    → Stands kind file m → In d m.directories → d.fields ≡ standing_fields kind fields → Holds m fields given
+    → Stands kind file m → In d m.directories → d.fields ≡ standing_fields kind fields → HoldsValues m fields given
     → IsWholeImage kind i → TellsImage kind i given
-    → page_at kind file d.place unlimited ≡ Ok (image_page i)
+    → page_at kind file d.offset unlimited ≡ Ok (image_page i)
 
 -- chunks that stand for samples show them
 abbrev pub ChunksShow : Type 0
@@ -204,6 +204,6 @@ ChunksShow = (kind : FileKind) (file : List ℕ) (i : OpenImage) (samples : List
 -- what stands and holds an image shows it
 abbrev pub ImagesShow : Type 0
 ImagesShow = (kind : FileKind) (file : List ℕ) (m : Model) (d : FinishedDirectory) (fields : FinMap nat_cmp Field) (given : Given) (i : OpenImage) (samples : List (List ℕ))
-    → Stands kind file m → In d m.directories → d.fields ≡ standing_fields kind fields → Holds m fields given
+    → Stands kind file m → In d m.directories → d.fields ≡ standing_fields kind fields → HoldsValues m fields given
     → IsWholeImage kind i → TellsImage kind i given → AreHanded i samples → RegionsHaveChunks m i samples
-    → Shows kind file d.place (image_of i samples)
+    → Shows kind file d.offset (image_with i samples)

@@ -8,20 +8,20 @@ use Rattle.tiff_base.specs.Field.{AreEntries}
 use Rattle.tiff_value.specs.declared.encoder.colortype.ColorTypeName.{ColorTypeName}
 use Rattle.tiff_value.specs.declared.encoder.colortype.ColorTypeName.TheVariants.{Gray8}
 use Rattle.tiff_value.specs.ColorType.{ColorTypeRecord}
-use Rattle.tiff_value.specs.ColorTypes.{colour_type, inner_size}
+use Rattle.tiff_value.specs.ColorTypes.{color_type, inner_size}
 use Rattle.tiff_encode.specs.Model.{Model, IsLink, Stands, header_link}
-use Rattle.tiff_encode.specs.Machine.{FileState, OpenImage, Told, Writing}
+use Rattle.tiff_encode.specs.Machine.{FileState, OpenImage, WriteOutcome, Writing}
 use Rattle.tiff_encode.specs.Drawn.{IsDrawn}
 use Rattle.tiff_encode.specs.Chunks.{all_samples, image_page, parts_left, sample_in}
 use Rattle.tiff_encode.specs.Causes.{end_of, write_image_data_cause}
 use Rattle.tiff_encode.specs.Calls as calls
 use Rattle.tiff_encode.specs.Calls.{Offsets}
-use Rattle.tiff_encode.specs.Ends.{IsTold, IsCutOff, IsShortOfMemory, Fails, EndsSilently}
+use Rattle.tiff_encode.specs.Ends.{IsTold, IsCutOff, IsShortOfMemory, CallFails, EndsSilently}
 use Rattle.tiff_encode.specs.Leaves.{LeavesTorn}
 use Rattle.tiff_value.specs.Packed.{IsStored}
-use Rattle.tiff_encode.specs.Stored.{AreStored, chunk_bytes}
+use Rattle.tiff_encode.specs.Stored.{AreStored, unpacked_chunk}
 use Rattle.tiff_encode.specs.Shows.{Image, Shows, ShowsFirst, ShowsGray}
-use Rattle.tiff_encode.specs.Held.{image_of}
+use Rattle.tiff_encode.specs.Held.{image_with}
 use Rattle.tiff_encode.specs.Open.{HoldsOpen, model_by}
 
 -- an image of these samples, row by row and pixel by pixel
@@ -55,30 +55,30 @@ WritesWhole i samples r old new =
     × ((length stored ≡ length (parts_left i samples)) × EndsSilently (calls.write_image_data i samples stored old) r old new))
 
 -- Some of them are.
-abbrev pub WritesWithin : {A : Type 0} → OpenImage → List ℕ → Result A TiffError → FileState → FileState → Type 0
-WritesWithin i samples (Ok x) old new = ⊥
-WritesWithin i samples (Err e) old new = StopsWithin i (parts_left i samples) e old new
+abbrev pub WritesSomeChunks : {A : Type 0} → OpenImage → List ℕ → Result A TiffError → FileState → FileState → Type 0
+WritesSomeChunks i samples (Ok x) old new = ⊥
+WritesSomeChunks i samples (Err e) old new = StopsWithin i (parts_left i samples) e old new
 
 -- `write_data` of an image: it is refused for its own cause, and nothing is done; or its chunks are written
 abbrev pub WritesDataBy : {A : Type 0} → Option TiffError → OpenImage → List ℕ → Result A TiffError → FileState → FileState → Type 0
 WritesDataBy (Some cause) i samples r old new = (r ≡ Err cause) × (new ≡ old)
-WritesDataBy None i samples r old new = WritesWhole i samples r old new ⊎ WritesWithin i samples r old new
+WritesDataBy None i samples r old new = WritesWhole i samples r old new ⊎ WritesSomeChunks i samples r old new
 
 abbrev pub WritesImageData : {A : Type 0} → OpenImage → List ℕ → Result A TiffError → FileState → FileState → Type 0
 WritesImageData i samples r old new = WritesDataBy (write_image_data_cause old i (length samples)) i samples r old new
 
 -- an image is not begun
-abbrev pub IsNotBegun : {A B : Type 0} → Told B → Result A TiffError → FileState → FileState → Type 0
-IsNotBegun told (Ok x) old new = ⊥
-IsNotBegun told (Err e) old new = Fails told e old new
+abbrev pub ImageIsNotBegun : {A B : Type 0} → WriteOutcome B → Result A TiffError → FileState → FileState → Type 0
+ImageIsNotBegun told (Ok x) old new = ⊥
+ImageIsNotBegun told (Err e) old new = CallFails told e old new
 
--- `write_image`: an image of a colour type whose samples have so many bytes, and of these sides, is begun, and its samples
+-- `write_image`: an image of a color type whose samples have so many bytes, and of these sides, is begun, and its samples
 -- are written
 abbrev pub WritesImage : {A : Type 0} → ColorTypeRecord → ℕ → ℕ → ℕ → List ℕ → Result A TiffError → FileState → FileState → Type 0
-WritesImage colour size width height samples r old new =
-    IsNotBegun (calls.new_image colour size width height old) r old new
+WritesImage color size width height samples r old new =
+    ImageIsNotBegun (calls.new_image color size width height old) r old new
     ⊎ ((i : OpenImage) × ((mid : FileState)
-    × (IsTold (calls.new_image colour size width height old) (Ok i) mid × WritesImageData i samples r mid new)))
+    × (IsTold (calls.new_image color size width height old) (Ok i) mid × WritesImageData i samples r mid new)))
 
 -- ---- what stands then
 
@@ -86,7 +86,7 @@ WritesImage colour size width height samples r old new =
 abbrev pub LeavesChunk : {A : Type 0} → (OpenImage → ℕ → List ℕ → Writing OpenImage) → OpenImage → List ℕ → Result A TiffError
     → FileState → FileState → OpenImage → Model → Type 0
 LeavesChunk call i samples (Ok x) old new next m =
-    (stored : List ℕ) × (IsStored i.method stored (chunk_bytes i samples)
+    (stored : List ℕ) × (IsStored i.method stored (unpacked_chunk i samples)
     × (IsTold (call i (length samples) stored old) (Ok next) new
     × Stands old.kind new.bytes (model_by old m (call i (length samples) stored old))))
 LeavesChunk call i samples (Err e) old new next m = Stands old.kind new.bytes m
@@ -99,7 +99,7 @@ pub record LeavesWhole (i : OpenImage) (samples : List ℕ) (old new : FileState
   pub told : IsTold (calls.write_image_data i samples stored old) (Ok offsets) new
   pub stands : Stands old.kind new.bytes (model_by old m (calls.write_image_data i samples stored old))
   pub shows : (before : List (List ℕ)) → HoldsOpen old.kind m i before
-      → Shows old.kind new.bytes offsets.pointer (image_of i (before ++ parts_left i samples))
+      → Shows old.kind new.bytes offsets.pointer (image_with i (before ++ parts_left i samples))
 
 -- It was not: what stood stands, but for the parent's link, where that broke off.
 abbrev pub LeavesData : {A : Type 0} → OpenImage → List ℕ → Result A TiffError → FileState → FileState → Model → Type 0
@@ -111,23 +111,23 @@ LeavesData i samples (Err e) old new m =
 -- `finish` and `discard` of an image whose chunks were all written show them
 abbrev pub ShowsFinished : {A : Type 0} → OpenImage → List (List ℕ) → Result A TiffError → FileState → FileState → Type 0
 ShowsFinished i samples (Ok x) old new =
-    (offsets : Offsets) × (IsTold (calls.finish_image i old) (Ok offsets) new × Shows old.kind new.bytes offsets.pointer (image_of i samples))
+    (offsets : Offsets) × (IsTold (calls.finish_image i old) (Ok offsets) new × Shows old.kind new.bytes offsets.pointer (image_with i samples))
 ShowsFinished i samples (Err e) old new = Unit {0}
 
--- A new image was written: it was begun; what stood stands, with what was done; of a named colour type, the page shows the
+-- A new image was written: it was begun; what stood stands, with what was done; of a named color type, the page shows the
 -- samples; it stands behind what stood; the chain's last link points to it; and its own is one at which a next page can be
 -- linked.
-pub record LeavesImage (colour : ColorTypeRecord) (size width height : ℕ) (samples : List ℕ) (old new : FileState) (m : Model) : Type 0 where
+pub record LeavesImage (color : ColorTypeRecord) (size width height : ℕ) (samples : List ℕ) (old new : FileState) (m : Model) : Type 0 where
   pub image : OpenImage
   pub mid : FileState
-  pub begun : IsTold (calls.new_image colour size width height old) (Ok image) mid
+  pub begun : IsTold (calls.new_image color size width height old) (Ok image) mid
   pub stored : List (List ℕ)
   pub offsets : Offsets
   pub told : IsTold (calls.write_image_data image samples stored mid) (Ok offsets) new
   pub after : Model
-  pub after_is : after ≡ model_by mid (model_by old m (calls.new_image colour size width height old)) (calls.write_image_data image samples stored mid)
+  pub after_is : after ≡ model_by mid (model_by old m (calls.new_image color size width height old)) (calls.write_image_data image samples stored mid)
   pub stands : Stands old.kind new.bytes after
-  pub shows : (name : ColorTypeName) → colour ≡ colour_type name → size ≡ inner_size name
+  pub shows : (name : ColorTypeName) → color ≡ color_type name → size ≡ inner_size name
       → Shows old.kind new.bytes offsets.pointer (whole_image image samples)
   pub placed : end_of old ≤ offsets.pointer
   pub linked : after.links old.chain ≡ offsets.pointer
@@ -135,12 +135,12 @@ pub record LeavesImage (colour : ColorTypeRecord) (size width height : ℕ) (sam
 
 -- It was not: what stood stands, but for the chain's link, where that broke off.
 abbrev pub LeavesNewImage : {A : Type 0} → ColorTypeRecord → ℕ → ℕ → ℕ → List ℕ → Result A TiffError → FileState → FileState → Model → Type 0
-LeavesNewImage colour size width height samples (Ok x) old new m = LeavesImage colour size width height samples old new m
-LeavesNewImage colour size width height samples (Err e) old new m =
+LeavesNewImage color size width height samples (Ok x) old new m = LeavesImage color size width height samples old new m
+LeavesNewImage color size width height samples (Err e) old new m =
     Stands old.kind new.bytes m
     ⊎ ((i : OpenImage) × ((mid : FileState) × ((stored : List (List ℕ))
-    × (IsTold (calls.new_image colour size width height old) (Ok i) mid
-    × LeavesTorn (calls.write_image_data i samples stored mid) e mid new (model_by old m (calls.new_image colour size width height old))))))
+    × (IsTold (calls.new_image color size width height old) (Ok i) mid
+    × LeavesTorn (calls.write_image_data i samples stored mid) e mid new (model_by old m (calls.new_image color size width height old))))))
 
 -- ---- the laws
 
@@ -149,40 +149,40 @@ abbrev pub AreNumbers : ℕ → List ℕ → Type 0
 AreNumbers size samples = (n : ℕ) → get_or samples n 0 < 256 ^ size
 
 -- a file is shorter than 2^64 bytes, as each sink is, also one that failed
-abbrev pub IsShort : FileState → Type 0
-IsShort file = end_of file < 2 ^ 64
+abbrev pub IsShortFile : FileState → Type 0
+IsShortFile file = end_of file < 2 ^ 64
 
 -- what stands where the samples of an image were written, or were not
 abbrev pub DataLeaves : Type 0
 DataLeaves = (i : OpenImage) (samples : List ℕ) (r : Result (Unit {0}) TiffError) (old new : FileState) (m : Model)
-    → AreEntries i.directory.fields → AreNumbers i.size samples → IsShort new → Stands old.kind old.bytes m
-    → ((place : ℕ) → i.directory.parent ≡ Some place → IsLink old.kind m place)
+    → AreEntries i.directory.fields → AreNumbers i.size samples → IsShortFile new → Stands old.kind old.bytes m
+    → ((offset : ℕ) → i.directory.parent ≡ Some offset → IsLink old.kind m offset)
     → WritesImageData i samples r old new → LeavesData i samples r old new m
 
 -- the samples that `write_data` hands to the chunks of an image that has none yet are those of the image
 abbrev pub PartsShow : Type 0
 PartsShow = (i : OpenImage) (samples : List ℕ) (x y sample : ℕ)
-    → IsDrawn i.width i.height (length i.colour.bits) (length i.extra) i.form → i.chunks ≡ []
+    → IsDrawn i.width i.height (length i.color.bits) (length i.extra) i.form → i.chunks ≡ []
     → x < i.width → y < i.height → sample < all_samples i
     → sample_in (image_page i) (parts_left i samples) x y sample ≡ (whole_image i samples).sample_at x y sample
 
 -- an image that was written behind a header alone is the first page of its file, which shows its samples
 abbrev pub FirstShown : Type 0
-FirstShown = (colour : ColorTypeRecord) (size width height : ℕ) (samples : List ℕ) (old new : FileState) (m : Model)
-    → old.chain ≡ header_link old.kind → 0 < end_of old → (l : LeavesImage colour size width height samples old new m)
-    → (name : ColorTypeName) → colour ≡ colour_type name → size ≡ inner_size name
+FirstShown = (color : ColorTypeRecord) (size width height : ℕ) (samples : List ℕ) (old new : FileState) (m : Model)
+    → old.chain ≡ header_link old.kind → 0 < end_of old → (l : LeavesImage color size width height samples old new m)
+    → (name : ColorTypeName) → color ≡ color_type name → size ≡ inner_size name
     → ShowsFirst old.kind new.bytes (whole_image l.image samples)
 
 -- so is one of gray samples of 8 bits in a classic file, neither packed nor differenced
 abbrev pub GrayShown : Type 0
 GrayShown = (width height : ℕ) (samples : List ℕ) (old new : FileState) (m : Model)
     → old.kind ≡ Classic → old.chain ≡ header_link Classic → 0 < end_of old → old.method ≡ method.None → old.predictor ≡ predictor.None
-    → LeavesImage (colour_type Gray8) (inner_size Gray8) width height samples old new m → ShowsGray new.bytes width height samples
+    → LeavesImage (color_type Gray8) (inner_size Gray8) width height samples old new m → ShowsGray new.bytes width height samples
 
 -- what stands where a new image was written, or was not
 abbrev pub ImageLeaves : Type 0
-ImageLeaves = (colour : ColorTypeRecord) (size width height : ℕ) (samples : List ℕ) (r : Result (Unit {0}) TiffError)
+ImageLeaves = (color : ColorTypeRecord) (size width height : ℕ) (samples : List ℕ) (r : Result (Unit {0}) TiffError)
     (old new : FileState) (m : Model) → width < 2 ^ 32 → height < 2 ^ 32
-    → (old.method ≡ method.None) ⊎ (old.method ≡ method.PackBits) → AreNumbers size samples → IsShort new
+    → (old.method ≡ method.None) ⊎ (old.method ≡ method.PackBits) → AreNumbers size samples → IsShortFile new
     → Stands old.kind old.bytes m → IsLink old.kind m old.chain
-    → WritesImage colour size width height samples r old new → LeavesNewImage colour size width height samples r old new m
+    → WritesImage color size width height samples r old new → LeavesNewImage color size width height samples r old new m

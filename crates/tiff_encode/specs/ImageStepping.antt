@@ -7,7 +7,7 @@ use Rattle.tiff_encode.specs.declared.encoder.script.StepReply.TheVariants as re
 use Rattle.tiff_encode.specs.Machine.{FileState, OpenImage, Writing}
 use Rattle.tiff_encode.specs.JobValues.{cut_to}
 use Rattle.tiff_encode.specs.Jobs as jobs
-use Rattle.tiff_encode.specs.Stepping.{Draws}
+use Rattle.tiff_encode.specs.Stepping.{DrawMoves}
 
 -- what a call that answers nothing replies
 abbrev pub reply_to : Result (Unit {0}) TiffError → Result StepReply TiffError
@@ -17,15 +17,15 @@ reply_to (Err e) = Err e
 -- `write_strip` and `write_chunk` of the lowest bits of numbers
 abbrev pub StripDraws : OpenImage → List ℕ → Result StepReply TiffError → FileState → FileState → OpenImage → Type 0
 StripDraws i numbers r =
-    Draws i (λ s before t after. jobs.StripsIfFound before (cut_to before.image.size numbers) r s t after) true
+    DrawMoves i (λ s before t after. jobs.StripStepIfFound before (cut_to before.image.size numbers) r s t after) true
 
 abbrev pub ChunkDraws : OpenImage → List ℕ → Result StepReply TiffError → FileState → FileState → OpenImage → Type 0
 ChunkDraws i numbers r =
-    Draws i (λ s before t after. jobs.ChunksIfFound before (cut_to before.image.size numbers) r s t after) true
+    DrawMoves i (λ s before t after. jobs.ChunkStepIfFound before (cut_to before.image.size numbers) r s t after) true
 
 -- `resolution`
 abbrev pub ResolutionDraws : OpenImage → ResolutionUnit → ℕ × ℕ → Result StepReply TiffError → FileState → FileState → OpenImage → Type 0
 ResolutionDraws i u value r =
-    Draws i
+    DrawMoves i
     (λ s before t after. (after.samples ≡ before.samples) × jobs.Resolves before.image u value r s t after.image)
     true

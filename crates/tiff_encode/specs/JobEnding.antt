@@ -3,14 +3,14 @@ use Rattle.std.specs.Prelude.{◌≡◌, ℕ, ◌++◌, List, Option, Some}
 use Rattle.tiff_encode.specs.Machine.{OpenImage}
 use Rattle.tiff_encode.specs.Calls.{Offsets}
 use Rattle.tiff_encode.specs.Chunks.{parts_left}
-use Rattle.tiff_encode.specs.Held.{image_of}
+use Rattle.tiff_encode.specs.Held.{image_with}
 use Rattle.tiff_encode.specs.Open.{HoldsOpen}
 use Rattle.tiff_encode.specs.Jobs.{Standing}
 use Rattle.tiff_encode.specs.Stepping.{IsHeld}
 
 -- an image that was held while it was open, with the samples that its chunks had and those that the rest of them get
 abbrev pub DataHeld : OpenImage → List ℕ → Standing → Standing → Option Offsets → Type 0
-DataHeld i samples s t place =
-    (before all : List (List ℕ)) (o : Offsets) → HoldsOpen s.file.kind s.model i before → place ≡ Some o
+DataHeld i samples s t offset =
+    (before all : List (List ℕ)) (o : Offsets) → HoldsOpen s.file.kind s.model i before → offset ≡ Some o
     → Some (before ++ parts_left i samples) ≡ Some all
-    → IsHeld t (record { place = o.pointer; image = image_of i all })
+    → IsHeld t (record { offset = o.pointer; image = image_with i all })

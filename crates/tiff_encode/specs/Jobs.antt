@@ -11,7 +11,7 @@ use Rattle.tiff_base.specs.declared.tags.ResolutionUnit.{ResolutionUnit}
 use Rattle.tiff_base.specs.declared.tags.Tag.{Tag}
 use Rattle.tiff_base.specs.Field.{Field}
 use Rattle.tiff_base.specs.Tags.{tag_number}
-use Rattle.tiff_value.specs.ColorTypes.{colour_type, inner_size}
+use Rattle.tiff_value.specs.ColorTypes.{color_type, inner_size}
 use Rattle.tiff_value.specs.Data.{Scalars}
 use Rattle.tiff_encode.specs.declared.encoder.script.DirectoryStep.{DirectoryStep}
 use Rattle.tiff_encode.specs.declared.encoder.script.DirectoryStep.TheVariants as step
@@ -34,15 +34,15 @@ use Rattle.tiff_encode.specs.Model.{Model, In, Stands, header_model, relinked}
 use Rattle.tiff_encode.specs.Shows.{Image, Shows}
 use Rattle.tiff_encode.specs.Encoder.{HeaderFails}
 use Rattle.tiff_encode.specs.Deeds.{model_after}
-use Rattle.tiff_encode.specs.Machine.{FileState, OpenDirectory, OpenImage, Told, Writing, begun}
+use Rattle.tiff_encode.specs.Machine.{FileState, OpenDirectory, OpenImage, WriteOutcome, Writing, begun_file}
 use Rattle.tiff_encode.specs.Chunks.{is_left, next_chunk_sample_count, next_strip_sample_count, parts_left}
 use Rattle.tiff_encode.specs.Causes.{resolution_cause, write_chunk_cause, write_strip_cause, write_image_data_cause}
 use Rattle.tiff_encode.specs.Calls as calls
 use Rattle.tiff_encode.specs.Calls.{Offsets}
 use Rattle.tiff_encode.specs.Ends.{IsTold, IsCutOff, IsTornOff, IsShortOfMemory}
-use Rattle.tiff_encode.specs.Stored.{AreStored, chunk_bytes}
+use Rattle.tiff_encode.specs.Stored.{AreStored, unpacked_chunk}
 use Rattle.tiff_value.specs.Packed.{IsStored}
-pub use Rattle.tiff_encode.specs.Held.{page_tags, is_page_tag, image_of}
+pub use Rattle.tiff_encode.specs.Held.{page_tag_numbers, is_page_tag, image_with}
 use Rattle.tiff_encode.specs.JobValues.{value_data, buffer_in, cut_to}
 
 -- a file, and the model of what was written into it
@@ -51,31 +51,31 @@ pub record Standing : Type 0 where
   pub model : Model
 
 -- The call answers what is told; what it did stands.
-pub record IsDone {A : Type 0} (told : Told A) (r : Result A TiffError) (old new : Standing) : Type 0 where
+pub record IsDone {A : Type 0} (told : WriteOutcome A) (r : Result A TiffError) (old new : Standing) : Type 0 where
   pub ended : IsTold told r new.file
   pub model : new.model ≡ model_after old.file.kind old.file.bytes old.model told.deeds
 
 -- The sink failed while a link was patched: its field holds some number, and all that was done before stands, the new
 -- directory with link 0 too.
-pub record IsTornAway {A : Type 0} (told : Told A) (e : TiffError) (old new : Standing) : Type 0 where
+pub record IsTornAway {A : Type 0} (told : WriteOutcome A) (e : TiffError) (old new : Standing) : Type 0 where
   pub torn : IsTornOff told.deeds e old.file new.file
   pub holds : ℕ
-  pub model : new.model ≡ relinked old.file.kind (model_after old.file.kind old.file.bytes old.model torn.before) torn.place holds
+  pub model : new.model ≡ relinked old.file.kind (model_after old.file.kind old.file.bytes old.model torn.before) torn.offset holds
 
 -- The sink failed while the call appended: what stood stands.
-abbrev pub IsCutShort : {A : Type 0} → Told A → TiffError → Standing → Standing → Type 0
+abbrev pub IsCutShort : {A : Type 0} → WriteOutcome A → TiffError → Standing → Standing → Type 0
 IsCutShort told e old new = (new.model ≡ old.model) × IsCutOff told.deeds e old.file new.file
 
 -- There was no memory: what stood stands.
-abbrev pub IsWithoutMemory : {A : Type 0} → Told A → TiffError → Standing → Standing → Type 0
+abbrev pub IsWithoutMemory : {A : Type 0} → WriteOutcome A → TiffError → Standing → Standing → Type 0
 IsWithoutMemory told e old new = (new.model ≡ old.model) × IsShortOfMemory told e old.file new.file
 
 -- The call is refused, as it is told: what stood stands.
-abbrev pub IsRefused : {A : Type 0} → Told A → TiffError → Standing → Standing → Type 0
+abbrev pub IsRefused : {A : Type 0} → WriteOutcome A → TiffError → Standing → Standing → Type 0
 IsRefused told e old new = (new.model ≡ old.model) × IsTold told (Err e) new.file
 
 -- The call answers a fault: its cause; or the sink's, or want of memory.
-abbrev pub Refuses : {A : Type 0} → Told A → TiffError → Standing → Standing → Type 0
+abbrev pub Refuses : {A : Type 0} → WriteOutcome A → TiffError → Standing → Standing → Type 0
 Refuses told e old new =
     IsRefused told e old new
     ⊎ (IsTornAway told e old new ⊎ (IsCutShort told e old new ⊎ IsWithoutMemory told e old new))
@@ -124,8 +124,8 @@ pub record Drawn : Type 0 where
   pub samples : List (List ℕ)
 
 -- a call that gives what is open then, of an image: its chunks and their samples stay
-abbrev pub Draws : (OpenImage → Writing OpenImage) → Drawn → Result StepReply TiffError → Standing → Standing → Drawn → Type 0
-Draws call i r old new t = (t.samples ≡ i.samples) × Changes (call i.image) i.image r old new t.image
+abbrev pub DrawStep : (OpenImage → Writing OpenImage) → Drawn → Result StepReply TiffError → Standing → Standing → Drawn → Type 0
+DrawStep call i r old new t = (t.samples ≡ i.samples) × Changes (call i.image) i.image r old new t.image
 
 -- `resolution` was refused for memory, or by the sink, between its three tags: the first ones of them stand
 abbrev pub ResolvesInPart : OpenImage → List (Tag × Scalars) → TiffError → Standing → Standing → OpenImage → Type 0
@@ -146,12 +146,12 @@ module _ (call : OpenImage → ℕ → List ℕ → Writing OpenImage) where
   -- memory for them, and nothing is done.
   abbrev pub Stores : OpenImage → List ℕ → Result StepReply TiffError → Standing → Standing → OpenImage → Type 0
   Stores i samples (Ok reply.Nothing) old new t =
-      (stored : List ℕ) × (IsStored i.method stored (chunk_bytes i samples)
+      (stored : List ℕ) × (IsStored i.method stored (unpacked_chunk i samples)
       × IsDone (call i (length samples) stored old.file) (Ok t) old new)
   Stores i samples (Ok _) old new t = ⊥
   Stores i samples (Err e) old new t =
       Stays i t × (IsNotCalled e old new
-      ⊎ ((stored : List ℕ) × (IsStored i.method stored (chunk_bytes i samples)
+      ⊎ ((stored : List ℕ) × (IsStored i.method stored (unpacked_chunk i samples)
       × (IsRefused (call i (length samples) stored old.file) e old new
       ⊎ IsCutShort (call i (length samples) stored old.file) e old new))))
 
@@ -160,11 +160,11 @@ module _ (call : OpenImage → ℕ → List ℕ → Writing OpenImage) where
   StoresBy (Some cause) i samples r old new t = (r ≡ Err cause) × (Stays i t × (new ≡ old))
   StoresBy None i samples r old new t = Stores i samples r old new t
 
-abbrev pub Strips : OpenImage → List ℕ → Result StepReply TiffError → Standing → Standing → OpenImage → Type 0
-Strips i samples r old new t = StoresBy calls.write_strip (write_strip_cause old.file i (length samples) 0) i samples r old new t
+abbrev pub StripStep : OpenImage → List ℕ → Result StepReply TiffError → Standing → Standing → OpenImage → Type 0
+StripStep i samples r old new t = StoresBy calls.write_strip (write_strip_cause old.file i (length samples) 0) i samples r old new t
 
-abbrev pub Chunks : OpenImage → List ℕ → Result StepReply TiffError → Standing → Standing → OpenImage → Type 0
-Chunks i samples r old new t = StoresBy calls.write_chunk (write_chunk_cause old.file i (length samples) 0) i samples r old new t
+abbrev pub ChunkStep : OpenImage → List ℕ → Result StepReply TiffError → Standing → Standing → OpenImage → Type 0
+ChunkStep i samples r old new t = StoresBy calls.write_chunk (write_chunk_cause old.file i (length samples) 0) i samples r old new t
 
 -- the samples of a chunk that was written are kept in mind
 abbrev pub samples_after : Result StepReply TiffError → Drawn → List ℕ → List (List ℕ)
@@ -176,13 +176,13 @@ abbrev pub IsUnfound : Result StepReply TiffError → OpenImage → Standing →
 IsUnfound r i old new t = (r ≡ Err OutOfMemory) × (Stays i t × (new ≡ old))
 
 -- a strip or a chunk, where memory for its samples is found
-abbrev pub StripsIfFound : Drawn → List ℕ → Result StepReply TiffError → Standing → Standing → Drawn → Type 0
-StripsIfFound i samples r old new t =
-    (t.samples ≡ samples_after r i samples) × (Strips i.image samples r old new t.image ⊎ IsUnfound r i.image old new t.image)
+abbrev pub StripStepIfFound : Drawn → List ℕ → Result StepReply TiffError → Standing → Standing → Drawn → Type 0
+StripStepIfFound i samples r old new t =
+    (t.samples ≡ samples_after r i samples) × (StripStep i.image samples r old new t.image ⊎ IsUnfound r i.image old new t.image)
 
-abbrev pub ChunksIfFound : Drawn → List ℕ → Result StepReply TiffError → Standing → Standing → Drawn → Type 0
-ChunksIfFound i samples r old new t =
-    (t.samples ≡ samples_after r i samples) × (Chunks i.image samples r old new t.image ⊎ IsUnfound r i.image old new t.image)
+abbrev pub ChunkStepIfFound : Drawn → List ℕ → Result StepReply TiffError → Standing → Standing → Drawn → Type 0
+ChunkStepIfFound i samples r old new t =
+    (t.samples ≡ samples_after r i samples) × (ChunkStep i.image samples r old new t.image ⊎ IsUnfound r i.image old new t.image)
 
 -- a step of an image's directory
 abbrev pub Directs : OpenImage → DirectoryStep → Result StepReply TiffError → Standing → Standing → OpenImage → Type 0
@@ -191,18 +191,18 @@ Directs i s r old new t = (d : OpenDirectory) × ((t ≡ calls.with_directory_of
 -- one step of an image
 abbrev pub ImageStepped : Standing → Drawn → ImageStep → Result StepReply TiffError → Standing → Drawn → Type 0
 ImageStepped old i (istep.Directory s) r new t = (t.samples ≡ i.samples) × Directs i.image s r old new t.image
-ImageStepped old i (istep.ExtraSamples extra) r new t = Draws (λ image. calls.extra_samples image extra.items) i r old new t
-ImageStepped old i (istep.Tiles width length) r new t = Draws (λ image. calls.tiles image width length) i r old new t
-ImageStepped old i istep.Planar r new t = Draws calls.planar i r old new t
+ImageStepped old i (istep.ExtraSamples extra) r new t = DrawStep (λ image. calls.extra_samples image extra.items) i r old new t
+ImageStepped old i (istep.Tiles width length) r new t = DrawStep (λ image. calls.tiles image width length) i r old new t
+ImageStepped old i istep.Planar r new t = DrawStep calls.planar i r old new t
 ImageStepped old i istep.NextStripSampleCount r new t = (r ≡ Ok (reply.Number (next_strip_sample_count i.image))) × ((new ≡ old) × Stays i t)
 ImageStepped old i istep.NextChunkSampleCount r new t = (r ≡ Ok (reply.Number (next_chunk_sample_count i.image))) × ((new ≡ old) × Stays i t)
-ImageStepped old i (istep.WriteStrip samples) r new t = StripsIfFound i (cut_to i.image.size samples.items) r old new t
-ImageStepped old i (istep.WriteChunk samples) r new t = ChunksIfFound i (cut_to i.image.size samples.items) r old new t
+ImageStepped old i (istep.WriteStrip samples) r new t = StripStepIfFound i (cut_to i.image.size samples.items) r old new t
+ImageStepped old i (istep.WriteChunk samples) r new t = ChunkStepIfFound i (cut_to i.image.size samples.items) r old new t
 ImageStepped old i (istep.Resolution u value) r new t = (t.samples ≡ i.samples) × Resolves i.image u (value.n, value.d) r old new t.image
-ImageStepped old i (istep.ResolutionUnit u) r new t = Draws (λ image. calls.resolution_unit image u) i r old new t
-ImageStepped old i (istep.XResolution value) r new t = Draws (λ image. calls.x_resolution image (value.n, value.d)) i r old new t
-ImageStepped old i (istep.YResolution value) r new t = Draws (λ image. calls.y_resolution image (value.n, value.d)) i r old new t
-ImageStepped old i (istep.RowsPerStrip rows) r new t = Draws (λ image. calls.set_rows_per_strip image rows) i r old new t
+ImageStepped old i (istep.ResolutionUnit u) r new t = DrawStep (λ image. calls.resolution_unit image u) i r old new t
+ImageStepped old i (istep.XResolution value) r new t = DrawStep (λ image. calls.x_resolution image (value.n, value.d)) i r old new t
+ImageStepped old i (istep.YResolution value) r new t = DrawStep (λ image. calls.y_resolution image (value.n, value.d)) i r old new t
+ImageStepped old i (istep.RowsPerStrip rows) r new t = DrawStep (λ image. calls.set_rows_per_strip image rows) i r old new t
 
 -- each step has its reply, from where the one before it left what is open
 module _ {S A : Type 0} (Stepped : Standing → S → A → Result StepReply TiffError → Standing → S → Type 0) where
@@ -213,30 +213,30 @@ module _ {S A : Type 0} (Stepped : Standing → S → A → Result StepReply Tif
   AllStepped old s (step ∷ steps) (r ∷ rs) new t =
       (mid : Standing) × ((next : S) × (Stepped old s step r mid next × AllStepped mid next steps rs new t))
 
--- ---- ends: the place of a directory that is finished then
+-- ---- ends: the offset of a directory that is finished then
 
 -- `finish_with_offsets`
-abbrev pub FinishesWith : Told Offsets → Result EndReply TiffError → Standing → Standing → Option Offsets → Type 0
-FinishesWith told (Ok (last.Offsets pointer link)) old new place =
-    let offsets : Offsets = record { pointer = pointer; link = link } in IsDone told (Ok offsets) old new × (place ≡ Some offsets)
-FinishesWith told (Ok last.Nothing) old new place = ⊥
-FinishesWith told (Err e) old new place = Refuses told e old new × (place ≡ None)
+abbrev pub FinishesWith : WriteOutcome Offsets → Result EndReply TiffError → Standing → Standing → Option Offsets → Type 0
+FinishesWith told (Ok (last.Offsets pointer link)) old new offset =
+    let offsets : Offsets = record { pointer = pointer; link = link } in IsDone told (Ok offsets) old new × (offset ≡ Some offsets)
+FinishesWith told (Ok last.Nothing) old new offset = ⊥
+FinishesWith told (Err e) old new offset = Refuses told e old new × (offset ≡ None)
 
 -- `finish` and `discard`, which answer nothing
-abbrev pub FinishesSilently : Told Offsets → Result EndReply TiffError → Standing → Standing → Option Offsets → Type 0
-FinishesSilently told (Ok last.Nothing) old new place = (offsets : Offsets) × (IsDone told (Ok offsets) old new × (place ≡ Some offsets))
-FinishesSilently told (Ok _) old new place = ⊥
-FinishesSilently told (Err e) old new place = Refuses told e old new × (place ≡ None)
+abbrev pub FinishesSilently : WriteOutcome Offsets → Result EndReply TiffError → Standing → Standing → Option Offsets → Type 0
+FinishesSilently told (Ok last.Nothing) old new offset = (offsets : Offsets) × (IsDone told (Ok offsets) old new × (offset ≡ Some offsets))
+FinishesSilently told (Ok _) old new offset = ⊥
+FinishesSilently told (Err e) old new offset = Refuses told e old new × (offset ≡ None)
 
 abbrev pub DirectoryEnds : Standing → OpenDirectory → DirectoryEnd → Result EndReply TiffError → Standing → Option Offsets → Type 0
-DirectoryEnds old d end.Finish r new place = FinishesWith (calls.finish d old.file) r old new place
-DirectoryEnds old d end.Discard r new place = FinishesSilently (calls.finish d old.file) r old new place
+DirectoryEnds old d end.Finish r new offset = FinishesWith (calls.finish d old.file) r old new offset
+DirectoryEnds old d end.Discard r new offset = FinishesSilently (calls.finish d old.file) r old new offset
 
 -- The chunks that are left are all stored, and then the image ends.
 abbrev pub EndsWhole : OpenImage → List ℕ → Result EndReply TiffError → Standing → Standing → Option Offsets → Type 0
-EndsWhole i samples r old new place =
+EndsWhole i samples r old new offset =
     (stored : List (List ℕ)) × (AreStored i (parts_left i samples) stored × ((length stored ≡ length (parts_left i samples))
-    × FinishesSilently (calls.write_image_data i samples stored old.file) r old new place))
+    × FinishesSilently (calls.write_image_data i samples stored old.file) r old new offset))
 
 -- Some chunks are stored: the last of them is refused, or the sink fails; or there is no memory for the next one.
 abbrev pub EndsWithin : OpenImage → List ℕ → Result EndReply TiffError → Standing → Standing → Type 0
@@ -248,30 +248,30 @@ EndsWithin i samples (Err e) old new =
     ⊎ (IsCutShort told e old new ⊎ ((length stored < length (parts_left i samples)) × IsWithoutMemory told e old new)))))
 
 -- `write_data`: it is refused for its own cause, or its chunks are written
-abbrev pub WritesDataBy : Option TiffError → OpenImage → List ℕ → Result EndReply TiffError → Standing → Standing → Option Offsets → Type 0
-WritesDataBy (Some cause) i samples r old new place = (r ≡ Err cause) × ((new ≡ old) × (place ≡ None))
-WritesDataBy None i samples r old new place =
-    EndsWhole i samples r old new place ⊎ (EndsWithin i samples r old new × (place ≡ None))
+abbrev pub JobWritesDataBy : Option TiffError → OpenImage → List ℕ → Result EndReply TiffError → Standing → Standing → Option Offsets → Type 0
+JobWritesDataBy (Some cause) i samples r old new offset = (r ≡ Err cause) × ((new ≡ old) × (offset ≡ None))
+JobWritesDataBy None i samples r old new offset =
+    EndsWhole i samples r old new offset ⊎ (EndsWithin i samples r old new × (offset ≡ None))
 
 abbrev pub WritesData : OpenImage → List ℕ → Result EndReply TiffError → Standing → Standing → Option Offsets → Type 0
-WritesData i samples r old new place = WritesDataBy (write_image_data_cause old.file i (length samples)) i samples r old new place
+WritesData i samples r old new offset = JobWritesDataBy (write_image_data_cause old.file i (length samples)) i samples r old new offset
 
 -- the same, where memory for the samples is found
 abbrev pub WritesDataIfFound : OpenImage → List ℕ → Result EndReply TiffError → Standing → Standing → Option Offsets → Type 0
-WritesDataIfFound i samples r old new place =
-    WritesData i samples r old new place ⊎ ((r ≡ Err OutOfMemory) × ((new ≡ old) × (place ≡ None)))
+WritesDataIfFound i samples r old new offset =
+    WritesData i samples r old new offset ⊎ ((r ≡ Err OutOfMemory) × ((new ≡ old) × (offset ≡ None)))
 
 abbrev pub ImageEnds : Standing → OpenImage → ImageEnd → Result EndReply TiffError → Standing → Option Offsets → Type 0
-ImageEnds old i (iend.WriteData samples) r new place = WritesDataIfFound i (cut_to i.size samples.items) r old new place
-ImageEnds old i iend.Finish r new place = FinishesSilently (calls.finish_image i old.file) r old new place
-ImageEnds old i iend.Discard r new place = FinishesSilently (calls.finish_image i old.file) r old new place
+ImageEnds old i (iend.WriteData samples) r new offset = WritesDataIfFound i (cut_to i.size samples.items) r old new offset
+ImageEnds old i iend.Finish r new offset = FinishesSilently (calls.finish_image i old.file) r old new offset
+ImageEnds old i iend.Discard r new offset = FinishesSilently (calls.finish_image i old.file) r old new offset
 
 -- ---- jobs
 
--- an image that was finished with every chunk, at a place, which shows it: no tag that a page is read by was handed to
+-- an image that was finished with every chunk, at an offset, which shows it: no tag that a page is read by was handed to
 -- its directory
-pub record Finished : Type 0 where
-  pub place : ℕ
+pub record FinishedImage : Type 0 where
+  pub offset : ℕ
   pub image : Image
 
 -- a run of jobs: the file, what was written into it, for each job so far the offsets that its end answered, and the
@@ -279,12 +279,12 @@ pub record Finished : Type 0 where
 pub record Run : Type 0 where
   pub standing : Standing
   pub offsets : List (Option Offsets)
-  pub images : List Finished
+  pub images : List FinishedImage
 
 -- a run that begins on a sink that held these bytes, and of which so many writes failed
-abbrev pub started : FileKind → List ℕ → ℕ → Run
-started kind told failures = record {
-  standing = record { file = begun kind told failures; model = header_model kind };
+abbrev pub new_run : FileKind → List ℕ → ℕ → Run
+new_run kind told failures = record {
+  standing = record { file = begun_file kind told failures; model = header_model kind };
   offsets = [];
   images = [];
 }
@@ -295,8 +295,8 @@ offsets_in (Ok (last.Offsets pointer link)) = Some (record { pointer = pointer; 
 offsets_in _ = None
 
 -- the run after one more job
-abbrev pub ran : Run → Standing → Result EndReply TiffError → List Finished → Run
-ran run standing r images = record { standing = standing; offsets = run.offsets ++ offsets_in r ∷ []; images = images ++ run.images }
+abbrev pub run_after_job : Run → Standing → Result EndReply TiffError → List FinishedImage → Run
+run_after_job run standing r images = record { standing = standing; offsets = run.offsets ++ offsets_in r ∷ []; images = images ++ run.images }
 
 -- the link of the directory of an earlier job, where that answered offsets
 abbrev pub parent_of : Option (Option Offsets) → Result (Option Offsets) TiffError
@@ -308,9 +308,9 @@ named_parent offsets None = Ok None
 named_parent offsets (Some job) = parent_of (slice_get offsets job)
 
 -- the directory with this parent, if one was named
-abbrev pub parented : Option Offsets → OpenDirectory → OpenDirectory
-parented None d = d
-parented (Some offsets) d = calls.set_parent d offsets
+abbrev pub with_parent : Option Offsets → OpenDirectory → OpenDirectory
+with_parent None d = d
+with_parent (Some offsets) d = calls.set_parent d offsets
 
 -- a job that a fault ends before its steps
 abbrev pub IsRefusedAtOnce : TiffError → JobReply → Type 0
@@ -320,38 +320,38 @@ IsRefusedAtOnce e r = (r.steps.items ≡ []) × (r.last ≡ Err e)
 abbrev pub IsSet : (FileState → FileState) → Run → JobReply → Run → Type 0
 IsSet set old r new =
     (r.steps.items ≡ []) × ((r.last ≡ Ok last.Nothing)
-    × (new ≡ ran old (record old.standing { file = set old.standing.file }) r.last []))
+    × (new ≡ run_after_job old (record old.standing { file = set old.standing.file }) r.last []))
 
 abbrev pub open_directory : Bool → Writing OpenDirectory
 open_directory true = calls.image_directory
 open_directory false = calls.extra_directory
 
 -- a directory or an image that isn't begun
-abbrev pub IsNotBegun : {A : Type 0} → Told A → Run → JobReply → Run → Type 0
-IsNotBegun told old r new =
-    (e : TiffError) × ((s : Standing) × (IsRefusedAtOnce e r × (Refuses told e old.standing s × (new ≡ ran old s r.last []))))
+abbrev pub JobIsNotBegun : {A : Type 0} → WriteOutcome A → Run → JobReply → Run → Type 0
+JobIsNotBegun told old r new =
+    (e : TiffError) × ((s : Standing) × (IsRefusedAtOnce e r × (Refuses told e old.standing s × (new ≡ run_after_job old s r.last []))))
 
 -- A directory is begun; its steps are called; it ends.
-pub record DirectoryRuns (told : Told OpenDirectory) (parent : Option Offsets) (j : DirectoryJob) (r : JobReply) (old new : Run) : Type 0 where
+pub record DirectoryRuns (told : WriteOutcome OpenDirectory) (parent : Option Offsets) (j : DirectoryJob) (r : JobReply) (old new : Run) : Type 0 where
   pub first : OpenDirectory
   pub after_begin : Standing
   pub begins : IsDone told (Ok first) old.standing after_begin
   pub final : OpenDirectory
   pub after_steps : Standing
-  pub steps : AllStepped DirectoryStepped after_begin (parented parent first) j.steps.items r.steps.items after_steps final
-  pub place : Option Offsets
+  pub steps : AllStepped DirectoryStepped after_begin (with_parent parent first) j.steps.items r.steps.items after_steps final
+  pub offset : Option Offsets
   pub after_end : Standing
-  pub ends : DirectoryEnds after_steps final j.end r.last after_end place
-  pub state : new ≡ ran old after_end r.last []
+  pub ends : DirectoryEnds after_steps final j.end r.last after_end offset
+  pub state : new ≡ run_after_job old after_end r.last []
 
 abbrev pub DirectoryRan : Run → Option Offsets → DirectoryJob → JobReply → Run → Type 0
 DirectoryRan old parent j r new =
     let told = open_directory j.chained old.standing.file in
-    IsNotBegun told old r new ⊎ DirectoryRuns told parent j r old new
+    JobIsNotBegun told old r new ⊎ DirectoryRuns told parent j r old new
 
 abbrev pub DirectoryRanBy : Run → Result (Option Offsets) TiffError → DirectoryJob → JobReply → Run → Type 0
 DirectoryRanBy old (Ok parent) j r new = DirectoryRan old parent j r new
-DirectoryRanBy old (Err e) j r new = IsRefusedAtOnce e r × (new ≡ ran old old.standing r.last [])
+DirectoryRanBy old (Err e) j r new = IsRefusedAtOnce e r × (new ≡ run_after_job old old.standing r.last [])
 
 -- Whether a step handed no such tag to its image's directory: it hands none, or it was refused; of fields that a
 -- directory is extended with the first ones are in after a refusal.
@@ -371,30 +371,30 @@ ended_samples i (iend.WriteData samples) = Some (i.samples ++ parts_left i.image
 ended_samples i _ = if is_left i.image then None else Some i.samples
 
 -- the images that an end adds: one that is finished with every chunk, and whose page tags are its own
-abbrev pub images_at : Option Offsets → Option (List (List ℕ)) → OpenImage → List Finished
-images_at (Some offsets) (Some samples) i = record { place = offsets.pointer; image = image_of i samples } ∷ []
+abbrev pub images_at : Option Offsets → Option (List (List ℕ)) → OpenImage → List FinishedImage
+images_at (Some offsets) (Some samples) i = record { offset = offsets.pointer; image = image_with i samples } ∷ []
 images_at _ _ i = []
 
-abbrev pub job_images : List ImageStep → List (Result StepReply TiffError) → ImageEnd → Drawn → Option Offsets → List Finished
-job_images steps replies e i place = if are_apart steps replies then images_at place (ended_samples i e) i.image else []
+abbrev pub job_images : List ImageStep → List (Result StepReply TiffError) → ImageEnd → Drawn → Option Offsets → List FinishedImage
+job_images steps replies e i offset = if are_apart steps replies then images_at offset (ended_samples i e) i.image else []
 
 -- An image is begun; its steps are called; it ends.
-pub record ImageRuns (told : Told OpenImage) (j : ImageJob) (r : JobReply) (old new : Run) : Type 0 where
+pub record ImageRuns (told : WriteOutcome OpenImage) (j : ImageJob) (r : JobReply) (old new : Run) : Type 0 where
   pub first : OpenImage
   pub after_begin : Standing
   pub begins : IsDone told (Ok first) old.standing after_begin
   pub final : Drawn
   pub after_steps : Standing
   pub steps : AllStepped ImageStepped after_begin (record { image = first; samples = [] }) j.steps.items r.steps.items after_steps final
-  pub place : Option Offsets
+  pub offset : Option Offsets
   pub after_end : Standing
-  pub ends : ImageEnds after_steps final.image j.end r.last after_end place
-  pub state : new ≡ ran old after_end r.last (job_images j.steps.items r.steps.items j.end final place)
+  pub ends : ImageEnds after_steps final.image j.end r.last after_end offset
+  pub state : new ≡ run_after_job old after_end r.last (job_images j.steps.items r.steps.items j.end final offset)
 
 abbrev pub ImageRan : Run → ImageJob → JobReply → Run → Type 0
 ImageRan old j r new =
-    let told = calls.new_image (colour_type j.colour) (inner_size j.colour) j.width j.height old.standing.file in
-    IsNotBegun told old r new ⊎ ImageRuns told j r old new
+    let told = calls.new_image (color_type j.color) (inner_size j.color) j.width j.height old.standing.file in
+    JobIsNotBegun told old r new ⊎ ImageRuns told j r old new
 
 -- one job
 abbrev pub JobRan : Run → Job → JobReply → Run → Type 0
@@ -404,11 +404,11 @@ JobRan old (job.Directory j) r new = DirectoryRanBy old (named_parent old.offset
 JobRan old (job.Image j) r new = ImageRan old j r new
 
 -- each job has its reply, from where the one before it left the run
-abbrev pub Jobs : Run → List Job → List JobReply → Run → Type 0
-Jobs old [] [] new = new ≡ old
-Jobs old [] (r ∷ rs) new = ⊥
-Jobs old (j ∷ js) [] new = ⊥
-Jobs old (j ∷ js) (r ∷ rs) new = (mid : Run) × (JobRan old j r mid × Jobs mid js rs new)
+abbrev pub JobsRun : Run → List Job → List JobReply → Run → Type 0
+JobsRun old [] [] new = new ≡ old
+JobsRun old [] (r ∷ rs) new = ⊥
+JobsRun old (j ∷ js) [] new = ⊥
+JobsRun old (j ∷ js) (r ∷ rs) new = (mid : Run) × (JobRan old j r mid × JobsRun mid js rs new)
 
 -- what was written stands in the file
 abbrev pub RunStands : Run → Type 0
@@ -416,7 +416,7 @@ RunStands run = Stands run.standing.file.kind run.standing.file.bytes run.standi
 
 -- and each image that was finished with every strip is shown
 abbrev pub RunShows : Run → Type 0
-RunShows run = (f : Finished) → In f run.images → Shows run.standing.file.kind run.standing.file.bytes f.place f.image
+RunShows run = (f : FinishedImage) → In f run.images → Shows run.standing.file.kind run.standing.file.bytes f.offset f.image
 
 -- ---- the writer's half of what this library claims
 
@@ -426,7 +426,7 @@ RunShows run = (f : Finished) → In f run.images → Shows run.standing.file.ki
 pub record LeavesJobs (kind : FileKind) (jobs : List Job) (replies : List JobReply) (told : List ℕ) (failures : ℕ)
     (bytes : List ℕ) (after : ℕ) : Type 0 where
   pub run : Run
-  pub ran_so : Jobs (started kind told failures) jobs replies run
+  pub ran_so : JobsRun (new_run kind told failures) jobs replies run
   pub bytes_are : bytes ≡ run.standing.file.bytes
   pub failures_are : after ≡ run.standing.file.failures
   pub stands : told ≡ [] → RunStands run

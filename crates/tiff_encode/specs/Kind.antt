@@ -3,8 +3,8 @@ use Rattle.std.specs.Prelude.{◌≡◌, ℕ, ◌⊎◌, Bool, true, false, List
 use Rattle.tiff_base.specs.declared.error.TiffError.{TiffError}
 use Rattle.tiff_base.specs.declared.error.TiffError.TheVariants.{IntSizeError}
 use Rattle.tiff_base.specs.declared.tags.FileKind.{FileKind}
-use Rattle.tiff_value.specs.Written.{Written, Writes, moved, IsStopped, IsCut}
-use Rattle.tiff_encode.specs.Written.{place_len, header_bytes}
+use Rattle.tiff_value.specs.Written.{Written, Writes, writer_after, IsStopped, IsCut}
+use Rattle.tiff_encode.specs.FileBytes.{offset_len, header_bytes}
 
 -- a number goes out in these bytes, or where it is past them it is refused and nothing is done
 abbrev pub WritesWithin : {A : Type 0} → Bool → List ℕ → Written → Written → Result A TiffError → Type 0
@@ -15,5 +15,5 @@ WritesWithin false bytes old new result = Writes bytes old new result
 abbrev pub WritesHeader : {A : Type 0} → FileKind → Written → Written → Result A TiffError → Type 0
 WritesHeader kind old new result =
     MatchResult result
-    (λ _. (old.fault ≡ None) × (new ≡ record (moved old (header_bytes kind)) { last = place_len kind }))
+    (λ _. (old.fault ≡ None) × (new ≡ record (writer_after old (header_bytes kind)) { last = offset_len kind }))
     (λ e. IsStopped e old new ⊎ IsCut (header_bytes kind) e old new)

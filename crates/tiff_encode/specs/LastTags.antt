@@ -15,11 +15,11 @@ use Rattle.tiff_value.specs.Data.{Scalars, u16s, formats, data_by, data_of}
 use Rattle.tiff_value.specs.ValueLaws.{each_whole}
 use Rattle.tiff_value.specs.Values.{IsValue}
 use Rattle.tiff_encode.specs.declared.encoder.endings.Part.{Part}
-use Rattle.tiff_encode.specs.declared.encoder.endings.Part.TheVariants.{Place, Stored}
+use Rattle.tiff_encode.specs.declared.encoder.endings.Part.TheVariants.{Offset, Stored}
 use Rattle.tiff_encode.specs.Machine.{Chunk}
-use Rattle.tiff_encode.specs.Value.{places}
-use Rattle.tiff_encode.specs.Written.{place_len}
-use Rattle.tiff_encode.specs.Calls.{repeated, chunk_tags}
+use Rattle.tiff_encode.specs.Value.{offset_values}
+use Rattle.tiff_encode.specs.FileBytes.{offset_len}
+use Rattle.tiff_encode.specs.Calls.{extended_by_first, chunk_tags}
 
 -- the first of a list so many times, if it has one
 abbrev pub more_of : {A : Type 0} → List A → ℕ → List A
@@ -32,16 +32,16 @@ count_tags bits extra = if extra == 0 then [] else (tag.SamplesPerPixel, u16s ((
 
 -- the bits of each sample, and their number
 abbrev pub bits_tags : List ℕ → ℕ → List (Tag × Scalars)
-bits_tags bits extra = (tag.BitsPerSample, u16s (repeated bits extra)) ∷ count_tags bits extra
+bits_tags bits extra = (tag.BitsPerSample, u16s (extended_by_first bits extra)) ∷ count_tags bits extra
 
 -- the same, and the format of each sample
 abbrev pub samples_tags : List ℕ → List SampleFormat → ℕ → List (Tag × Scalars)
-samples_tags bits kinds extra = bits_tags bits extra ++ (tag.SampleFormat, formats (repeated kinds extra)) ∷ []
+samples_tags bits kinds extra = bits_tags bits extra ++ (tag.SampleFormat, formats (extended_by_first kinds extra)) ∷ []
 
 -- a number of a chunk
-abbrev pub part_of : Part → Chunk → ℕ
-part_of Place chunk = chunk.place
-part_of Stored chunk = chunk.stored
+abbrev pub number_of_part : Part → Chunk → ℕ
+number_of_part Offset chunk = chunk.offset
+number_of_part Stored chunk = chunk.stored
 
 -- the tags of the lists of chunks
 abbrev pub list_tags_of : ChunkType → Tag × Tag
@@ -51,17 +51,17 @@ list_tags_of Tile = (tag.TileOffsets, tag.TileByteCounts)
 -- where the chunks stand, and how many bytes each has there
 abbrev pub list_tags : FileKind → ChunkType → List Chunk → List (Tag × Scalars)
 list_tags kind type chunks =
-    chunk_tags type (places kind (map (λ chunk. chunk.place) chunks)) (places kind (map (λ chunk. chunk.stored) chunks))
+    chunk_tags type (offset_values kind (map (λ chunk. chunk.offset) chunks)) (offset_values kind (map (λ chunk. chunk.stored) chunks))
 
--- ---- places as values
+-- ---- offsets as values
 
--- the type of a place
-abbrev pub place_type : FileKind → «Type»
-place_type Classic = LONG
-place_type Big = LONG8
+-- the type of an offset
+abbrev pub offset_type : FileKind → «Type»
+offset_type Classic = LONG
+offset_type Big = LONG8
 
--- places have as many bytes as their count and their type say
-pub places_value : (kind : FileKind) (ns : List ℕ) → IsValue (place_type kind) (length ns) (Ok (data_of (places kind ns)))
+-- offsets have as many bytes as their count and their type say
+pub offsets_value : (kind : FileKind) (ns : List ℕ) → IsValue (offset_type kind) (length ns) (Ok (data_of (offset_values kind ns)))
 unfolding data_of
-places_value Classic ns = (refl, refl, each_whole 4 (le 4) (λ n. refl) ns)
-places_value Big ns = (refl, refl, each_whole 8 (le 8) (λ n. refl) ns)
+offsets_value Classic ns = (refl, refl, each_whole 4 (le 4) (λ n. refl) ns)
+offsets_value Big ns = (refl, refl, each_whole 8 (le 8) (λ n. refl) ns)

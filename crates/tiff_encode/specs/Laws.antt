@@ -6,17 +6,17 @@ use Rattle.tiff_base.specs.declared.tags.FileKind.{FileKind}
 use Rattle.tiff_base.specs.declared.tags.ByteOrder.TheVariants.{LittleEndian}
 use Rattle.tiff_base.specs.Field.{Field}
 use Rattle.tiff_base.specs.Header.{header_at}
-use Rattle.tiff_base.specs.Told.{put}
+use Rattle.tiff_base.specs.SourceAndSink.{put}
 use Rattle.tiff_base.specs.Number.{le}
-use Rattle.tiff_base.specs.FieldBytes.{field_len, field_place}
-use Rattle.tiff_encode.specs.Written.{place_len, count_len, header_bytes, directory_bytes}
+use Rattle.tiff_base.specs.FieldBytes.{field_len, field_offset}
+use Rattle.tiff_encode.specs.FileBytes.{offset_len, count_len, header_bytes, directory_bytes}
 use Rattle.tiff_encode.specs.Deeds.{Deed, Appended, Handed, Listed, Linked, after_deed, bytes_after, all_appended, standing_fields, model_after_deed, model_after}
 use Rattle.tiff_encode.specs.Model.{In, FinishedDirectory, HandedField, Region, Model, header_link, own_link, IsLink, Stands, header_model, relinked, with_directory, with_region, with_handed, Grows}
 
 -- a field that can be an entry
 pub record IsListable (kind : FileKind) (tag : ℕ) (f : Field) : Type 0 where
   pub tag_fits : tag < 2 ^ 16
-  pub count : f.count < 256 ^ place_len kind
+  pub count : f.count < 256 ^ offset_len kind
   pub whole : length f.value ≡ 8
 
 -- fields that can be a directory
@@ -32,53 +32,53 @@ abbrev pub KeptByAppending : Type 0
 KeptByAppending = (kind : FileKind) (m : Model) (file more : List ℕ) → Stands kind file m → Stands kind (file ++ more) m
 
 abbrev pub KeptByPatching : Type 0
-KeptByPatching = (kind : FileKind) (m : Model) (file : List ℕ) (q t : ℕ) → IsLink kind m q → t < 256 ^ place_len kind → Stands kind file m
-    → Stands kind (put file q (le (place_len kind) t)) (relinked kind m q t)
+KeptByPatching = (kind : FileKind) (m : Model) (file : List ℕ) (q t : ℕ) → IsLink kind m q → t < 256 ^ offset_len kind → Stands kind file m
+    → Stands kind (put file q (le (offset_len kind) t)) (relinked kind m q t)
 
 -- a patch that broke off: the link field holds some number, and all else stands
 abbrev pub KeptByTearing : Type 0
-KeptByTearing = (kind : FileKind) (m : Model) (file : List ℕ) (q : ℕ) (over : List ℕ) → IsLink kind m q → length over ≤ place_len kind → Stands kind file m
+KeptByTearing = (kind : FileKind) (m : Model) (file : List ℕ) (q : ℕ) (over : List ℕ) → IsLink kind m q → length over ≤ offset_len kind → Stands kind file m
     → (t : ℕ) × Stands kind (put file q over) (relinked kind m q t)
 
 abbrev pub GrownByRegion : Type 0
 GrownByRegion = (kind : FileKind) (m : Model) (file more : List ℕ) → Stands kind file m
-    → Stands kind (file ++ more) (with_region m (record { place = length file; bytes = more }))
+    → Stands kind (file ++ more) (with_region m (record { offset = length file; bytes = more }))
 
 -- a field whose bytes stand in its entry
 abbrev pub GrownByInline : Type 0
-GrownByInline = (kind : FileKind) (m : Model) (file : List ℕ) (f : Field) → field_len f ≤ place_len kind → Stands kind file m
+GrownByInline = (kind : FileKind) (m : Model) (file : List ℕ) (f : Field) → field_len f ≤ offset_len kind → Stands kind file m
     → Stands kind file (with_handed m (record { field = f; bytes = take (field_len f) f.value }))
 
 -- a field whose bytes are a region
 abbrev pub GrownByPlaced : Type 0
 GrownByPlaced = (kind : FileKind) (m : Model) (file : List ℕ) (f : Field) (r : Region) → In r m.regions
-    → field_place kind LittleEndian f ≡ r.place → field_len f ≡ length r.bytes → place_len kind < field_len f → field_len f < 2 ^ 64
+    → field_offset kind LittleEndian f ≡ r.offset → field_len f ≡ length r.bytes → offset_len kind < field_len f → field_len f < 2 ^ 64
     → Stands kind file m → Stands kind file (with_handed m (record { field = f; bytes = r.bytes }))
 
 -- a directory is appended, and its fields stand as entries
 abbrev pub GrownByListing : Type 0
 GrownByListing = (kind : FileKind) (m : Model) (file : List ℕ) (fields : FinMap nat_cmp Field) → AreListable kind fields → Stands kind file m
-    → Stands kind (file ++ directory_bytes kind fields) (with_directory kind m (record { place = length file; fields = standing_fields kind fields }))
+    → Stands kind (file ++ directory_bytes kind fields) (with_directory kind m (record { offset = length file; fields = standing_fields kind fields }))
 
 -- the step of `finish`: the directory is appended with link 0, then its parent's link is patched
-abbrev pub Finished : Type 0
-Finished = (kind : FileKind) (m : Model) (file : List ℕ) (fields : FinMap nat_cmp Field) (parent : ℕ) → AreListable kind fields
-    → length file < 256 ^ place_len kind → IsLink kind m parent → Stands kind file m
-    → Stands kind (put (file ++ directory_bytes kind fields) parent (le (place_len kind) (length file)))
-    (relinked kind (with_directory kind m (record { place = length file; fields = standing_fields kind fields })) parent (length file))
+abbrev pub FinishStep : Type 0
+FinishStep = (kind : FileKind) (m : Model) (file : List ℕ) (fields : FinMap nat_cmp Field) (parent : ℕ) → AreListable kind fields
+    → length file < 256 ^ offset_len kind → IsLink kind m parent → Stands kind file m
+    → Stands kind (put (file ++ directory_bytes kind fields) parent (le (offset_len kind) (length file)))
+    (relinked kind (with_directory kind m (record { offset = length file; fields = standing_fields kind fields })) parent (length file))
 
 -- ---- deeds
 
 -- bytes that are handed in for a field, which stand in its entry
 pub record InEntry (kind : FileKind) (h : HandedField) : Type 0 where
-  pub short : field_len h.field ≤ place_len kind
+  pub short : field_len h.field ≤ offset_len kind
   pub bytes : h.bytes ≡ take (field_len h.field) h.field.value
 
--- or are a region, at the place that its value field holds
+-- or are a region, at the offset that its value field holds
 pub record AtRegion (kind : FileKind) (h : HandedField) (r : Region) : Type 0 where
-  pub place : field_place kind LittleEndian h.field ≡ r.place
+  pub offset : field_offset kind LittleEndian h.field ≡ r.offset
   pub whole : field_len h.field ≡ length r.bytes
-  pub long : place_len kind < field_len h.field
+  pub long : offset_len kind < field_len h.field
   pub short : field_len h.field < 2 ^ 64
   pub bytes : h.bytes ≡ r.bytes
 
@@ -87,7 +87,7 @@ abbrev pub DeedFits : FileKind → Model → Deed → Type 0
 DeedFits kind m (Appended more) = Unit {0}
 DeedFits kind m (Handed handed) = InEntry kind handed ⊎ ((r : Region) × (In r m.regions × AtRegion kind handed r))
 DeedFits kind m (Listed fields) = AreListable kind fields
-DeedFits kind m (Linked place target) = IsLink kind m place × (target < 256 ^ place_len kind)
+DeedFits kind m (Linked offset target) = IsLink kind m offset × (target < 256 ^ offset_len kind)
 
 -- and some, in their order
 abbrev pub DeedsFit : FileKind → List ℕ → Model → List Deed → Type 0
@@ -115,15 +115,15 @@ AreAppending [] = Unit {0}
 AreAppending (Appended more ∷ deeds) = AreAppending deeds
 AreAppending (Handed handed ∷ deeds) = AreAppending deeds
 AreAppending (Listed fields ∷ deeds) = AreAppending deeds
-AreAppending (Linked place target ∷ deeds) = ⊥
+AreAppending (Linked offset target ∷ deeds) = ⊥
 
 -- all but the last was done, and the last, a link, broke off: its field holds some number, and all else stands, a new
 -- directory too
 abbrev pub DeedsTorn : Type 0
-DeedsTorn = (kind : FileKind) (bytes : List ℕ) (m : Model) (before : List Deed) (place target count : ℕ) → AreAppending before
-    → Stands kind bytes m → DeedsFit kind bytes m (before ++ Linked place target ∷ [])
-    → (t : ℕ) × Stands kind (put (bytes ++ all_appended kind before) place (take count (le (place_len kind) target)))
-    (relinked kind (model_after kind bytes m before) place t)
+DeedsTorn = (kind : FileKind) (bytes : List ℕ) (m : Model) (before : List Deed) (offset target count : ℕ) → AreAppending before
+    → Stands kind bytes m → DeedsFit kind bytes m (before ++ Linked offset target ∷ [])
+    → (t : ℕ) × Stands kind (put (bytes ++ all_appended kind before) offset (take count (le (offset_len kind) target)))
+    (relinked kind (model_after kind bytes m before) offset t)
 
 -- some deeds, and more after them
 abbrev pub DeedsJoin : Type 0
@@ -142,15 +142,15 @@ DeedsAppend = (kind : FileKind) (bytes : List ℕ) (deeds : List Deed) → AreAp
 
 -- the header of a file in which a model stands tells its kind, that it is little-endian, and where its link points to
 abbrev pub FirstTold : Type 0
-FirstTold = (kind : FileKind) (file : List ℕ) (m : Model) (place : ℕ) → Stands kind file m → m.links (header_link kind) ≡ place → 0 < place
-    → header_at file ≡ Ok (record { order = LittleEndian; kind = kind; first = place })
+FirstTold = (kind : FileKind) (file : List ℕ) (m : Model) (offset : ℕ) → Stands kind file m → m.links (header_link kind) ≡ offset → 0 < offset
+    → header_at file ≡ Ok (record { order = LittleEndian; kind = kind; first = offset })
 
 -- ---- two models
 
--- two models that stand in one file agree on the header's link, and on the fields and the link of each place at which
+-- two models that stand in one file agree on the header's link, and on the fields and the link of each offset at which
 -- both have a finished directory
 abbrev pub ModelsAgree : Type 0
 ModelsAgree = (kind : FileKind) (m n : Model) (file : List ℕ) → Stands kind file m → Stands kind file n
     → (m.links (header_link kind) ≡ n.links (header_link kind))
-    × ((d e : FinishedDirectory) → In d m.directories → In e n.directories → d.place ≡ e.place
+    × ((d e : FinishedDirectory) → In d m.directories → In e n.directories → d.offset ≡ e.offset
     → (d.fields ≡ e.fields) × (m.links (own_link kind d) ≡ n.links (own_link kind e)))

@@ -4,17 +4,17 @@ use Rattle.tiff_base.specs.declared.error.TiffError.{TiffError}
 use Rattle.tiff_value.specs.Data.{FieldData, IsWhole}
 use Rattle.tiff_encode.specs.Model.{Model, Stands, relinked}
 use Rattle.tiff_encode.specs.Deeds.{model_after}
-use Rattle.tiff_encode.specs.Machine.{FileState, Told}
+use Rattle.tiff_encode.specs.Machine.{FileState, WriteOutcome}
 use Rattle.tiff_encode.specs.Ends.{IsTornOff}
 
 -- Where a link broke off: all that was done before it stands, and its field holds some number.
-pub record LeavesTorn {A : Type 0} (told : Told A) (e : TiffError) (old new : FileState) (m : Model) : Type 0 where
+pub record LeavesTorn {A : Type 0} (told : WriteOutcome A) (e : TiffError) (old new : FileState) (m : Model) : Type 0 where
   pub torn : IsTornOff told.deeds e old new
   pub holds : ℕ
-  pub stands : Stands old.kind new.bytes (relinked old.kind (model_after old.kind old.bytes m torn.before) torn.place holds)
+  pub stands : Stands old.kind new.bytes (relinked old.kind (model_after old.kind old.bytes m torn.before) torn.offset holds)
 
 -- A call that appends: all that it did stands; where it failed, what stood stands.
-abbrev pub Leaves : {X Y : Type 0} → Told Y → Result X TiffError → FileState → FileState → Model → Type 0
+abbrev pub Leaves : {X Y : Type 0} → WriteOutcome Y → Result X TiffError → FileState → FileState → Model → Type 0
 Leaves told (Ok x) old new m = Stands old.kind new.bytes (model_after old.kind old.bytes m told.deeds)
 Leaves told (Err e) old new m = Stands old.kind new.bytes m
 
@@ -24,7 +24,7 @@ abbrev pub LeavesRefused : {X : Type 0} → Result X TiffError → FileState →
 LeavesRefused (Ok x) old new = Unit {0}
 LeavesRefused (Err e) old new = (m : Model) → Stands old.kind old.bytes m → Stands old.kind new.bytes m
 
-abbrev pub LeavesLinked : {X Y : Type 0} → Told Y → Result X TiffError → FileState → FileState → Model → Type 0
+abbrev pub LeavesLinked : {X Y : Type 0} → WriteOutcome Y → Result X TiffError → FileState → FileState → Model → Type 0
 LeavesLinked told (Ok x) old new m = Stands old.kind new.bytes (model_after old.kind old.bytes m told.deeds)
 LeavesLinked told (Err e) old new m = Stands old.kind new.bytes m ⊎ LeavesTorn told e old new m
 

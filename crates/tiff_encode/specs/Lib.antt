@@ -1,8 +1,8 @@
-pub mod Written
+pub mod FileBytes
 pub mod Model
 pub mod Laws
 pub mod Encoder
-pub mod Steps
+pub mod FileWrites
 pub mod Shows
 pub mod Value
 pub mod Deeds

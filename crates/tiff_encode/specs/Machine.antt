@@ -16,13 +16,13 @@ use Rattle.tiff_encode.specs.declared.encoder.settings.Compression.{Compression}
 use Rattle.tiff_encode.specs.declared.encoder.settings.Compression.TheVariants.{Uncompressed, Packbits}
 pub use Rattle.tiff_encode.specs.declared.encoder.drawing.Form.{Form}
 pub use Rattle.tiff_encode.specs.declared.encoder.drawing.Chunk.{Chunk}
-use Rattle.tiff_encode.specs.Written.{header_mark, header_bytes}
+use Rattle.tiff_encode.specs.FileBytes.{header_mark, header_bytes}
 use Rattle.tiff_encode.specs.Deeds.{Deed, bytes_after}
 
 -- the method by which strips are packed
-abbrev pub method_of : Compression → CompressionMethod
-method_of Uncompressed = method.None
-method_of Packbits = method.PackBits
+abbrev pub compression_method : Compression → CompressionMethod
+compression_method Uncompressed = method.None
+compression_method Packbits = method.PackBits
 
 -- the file of an encoder: its kind, its bytes, how many writes of its sink failed, the fault of the one that ended all
 -- writing, where the last link of the chain stands, and what the next images are written by
@@ -42,13 +42,13 @@ pub record OpenDirectory : Type 0 where
   pub parent : Option ℕ
   pub chained : Bool
 
--- an open image: its directory, its sides, its colour type and the bytes of a sample, its extra samples, how it is
+-- an open image: its directory, its sides, its color type and the bytes of a sample, its extra samples, how it is
 -- packed, how it is cut, and the chunks that were written
 pub record OpenImage : Type 0 where
   pub directory : OpenDirectory
   pub width : ℕ
   pub height : ℕ
-  pub colour : ColorTypeRecord
+  pub color : ColorTypeRecord
   pub size : ℕ
   pub extra : List ExtraSamples
   pub predictor : Predictor
@@ -57,8 +57,8 @@ pub record OpenImage : Type 0 where
   pub chunks : List Chunk
 
 -- a new encoder over a sink that held these bytes
-abbrev pub begun : FileKind → List ℕ → ℕ → FileState
-begun kind told failures = record {
+abbrev pub begun_file : FileKind → List ℕ → ℕ → FileState
+begun_file kind told failures = record {
   kind = kind;
   bytes = told ++ header_bytes kind;
   failures = failures;
@@ -70,14 +70,14 @@ begun kind told failures = record {
 
 -- what a call answers, what it does to the file, and where the file stands then. A fault that is answered is neither
 -- want of memory nor the device's.
-pub record Told (A : Type 0) : Type 0 where
+pub record WriteOutcome (A : Type 0) : Type 0 where
   pub answer : Result A TiffError
   pub deeds : List Deed
   pub next : FileState
 
 -- what is told of a call, by the file that it finds
 abbrev pub Writing : Type 0 → Type 0
-Writing A = FileState → Told A
+Writing A = FileState → WriteOutcome A
 
 -- to answer what is given, and do nothing
 abbrev pub answers : {A : Type 0} → Result A TiffError → Writing A
@@ -91,18 +91,18 @@ abbrev pub does : List Deed → Writing (Unit {0})
 does deeds file = record { answer = Ok tt; deeds = deeds; next = record file { bytes = bytes_after file.kind file.bytes deeds } }
 
 -- the same, with these deeds before
-abbrev pub behind : {A : Type 0} → List Deed → Told A → Told A
-behind deeds told = record { answer = told.answer; deeds = deeds ++ told.deeds; next = told.next }
+abbrev pub after_deeds : {A : Type 0} → List Deed → WriteOutcome A → WriteOutcome A
+after_deeds deeds told = record { answer = told.answer; deeds = deeds ++ told.deeds; next = told.next }
 
 -- what is told goes on with its answer, unless that is a fault
-abbrev pub going_on : {A B : Type 0} → Result A TiffError → List Deed → FileState → (A → Writing B) → Told B
-going_on (Ok x) deeds next rest = behind deeds (rest x next)
-going_on (Err e) deeds next rest = record { answer = Err e; deeds = deeds; next = next }
+abbrev pub and_then : {A B : Type 0} → Result A TiffError → List Deed → FileState → (A → Writing B) → WriteOutcome B
+and_then (Ok x) deeds next rest = after_deeds deeds (rest x next)
+and_then (Err e) deeds next rest = record { answer = Err e; deeds = deeds; next = next }
 
 -- one call, and what follows it where it is not refused
 infixl 10 ◌>>=◌
 abbrev pub ◌>>=◌ : {A B : Type 0} → Writing A → (A → Writing B) → Writing B
-(call >>= rest) file = going_on (call file).answer (call file).deeds (call file).next rest
+(call >>= rest) file = and_then (call file).answer (call file).deeds (call file).next rest
 
 -- a call that is refused for a cause, or done
 abbrev pub by_cause : {A : Type 0} → Option TiffError → Writing A → Writing A

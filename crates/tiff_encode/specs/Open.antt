@@ -18,22 +18,22 @@ use Rattle.tiff_base.specs.Field.{Field}
 use Rattle.tiff_base.specs.Tags.{tag_number}
 use Rattle.tiff_value.specs.declared.encoder.colortype.ColorTypeName.{ColorTypeName}
 use Rattle.tiff_value.specs.Buffer.{BufferRecord}
-use Rattle.tiff_value.specs.ColorTypes.{colour_type, inner_size}
+use Rattle.tiff_value.specs.ColorTypes.{color_type, inner_size}
 use Rattle.tiff_value.specs.Data.{FieldData, u16s, u32s, methods, interpretations, predictors}
 use Rattle.tiff_value.specs.Packed.{IsStored}
 use Rattle.tiff_page.specs.Counts.{all_chunks}
-use Rattle.tiff_encode.specs.Written.{place_len}
+use Rattle.tiff_encode.specs.FileBytes.{offset_len}
 use Rattle.tiff_encode.specs.Model.{In, Model, Stands, Grows}
 use Rattle.tiff_encode.specs.Deeds.{model_after, standing_fields}
-use Rattle.tiff_encode.specs.Machine.{FileState, OpenDirectory, Chunk, OpenImage, Told, Writing}
+use Rattle.tiff_encode.specs.Machine.{FileState, OpenDirectory, Chunk, OpenImage, WriteOutcome, Writing}
 use Rattle.tiff_encode.specs.Drawn.{IsSide, IsForm}
 use Rattle.tiff_encode.specs.Chunks.{all_samples, image_page, chunk_samples, is_left}
 use Rattle.tiff_encode.specs.Causes.{end_of}
 use Rattle.tiff_encode.specs.Calls as calls
 use Rattle.tiff_encode.specs.Calls.{Offsets}
-use Rattle.tiff_encode.specs.Stored.{chunk_bytes}
+use Rattle.tiff_encode.specs.Stored.{unpacked_chunk}
 use Rattle.tiff_encode.specs.Shows.{Shows}
-use Rattle.tiff_encode.specs.Held.{is_page_tag, Given, Holds, chroma_given, planar_given, ExtraGiven, samples_of, StandsFor, TellsImage, IsWholeImage, AreHanded, RegionsHaveChunks, image_of}
+use Rattle.tiff_encode.specs.Held.{is_page_tag, Given, HoldsValues, chroma_given, planar_given, ExtraGiven, samples_of_chunk, StandsFor, TellsImage, IsWholeImage, AreHanded, RegionsHaveChunks, image_with}
 
 -- ---- what an open image has
 
@@ -50,12 +50,12 @@ pub record TellsOpen (i : OpenImage) (given : Given) : Type 0 where
   pub width : given (tag_number tag.ImageWidth) ≡ Some (u32s (i.width ∷ []))
   pub height : given (tag_number tag.ImageLength) ≡ Some (u32s (i.height ∷ []))
   pub packed_by : given (tag_number tag.Compression) ≡ Some (methods (i.method ∷ []))
-  pub interpretation : given (tag_number tag.PhotometricInterpretation) ≡ Some (interpretations (i.colour.interpretation ∷ []))
-  pub samples : given (tag_number tag.SamplesPerPixel) ≡ Some (u16s (length i.colour.bits ∷ []))
+  pub interpretation : given (tag_number tag.PhotometricInterpretation) ≡ Some (interpretations (i.color.interpretation ∷ []))
+  pub samples : given (tag_number tag.SamplesPerPixel) ≡ Some (u16s (length i.color.bits ∷ []))
   pub predicted_by : given (tag_number tag.Predictor) ≡ Some (predictors (i.predictor ∷ []))
   pub planar : given (tag_number tag.PlanarConfiguration) ≡ planar_given i.form.planar
   pub extra : ExtraGiven i.extra (given (tag_number tag.ExtraSamples))
-  pub subsampling : given (tag_number tag.ChromaSubsampling) ≡ chroma_given i.colour.interpretation
+  pub subsampling : given (tag_number tag.ChromaSubsampling) ≡ chroma_given i.color.interpretation
   pub form : TellsForm i.form.chunk_type i given
   pub no_strips : given (tag_number tag.StripOffsets) ≡ None
   pub no_strip_counts : given (tag_number tag.StripByteCounts) ≡ None
@@ -65,7 +65,7 @@ pub record TellsOpen (i : OpenImage) (given : Given) : Type 0 where
 -- The sides, the samples, the packing and the cut of an image are such as an encoder makes.
 pub record IsOpen (i : OpenImage) : Type 0 where
   pub name : ColorTypeName
-  pub colour : i.colour ≡ colour_type name
+  pub color : i.color ≡ color_type name
   pub size : i.size ≡ inner_size name
   pub wide : IsSide i.width
   pub high : IsSide i.height
@@ -80,28 +80,28 @@ pub record HoldsChunks (kind : FileKind) (m : Model) (i : OpenImage) (samples : 
   pub as_many : length samples ≡ length i.chunks
   pub within : length i.chunks ≤ all_chunks (image_page i)
   pub few : 0 < length i.chunks → all_chunks (image_page i) < 2 ^ 32
-  pub lengths : (k : ℕ) → k < length i.chunks → length (samples_of samples k) ≡ chunk_samples (image_page i) k
-  pub small : (k n : ℕ) → get_or (samples_of samples k) n 0 < 256 ^ i.size
+  pub lengths : (k : ℕ) → k < length i.chunks → length (samples_of_chunk samples k) ≡ chunk_samples (image_page i) k
+  pub small : (k n : ℕ) → get_or (samples_of_chunk samples k) n 0 < 256 ^ i.size
   pub regions : (k : ℕ) → k < length i.chunks
-      → (stored : List ℕ) × (In (record { place = slice_index (image_page i).offsets k; bytes = stored }) m.regions × StandsFor i samples k stored)
-  pub fit : (c : Chunk) → In c i.chunks → (c.place < 256 ^ place_len kind) × (c.stored < 256 ^ place_len kind)
+      → (stored : List ℕ) × (In (record { offset = slice_index (image_page i).offsets k; bytes = stored }) m.regions × StandsFor i samples k stored)
+  pub fit : (c : Chunk) → In c i.chunks → (c.offset < 256 ^ offset_len kind) × (c.stored < 256 ^ offset_len kind)
 
 -- The model holds an image that is open, whose chunks so far were handed these samples.
 pub record HoldsOpen (kind : FileKind) (m : Model) (i : OpenImage) (samples : List (List ℕ)) : Type 0 where
   pub given : Given
-  pub holds : Holds m i.directory.fields given
+  pub holds : HoldsValues m i.directory.fields given
   pub tells : TellsOpen i given
   pub open_so : IsOpen i
   pub chunks : HoldsChunks kind m i samples
 
--- The model holds an image that has ended with every chunk: a directory that it lists at a place has the values of the
+-- The model holds an image that has ended with every chunk: a directory that it lists at an offset has the values of the
 -- tags of a page, which are those that the image says of itself; its chunks were handed these samples, and regions of the
 -- model stand for them.
-pub record HoldsEnded (kind : FileKind) (m : Model) (i : OpenImage) (samples : List (List ℕ)) (place : ℕ) : Type 0 where
+pub record HoldsEnded (kind : FileKind) (m : Model) (i : OpenImage) (samples : List (List ℕ)) (offset : ℕ) : Type 0 where
   pub fields : FinMap nat_cmp Field
   pub given : Given
-  pub listed : In (record { place = place; fields = standing_fields kind fields }) m.directories
-  pub holds : Holds m fields given
+  pub listed : In (record { offset = offset; fields = standing_fields kind fields }) m.directories
+  pub holds : HoldsValues m fields given
   pub whole : IsWholeImage kind i
   pub tells : TellsImage kind i given
   pub handed : AreHanded i samples
@@ -110,15 +110,15 @@ pub record HoldsEnded (kind : FileKind) (m : Model) (i : OpenImage) (samples : L
 -- ---- the laws
 
 -- the model after what a call did
-abbrev pub model_by : {A : Type 0} → FileState → Model → Told A → Model
+abbrev pub model_by : {A : Type 0} → FileState → Model → WriteOutcome A → Model
 model_by file m told = model_after file.kind file.bytes m told.deeds
 
 -- a new image is held
 abbrev pub BeginsOpen : Type 0
 BeginsOpen = (file : FileState) (m : Model) (name : ColorTypeName) (width height : ℕ) (i : OpenImage)
     → width < 2 ^ 32 → height < 2 ^ 32 → (file.method ≡ method.None) ⊎ (file.method ≡ method.PackBits)
-    → (calls.new_image (colour_type name) (inner_size name) width height file).answer ≡ Ok i
-    → HoldsOpen file.kind (model_by file m (calls.new_image (colour_type name) (inner_size name) width height file)) i []
+    → (calls.new_image (color_type name) (inner_size name) width height file).answer ≡ Ok i
+    → HoldsOpen file.kind (model_by file m (calls.new_image (color_type name) (inner_size name) width height file)) i []
 
 -- what holds it still holds it when more is written
 abbrev pub GrownOpen : Type 0
@@ -164,7 +164,7 @@ FieldsKeepOpen = (kind : FileKind) (m : Model) (i : OpenImage) (samples : List (
 abbrev pub ChunksKeepOpen : Type 0
 ChunksKeepOpen = (file : FileState) (m : Model) (i next : OpenImage) (samples : List (List ℕ)) (numbers stored : List ℕ)
     → HoldsOpen file.kind m i samples → ((n : ℕ) → get_or numbers n 0 < 256 ^ i.size) → length numbers < 2 ^ 64 - 1
-    → IsStored i.method stored (chunk_bytes i numbers) → end_of file < 2 ^ 64 → length stored < 2 ^ 64
+    → IsStored i.method stored (unpacked_chunk i numbers) → end_of file < 2 ^ 64 → length stored < 2 ^ 64
     → (((calls.write_chunk i (length numbers) stored file).answer ≡ Ok next
     → HoldsOpen file.kind (model_by file m (calls.write_chunk i (length numbers) stored file)) next (samples ++ numbers ∷ []))
     × ((calls.write_strip i (length numbers) stored file).answer ≡ Ok next
@@ -179,13 +179,13 @@ EndsHeld = (file : FileState) (m : Model) (i : OpenImage) (samples : List (List 
 
 -- what holds it still holds it when more is written
 abbrev pub GrownEnded : Type 0
-GrownEnded = (kind : FileKind) (m n : Model) (i : OpenImage) (samples : List (List ℕ)) (place : ℕ)
-    → Grows m n → HoldsEnded kind m i samples place → HoldsEnded kind n i samples place
+GrownEnded = (kind : FileKind) (m n : Model) (i : OpenImage) (samples : List (List ℕ)) (offset : ℕ)
+    → Grows m n → HoldsEnded kind m i samples offset → HoldsEnded kind n i samples offset
 
 -- where it stands in a file, the file shows the image
 abbrev pub EndedShown : Type 0
-EndedShown = (kind : FileKind) (file : List ℕ) (m : Model) (i : OpenImage) (samples : List (List ℕ)) (place : ℕ)
-    → Stands kind file m → HoldsEnded kind m i samples place → Shows kind file place (image_of i samples)
+EndedShown = (kind : FileKind) (file : List ℕ) (m : Model) (i : OpenImage) (samples : List (List ℕ)) (offset : ℕ)
+    → Stands kind file m → HoldsEnded kind m i samples offset → Shows kind file offset (image_with i samples)
 
 -- so an image that ends with every chunk is shown
 abbrev pub EndsShown : Type 0
@@ -193,4 +193,4 @@ EndsShown = (file : FileState) (m : Model) (i : OpenImage) (samples : List (List
     → HoldsOpen file.kind m i samples → is_left i ≡ false
     → (calls.finish_image i file).answer ≡ Ok offsets
     → Stands file.kind (calls.finish_image i file).next.bytes (model_by file m (calls.finish_image i file))
-    → Shows file.kind (calls.finish_image i file).next.bytes offsets.pointer (image_of i samples)
+    → Shows file.kind (calls.finish_image i file).next.bytes offsets.pointer (image_with i samples)

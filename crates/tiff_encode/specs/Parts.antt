@@ -12,7 +12,7 @@ use Rattle.tiff_encode.specs.Machine.{FileState, OpenImage}
 use Rattle.tiff_encode.specs.Chunks.{image_page, row_samples, chunk_samples, is_in_order, cut_out}
 use Rattle.tiff_encode.specs.Calls as calls
 use Rattle.tiff_encode.specs.Ends.{IsTold, IsCutOff}
-use Rattle.tiff_encode.specs.Stored.{AreStored, chunk_bytes}
+use Rattle.tiff_encode.specs.Stored.{AreStored, unpacked_chunk}
 
 -- what is handed to the next chunk, where k were written of these samples: those that follow, or what is cut out
 abbrev pub next_slice : {A : Type 0} → OpenImage → List A → ℕ → List A
@@ -27,10 +27,10 @@ next_part i samples k =
 -- nothing was done
 abbrev pub WritesPart : {A : Type 0} → OpenImage → List ℕ → Result A TiffError → FileState → FileState → OpenImage → Type 0
 WritesPart i part (Ok x) old new next =
-    (stored : List ℕ) × (IsStored i.method stored (chunk_bytes i part) × IsTold (calls.write_chunk i (length part) stored old) (Ok next) new)
+    (stored : List ℕ) × (IsStored i.method stored (unpacked_chunk i part) × IsTold (calls.write_chunk i (length part) stored old) (Ok next) new)
 WritesPart i part (Err e) old new next =
     ((e ≡ OutOfMemory) × (new ≡ old))
-    ⊎ ((stored : List ℕ) × (IsStored i.method stored (chunk_bytes i part)
+    ⊎ ((stored : List ℕ) × (IsStored i.method stored (unpacked_chunk i part)
     × (IsTold (calls.write_chunk i (length part) stored old) (Err e) new
     ⊎ IsCutOff (calls.write_chunk i (length part) stored old).deeds e old new)))
 

@@ -6,13 +6,13 @@ use Rattle.tiff_base.specs.declared.error.TiffError.{TiffError}
 use Rattle.tiff_base.specs.declared.error.TiffError.TheVariants.{IntSizeError, UsageError, OutOfMemory}
 use Rattle.tiff_base.specs.declared.error.UsageError.TheVariants.{ParentNotWritten}
 use Rattle.tiff_base.specs.declared.tags.FileKind.{FileKind}
-use Rattle.tiff_base.specs.Directory.{link_place}
+use Rattle.tiff_base.specs.Directory.{link_offset}
 use Rattle.tiff_base.specs.Field.{Field}
 use Rattle.tiff_value.specs.Data.{FieldData}
-use Rattle.tiff_encode.specs.Written.{place_len, directory_bytes}
+use Rattle.tiff_encode.specs.FileBytes.{offset_len, directory_bytes}
 use Rattle.tiff_encode.specs.Machine.{FileState, OpenDirectory}
-use Rattle.tiff_encode.specs.Encoder.{IsCut, IsTorn}
-use Rattle.tiff_encode.specs.Steps.{grown}
+use Rattle.tiff_encode.specs.Encoder.{AppendIsCut, IsTorn}
+use Rattle.tiff_encode.specs.FileWrites.{file_with_bytes}
 use Rattle.tiff_encode.specs.Causes.{is_past, is_past_count, end_of}
 use Rattle.tiff_encode.specs.Value.{is_long, field_at}
 use Rattle.tiff_encode.specs.Deeds.{bytes_after}
@@ -22,7 +22,7 @@ use Rattle.tiff_encode.specs.Calls.{links_to}
 unfoldable pub field_test : FileKind → ℕ → ℕ → ℕ → Option TiffError
 field_test kind end count len =
     if is_past kind count then Some IntSizeError
-    else if nat_lt (place_len kind) len && is_past kind end then Some IntSizeError
+    else if nat_lt (offset_len kind) len && is_past kind end then Some IntSizeError
     else None
 
 -- what a value appends that is handed in for a field
@@ -38,15 +38,15 @@ module _ {A : Type 0} where
 abbrev pub Places : FieldData → FileState → FileState → Result Field TiffError → Type 0
 Places value old new r =
     MatchResult r
-    (λ field. (field ≡ field_at old.kind (end_of old) value) × (new ≡ grown old (appended_for old.kind value)))
-    (λ e. IsCut (appended_for old.kind value) e old new)
+    (λ field. (field ≡ field_at old.kind (end_of old) value) × (new ≡ file_with_bytes old (appended_for old.kind value)))
+    (λ e. AppendIsCut (appended_for old.kind value) e old new)
 
 -- ---- the end of a directory
 
 -- the parent's link lies within a file of this length
 abbrev pub parent_test : FileKind → ℕ → Option ℕ → Option TiffError
 parent_test kind end None = None
-parent_test kind end (Some place) = if nat_lt end (place + place_len kind) then Some (UsageError ParentNotWritten) else None
+parent_test kind end (Some offset) = if nat_lt end (offset + offset_len kind) then Some (UsageError ParentNotWritten) else None
 
 -- its causes, at the end of a file of this length
 unfoldable pub end_test : FileKind → ℕ → OpenDirectory → Option TiffError
@@ -60,12 +60,12 @@ end_test kind end d =
 abbrev pub Lists : OpenDirectory → FileState → FileState → Result ℕ TiffError → Type 0
 Lists d old new r =
     MatchResult r
-    (λ link. (link ≡ link_place old.kind (end_of old) (len d.fields)) × (new ≡ grown old (directory_bytes old.kind d.fields)))
-    (λ e. IsCut (directory_bytes old.kind d.fields) e old new ⊎ ((e ≡ OutOfMemory) × (new ≡ old)))
+    (λ link. (link ≡ link_offset old.kind (end_of old) (len d.fields)) × (new ≡ file_with_bytes old (directory_bytes old.kind d.fields)))
+    (λ e. AppendIsCut (directory_bytes old.kind d.fields) e old new ⊎ ((e ≡ OutOfMemory) × (new ≡ old)))
 
 -- the parent's link points to a directory, where there is a parent; or the sink failed
 abbrev pub LinksFrom : {A : Type 0} → Option ℕ → ℕ → FileState → FileState → Result A TiffError → Type 0
 LinksFrom parent directory old new r =
     MatchResult r
     (λ _. new ≡ record old { bytes = bytes_after old.kind old.bytes (links_to parent directory) })
-    (λ e. (place : ℕ) × ((parent ≡ Some place) × IsTorn [] place directory e old new))
+    (λ e. (offset : ℕ) × ((parent ≡ Some offset) × IsTorn [] offset directory e old new))

@@ -18,18 +18,18 @@ use Rattle.tiff_encode.specs.Held.{IsWholeImage}
 use Rattle.tiff_encode.specs.Shows.{Image, Shows}
 use Rattle.tiff_encode.specs.ImageData.{whole_image}
 
--- the samples of an image in its order, as far as a plane shows them: pixel by pixel those of a colour, of a planar page
+-- the samples of an image in its order, as far as a plane shows them: pixel by pixel those of a color, of a planar page
 -- those of the first plane
 abbrev pub samples_shown : Image → PageRecord → ColorType → List ℕ
-samples_shown i p colour =
-    let s = shown p.planar colour in
+samples_shown i p color =
+    let s = shown p.planar color in
     each_to (p.height * p.width * s) (λ n. i.sample_at (n / s % p.width) (n / s / p.width) (n % s))
 
 -- where a plane shows all samples of a pixel, those of an image that was handed in whole are in the order in which they
 -- were handed in
 abbrev pub ShownInOrder : Type 0
-ShownInOrder = (i : OpenImage) (samples : List ℕ) (p : PageRecord) (colour : ColorType) → p.width ≡ i.width → shown p.planar colour ≡ all_samples i
-    → length samples ≡ p.height * p.width * all_samples i → samples_shown (whole_image i samples) p colour ≡ samples
+ShownInOrder = (i : OpenImage) (samples : List ℕ) (p : PageRecord) (color : ColorType) → p.width ≡ i.width → shown p.planar color ≡ all_samples i
+    → length samples ≡ p.height * p.width * all_samples i → samples_shown (whole_image i samples) p color ≡ samples
 
 -- Each sample of an image has so many bytes, and is a number of these.
 pub record HasSamplesOf (i : Image) (size : ℕ) : Type 0 where
@@ -37,43 +37,43 @@ pub record HasSamplesOf (i : Image) (size : ℕ) : Type 0 where
   pub depth : i.page.depth ≡ 8 * size
   pub small : (x y sample : ℕ) → i.sample_at x y sample < 256 ^ size
 
--- A page whose samples are of whole bytes is of a form that this version reads: its colour, its predictor, how it is
+-- A page whose samples are of whole bytes is of a form that this version reads: its color, its predictor, how it is
 -- packed, what it inverts, and its chroma.
-pub record IsReadable (p : PageRecord) (colour : ColorType) : Type 0 where
-  pub plain : is_plain colour ≡ true
-  pub predictor : predictor_fault p colour ≡ Ok tt
+pub record IsReadable (p : PageRecord) (color : ColorType) : Type 0 where
+  pub plain : is_plain color ≡ true
+  pub predictor : predictor_fault p color ≡ Ok tt
   pub packed_by : method_fault p.method ≡ Ok tt
-  pub upright : white_fault p colour ≡ Ok tt
-  pub chroma : whole_chroma p colour ≡ Ok colour
+  pub upright : white_fault p color ≡ Ok tt
+  pub chroma : whole_chroma p color ≡ Ok color
 
 -- Limits let an image pass: the bytes of a chunk's rows across the image and those of all planes are fewer than 2^64, those
 -- of the image that is read are no more than the buffer for the image may have, and those of each of its chunks as it is
 -- stored no more than the buffer for a chunk may have.
-pub record LetsPass (limits : Limits) (p : PageRecord) (colour : ColorType) : Type 0 where
-  pub rows : row_bytes p colour p.width * p.chunk_height < 2 ^ 64
-  pub whole : row_bytes p colour p.width * p.height * planes p.planar colour < 2 ^ 64
-  pub image : row_bytes p colour p.width * p.height ≤ limits.decoding_buffer_size
+pub record LetsPass (limits : Limits) (p : PageRecord) (color : ColorType) : Type 0 where
+  pub rows : row_bytes p color p.width * p.chunk_height < 2 ^ 64
+  pub whole : row_bytes p color p.width * p.height * planes p.planar color < 2 ^ 64
+  pub image : row_bytes p color p.width * p.height ≤ limits.decoding_buffer_size
   pub chunks : (k : ℕ) → k < chunks_of_plane p → slice_index p.byte_counts k ≤ limits.intermediate_buffer_size
 
 -- whatever is read of a page that shows an image are its samples
 abbrev pub ReadsShown : Type 0
-ReadsShown = (kind : FileKind) (file : List ℕ) (place : ℕ) (i : Image) (size : ℕ) (limits : Limits) (d : Decoded) → (s : Shows kind file place i)
+ReadsShown = (kind : FileKind) (file : List ℕ) (offset : ℕ) (i : Image) (size : ℕ) (limits : Limits) (d : Decoded) → (s : Shows kind file offset i)
     → HasSamplesOf i size → image_of file LittleEndian s.page limits ≡ Ok d
-    → (d.numbers ≡ samples_shown i s.page s.colour) × (sample_type_of s.page ≡ Ok d.sample_type)
+    → (d.numbers ≡ samples_shown i s.page s.color) × (sample_type_of s.page ≡ Ok d.sample_type)
 
 -- a page that shows an image is read, where it is of a form that is read and the limits let it pass, and its samples are
 -- the answer
 abbrev pub ReadsBack : Type 0
-ReadsBack = (kind : FileKind) (file : List ℕ) (place : ℕ) (i : Image) (size : ℕ) (limits : Limits) (type : DecodingSampleType) → (s : Shows kind file place i)
-    → HasSamplesOf i size → sample_type_of s.page ≡ Ok type → IsReadable s.page s.colour → LetsPass limits s.page s.colour
-    → image_of file LittleEndian s.page limits ≡ Ok (record { sample_type = type; numbers = samples_shown i s.page s.colour })
+ReadsBack = (kind : FileKind) (file : List ℕ) (offset : ℕ) (i : Image) (size : ℕ) (limits : Limits) (type : DecodingSampleType) → (s : Shows kind file offset i)
+    → HasSamplesOf i size → sample_type_of s.page ≡ Ok type → IsReadable s.page s.color → LetsPass limits s.page s.color
+    → image_of file LittleEndian s.page limits ≡ Ok (record { sample_type = type; numbers = samples_shown i s.page s.color })
 
--- so is each that an encoder made of an image and that shows these samples, of the bytes of its colour type, where the
+-- so is each that an encoder made of an image and that shows these samples, of the bytes of its color type, where the
 -- limits let it pass
 abbrev pub WrittenReadsBack : Type 0
-WrittenReadsBack = (kind : FileKind) (file : List ℕ) (place : ℕ) (i : OpenImage) (sample_at : ℕ → ℕ → ℕ → ℕ) (limits : Limits)
+WrittenReadsBack = (kind : FileKind) (file : List ℕ) (offset : ℕ) (i : OpenImage) (sample_at : ℕ → ℕ → ℕ → ℕ) (limits : Limits)
     → IsWholeImage kind i → ((x y sample : ℕ) → sample_at x y sample < 256 ^ i.size)
-    → (s : Shows kind file place (record { page = image_page i; sample_at = sample_at })) → LetsPass limits s.page s.colour
+    → (s : Shows kind file offset (record { page = image_page i; sample_at = sample_at })) → LetsPass limits s.page s.color
     → (type : DecodingSampleType) × ((sample_type_of s.page ≡ Ok type)
     × (image_of file LittleEndian s.page limits
-    ≡ Ok (record { sample_type = type; numbers = samples_shown (record { page = image_page i; sample_at = sample_at }) s.page s.colour })))
+    ≡ Ok (record { sample_type = type; numbers = samples_shown (record { page = image_page i; sample_at = sample_at }) s.page s.color })))

@@ -12,8 +12,8 @@ use Rattle.tiff_encode.specs.Model.{In, IsLink, Grows}
 use Rattle.tiff_encode.specs.Machine.{FileState, OpenDirectory, OpenImage}
 use Rattle.tiff_encode.specs.Calls.{Offsets}
 use Rattle.tiff_encode.specs.Open.{HoldsOpen}
-use Rattle.tiff_encode.specs.Jobs.{Standing, Drawn, Run, Finished, DirectoryStepped, ImageStepped, AllStepped, DirectoryEnds, ImageEnds, DirectoryRan, ImageRan, Jobs, named_parent, job_images, offsets_in}
-use Rattle.tiff_encode.specs.Stepping.{Known, HasLink, IsHeld, IsSound, answered}
+use Rattle.tiff_encode.specs.Jobs.{Standing, Drawn, Run, FinishedImage, DirectoryStepped, ImageStepped, AllStepped, DirectoryEnds, ImageEnds, DirectoryRan, ImageRan, JobsRun, named_parent, job_images, offsets_in}
+use Rattle.tiff_encode.specs.Stepping.{StandsIfKnown, HasLink, IsHeld, IsSound, offsets_answered}
 
 -- how many steps a job has
 abbrev pub step_count : Job → ℕ
@@ -45,38 +45,38 @@ pub record DirectoryGoes (first : OpenDirectory) (j : DirectoryJob) (r : JobRepl
   pub final : OpenDirectory
   pub after_steps : Standing
   pub steps : AllStepped DirectoryStepped s first j.steps.items r.steps.items after_steps final
-  pub place : Option Offsets
+  pub offset : Option Offsets
   pub after_end : Standing
-  pub ends : DirectoryEnds after_steps final j.end r.last after_end place
+  pub ends : DirectoryEnds after_steps final j.end r.last after_end offset
   pub file : after_end.file ≡ new
-  pub stands : Known known after_end
+  pub stands : StandsIfKnown known after_end
   pub grows : Grows s.model after_end.model
-  pub own : (o : Offsets) → place ≡ Some o → IsLink after_end.file.kind after_end.model o.link
+  pub own : (o : Offsets) → offset ≡ Some o → IsLink after_end.file.kind after_end.model o.link
   pub chain : IsLink s.file.kind s.model s.file.chain → IsLink after_end.file.kind after_end.model after_end.file.chain
 
 -- so it is from each standing in which its parent's link is one
 abbrev pub DirectoryGoesOn : OpenDirectory → DirectoryJob → JobReply → FileState → FileState → Type 0
 DirectoryGoesOn first j r old new =
-    (known : Bool) (s : Standing) → s.file ≡ old → Known known s → HasLink known s first.parent → DirectoryGoes first j r known s new
+    (known : Bool) (s : Standing) → s.file ≡ old → StandsIfKnown known s → HasLink known s first.parent → DirectoryGoes first j r known s new
 
 -- An image that is open is led through its steps to its end; where it is finished with every chunk, it is held.
 pub record ImageGoes (first : OpenImage) (j : ImageJob) (r : JobReply) (known : Bool) (s : Standing) (new : FileState) : Type 0 where
   pub final : Drawn
   pub after_steps : Standing
   pub steps : AllStepped ImageStepped s (record { image = first; samples = [] }) j.steps.items r.steps.items after_steps final
-  pub place : Option Offsets
+  pub offset : Option Offsets
   pub after_end : Standing
-  pub ends : ImageEnds after_steps final.image j.end r.last after_end place
+  pub ends : ImageEnds after_steps final.image j.end r.last after_end offset
   pub file : after_end.file ≡ new
-  pub stands : Known known after_end
+  pub stands : StandsIfKnown known after_end
   pub grows : Grows s.model after_end.model
   pub chain : IsLink s.file.kind s.model s.file.chain → IsLink after_end.file.kind after_end.model after_end.file.chain
   pub held : HoldsOpen s.file.kind s.model first []
-      → (f : Finished) → In f (job_images j.steps.items r.steps.items j.end final place) → IsHeld after_end f
+      → (f : FinishedImage) → In f (job_images j.steps.items r.steps.items j.end final offset) → IsHeld after_end f
 
 abbrev pub ImageGoesOn : OpenImage → ImageJob → JobReply → FileState → FileState → Type 0
 ImageGoesOn first j r old new =
-    (known : Bool) (s : Standing) → s.file ≡ old → Known known s → HasLink known s first.directory.parent → ImageGoes first j r known s new
+    (known : Bool) (s : Standing) → s.file ≡ old → StandsIfKnown known s → HasLink known s first.directory.parent → ImageGoes first j r known s new
 
 -- ---- jobs
 
@@ -105,15 +105,15 @@ abbrev pub JobsMove : List Job → List JobReply → List JobReply → FileState
 JobsMove jobs earlier all old new =
     (replies : List JobReply) × ((all ≡ earlier ++ replies)
     × ((known : Bool) (run : Run) → run.standing.file ≡ old → run.offsets ≡ [] → IsSound known run
-    → (after : Run) × ((after.standing.file ≡ new) × (Jobs run jobs replies after
-    × (IsSound known after × (after.offsets ≡ answered replies))))))
+    → (after : Run) × ((after.standing.file ≡ new) × (JobsRun run jobs replies after
+    × (IsSound known after × (after.offsets ≡ offsets_answered replies))))))
 
 -- an empty list with room for so many items
-abbrev pub HasRoom : {A : Type 0} → ℕ → Vec A Global → Type 0
-HasRoom count list = (list.items ≡ []) × (count ≤ vec_capacity list)
+abbrev pub IsEmptyWithRoom : {A : Type 0} → ℕ → Vec A Global → Type 0
+IsEmptyWithRoom count list = (list.items ≡ []) × (count ≤ vec_capacity list)
 
 -- such lists for the replies of the steps of jobs, that of the last job first
 abbrev pub AreRooms : {A : Type 0} → List Job → List (Vec A Global) → Type 0
 AreRooms {A = A} jobs rooms =
     (k : ℕ) (j : Job) (room : Vec A Global) → slice_get rooms k ≡ Some room → slice_get jobs (length jobs - (k + 1)) ≡ Some j
-    → HasRoom (step_count j) room
+    → IsEmptyWithRoom (step_count j) room

@@ -20,10 +20,10 @@ use Rattle.tiff_ifd.specs.Limits.{unlimited}
 use Rattle.tiff_ifd.specs.Look.{look_in}
 use Rattle.tiff_page.specs.Page.{PageRecord}
 use Rattle.tiff_page.specs.Checks.{page_of}
-use Rattle.tiff_page.specs.Layout.{colour_of}
+use Rattle.tiff_page.specs.Layout.{color_of}
 use Rattle.tiff_page.specs.Counts.{all_chunks}
 use Rattle.tiff_page.specs.Pixels.{is_short, shown_sample}
-use Rattle.tiff_encode.specs.Written.{rows_per_strip}
+use Rattle.tiff_encode.specs.FileBytes.{rows_per_strip}
 use Rattle.tiff_encode.specs.Model.{IsLink, Stands, header_model}
 
 -- an image that was handed in: the page that it is to be, wherever its chunks stand; and the sample, as bits, that was
@@ -32,23 +32,23 @@ pub record Image : Type 0 where
   pub page : PageRecord
   pub sample_at : ℕ → ℕ → ℕ → ℕ
 
--- the page that the directory at a place of a little-endian file tells
+-- the page that the directory at an offset of a little-endian file tells
 abbrev pub page_at : FileKind → List ℕ → ℕ → Limits → Result PageRecord TiffError
-page_at kind file place limits = do
-  directory ← directory_at kind LittleEndian file place
+page_at kind file offset limits = do
+  directory ← directory_at kind LittleEndian file offset
   page_of (look_in kind LittleEndian file limits directory.entries)
 
--- The directory at a place is a page that shows the image: without limits it is the image's page, but for where its
--- chunks stand; it has a colour; none of its chunks has too few data; and each sample that its colour shows is the one
+-- The directory at an offset is a page that shows the image: without limits it is the image's page, but for where its
+-- chunks stand; it has a color; none of its chunks has too few data; and each sample that its color shows is the one
 -- that was handed in.
-pub record Shows (kind : FileKind) (file : List ℕ) (place : ℕ) (i : Image) : Type 0 where
+pub record Shows (kind : FileKind) (file : List ℕ) (offset : ℕ) (i : Image) : Type 0 where
   pub page : PageRecord
-  pub is_page : page_at kind file place unlimited ≡ Ok page
+  pub is_page : page_at kind file offset unlimited ≡ Ok page
   pub is_image : page ≡ record i.page { offsets = page.offsets; byte_counts = page.byte_counts }
-  pub colour : ColorType
-  pub is_colour : colour_of page ≡ Ok colour
-  pub whole : (chunk : ℕ) → chunk < all_chunks page → is_short file LittleEndian page colour chunk ≡ false
-  pub shows : (x y sample : ℕ) → x < page.width → y < page.height → sample < num_samples colour
+  pub color : ColorType
+  pub is_color : color_of page ≡ Ok color
+  pub whole : (chunk : ℕ) → chunk < all_chunks page → is_short file LittleEndian page color chunk ≡ false
+  pub shows : (x y sample : ℕ) → x < page.width → y < page.height → sample < num_samples color
       → shown_sample file LittleEndian page x y sample ≡ i.sample_at x y sample
 
 -- ---- gray samples of 8 bits
@@ -90,9 +90,9 @@ pub record LeavesHeader (kind : FileKind) (bytes : List ℕ) (chain : ℕ) : Typ
 
 -- The first directory of a little-endian file of a kind is a page that shows an image.
 pub record ShowsFirst (kind : FileKind) (file : List ℕ) (i : Image) : Type 0 where
-  pub place : ℕ
-  pub first : header_at file ≡ Ok (record { order = LittleEndian; kind = kind; first = place })
-  pub shows : Shows kind file place i
+  pub offset : ℕ
+  pub first : header_at file ≡ Ok (record { order = LittleEndian; kind = kind; first = offset })
+  pub shows : Shows kind file offset i
 
 -- It is a page of gray samples of 8 bits.
 abbrev pub ShowsGray : List ℕ → ℕ → ℕ → List ℕ → Type 0

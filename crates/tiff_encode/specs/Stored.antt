@@ -9,8 +9,8 @@ use Rattle.tiff_encode.specs.Machine.{OpenImage}
 use Rattle.tiff_encode.specs.Chunks.{image_page, row_samples}
 
 -- the bytes of a chunk before it is packed: its samples, differenced in each of its rows where the image is
-unfoldable pub chunk_bytes : OpenImage → List ℕ → List ℕ
-chunk_bytes i samples =
+unfoldable pub unpacked_chunk : OpenImage → List ℕ → List ℕ
+unpacked_chunk i samples =
     let p = image_page i in
     flat_map (le i.size) (differences i.predictor (256 ^ i.size) (row_samples p) (stored_samples p) samples)
 
@@ -18,4 +18,4 @@ chunk_bytes i samples =
 abbrev pub AreStored : OpenImage → List (List ℕ) → List (List ℕ) → Type 0
 AreStored i samples [] = Unit {0}
 AreStored i [] (stored ∷ others) = ⊥
-AreStored i (chunk ∷ more) (stored ∷ others) = IsStored i.method stored (chunk_bytes i chunk) × AreStored i more others
+AreStored i (chunk ∷ more) (stored ∷ others) = IsStored i.method stored (unpacked_chunk i chunk) × AreStored i more others

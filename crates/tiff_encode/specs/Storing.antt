@@ -5,11 +5,11 @@ use Rattle.tiff_base.specs.declared.error.TiffError.TheVariants.{IoError, IntSiz
 use Rattle.tiff_base.specs.declared.io.IoKind.TheVariants.{InvalidData}
 use Rattle.tiff_base.specs.declared.tags.FileKind.{FileKind}
 use Rattle.tiff_value.specs.Packed.{IsStored}
-use Rattle.tiff_encode.specs.Machine.{FileState, OpenImage, Told, Writing}
+use Rattle.tiff_encode.specs.Machine.{FileState, OpenImage, WriteOutcome, Writing}
 use Rattle.tiff_encode.specs.Chunks.{is_left, next_chunk_sample_count}
 use Rattle.tiff_encode.specs.Causes.{is_past, is_past_chunks}
 use Rattle.tiff_encode.specs.Ends.{IsTold, IsCutOff}
-use Rattle.tiff_encode.specs.Stored.{chunk_bytes}
+use Rattle.tiff_encode.specs.Stored.{unpacked_chunk}
 
 -- the causes of a chunk that no packing changes, at the end of a file of this length
 abbrev pub chunk_test : FileKind → ℕ → OpenImage → ℕ → Option TiffError
@@ -21,7 +21,7 @@ chunk_test kind end i count =
 
 -- What a chunk that is stored as given bytes is told to be: it is; or it is refused, or the sink fails; or there was no
 -- memory, and nothing was done. After an error the image is as it was.
-abbrev pub AppendsChunk : {A : Type 0} → Told OpenImage → OpenImage → Result A TiffError → FileState → FileState → OpenImage → Type 0
+abbrev pub AppendsChunk : {A : Type 0} → WriteOutcome OpenImage → OpenImage → Result A TiffError → FileState → FileState → OpenImage → Type 0
 AppendsChunk told i (Ok x) old new next = IsTold told (Ok next) new
 AppendsChunk told i (Err e) old new next =
     (next ≡ i) × (IsTold told (Err e) new
@@ -33,10 +33,10 @@ module _ {A : Type 0} (call : OpenImage → ℕ → List ℕ → Writing OpenIma
   -- sink fails; or there was no memory, and nothing was done. After an error the image is as it was.
   abbrev pub StoresChunk : OpenImage → List ℕ → Result A TiffError → FileState → FileState → OpenImage → Type 0
   StoresChunk i samples (Ok x) old new next =
-      (stored : List ℕ) × (IsStored i.method stored (chunk_bytes i samples) × IsTold (call i (length samples) stored old) (Ok next) new)
+      (stored : List ℕ) × (IsStored i.method stored (unpacked_chunk i samples) × IsTold (call i (length samples) stored old) (Ok next) new)
   StoresChunk i samples (Err e) old new next =
       (next ≡ i) × (((e ≡ OutOfMemory) × (new ≡ old))
-      ⊎ ((stored : List ℕ) × (IsStored i.method stored (chunk_bytes i samples)
+      ⊎ ((stored : List ℕ) × (IsStored i.method stored (unpacked_chunk i samples)
       × (IsTold (call i (length samples) stored old) (Err e) new ⊎ IsCutOff (call i (length samples) stored old).deeds e old new))))
 
   -- a chunk is refused for a cause that no packing changes, and nothing is done; or it is stored

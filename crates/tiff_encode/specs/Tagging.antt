@@ -7,7 +7,7 @@ use Rattle.tiff_value.specs.Data.{FieldData, Scalars, data_of}
 use Rattle.tiff_encode.specs.Machine.{FileState, OpenDirectory, OpenImage, Writing, gives, ◌>>=◌}
 use Rattle.tiff_encode.specs.Causes.{resolution_cause}
 use Rattle.tiff_encode.specs.Calls.{write_tag, with_directory_of, resolution_tags, resolution}
-use Rattle.tiff_encode.specs.Ends.{IsTold, Fails}
+use Rattle.tiff_encode.specs.Ends.{IsTold, CallFails}
 
 -- each tag with what its field is given
 abbrev pub write_fields : OpenDirectory → List (Tag × FieldData) → Writing OpenDirectory
@@ -20,7 +20,7 @@ write_fields d (value ∷ values) = do
 abbrev pub StopsInPart : OpenDirectory → List (Tag × FieldData) → TiffError → FileState → FileState → OpenDirectory → Type 0
 StopsInPart d values e old new next =
     (k : ℕ) × ((k < length values) × ((mid : FileState)
-    × (IsTold (write_fields d (take k values) old) (Ok next) mid × Fails (write_fields next (drop k values) mid) e mid new)))
+    × (IsTold (write_fields d (take k values) old) (Ok next) mid × CallFails (write_fields next (drop k values) mid) e mid new)))
 
 -- several tags are fields
 abbrev pub fields_of : List (Tag × Scalars) → List (Tag × FieldData)
@@ -30,5 +30,5 @@ fields_of values = map (λ v. (v.0, data_of v.1)) values
 -- are set.
 abbrev pub StopsResolving : OpenImage → ResolutionUnit → ℕ × ℕ → TiffError → FileState → FileState → OpenImage → Type 0
 StopsResolving i u value e old new now =
-    ((now ≡ i) × Fails (resolution i u value old) e old new) ⊎ ((resolution_cause old ≡ None) × ((d : OpenDirectory)
+    ((now ≡ i) × CallFails (resolution i u value old) e old new) ⊎ ((resolution_cause old ≡ None) × ((d : OpenDirectory)
     × ((now ≡ with_directory_of i d) × StopsInPart i.directory (fields_of (resolution_tags u value)) e old new d)))

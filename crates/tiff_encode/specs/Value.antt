@@ -8,12 +8,12 @@ use Rattle.tiff_base.specs.Number.{le}
 use Rattle.tiff_base.specs.Types.{type_size}
 use Rattle.tiff_value.specs.Buffer.{BufferRecord}
 use Rattle.tiff_value.specs.Data.{FieldData, Scalars, u32s, u64s}
-use Rattle.tiff_encode.specs.Written.{place_len}
+use Rattle.tiff_encode.specs.FileBytes.{offset_len}
 
--- places in a file of a kind: LONG, or LONG8 in BigTIFF
-abbrev pub places : FileKind → List ℕ → Scalars
-places Classic ns = u32s ns
-places Big ns = u64s ns
+-- offsets in a file of a kind: LONG, or LONG8 in BigTIFF
+abbrev pub offset_values : FileKind → List ℕ → Scalars
+offset_values Classic ns = u32s ns
+offset_values Big ns = u64s ns
 
 -- the values of a type that bytes are; bytes behind the last whole one are left out
 abbrev pub data_in : «Type» → List ℕ → FieldData
@@ -26,18 +26,18 @@ data_in type bytes = record {
 abbrev pub buffer_data : BufferRecord → FieldData
 buffer_data b = data_in b.data_type b.bytes
 
--- whether a value does not fit into its entry: then it stands at a place
+-- whether a value does not fit into its entry: then it stands at an offset
 abbrev pub is_long : FileKind → FieldData → Bool
-is_long kind value = nat_lt (place_len kind) (length value.bytes)
+is_long kind value = nat_lt (offset_len kind) (length value.bytes)
 
 -- the eight bytes of a value field
-abbrev pub filled : List ℕ → List ℕ
-filled bytes = take 8 (bytes ++ replicate 8 0)
+abbrev pub filled_field : List ℕ → List ℕ
+filled_field bytes = take 8 (bytes ++ replicate 8 0)
 
--- the field of a value that is appended at this place, if it is appended
+-- the field of a value that is appended at this offset, if it is appended
 abbrev pub field_at : FileKind → ℕ → FieldData → Field
-field_at kind place value = record {
+field_at kind offset value = record {
   field_type = value.field_type;
   count = value.count;
-  value = if is_long kind value then le 8 place else filled value.bytes;
+  value = if is_long kind value then le 8 offset else filled_field value.bytes;
 }

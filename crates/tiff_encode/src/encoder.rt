@@ -30,13 +30,13 @@ mod values;
 
 ghost use Rattle.std.specs.Prelude.{◌≡◌, ℕ, ◌+◌, ◌<◌, ◌≤◌, [], length, IfOk, IsSome, MatchResult, false};
 ghost use Rattle.tiff_base.specs.declared.tags.FileKind.TheVariants.{Big, Classic};
-ghost use Rattle.tiff_encode.specs.Written.{padding, place_len};
+ghost use Rattle.tiff_encode.specs.FileBytes.{padding, offset_len};
 ghost use Rattle.tiff_encode.specs.Calls as calls;
 ghost use Rattle.tiff_encode.specs.Causes.{is_past};
 ghost use Rattle.tiff_encode.specs.Encoder.{HeaderFails};
-ghost use Rattle.tiff_encode.specs.Machine.{begun};
+ghost use Rattle.tiff_encode.specs.Machine.{begun_file};
 ghost use Rattle.tiff_encode.specs.Shows.{LeavesHeader};
-ghost use Rattle.tiff_encode.specs.Steps.{Appends, Links};
+ghost use Rattle.tiff_encode.specs.FileWrites.{Appends, Links};
 
 pub use self::directory_encoder::DirectoryEncoder;
 pub use self::image_encoder::ImageEncoder;
@@ -64,13 +64,13 @@ pub struct TiffEncoder<W: Sink, K: TiffKind = TiffKindStandard> {
 
 impl<W: Sink, K: TiffKind> Model for TiffEncoder<W, K> {
     ghost use Rattle.tiff_encode.specs.Machine.{FileState};
-    ghost use Rattle.tiff_encode.specs.Steps.{file_of, IsPlaced};
+    ghost use Rattle.tiff_encode.specs.FileWrites.{file_of, StandsAtEnd};
 
     ghost Value = { FileState };
 
     ghost view = { λ e. file_of K.kind e.writer e.chain e.predictor e.compression };
 
-    ghost invariant = { λ e. IsPlaced K.kind e.writer e.chain };
+    ghost invariant = { λ e. StandsAtEnd K.kind e.writer e.chain };
 }
 
 impl<W: Sink + Drop> TiffEncoder<W, TiffKindStandard> {
@@ -78,7 +78,7 @@ impl<W: Sink + Drop> TiffEncoder<W, TiffKindStandard> {
     /// `IoError(Device)` or `OutOfMemory`.
     pub fn new(alloc: Global, sink: W) -> TiffResult<Self>
         ensures answer { MatchResult result
-            (λ e. e ≡ begun Classic (W.told sink) (W.failures sink))
+            (λ e. e ≡ begun_file Classic (W.told sink) (W.failures sink))
             (λ e. HeaderFails Classic W.told W.failures W.fault sink e) }
 
         // On an empty sink the header stands.
@@ -95,7 +95,7 @@ impl<W: Sink + Drop> TiffEncoder<W, TiffKindBig> {
     /// The same, of a BigTIFF file.
     pub fn new_big(alloc: Global, sink: W) -> TiffResult<Self>
         ensures answer { MatchResult result
-            (λ e. e ≡ begun Big (W.told sink) (W.failures sink))
+            (λ e. e ≡ begun_file Big (W.told sink) (W.failures sink))
             (λ e. HeaderFails Big W.told W.failures W.fault sink e) }
         ensures leaves { W.told sink ≡ [] → IfOk result (λ e. LeavesHeader Big e.bytes e.chain) }
     {
@@ -110,7 +110,7 @@ impl<W: Sink + Drop, K: TiffKind> TiffEncoder<W, K> {
     /// The same, of a file of either kind.
     pub fn new_generic(alloc: Global, sink: W) -> TiffResult<Self>
         ensures answer { MatchResult result
-            (λ e. e ≡ begun K.kind (W.told sink) (W.failures sink))
+            (λ e. e ≡ begun_file K.kind (W.told sink) (W.failures sink))
             (λ e. HeaderFails K.kind W.told W.failures W.fault sink e) }
         ensures leaves { W.told sink ≡ [] → IfOk result (λ e. LeavesHeader K.kind e.bytes e.chain) }
     {
@@ -123,7 +123,7 @@ impl<W: Sink + Drop, K: TiffKind> TiffEncoder<W, K> {
                 return Err(fault);
             }
         }
-        let chain = writer.offset() - place_bytes::<K>();
+        let chain = writer.offset() - offset_size::<K>();
         Ok(TiffEncoder {
             alloc,
             writer,
@@ -135,9 +135,9 @@ impl<W: Sink + Drop, K: TiffKind> TiffEncoder<W, K> {
     }
 }
 
-// How many bytes a place has in a file of a kind.
-fn place_bytes<K: TiffKind>() -> u64
-    ensures { result ≡ place_len K.kind }
+// How many bytes an offset has in a file of a kind.
+fn offset_size<K: TiffKind>() -> u64
+    ensures { result ≡ offset_len K.kind }
 {
     match K::file_kind() {
         FileKind::Classic => 4,
@@ -199,9 +199,9 @@ impl<W: Sink, K: TiffKind> TiffEncoder<W, K> {
         }
     }
 
-    // Points the link at a place to a directory.
+    // Points the link at an offset to a directory.
     fn link(&mut self, parent: u64, directory: u64) -> TiffResult<()>
-        requires within { parent + place_len K.kind ≤ length self.old.bytes }
+        requires within { parent + offset_len K.kind ≤ length self.old.bytes }
         requires near { is_past K.kind directory ≡ false }
         ensures { Links parent directory self.old self.new result }
     {

@@ -9,12 +9,12 @@ use Rattle.tiff_base.specs.declared.tags.ByteOrder.TheVariants.{LittleEndian}
 use Rattle.tiff_base.specs.Color.{num_samples}
 use Rattle.tiff_base.specs.Field.{Field}
 use Rattle.tiff_base.specs.Number.{number, le}
-use Rattle.tiff_base.specs.Told as bytes
+use Rattle.tiff_base.specs.SourceAndSink as bytes
 use Rattle.tiff_value.specs.declared.encoder.colortype.ColorTypeName.TheVariants as name
-use Rattle.tiff_value.specs.ColorTypes.{colour_type, inner_type}
+use Rattle.tiff_value.specs.ColorTypes.{color_type, inner_type}
 use Rattle.tiff_value.specs.Data.{data_of}
 use Rattle.tiff_value.specs.Differences.{differences}
-use Rattle.tiff_page.specs.Layout.{colour_of}
+use Rattle.tiff_page.specs.Layout.{color_of}
 use Rattle.tiff_page.specs.Page.{PageRecord}
 use Rattle.tiff_page.specs.Pixels.{shown_sample}
 use Rattle.tiff_page.specs.Rect.{rect}
@@ -25,28 +25,28 @@ use Rattle.tiff_encode.specs.Shows.{Image, Shows}
 use Rattle.tiff_encode.specs.Machine.{FileState}
 use Rattle.tiff_encode.specs.Chunks.{is_left, next_chunk_sample_count, sample_in}
 use Rattle.tiff_encode.specs.Causes.{begin_cause, new_image_cause, image_cause, write_strip_cause, write_tag_cause}
-use Rattle.tiff_encode.specs.Calls.{finish, finish_image, first_tags, image_directory, last_tags, new_image, opened, write_entry, write_strip, write_tag}
-use Rattle.tiff_encode.specs.Held.{image_of}
+use Rattle.tiff_encode.specs.Calls.{finish, finish_image, first_tags, image_directory, last_tags, new_image, new_directory, write_entry, write_strip, write_tag}
+use Rattle.tiff_encode.specs.Held.{image_with}
 use Rattle.tiff_encode.specs.Open.{HoldsOpen, HoldsEnded}
-use Rattle.tiff_encode.specs.Stored.{chunk_bytes}
+use Rattle.tiff_encode.specs.Stored.{unpacked_chunk}
 use Rattle.tiff_encode.proofs.Deeds.{deeds_stand}
 use Rattle.tiff_encode.proofs.Header.{header_stands}
-use Rattle.tiff_encode.proofs.ImagesShow.{images_show_by}
-use Rattle.tiff_encode.proofs.OpenBegun.{begins_open}
-use Rattle.tiff_encode.proofs.OpenChunks.{chunks_keep_open}
-use Rattle.tiff_encode.proofs.OpenEnds.{ends_held, grown_ended, ended_shown_by}
-use Rattle.tiff_encode.proofs.PageTold.{page_told}
+use Rattle.tiff_encode.proofs.Shown.Images.{images_show_by}
+use Rattle.tiff_encode.proofs.Open.Begun.{begins_open}
+use Rattle.tiff_encode.proofs.Open.Chunks.{chunks_keep_open}
+use Rattle.tiff_encode.proofs.Open.Ends.{ends_held, grown_ended, ended_shown_by}
+use Rattle.tiff_encode.proofs.PageTold.Page.{page_told}
 use Rattle.tiff_encode.proofs.Slices.{ok_inj}
-use Rattle.tiff_examples.specs.Calls.{header, with_fields}
-use Rattle.tiff_examples.specs.Causes.{new_file, gray}
+use Rattle.tiff_examples.specs.Encode.Calls.{header, with_fields}
+use Rattle.tiff_examples.specs.Encode.Causes.{new_file, gray}
 use Rattle.tiff_examples.specs.Files.{gray_file}
-use Rattle.tiff_examples.specs.Images.{all_fields, new_pixel, pixel_in_file, resolutions}
+use Rattle.tiff_examples.specs.Encode.Chunks.{all_fields, new_pixel, pixel_in_file, resolutions}
 use Rattle.tiff_examples.specs.OneValue.{short_field, long_field, one_to_one}
-use Rattle.tiff_examples.specs.Tasks as tasks
-use Rattle.tiff_examples.proofs.Calls.{finish_told, finish_told_by}
-use Rattle.tiff_examples.proofs.Images as images
+use Rattle.tiff_examples.specs.Encode.ImageJobs as tasks
+use Rattle.tiff_examples.proofs.Encode.Calls.{finish_told, finish_told_by}
+use Rattle.tiff_examples.proofs.Encode.Chunks as images
 use Rattle.tiff_examples.proofs.Maps.{puts, entries_puts, len_puts}
-use Rattle.tiff_examples.proofs.Written.{directory_by}
+use Rattle.tiff_examples.proofs.Encode.FileBytes.{directory_by}
 
 -- one number that is handed in
 abbrev pub handed_short : ℕ → HandedField
@@ -68,9 +68,9 @@ image_file = record (new_file Classic) { bytes = gray_file; chain = 195 }
 abbrev behind_strip : FileState
 behind_strip = record (new_file Classic) { bytes = header ++ (resolutions ++ (7 ∷ [])) }
 
-pub finishes : finish (with_fields (opened (Some 4) true) all_fields) behind_strip
-    ≡ finish_told_by behind_strip (with_fields (opened (Some 4) true) all_fields) 14 (puts all_fields)
-finishes = finish_told behind_strip (with_fields (opened (Some 4) true) all_fields) 14 (puts all_fields) (len_puts all_fields) (entries_puts all_fields)
+pub finishes : finish (with_fields (new_directory (Some 4) true) all_fields) behind_strip
+    ≡ finish_told_by behind_strip (with_fields (new_directory (Some 4) true) all_fields) 14 (puts all_fields)
+finishes = finish_told behind_strip (with_fields (new_directory (Some 4) true) all_fields) 14 (puts all_fields) (len_puts all_fields) (entries_puts all_fields)
 
 -- ---- what stands
 
@@ -165,11 +165,11 @@ begun_fits = (
                 (
                   tt,
                   (
-                    inr (record { place = 8; bytes = one_to_one }, (inl refl, record { place = refl; whole = refl; long = lit< tt; short = lit< tt; bytes = refl })),
+                    inr (record { offset = 8; bytes = one_to_one }, (inl refl, record { offset = refl; whole = refl; long = lit< tt; short = lit< tt; bytes = refl })),
                     (
                       tt,
                       (
-                        inr (record { place = 16; bytes = one_to_one }, (inl refl, record { place = refl; whole = refl; long = lit< tt; short = lit< tt; bytes = refl })),
+                        inr (record { offset = 16; bytes = one_to_one }, (inl refl, record { offset = refl; whole = refl; long = lit< tt; short = lit< tt; bytes = refl })),
                         (
                           inl (record { short = lit≤ tt; bytes = refl }),
                           tt,
@@ -230,7 +230,7 @@ octets (suc k) = lit< tt
 
 -- behind its resolutions
 pub begin_held : HoldsOpen Classic tasks.after_begin.model new_pixel []
-unfolding colour_type inner_type
+unfolding color_type inner_type
 begin_held = begins_open (new_file Classic) (header_model Classic) name.Gray8 1 1 new_pixel (lit< tt) (lit< tt) (inl refl) images.gray_begun.0
 
 -- behind its strip
@@ -239,7 +239,7 @@ unfolding write_strip write_strip_cause next_chunk_sample_count rect
 strip_is = refl
 
 strip_held : HoldsOpen Classic tasks.after_strip.model pixel_in_file sevens
-unfolding write_strip write_strip_cause next_chunk_sample_count rect chunk_bytes differences
+unfolding write_strip write_strip_cause next_chunk_sample_count rect unpacked_chunk differences
 strip_held =
     (chunks_keep_open tasks.after_begin.file tasks.after_begin.model new_pixel pixel_in_file [] (7 ∷ []) (7 ∷ []) begin_held octets (lit< tt) refl (lit< tt) (lit< tt)).1
     strip_is
@@ -249,7 +249,7 @@ none_left : is_left pixel_in_file ≡ false
 none_left = refl
 
 pub end_held : HoldsEnded Classic tasks.after_end.model pixel_in_file sevens 25
-end_held = ends_held tasks.after_strip.file tasks.after_strip.model pixel_in_file sevens tasks.page_place strip_held none_left images.pixel_finished.0
+end_held = ends_held tasks.after_strip.file tasks.after_strip.model pixel_in_file sevens tasks.page_offset strip_held none_left images.pixel_finished.0
 
 end_is : tasks.after_end.model ≡ image_model
 unfolding finish_image last_tags write_tag write_entry write_tag_cause data_of
@@ -264,7 +264,7 @@ image_held = subst (λ m. HoldsEnded Classic m pixel_in_file sevens 25) end_is e
 
 -- it is shown where what stands has grown
 abbrev pub pixel_image : Image
-pixel_image = image_of pixel_in_file sevens
+pixel_image = image_with pixel_in_file sevens
 
 pub pixel_shown : (file : List ℕ) (m : Model) → Grows image_model m → Stands Classic file m → Shows Classic file 25 pixel_image
 pixel_shown file m g t =
@@ -279,13 +279,13 @@ unfolding sample_in
 is_seven = refl
 
 module _ (file : List ℕ) (t : Shows Classic file 25 pixel_image) where
-  -- its page, and its colour
+  -- its page, and its color
   page_is : record pixel_image.page { offsets = t.page.offsets; byte_counts = t.page.byte_counts } ≡ t.page
   page_is = sym t.is_image
 
-  colour_is : Gray 8 ≡ t.colour
-  unfolding colour_of
-  colour_is = ok_inj (Gray 8) t.colour (ap colour_of page_is ∙ t.is_colour)
+  color_is : Gray 8 ≡ t.color
+  unfolding color_of
+  color_is = ok_inj (Gray 8) t.color (ap color_of page_is ∙ t.is_color)
 
   -- so is each image of that page whose first sample is 7
   pub shown_alike : (i : Image) → bare pixel_image.page ≡ bare i.page → i.sample_at 0 0 0 ≡ 7 → Shows Classic file 25 i
@@ -295,16 +295,16 @@ module _ (file : List ℕ) (t : Shows Classic file 25 pixel_image) where
     is_image =
         let placed : PageRecord → PageRecord = λ page. record page { offsets = t.page.offsets; byte_counts = t.page.byte_counts } in
         t.is_image ∙ ap placed p;
-    colour = t.colour;
-    is_colour = t.is_colour;
+    color = t.color;
+    is_color = t.is_color;
     whole = t.whole;
     shows = λ x y sample a b c.
         let column : 0 ≡ x = (let d : x < 1 = subst (λ n. x < n) (sym (ap (λ page. page.width) page_is)) a in omega arith) in
         let row : 0 ≡ y = (let d : y < 1 = subst (λ n. y < n) (sym (ap (λ page. page.height) page_is)) b in omega arith) in
-        let one : 0 ≡ sample = (let d : sample < 1 = subst (λ k. sample < num_samples k) (sym colour_is) c in omega arith) in
+        let one : 0 ≡ sample = (let d : sample < 1 = subst (λ k. sample < num_samples k) (sym color_is) c in omega arith) in
         let Q : ℕ → ℕ → ℕ → Type 0 = λ x y sample. shown_sample file LittleEndian t.page x y sample ≡ i.sample_at x y sample in
         let first = t.shows 0 0 0 (subst (λ n. n < t.page.width) (sym column) a) (subst (λ n. n < t.page.height) (sym row) b)
-        (subst (λ n. n < num_samples t.colour) (sym one) c) in
+        (subst (λ n. n < num_samples t.color) (sym one) c) in
         subst (λ x. Q x y sample) column (subst (λ y. Q 0 y sample) row (subst (λ n. Q 0 0 n) one (first ∙ is_seven ∙ sym q)));
   }
 
@@ -318,8 +318,8 @@ module _ (file : List ℕ) (t : Shows Classic file 25 pixel_image) where
       let same : t.page ≡ u.page = ok_inj t.page u.page (sym t.is_page ∙ u.is_page) in
       let wide : 0 < t.page.width = subst (λ n. 0 < n) (ap (λ page. page.width) page_is) (lit< tt) in
       let high : 0 < t.page.height = subst (λ n. 0 < n) (ap (λ page. page.height) page_is) (lit< tt) in
-      let some : 0 < num_samples t.colour = subst (λ k. 0 < num_samples k) colour_is (lit< tt) in
-      let hue : t.colour ≡ u.colour = ok_inj t.colour u.colour (sym t.is_colour ∙ ap colour_of same ∙ u.is_colour) in
+      let some : 0 < num_samples t.color = subst (λ k. 0 < num_samples k) color_is (lit< tt) in
+      let hue : t.color ≡ u.color = ok_inj t.color u.color (sym t.is_color ∙ ap color_of same ∙ u.is_color) in
       sym (u.shows 0 0 0 (subst (λ page. 0 < page.width) same wide) (subst (λ page. 0 < page.height) same high) (subst (λ k. 0 < num_samples k) hue some))
       ∙ ap (λ page. shown_sample file LittleEndian page 0 0 0) (sym same) ∙ t.shows 0 0 0 wide high some ∙ is_seven
 

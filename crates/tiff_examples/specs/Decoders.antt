@@ -5,14 +5,14 @@ use Rattle.tiff_base.specs.declared.tags.ByteOrder.TheVariants.{LittleEndian}
 use Rattle.tiff_base.specs.declared.tags.FileKind.TheVariants.{Classic}
 use Rattle.tiff_base.specs.declared.tags.IfdPointer.{IfdPointer}
 use Rattle.tiff_base.specs.Field.{Field, DirectoryRecord}
-use Rattle.tiff_base.specs.Told.{put}
-use Rattle.tiff_decode.specs.State.{default_limits}
+use Rattle.tiff_base.specs.SourceAndSink.{put}
+use Rattle.tiff_decode.specs.DefaultLimits.{default_limits}
 use Rattle.tiff_decode.specs.Machine.{State, Decoding}
 use Rattle.tiff_examples.specs.Files.{gray_file, gray_entries}
-use Rattle.tiff_examples.specs.Shown.{pixel_page}
+use Rattle.tiff_examples.specs.Page.Pixels.{pixel_page}
 
 abbrev pub at : ℕ → IfdPointer
-at place = record { 0 = place }
+at offset = record { 0 = offset }
 
 -- the directory of the file of one gray pixel, with a next one
 abbrev pub gray_fields : DirectoryRecord
@@ -25,11 +25,11 @@ gray_state = record {
   more = false;
   page = pixel_page;
   directory = gray_fields;
-  place = 8;
+  offset = 8;
   limits = default_limits;
 }
 
--- the decoder of some bytes of a classic little-endian file whose first directory stands at a place
+-- the decoder of some bytes of a classic little-endian file whose first directory stands at an offset
 abbrev pub decoder_at : List ℕ → ℕ → State → Decoding
 decoder_at bytes first state =
     record { bytes = bytes; kind = Classic; order = LittleEndian; first = first; failures = 0; state = state }
@@ -56,9 +56,9 @@ three_file = 0x49 ∷ 0x49 ∷ 0x2a ∷ 0x00 ∷ 0x08 ∷ 0x00 ∷ 0x00 ∷ 0x00
 abbrev pub three_decoder : Decoding
 three_decoder = decoder_at three_file 8 (record gray_state { pointer = Some (at 8); more = true })
 
--- a decoder of some bytes that stands at a place
+-- a decoder of some bytes that stands at an offset
 abbrev pub bytes_decoder : List ℕ → ℕ → Decoding
-bytes_decoder bytes place = decoder_at bytes 8 (record gray_state { place = place })
+bytes_decoder bytes offset = decoder_at bytes 8 (record gray_state { offset = offset })
 
 -- a decoder whose page has these fields
 abbrev pub fields_decoder : List ℕ → List (ℕ × Field) → Decoding

@@ -39,7 +39,7 @@ one_short value = record { field_type = SHORT; count = 1; value = value }
 abbrev pub one_long : List ℕ → Field
 one_long value = record { field_type = LONG; count = 1; value = value }
 
--- a field of one rational, by the bytes of its place
+-- a field of one rational, by the bytes of its offset
 abbrev pub one_rational : List ℕ → Field
 one_rational value = record { field_type = RATIONAL; count = 1; value = value }
 

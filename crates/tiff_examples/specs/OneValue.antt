@@ -4,7 +4,7 @@ use Rattle.tiff_base.specs.declared.tags.«Type».TheVariants.{SHORT, LONG, RATI
 use Rattle.tiff_base.specs.Field.{Field}
 use Rattle.tiff_base.specs.Number.{le}
 
--- of 2 or 4 bytes, which stands in the entry, or of a fraction that stands at a place
+-- of 2 or 4 bytes, which stands in the entry, or of a fraction that stands at an offset
 abbrev pub short_field : ℕ → Field
 short_field n = record { field_type = SHORT; count = 1; value = le 8 n }
 
@@ -12,7 +12,7 @@ abbrev pub long_field : ℕ → Field
 long_field n = record { field_type = LONG; count = 1; value = le 8 n }
 
 abbrev pub rational_field : ℕ → Field
-rational_field place = record { field_type = RATIONAL; count = 1; value = le 8 place }
+rational_field offset = record { field_type = RATIONAL; count = 1; value = le 8 offset }
 
 -- the resolution 1/1
 abbrev pub one_to_one : List ℕ

@@ -3,10 +3,10 @@ use Rattle.std.proofs.Common.{◌≡◌, ℕ, ◌+◌, ◌-◌, ◌<◌, ◌≤�
 use Rattle.std.proofs.lemmas.List.{append-nil, nil_from_length, drop-append-le, take-append-le, take-append-drop, length-replicate, drop-drop, take-take, take_all, take_at, drop_at, length-take-le}
 use borrow.Rule.Slice.PartMut.{put_mid, post_of}
 use lib.ListN.{replicate}
-use Rattle.tiff_base.specs.Runs.{Unpacked, before, runs}
-use Rattle.tiff_base.specs.Told.{bytes_at, Reads}
+use Rattle.tiff_base.specs.Runs.{Unpacked, with_front, runs}
+use Rattle.tiff_base.specs.SourceAndSink.{bytes_at, Reads}
 use Rattle.tiff_base.proofs.Blocks.{runs_after_drop, runs_literal, runs_no_op, runs_run}
-use Rattle.tiff_ifd.specs.declared.packbits.PackedPlace.{PackedPlace}
+use Rattle.tiff_ifd.specs.declared.packbits.PackedPosition.{PackedPosition}
 use Rattle.tiff_ifd.specs.Unpacking.{left_at, count_of, GivesNext, UnpacksFront}
 use Rattle.tiff_ifd.proofs.Unpacking.{before_before, early_next, packed_next, read_behind, used_up}
 
@@ -27,10 +27,10 @@ front_literal (x ∷ P) old part header n e h m a b c =
       in_buffer = b;
       next = λ early rest.
           runs_literal early x (P ++ rest) xh
-          ∙ ap (λ (u : Unpacked). before (take (x + 1) (P ++ rest)) u) (runs_after_drop (x + 1) early (P ++ rest) (omega (arith, nx, q, length-append P rest)))
-          ∙ (λ z. before (take (nx z) (P ++ rest)) (runs early (drop (nx z) (P ++ rest))))
-          ∙ (λ z. before (take-append-le n P rest q z) (runs early (drop-append-le n P rest q z)))
-          ∙ (λ z. before (sym front z) (runs early (behind z ++ rest)));
+          ∙ ap (λ (u : Unpacked). with_front (take (x + 1) (P ++ rest)) u) (runs_after_drop (x + 1) early (P ++ rest) (omega (arith, nx, q, length-append P rest)))
+          ∙ (λ z. with_front (take (nx z) (P ++ rest)) (runs early (drop (nx z) (P ++ rest))))
+          ∙ (λ z. with_front (take-append-le n P rest q z) (runs early (drop-append-le n P rest q z)))
+          ∙ (λ z. with_front (sym front z) (runs early (behind z ++ rest)));
       behind = drop_at part (drop n old) n l;
     }
 
@@ -46,8 +46,8 @@ front_run (x ∷ y ∷ P) old part header value n s e v h m b c =
       in_buffer = b;
       next = λ early rest.
           runs_run early x y (P ++ rest) (omega (arith, e, h))
-          ∙ (λ z. before (replicate (nx z) (sym v z)) (runs early (P ++ rest)))
-          ∙ (λ z. before (sym (take_at part (drop n old) n l ∙ c) z) (runs early (P ++ rest)));
+          ∙ (λ z. with_front (replicate (nx z) (sym v z)) (runs early (P ++ rest)))
+          ∙ (λ z. with_front (sym (take_at part (drop n old) n l ∙ c) z) (runs early (P ++ rest)));
       behind = drop_at part (drop n old) n l;
     }
 
@@ -80,9 +80,9 @@ front_more packed old mid before_part part used done more n k a m d e l b =
       in_buffer = omega (arith, a.in_buffer, b.in_buffer, ap (λ (z : List ℕ). length z) e, length-drop done mid, m);
       next = λ early rest.
           a.next early rest
-          ∙ ap (before (take done mid)) (b.next early rest)
+          ∙ ap (with_front (take done mid)) (b.next early rest)
           ∙ before_before (take done mid) (take n part) (runs early (drop more (drop used packed) ++ rest))
-          ∙ (λ z. before (sym taken z) (runs early (drop-drop more used packed z ++ rest)));
+          ∙ (λ z. with_front (sym taken z) (runs early (drop-drop more used packed z ++ rest)));
       behind = sym (drop-drop n done (put_mid done k mid part))
           ∙ ap (drop n) (drop_at (take done mid) (part ++ post_of done k mid) done (length-take-le done mid dl))
           ∙ ap (λ (z : List ℕ). drop n (part ++ z)) none
@@ -117,12 +117,12 @@ ahead_told s zeros part at most held m r =
       w,
     )
 
-pub front_gives : (s packed old new : List ℕ) (place : PackedPlace) (held used n : ℕ) → count_of place.block ≡ 0 → packed ≡ bytes_at s place.at held → held ≤ place.len
-    → held ≤ length s - place.at → UnpacksFront packed old used n new → 0 < n
-    → GivesNext (left_at s place) old n new (left_at s (record place { at = place.at + used; len = place.len - used }))
-front_gives s packed old new place held used n c t w i u some =
-    let at : ℕ = place.at in
-    let len : ℕ = place.len in
+pub front_gives : (s packed old new : List ℕ) (offset : PackedPosition) (held used n : ℕ) → count_of offset.block ≡ 0 → packed ≡ bytes_at s offset.at held → held ≤ offset.len
+    → held ≤ length s - offset.at → UnpacksFront packed old used n new → 0 < n
+    → GivesNext (left_at s offset) old n new (left_at s (record offset { at = offset.at + used; len = offset.len - used }))
+front_gives s packed old new offset held used n c t w i u some =
+    let at : ℕ = offset.at in
+    let len : ℕ = offset.len in
     let all : List ℕ = bytes_at s at len in
     let size : length packed ≡ held = ap (λ (z : List ℕ). length z) t ∙ length-take-le held (drop at s) (omega (arith, i, length-drop at s)) in
     let split : all ≡ packed ++ drop held all = sym (ap (λ (z : List ℕ). z ++ drop held all) (t ∙ sym (take-take held len (drop at s) w)) ∙ take-append-drop held all) in
@@ -131,11 +131,11 @@ front_gives s packed old new place held used n c t w i u some =
     let early : ltb (length s - (at + used)) (len - used) ≡ ltb (length s - at) len = early_next s at len used (omega (arith, u.in_packed, size, w)) (omega (arith, u.in_packed, size, i)) in
     record {
       in_buffer = u.in_buffer;
-      next = used_up s place c
+      next = used_up s offset c
           ∙ ap (runs (ltb (length s - at) len)) split
           ∙ u.next (ltb (length s - at) len) (drop held all)
-          ∙ (λ z. before (take n new) (runs (sym early z) (left z)))
-          ∙ ap (before (take n new)) (sym (used_up s (record place { at = at + used; len = len - used }) c));
+          ∙ (λ z. with_front (take n new) (runs (sym early z) (left z)))
+          ∙ ap (with_front (take n new)) (sym (used_up s (record offset { at = at + used; len = len - used }) c));
       behind = u.behind;
       none = λ _ h. absurd (omega (arith, h, some));
     }

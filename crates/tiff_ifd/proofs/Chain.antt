@@ -1,4 +1,4 @@
--- There is one chain from each place of each file, it is the longest, and its places differ.
+-- There is one chain from each offset of each file, it is the longest, and its offsets differ.
 use Rattle.std.proofs.Common.{◌≡◌, ℕ, zero, suc, ◌+◌, ◌<◌, ◌≤◌, List, [], ◌∷◌, ◌++◌, length, Option, None, Some, Bool, true, false, cond, Result, Ok, Err, refl, ap, sym, ◌∙◌, subst, arith, nat_eq, ◌||◌, lit<}
 use Rattle.std.specs.Prelude.{nat_lt}
 use Rattle.std.specs.Int.{byte_len}
@@ -16,7 +16,7 @@ use Rattle.tiff_base.specs.declared.tags.FileKind.TheVariants.{Classic, Big}
 use Rattle.tiff_base.specs.Answers.{◌>>=◌}
 use Rattle.tiff_base.specs.Number.{number_at}
 use Rattle.tiff_base.specs.Field.{DirectoryRecord}
-use Rattle.tiff_base.specs.Directory.{directory_at, count_width, place_width, link_place, first_entry, entries_from, last_of_each, link}
+use Rattle.tiff_base.specs.Directory.{directory_at, count_width, offset_width, link_offset, first_entry, entries_from, last_of_each, link}
 use Rattle.tiff_ifd.proofs.Entries.{number_past}
 use Rattle.tiff_ifd.specs.Chain.{link_from, unless_met, entered, AreEntered, IsChain, Chain, onto, walk, chain, IsTheChain, IsOneChain, IsLongestChain, IsChainApart}
 
@@ -71,12 +71,12 @@ one_of link met (Some n) (p ∷ ps) (q ∷ qs) e f c d =
 pub one_chain : IsOneChain
 one_chain kind order bytes = one_of (link_from kind order bytes)
 
--- the places of a chain are entered
-places_entered : (link : ℕ → Link) (met : List ℕ) (next : Option ℕ) (ps : List ℕ) (e : Option TiffError)
+-- the offsets of a chain are entered
+offsets_entered : (link : ℕ → Link) (met : List ℕ) (next : Option ℕ) (ps : List ℕ) (e : Option TiffError)
     → IsChain link met next ps e → AreEntered link met next ps
-places_entered link met next [] e c = tt
-places_entered link met None (p ∷ ps) e c = absurd c
-places_entered link met (Some n) (p ∷ ps) e c = (c.0, c.1, c.2, places_entered link (n ∷ met) c.1 ps e c.3)
+offsets_entered link met next [] e c = tt
+offsets_entered link met None (p ∷ ps) e c = absurd c
+offsets_entered link met (Some n) (p ∷ ps) e c = (c.0, c.1, c.2, offsets_entered link (n ∷ met) c.1 ps e c.3)
 
 -- what is entered is a beginning of the chain
 begins : (link : ℕ → Link) (met : List ℕ) (next : Option ℕ) (ps qs : List ℕ) (e : Option TiffError)
@@ -91,7 +91,7 @@ begins link met (Some n) (p ∷ ps) (q ∷ qs) e c d =
     let head : p ≡ q = c.0 ∙ sym d.0 in
     (rest.0, ap (λ (x : ℕ). x ∷ ps) head ∙ ap (λ (xs : List ℕ). q ∷ xs) rest.1)
 
--- a link that is followed is none of the places before
+-- a link that is followed is none of the offsets before
 free_by : (b : Bool) (met : List ℕ) (n q : ℕ) → list_any (nat_eq n) met ≡ b
     → cond b (Err (FormatError CycleInOffsets)) (Ok (Some n)) ≡ Ok (Some q) → list_any (nat_eq q) met ≡ false
 free_by true met n q h e = absurd (subst IsOkLink (sym e) tt)
@@ -118,12 +118,12 @@ neither : (b c : Bool) → (b || c) ≡ false → (b ≡ false) × (c ≡ false)
 neither true c h = absurd (subst IsFalseBit (sym h) tt)
 neither false c h = (refl, h)
 
--- no place of the list is this one
+-- no offset of the list is this one
 apart : (p : ℕ) (met : List ℕ) → list_any (nat_eq p) met ≡ false → AllByRecursion (λ y. nat_eq p y ≡ false) met
 apart p [] h = tt
 apart p (q ∷ met) h = (let n = neither (nat_eq p q) (list_any (nat_eq p) met) h in (n.0, apart p met n.1))
 
--- a place to enter is none of the places before
+-- an offset to enter is none of the offsets before
 abbrev IsNew : List ℕ → Option ℕ → Type 0
 IsNew met None = Unit {0}
 IsNew met (Some p) = list_any (nat_eq p) met ≡ false
@@ -132,7 +132,7 @@ abbrev pub AreBelow : ℕ → List ℕ → Type 0
 AreBelow len met = (q : ℕ) → list_any (nat_eq q) met ≡ true → q < len
 
 abbrev Within : ℕ → (ℕ → Link) → Type 0
-Within len link = (place : ℕ) (next : Option ℕ) → link place ≡ Ok next → place < len
+Within len link = (offset : ℕ) (next : Option ℕ) → link offset ≡ Ok next → offset < len
 
 pub equal_numbers : (q p : ℕ) → nat_eq q p ≡ true → q ≡ p
 equal_numbers q p h = grind (arith, nat_tests)
@@ -148,7 +148,7 @@ is_new : (met : List ℕ) (r : Link) (after : Option ℕ) → (r >>= unless_met 
 is_new met r None h = tt
 is_new met r (Some q) h = free met r q h
 
--- what is known of the places that were entered
+-- what is known of the offsets that were entered
 pub record Known (len : ℕ) (met : List ℕ) : Type 0 where
   pub distinct : IsDistinct nat_eq met
   pub below : AreBelow len met
@@ -159,7 +159,7 @@ known_more len p met l n k = record {
   below = below_more len p met l k.below;
 }
 
--- with no steps left each place has been met
+-- with no steps left each offset has been met
 pub full : (len p : ℕ) (met : List ℕ) → p < len → list_any (nat_eq p) met ≡ false → Known len met → len ≤ length met → ⊥
 full len p met l n k f =
     let more = known_more len p met l n k in
@@ -178,7 +178,7 @@ none_known len = record { distinct = none_distinct; below = λ q h. absurd (subs
 
 -- the walk is the chain
 abbrev Walked : (ℕ → Link) → List ℕ → Option ℕ → Chain → Type 0
-Walked link met next c = IsChain link met next c.places c.end
+Walked link met next c = IsChain link met next c.offsets c.end
 
 on : (link : ℕ → Link) (met : List ℕ) (p : ℕ) (rest : Option ℕ → Chain) (r : Link) → entered link met p ≡ r
     → ((after : Option ℕ) → entered link met p ≡ Ok after → Walked link (p ∷ met) after (rest after)) → Walked link met (Some p) (onto p r rest)
@@ -189,7 +189,7 @@ walked : (link : ℕ → Link) (len : ℕ) → Within len link → (fuel : ℕ) 
     → len ≤ fuel + length met → Known len met → IsNew met next → Walked link met next (walk link fuel met next)
 walked link len w fuel met None f k n = refl
 walked link len w zero met (Some p) f k n =
-    on link met p (λ _. record { places = []; end = None }) (entered link met p) refl (λ after h.
+    on link met p (λ _. record { offsets = []; end = None }) (entered link met p) refl (λ after h.
     absurd (full len p met (read_within link len w met p after h) n k (omega (arith, f))))
 walked link len w (suc fuel) met (Some p) f k n =
     on link met p (walk link fuel (p ∷ met)) (entered link met p) refl (λ after h.
@@ -205,7 +205,7 @@ some_count Big = lit< tt
 past_fault : (kind : FileKind) (order : ByteOrder) (bytes : List ℕ) (at : ℕ) → length bytes ≤ at → link_from kind order bytes at ≡ Err (IoError UnexpectedEof)
 unfolding directory_at
 past_fault kind order bytes at past =
-    ap (λ (r : Result ℕ TiffError). (r >>= λ count. number_at order (place_width kind) bytes (link_place kind at count) >>= λ next. Ok (record { entries = last_of_each (entries_from kind order bytes (first_entry kind at) count); next = link next })) >>= λ (d : DirectoryRecord). Ok d.next)
+    ap (λ (r : Result ℕ TiffError). (r >>= λ count. number_at order (offset_width kind) bytes (link_offset kind at count) >>= λ next. Ok (record { entries = last_of_each (entries_from kind order bytes (first_entry kind at) count); next = link next })) >>= λ (d : DirectoryRecord). Ok d.next)
     (number_past order (count_width kind) bytes at (some_count kind) past)
 
 within_by : (b : Bool) (at len : ℕ) (r : Link) (next : Option ℕ) → nat_lt at len ≡ b → (len ≤ at → r ≡ Err (IoError UnexpectedEof)) → r ≡ Ok next → at < len
@@ -224,57 +224,57 @@ the_chain kind order bytes first =
 
 pub longest : IsLongestChain
 longest kind order bytes first =
-    let places = (chain kind order bytes first).places in
+    let offsets = (chain kind order bytes first).offsets in
     let end = (chain kind order bytes first).end in
     let is = the_chain kind order bytes first in
     record {
-      entered = places_entered (link_from kind order bytes) [] (Some first) places end is;
-      longest = λ others h. begins (link_from kind order bytes) [] (Some first) places others end is h;
+      entered = offsets_entered (link_from kind order bytes) [] (Some first) offsets end is;
+      longest = λ others h. begins (link_from kind order bytes) [] (Some first) offsets others end is h;
     }
 
--- ---- the places of a chain differ
+-- ---- the offsets of a chain differ
 
--- places that are entered after these others are none of them
+-- offsets that are entered after these others are none of them
 abbrev AreNoneOf : List ℕ → List ℕ → Type 0
-AreNoneOf met places = AllByRecursion (λ q. list_any (nat_eq q) met ≡ false) places
+AreNoneOf met offsets = AllByRecursion (λ q. list_any (nat_eq q) met ≡ false) offsets
 
-fewer_by : (p : ℕ) (met places : List ℕ) → AreNoneOf (p ∷ met) places → AreNoneOf met places
+fewer_by : (p : ℕ) (met offsets : List ℕ) → AreNoneOf (p ∷ met) offsets → AreNoneOf met offsets
 fewer_by p met [] h = tt
-fewer_by p met (q ∷ places) h = ((neither (nat_eq q p) (list_any (nat_eq q) met) h.0).1, fewer_by p met places h.1)
+fewer_by p met (q ∷ offsets) h = ((neither (nat_eq q p) (list_any (nat_eq q) met) h.0).1, fewer_by p met offsets h.1)
 
 flip : (p q : ℕ) → nat_eq q p ≡ false → nat_eq p q ≡ false
 flip p q h = grind (arith, nat_tests)
 
-apart_by : (p : ℕ) (met places : List ℕ) → AreNoneOf (p ∷ met) places → AllByRecursion (λ y. nat_eq p y ≡ false) places
+apart_by : (p : ℕ) (met offsets : List ℕ) → AreNoneOf (p ∷ met) offsets → AllByRecursion (λ y. nat_eq p y ≡ false) offsets
 apart_by p met [] h = tt
-apart_by p met (q ∷ places) h = (flip p q (neither (nat_eq q p) (list_any (nat_eq q) met) h.0).0, apart_by p met places h.1)
+apart_by p met (q ∷ offsets) h = (flip p q (neither (nat_eq q p) (list_any (nat_eq q) met) h.0).0, apart_by p met offsets h.1)
 
--- what is known of the places that are entered after these others
-record Entered (len : ℕ) (met places : List ℕ) : Type 0 where
-  new : AreNoneOf met places
-  known : Known len places
+-- what is known of the offsets that are entered after these others
+record Entered (len : ℕ) (met offsets : List ℕ) : Type 0 where
+  new : AreNoneOf met offsets
+  known : Known len offsets
 
-entered_apart : (link : ℕ → Link) (len : ℕ) → Within len link → (met : List ℕ) (next : Option ℕ) (places : List ℕ)
-    → IsNew met next → AreEntered link met next places → Entered len met places
+entered_apart : (link : ℕ → Link) (len : ℕ) → Within len link → (met : List ℕ) (next : Option ℕ) (offsets : List ℕ)
+    → IsNew met next → AreEntered link met next offsets → Entered len met offsets
 entered_apart link len w met next [] n d = record { new = tt; known = none_known len }
-entered_apart link len w met None (p ∷ places) n d = absurd d
-entered_apart link len w met (Some q) (p ∷ places) n d =
-    let rest = entered_apart link len w (q ∷ met) d.1 places (is_new (q ∷ met) (link q) d.1 d.2) d.3 in
+entered_apart link len w met None (p ∷ offsets) n d = absurd d
+entered_apart link len w met (Some q) (p ∷ offsets) n d =
+    let rest = entered_apart link len w (q ∷ met) d.1 offsets (is_new (q ∷ met) (link q) d.1 d.2) d.3 in
     let below : q < len = read_within link len w met q d.1 d.2 in
-    let P : ℕ → Type 0 = λ x. Entered len met (x ∷ places) in
-    let here : Entered len met (q ∷ places) = record {
-      new = (n, fewer_by q met places rest.new);
+    let P : ℕ → Type 0 = λ x. Entered len met (x ∷ offsets) in
+    let here : Entered len met (q ∷ offsets) = record {
+      new = (n, fewer_by q met offsets rest.new);
       known = record {
-        distinct = IsDistinct-cons nat_eq q places (apart_by q met places rest.new) rest.known.distinct;
-        below = below_more len q places below rest.known.below;
+        distinct = IsDistinct-cons nat_eq q offsets (apart_by q met offsets rest.new) rest.known.distinct;
+        below = below_more len q offsets below rest.known.below;
       };
     } in
     subst P (sym d.0) here
 
 pub apart_chain : IsChainApart
 apart_chain kind order bytes first =
-    let places = (chain kind order bytes first).places in
+    let offsets = (chain kind order bytes first).offsets in
     let end = (chain kind order bytes first).end in
-    let known = (entered_apart (link_from kind order bytes) (length bytes) (within kind order bytes) [] (Some first) places refl
-    (places_entered (link_from kind order bytes) [] (Some first) places end (the_chain kind order bytes first))).known in
+    let known = (entered_apart (link_from kind order bytes) (length bytes) (within kind order bytes) [] (Some first) offsets refl
+    (offsets_entered (link_from kind order bytes) [] (Some first) offsets end (the_chain kind order bytes first))).known in
     record { differ = known.distinct; below = known.below }

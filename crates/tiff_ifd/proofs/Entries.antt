@@ -13,11 +13,11 @@ use Rattle.tiff_base.specs.declared.io.IoKind.TheVariants.{UnexpectedEof}
 use Rattle.tiff_base.specs.declared.tags.ByteOrder.{ByteOrder}
 use Rattle.tiff_base.specs.declared.tags.FileKind.{FileKind}
 use Rattle.tiff_base.specs.declared.tags.FileKind.TheVariants.{Classic, Big}
-use Rattle.tiff_base.specs.Told.{bytes_at, exactly_at}
+use Rattle.tiff_base.specs.SourceAndSink.{bytes_at, exactly_at}
 use Rattle.tiff_base.specs.Number.{number_at, number}
 use Rattle.tiff_base.specs.Answers.{◌>>=◌}
 use Rattle.tiff_base.specs.Field.{Field, DirectoryRecord}
-use Rattle.tiff_base.specs.Directory.{count_width, place_width, entry_len, entry_of, entries_from, last_of_each, link, first_entry, link_place, directory_at}
+use Rattle.tiff_base.specs.Directory.{count_width, offset_width, entry_len, entry_of, entries_from, last_of_each, link, first_entry, link_offset, directory_at}
 
 range_more : (a n : ℕ) → range_with_len a (suc n) ≡ range_with_len a n ++ (a + n) ∷ []
 range_more a zero = let e : a ≡ a + 0 = omega arith in ap (λ (k : ℕ). k ∷ []) e
@@ -29,7 +29,7 @@ pub no_entries : (kind : FileKind) (order : ByteOrder) (bytes : List ℕ) (first
 unfolding last_of_each entries_from
 no_entries kind order bytes first = refl
 
--- what is read at a place, seen by f
+-- what is read at an offset, seen by f
 pub read_there : {A : Type 0} (bytes : List ℕ) (at len : ℕ) (f : List ℕ → A) (x : A) → (exactly_at bytes at len >>= λ found. Ok (f found)) ≡ Ok x → f (bytes_at bytes at len) ≡ x
 read_there bytes at len f x =
     elim (leb len (length bytes - at)) as (λ b. (cond b (Ok (bytes_at bytes at len)) (Err (IoError UnexpectedEof)) >>= λ found. Ok (f found)) ≡ Ok x → f (bytes_at bytes at len) ≡ x) [
@@ -70,26 +70,26 @@ entry_kept kind order bytes first i tag field e =
     ap (λ (l : List (ℕ × Field)). from_entries {R = nat_cmp} (reverse l)) (entries_more kind order bytes first i (Some (tag, field)) e)
     ∙ ap (from_entries {R = nat_cmp}) (reverse-append (entries_from kind order bytes first i) ((tag, field) ∷ []))
 
-some_bytes : (kind : FileKind) → 0 < byte_len (place_width kind)
+some_bytes : (kind : FileKind) → 0 < byte_len (offset_width kind)
 some_bytes Classic = lit< tt
 some_bytes Big = lit< tt
 
-pub directory_unlinked : (kind : FileKind) (order : ByteOrder) (bytes : List ℕ) (at count place : ℕ) (e : TiffError)
+pub directory_unlinked : (kind : FileKind) (order : ByteOrder) (bytes : List ℕ) (at count offset : ℕ) (e : TiffError)
     → number_at order (count_width kind) bytes at ≡ Ok count
-    → place ≡ link_place kind at count
-    → number_at order (place_width kind) bytes place ≡ Err e
+    → offset ≡ link_offset kind at count
+    → number_at order (offset_width kind) bytes offset ≡ Err e
     → directory_at kind order bytes at ≡ Err e
 unfolding directory_at
-directory_unlinked kind order bytes at count place e n p l =
+directory_unlinked kind order bytes at count offset e n p l =
     let read : Result ℕ TiffError → Result DirectoryRecord TiffError = λ r. r >>= λ next. Ok (record { entries = last_of_each (entries_from kind order bytes (first_entry kind at) count); next = link next }) in
-    ap (λ (r : Result ℕ TiffError). r >>= λ count. number_at order (place_width kind) bytes (link_place kind at count) >>= λ next. Ok (record { entries = last_of_each (entries_from kind order bytes (first_entry kind at) count); next = link next })) n
-    ∙ ap (λ (q : ℕ). read (number_at order (place_width kind) bytes q)) (sym p)
+    ap (λ (r : Result ℕ TiffError). r >>= λ count. number_at order (offset_width kind) bytes (link_offset kind at count) >>= λ next. Ok (record { entries = last_of_each (entries_from kind order bytes (first_entry kind at) count); next = link next })) n
+    ∙ ap (λ (q : ℕ). read (number_at order (offset_width kind) bytes q)) (sym p)
     ∙ ap read l
 
 -- a directory whose entries reach the end
 pub directory_cut : (kind : FileKind) (order : ByteOrder) (bytes : List ℕ) (at count : ℕ)
     → number_at order (count_width kind) bytes at ≡ Ok count
-    → length bytes ≤ link_place kind at count
+    → length bytes ≤ link_offset kind at count
     → directory_at kind order bytes at ≡ Err (IoError UnexpectedEof)
 directory_cut kind order bytes at count n past =
-    directory_unlinked kind order bytes at count (link_place kind at count) (IoError UnexpectedEof) n refl (number_past order (place_width kind) bytes (link_place kind at count) (some_bytes kind) past)
+    directory_unlinked kind order bytes at count (link_offset kind at count) (IoError UnexpectedEof) n refl (number_past order (offset_width kind) bytes (link_offset kind at count) (some_bytes kind) past)

@@ -1,4 +1,4 @@
--- Accepted links that are followed from a place: as many steps as there are links are enough.
+-- Accepted links that are followed from an offset: as many steps as there are links are enough.
 use Rattle.std.proofs.Common.{◌≡◌, ℕ, suc, ◌+◌, ◌-◌, ◌<◌, ◌≤◌, List, [], ◌∷◌, length, Option, None, Some, Bool, true, false, cond, refl, ap, sym, ◌∙◌, subst, arith}
 use Rattle.std.specs.Prelude.{is_some}
 use Rattle.std.specs.Ordering.{eq_by_cmp, nat_cmp}
@@ -7,15 +7,15 @@ use Rattle.std.specs.FinMap.{get, remove, len, entries, find, get-entries, len-e
 use Rattle.tiff_ifd.specs.Links.{Links, Goes, Closes}
 use Rattle.tiff_ifd.proofs.Links.{Found, IsFound, IsLinked, some_or, found_or, equal_order}
 
-next_of : (links : Links) (place n m : ℕ) → get links place ≡ Some (Some n) → get links place ≡ Some (Some m) → n ≡ m
-next_of links place n m a b = ap (λ (x : Found). some_or n (found_or None x)) (sym a ∙ b)
+next_of : (links : Links) (offset n m : ℕ) → get links offset ≡ Some (Some n) → get links offset ≡ Some (Some m) → n ≡ m
+next_of links offset n m a b = ap (λ (x : Found). some_or n (found_or None x)) (sym a ∙ b)
 
 pub no_link_and_link : (x : Found) (t : Option ℕ) → x ≡ Some t → x ≡ None → ⊥
 no_link_and_link x t a b = subst IsFound (sym a ∙ b) tt
 
--- ---- places on the way differ
+-- ---- offsets on the way differ
 
--- to a place that has no link there is one way
+-- to an offset that has no link there is one way
 same_length : (links : Links) (from : ℕ) → get links from ≡ None → (p : ℕ) (xs ys : List ℕ) → Goes links p xs from → Goes links p ys from → length xs ≡ length ys
 same_length links from free p [] [] a b = refl
 same_length links from free p [] (y ∷ ys) a b =
@@ -39,7 +39,7 @@ kept_by true links from to free all h p x xs less g e =
 kept_by false links from to free all h p x xs less g e =
     get-remove nat_cmp_total links to p ∙ ap (λ (b : Bool). cond b None (get links p)) e
 
--- the way goes on without the link of a place before
+-- the way goes on without the link of an offset before
 kept : (links : Links) (from to : ℕ) → get links from ≡ None → (all : List ℕ) → Goes links to all from
     → (p : ℕ) (xs : List ℕ) → length xs < length all → Goes links p xs from → Goes (remove links to) p xs from
 kept links from to free all h p [] less g = g
@@ -65,7 +65,7 @@ one_less links to x h =
     len-remove nat_cmp_total links to ∙ ap (λ (y : Found). cond (is_some y) (len links - 1) (len links)) h in
     omega (arith, some, less, len-entries links)
 
--- the way to a place that has no link is no longer than there are links
+-- the way to an offset that has no link is no longer than there are links
 pub no_longer : (links : Links) (from : ℕ) → get links from ≡ None → (to : ℕ) (others : List ℕ) → Goes links to others from → length others ≤ len links
 no_longer links from free to [] h = omega arith
 no_longer links from free to (n ∷ others) h =
@@ -75,52 +75,52 @@ no_longer links from free to (n ∷ others) h =
 
 -- ---- the walk
 
--- so many links were followed from one place to another
-pub record Gone (links : Links) (from to place steps : ℕ) : Type 0 where
-  pub there : (others : List ℕ) → Goes links place others from → (all : List ℕ) × Goes links to all from
-  pub back : (others : List ℕ) → Goes links to others from → (rest : List ℕ) × (length others ≡ steps + length rest) × Goes links place rest from
+-- so many links were followed from one offset to another
+pub record Gone (links : Links) (from to offset steps : ℕ) : Type 0 where
+  pub there : (others : List ℕ) → Goes links offset others from → (all : List ℕ) × Goes links to all from
+  pub back : (others : List ℕ) → Goes links to others from → (rest : List ℕ) × (length others ≡ steps + length rest) × Goes links offset rest from
 
 pub still_here : (links : Links) (from to : ℕ) → Gone links from to to 0
 still_here links from to = record { there = λ others h. (others, h); back = λ others h. (others, omega arith, h) }
 
-on_by : (links : Links) (from to place next steps : ℕ) → (place ≡ from → ⊥) → get links place ≡ Some (Some next)
-    → (others rest : List ℕ) → length others ≡ steps + length rest → Goes links place rest from
+on_by : (links : Links) (from to offset next steps : ℕ) → (offset ≡ from → ⊥) → get links offset ≡ Some (Some next)
+    → (others rest : List ℕ) → length others ≡ steps + length rest → Goes links offset rest from
     → (left : List ℕ) × (length others ≡ steps + 1 + length left) × Goes links next left from
-on_by links from to place next steps apart g others [] e h = absurd (apart h)
-on_by links from to place next steps apart g others (n ∷ rest) e h =
+on_by links from to offset next steps apart g others [] e h = absurd (apart h)
+on_by links from to offset next steps apart g others (n ∷ rest) e h =
     let P : ℕ → Type 0 = λ k. Goes links k rest from in
-    (rest, omega (arith, e), subst P (sym (next_of links place next n g h.0)) h.1)
+    (rest, omega (arith, e), subst P (sym (next_of links offset next n g h.0)) h.1)
 
-pub gone_on : (links : Links) (from to place next steps : ℕ) → (place ≡ from → ⊥) → get links place ≡ Some (Some next)
-    → Gone links from to place steps → Gone links from to next (steps + 1)
-gone_on links from to place next steps apart g w = record {
+pub gone_on : (links : Links) (from to offset next steps : ℕ) → (offset ≡ from → ⊥) → get links offset ≡ Some (Some next)
+    → Gone links from to offset steps → Gone links from to next (steps + 1)
+gone_on links from to offset next steps apart g w = record {
   there = λ others h. w.there (next ∷ others) (g, h);
-  back = λ others h. (let r = w.back others h in on_by links from to place next steps apart g others r.0 r.1 r.2);
+  back = λ others h. (let r = w.back others h in on_by links from to offset next steps apart g others r.0 r.1 r.2);
 }
 
--- the place is met
-pub met : (links : Links) (from to place steps : ℕ) → place ≡ from → Gone links from to place steps → Closes links from (Some to)
-met links from to place steps e w = w.there [] e
+-- the offset is met
+pub met : (links : Links) (from to offset steps : ℕ) → offset ≡ from → Gone links from to offset steps → Closes links from (Some to)
+met links from to offset steps e w = w.there [] e
 
-stuck : (links : Links) (from place : ℕ) → (place ≡ from → ⊥) → (IsLinked (get links place) → ⊥) → (rest : List ℕ) → Goes links place rest from → ⊥
-stuck links from place apart none [] h = apart h
-stuck links from place apart none (n ∷ rest) h = none (subst IsLinked (sym h.0) tt)
+stuck : (links : Links) (from offset : ℕ) → (offset ≡ from → ⊥) → (IsLinked (get links offset) → ⊥) → (rest : List ℕ) → Goes links offset rest from → ⊥
+stuck links from offset apart none [] h = apart h
+stuck links from offset apart none (n ∷ rest) h = none (subst IsLinked (sym h.0) tt)
 
 -- the way ends before
-pub ended : (links : Links) (from to place steps : ℕ) → (place ≡ from → ⊥) → (IsLinked (get links place) → ⊥)
-    → Gone links from to place steps → Closes links from (Some to) → ⊥
-ended links from to place steps apart none w c = (let r = w.back c.0 c.1 in stuck links from place apart none r.0 r.2)
+pub ended : (links : Links) (from to offset steps : ℕ) → (offset ≡ from → ⊥) → (IsLinked (get links offset) → ⊥)
+    → Gone links from to offset steps → Closes links from (Some to) → ⊥
+ended links from to offset steps apart none w c = (let r = w.back c.0 c.1 in stuck links from offset apart none r.0 r.2)
 
-longer : (links : Links) (from place : ℕ) → (place ≡ from → ⊥) → (rest : List ℕ) → Goes links place rest from → 0 < length rest
-longer links from place apart [] h = absurd (apart h)
-longer links from place apart (n ∷ rest) h = omega arith
+longer : (links : Links) (from offset : ℕ) → (offset ≡ from → ⊥) → (rest : List ℕ) → Goes links offset rest from → 0 < length rest
+longer links from offset apart [] h = absurd (apart h)
+longer links from offset apart (n ∷ rest) h = omega arith
 
 -- so many steps weren't enough, so no number is
-pub too_far : (links : Links) (from to place steps : ℕ) → get links from ≡ None → (place ≡ from → ⊥) → len links ≤ steps
-    → Gone links from to place steps → Closes links from (Some to) → ⊥
-too_far links from to place steps free apart all w c =
+pub too_far : (links : Links) (from to offset steps : ℕ) → get links from ≡ None → (offset ≡ from → ⊥) → len links ≤ steps
+    → Gone links from to offset steps → Closes links from (Some to) → ⊥
+too_far links from to offset steps free apart all w c =
     let r = w.back c.0 c.1 in
-    let some : 0 < length r.0 = longer links from place apart r.0 r.2 in
+    let some : 0 < length r.0 = longer links from offset apart r.0 r.2 in
     let most : length c.0 ≤ len links = no_longer links from free to c.0 c.1 in
     let e : length c.0 ≡ steps + length r.0 = r.1 in
     omega (arith, all, some, most, e)

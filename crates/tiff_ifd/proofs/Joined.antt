@@ -4,7 +4,7 @@ use Rattle.std.specs.declared.alloc.Global.{Global}
 use Rattle.tiff_base.specs.declared.error.TiffError.{TiffError}
 use Rattle.std.proofs.Math.Seq.{take-append_seam}
 use Rattle.std.proofs.lemmas.List.{map-append, take_all}
-use Rattle.tiff_base.specs.Answers.{AnswersHere}
+use Rattle.tiff_base.specs.Answers.{AnswersWithoutSource}
 
 pub two_more : {A : Type 0} (xs ys zs : List A) (x y : A) → ys ≡ xs ++ x ∷ [] → zs ≡ ys ++ y ∷ [] → zs ≡ xs ++ x ∷ y ∷ []
 two_more xs ys zs x y p q = q ∙ ap (λ ws. ws ++ y ∷ []) p ∙ append_assoc xs (x ∷ []) (y ∷ [])
@@ -18,7 +18,7 @@ map_same (x ∷ xs) = ap (λ ys. x ∷ ys) (map_same xs)
 
 -- a list that is seen as it is
 pub as_they_are : {A : Type 0} (r : Result (Vec A Global) TiffError) (given : Result (List A) TiffError)
-    → AnswersHere (λ v. map (λ (x : A). x) v.items) r given → AnswersHere (λ v. v.items) r given
+    → AnswersWithoutSource (λ v. map (λ (x : A). x) v.items) r given → AnswersWithoutSource (λ v. v.items) r given
 as_they_are (Ok v) given h = h ∙ ap (λ xs. Ok xs) (map_same v.items)
 as_they_are (Err e) given h = h
 

@@ -8,7 +8,7 @@ use Rattle.std.proofs.lemmas.Bool.Decides.{nat_tests}
 use Rattle.tiff_base.specs.declared.error.TiffError.{TiffError}
 use Rattle.tiff_base.specs.declared.error.TiffError.TheVariants.{FormatError}
 use Rattle.tiff_base.specs.declared.error.TiffFormatError.TheVariants.{CycleInOffsets}
-use Rattle.tiff_ifd.specs.Links.{Links, target, Goes, Closes, HasAnother, IsClosing, IsNew, Inserts, IsAnswered, IsOneAnswer}
+use Rattle.tiff_ifd.specs.Links.{Links, link_target, Goes, Closes, HasAnother, IsClosing, IsNew, Inserts, IsAnswered, IsOneAnswer}
 use Rattle.tiff_ifd.proofs.Chain.{IsFalseBit, Known, known_more, none_known, full, equal_numbers}
 
 abbrev pub Found : Type 0
@@ -50,17 +50,17 @@ new_not_refused links from t n (inr h) = n.unclosed h.closes
 pub one_answer : IsOneAnswer
 one_answer links from to (Ok false) (Ok false) after last c d = (refl, c.1 ∙ sym d.1)
 one_answer links from to (Ok true) (Ok true) after last c d = (refl, c.1 ∙ sym d.1)
-one_answer links from to (Ok false) (Ok true) after last c d = absurd (both (get links from) (target to) c.0 d.0.free)
-one_answer links from to (Ok true) (Ok false) after last c d = absurd (both (get links from) (target to) d.0 c.0.free)
-one_answer links from to (Ok false) (Err e) after last c d = absurd (accepted_not_refused links from (target to) c.0 d.1)
-one_answer links from to (Err e) (Ok false) after last c d = absurd (accepted_not_refused links from (target to) d.0 c.1)
-one_answer links from to (Ok true) (Err e) after last c d = absurd (new_not_refused links from (target to) c.0 d.1)
-one_answer links from to (Err e) (Ok true) after last c d = absurd (new_not_refused links from (target to) d.0 c.1)
+one_answer links from to (Ok false) (Ok true) after last c d = absurd (both (get links from) (link_target to) c.0 d.0.free)
+one_answer links from to (Ok true) (Ok false) after last c d = absurd (both (get links from) (link_target to) d.0 c.0.free)
+one_answer links from to (Ok false) (Err e) after last c d = absurd (accepted_not_refused links from (link_target to) c.0 d.1)
+one_answer links from to (Err e) (Ok false) after last c d = absurd (accepted_not_refused links from (link_target to) d.0 c.1)
+one_answer links from to (Ok true) (Err e) after last c d = absurd (new_not_refused links from (link_target to) c.0 d.1)
+one_answer links from to (Err e) (Ok true) after last c d = absurd (new_not_refused links from (link_target to) d.0 c.1)
 one_answer links from to (Err e) (Err f) after last c d = (ap Err (c.0 ∙ sym d.0), c.2 ∙ sym d.2)
 
 -- ---- an answer
 
--- each place that has a link is below this number
+-- each offset that has a link is below this number
 abbrev most : List (ℕ × Option ℕ) → ℕ
 most [] = 0
 most (e ∷ es) = e.0 + 1 + most es
@@ -128,19 +128,19 @@ same_option (Some n) None = inr (λ e. subst IsSome e tt)
 same_option (Some n) (Some m) = by_numbers (nat_eq n m) n m refl
 
 module _ (links : Links) (from : ℕ) where
-  -- places that were walked over, none of which is the one asked for, and each of which links to the next one if at all
-  record Walked (met : List ℕ) (place : ℕ) : Type 0 where
+  -- offsets that were walked over, none of which is the one asked for, and each of which links to the next one if at all
+  record Walked (met : List ℕ) (offset : ℕ) : Type 0 where
     apart : (q : ℕ) → In q met → q ≡ from → ⊥
-    on : (q next : ℕ) → In q met → get links q ≡ Some (Some next) → In next (place ∷ met)
+    on : (q next : ℕ) → In q met → get links q ≡ Some (Some next) → In next (offset ∷ met)
 
   abbrev Decided : ℕ → Type 0
-  Decided place = ((others : List ℕ) × Goes links place others from) ⊎ ((others : List ℕ) → Goes links place others from → ⊥)
+  Decided offset = ((others : List ℕ) × Goes links offset others from) ⊎ ((others : List ℕ) → Goes links offset others from → ⊥)
 
-  stuck : (place : ℕ) (x : Found) → get links place ≡ x → (IsLinked x → ⊥) → (place ≡ from → ⊥) → (others : List ℕ) → Goes links place others from → ⊥
-  stuck place x e none apart [] h = apart h
-  stuck place x e none apart (next ∷ others) h = none (subst IsLinked (sym h.0 ∙ e) tt)
+  stuck : (offset : ℕ) (x : Found) → get links offset ≡ x → (IsLinked x → ⊥) → (offset ≡ from → ⊥) → (others : List ℕ) → Goes links offset others from → ⊥
+  stuck offset x e none apart [] h = apart h
+  stuck offset x e none apart (next ∷ others) h = none (subst IsLinked (sym h.0 ∙ e) tt)
 
-  -- a link from one of these places that stays among them
+  -- a link from one of these offsets that stays among them
   abbrev Stays : List ℕ → Type 0
   Stays met = (q next : ℕ) → In q met → get links q ≡ Some (Some next) → In next met
 
@@ -148,81 +148,81 @@ module _ (links : Links) (from : ℕ) where
   trapped met apart stays q i [] h = apart q i h
   trapped met apart stays q i (next ∷ others) h = trapped met apart stays next (stays q next i h.0) others h.1
 
-  next_of : (place n m : ℕ) → get links place ≡ Some (Some n) → get links place ≡ Some (Some m) → n ≡ m
-  next_of place n m a b = ap (λ (x : Found). some_or n (found_or None x)) (sym a ∙ b)
+  next_of : (offset n m : ℕ) → get links offset ≡ Some (Some n) → get links offset ≡ Some (Some m) → n ≡ m
+  next_of offset n m a b = ap (λ (x : Found). some_or n (found_or None x)) (sym a ∙ b)
 
-  apart_by : (met : List ℕ) (place q : ℕ) → Walked met place → (place ≡ from → ⊥) → (nat_eq q place ≡ true) ⊎ In q met → q ≡ from → ⊥
-  apart_by met place q w a (inl h) e = a (sym (equal_numbers q place h) ∙ e)
-  apart_by met place q w a (inr h) e = w.apart q h e
+  apart_by : (met : List ℕ) (offset q : ℕ) → Walked met offset → (offset ≡ from → ⊥) → (nat_eq q offset ≡ true) ⊎ In q met → q ≡ from → ⊥
+  apart_by met offset q w a (inl h) e = a (sym (equal_numbers q offset h) ∙ e)
+  apart_by met offset q w a (inr h) e = w.apart q h e
 
-  apart_more : (met : List ℕ) (place : ℕ) → Walked met place → (place ≡ from → ⊥) → (q : ℕ) → In q (place ∷ met) → q ≡ from → ⊥
-  apart_more met place w a q i = apart_by met place q w a (either (nat_eq q place) (list_any (nat_eq q) met) i)
+  apart_more : (met : List ℕ) (offset : ℕ) → Walked met offset → (offset ≡ from → ⊥) → (q : ℕ) → In q (offset ∷ met) → q ≡ from → ⊥
+  apart_more met offset w a q i = apart_by met offset q w a (either (nat_eq q offset) (list_any (nat_eq q) met) i)
 
-  -- where these places and this one lead to, given where this one does
-  leads_by : (met : List ℕ) (place next : ℕ) (all : List ℕ) → Walked met place → get links place ≡ Some (Some next)
-      → In next all → ((q : ℕ) → In q (place ∷ met) → In q all)
-      → (q n : ℕ) → (nat_eq q place ≡ true) ⊎ In q met → get links q ≡ Some (Some n) → In n all
-  leads_by met place next all w g i wide q n (inl h) l =
-      let same : q ≡ place = equal_numbers q place h in
+  -- where these offsets and this one lead to, given where this one does
+  leads_by : (met : List ℕ) (offset next : ℕ) (all : List ℕ) → Walked met offset → get links offset ≡ Some (Some next)
+      → In next all → ((q : ℕ) → In q (offset ∷ met) → In q all)
+      → (q n : ℕ) → (nat_eq q offset ≡ true) ⊎ In q met → get links q ≡ Some (Some n) → In n all
+  leads_by met offset next all w g i wide q n (inl h) l =
+      let same : q ≡ offset = equal_numbers q offset h in
       let P : ℕ → Type 0 = λ k. get links k ≡ Some (Some n) in
       let Q : ℕ → Type 0 = λ k. In k all in
-      subst Q (next_of place next n g (subst P same l)) i
-  leads_by met place next all w g i wide q n (inr h) l = wide n (w.on q n h l)
+      subst Q (next_of offset next n g (subst P same l)) i
+  leads_by met offset next all w g i wide q n (inr h) l = wide n (w.on q n h l)
 
-  leads : (met : List ℕ) (place next : ℕ) (all : List ℕ) → Walked met place → get links place ≡ Some (Some next)
-      → In next all → ((q : ℕ) → In q (place ∷ met) → In q all)
-      → (q n : ℕ) → In q (place ∷ met) → get links q ≡ Some (Some n) → In n all
-  leads met place next all w g i wide q n j = leads_by met place next all w g i wide q n (either (nat_eq q place) (list_any (nat_eq q) met) j)
+  leads : (met : List ℕ) (offset next : ℕ) (all : List ℕ) → Walked met offset → get links offset ≡ Some (Some next)
+      → In next all → ((q : ℕ) → In q (offset ∷ met) → In q all)
+      → (q n : ℕ) → In q (offset ∷ met) → get links q ≡ Some (Some n) → In n all
+  leads met offset next all w g i wide q n j = leads_by met offset next all w g i wide q n (either (nat_eq q offset) (list_any (nat_eq q) met) j)
 
-  turn_back : (met : List ℕ) (place next : ℕ) → Walked met place → (place ≡ from → ⊥) → get links place ≡ Some (Some next)
-      → In next (place ∷ met) → Decided place
-  turn_back met place next w a g i =
-      inr (trapped (place ∷ met) (apart_more met place w a) (leads met place next (place ∷ met) w g i (λ q h. h)) place (here place met))
+  turn_back : (met : List ℕ) (offset next : ℕ) → Walked met offset → (offset ≡ from → ⊥) → get links offset ≡ Some (Some next)
+      → In next (offset ∷ met) → Decided offset
+  turn_back met offset next w a g i =
+      inr (trapped (offset ∷ met) (apart_more met offset w a) (leads met offset next (offset ∷ met) w g i (λ q h. h)) offset (here offset met))
 
-  not_on : (place next : ℕ) → (place ≡ from → ⊥) → get links place ≡ Some (Some next) → ((others : List ℕ) → Goes links next others from → ⊥) → (others : List ℕ) → Goes links place others from → ⊥
-  not_on place next a g h [] e = a e
-  not_on place next a g h (n ∷ others) e =
+  not_on : (offset next : ℕ) → (offset ≡ from → ⊥) → get links offset ≡ Some (Some next) → ((others : List ℕ) → Goes links next others from → ⊥) → (others : List ℕ) → Goes links offset others from → ⊥
+  not_on offset next a g h [] e = a e
+  not_on offset next a g h (n ∷ others) e =
       let P : ℕ → Type 0 = λ k. Goes links k others from in
-      h others (subst P (sym (next_of place next n g e.0)) e.1)
+      h others (subst P (sym (next_of offset next n g e.0)) e.1)
 
-  go_on : (place next : ℕ) → (place ≡ from → ⊥) → get links place ≡ Some (Some next) → Decided next → Decided place
-  go_on place next a g (inl h) = inl (next ∷ h.0, (g, h.1))
-  go_on place next a g (inr h) = inr (not_on place next a g h)
+  go_on : (offset next : ℕ) → (offset ≡ from → ⊥) → get links offset ≡ Some (Some next) → Decided next → Decided offset
+  go_on offset next a g (inl h) = inl (next ∷ h.0, (g, h.1))
+  go_on offset next a g (inr h) = inr (not_on offset next a g h)
 
-  by_member : (b : Bool) (met : List ℕ) (place next : ℕ) → list_any (nat_eq next) (place ∷ met) ≡ b → Walked met place → (place ≡ from → ⊥)
-      → get links place ≡ Some (Some next) → (list_any (nat_eq next) (place ∷ met) ≡ false → Decided next) → Decided place
-  by_member true met place next h w a g rest = turn_back met place next w a g h
-  by_member false met place next h w a g rest = go_on place next a g (rest h)
+  by_member : (b : Bool) (met : List ℕ) (offset next : ℕ) → list_any (nat_eq next) (offset ∷ met) ≡ b → Walked met offset → (offset ≡ from → ⊥)
+      → get links offset ≡ Some (Some next) → (list_any (nat_eq next) (offset ∷ met) ≡ false → Decided next) → Decided offset
+  by_member true met offset next h w a g rest = turn_back met offset next w a g h
+  by_member false met offset next h w a g rest = go_on offset next a g (rest h)
 
-  -- what is decided of the next place decides of this one
+  -- what is decided of the next offset decides of this one
   abbrev Rest : List ℕ → ℕ → Type 0
-  Rest met place = (next : ℕ) → (place ≡ from → ⊥) → get links place ≡ Some (Some next) → list_any (nat_eq next) (place ∷ met) ≡ false → Decided next
+  Rest met offset = (next : ℕ) → (offset ≡ from → ⊥) → get links offset ≡ Some (Some next) → list_any (nat_eq next) (offset ∷ met) ≡ false → Decided next
 
-  by_found : (x : Found) (met : List ℕ) (place : ℕ) → get links place ≡ x → Walked met place → (place ≡ from → ⊥) → Rest met place → Decided place
-  by_found None met place e w a rest = inr (stuck place None e (λ x. x) a)
-  by_found (Some None) met place e w a rest = inr (stuck place (Some None) e (λ x. x) a)
-  by_found (Some (Some next)) met place e w a rest =
-      by_member (list_any (nat_eq next) (place ∷ met)) met place next refl w a e (rest next a e)
+  by_found : (x : Found) (met : List ℕ) (offset : ℕ) → get links offset ≡ x → Walked met offset → (offset ≡ from → ⊥) → Rest met offset → Decided offset
+  by_found None met offset e w a rest = inr (stuck offset None e (λ x. x) a)
+  by_found (Some None) met offset e w a rest = inr (stuck offset (Some None) e (λ x. x) a)
+  by_found (Some (Some next)) met offset e w a rest =
+      by_member (list_any (nat_eq next) (offset ∷ met)) met offset next refl w a e (rest next a e)
 
-  by_here : (b : Bool) (met : List ℕ) (place : ℕ) → nat_eq place from ≡ b → Walked met place → Rest met place → Decided place
-  by_here true met place h w rest = inl ([], equal_numbers place from h)
-  by_here false met place h w rest = by_found (get links place) met place refl w (λ e. not_equal place from h e) rest
+  by_here : (b : Bool) (met : List ℕ) (offset : ℕ) → nat_eq offset from ≡ b → Walked met offset → Rest met offset → Decided offset
+  by_here true met offset h w rest = inl ([], equal_numbers offset from h)
+  by_here false met offset h w rest = by_found (get links offset) met offset refl w (λ e. not_equal offset from h e) rest
 
-  walked_more : (met : List ℕ) (place next : ℕ) → Walked met place → (place ≡ from → ⊥) → get links place ≡ Some (Some next) → Walked (place ∷ met) next
-  walked_more met place next w a g = record {
-    apart = apart_more met place w a;
-    on = leads met place next (next ∷ place ∷ met) w g (here next (place ∷ met)) (λ q h. more q next (place ∷ met) h);
+  walked_more : (met : List ℕ) (offset next : ℕ) → Walked met offset → (offset ≡ from → ⊥) → get links offset ≡ Some (Some next) → Walked (offset ∷ met) next
+  walked_more met offset next w a g = record {
+    apart = apart_more met offset w a;
+    on = leads met offset next (next ∷ offset ∷ met) w g (here next (offset ∷ met)) (λ q h. more q next (offset ∷ met) h);
   }
 
-  decide : (steps : ℕ) (met : List ℕ) (place : ℕ) → most (entries links) ≤ steps + length met → Known (most (entries links)) met
-      → list_any (nat_eq place) met ≡ false → Walked met place → Decided place
-  decide zero met place f k n w =
-      by_here (nat_eq place from) met place refl w (λ next a g m.
-      absurd (full (most (entries links)) place met (linked_below links place (Some next) g) n k (omega (arith, f))))
-  decide (suc steps) met place f k n w =
-      by_here (nat_eq place from) met place refl w (λ next a g m.
-      decide steps (place ∷ met) next (omega (arith, f))
-      (known_more (most (entries links)) place met (linked_below links place (Some next) g) n k) m (walked_more met place next w a g))
+  decide : (steps : ℕ) (met : List ℕ) (offset : ℕ) → most (entries links) ≤ steps + length met → Known (most (entries links)) met
+      → list_any (nat_eq offset) met ≡ false → Walked met offset → Decided offset
+  decide zero met offset f k n w =
+      by_here (nat_eq offset from) met offset refl w (λ next a g m.
+      absurd (full (most (entries links)) offset met (linked_below links offset (Some next) g) n k (omega (arith, f))))
+  decide (suc steps) met offset f k n w =
+      by_here (nat_eq offset from) met offset refl w (λ next a g m.
+      decide steps (offset ∷ met) next (omega (arith, f))
+      (known_more (most (entries links)) offset met (linked_below links offset (Some next) g) n k) m (walked_more met offset next w a g))
 
   decided_of : (to : ℕ) → Decided to → Closes links from (Some to) ⊎ (Closes links from (Some to) → ⊥)
   decided_of to (inl h) = inl h
@@ -238,20 +238,20 @@ module _ (links : Links) (from : ℕ) where
   abbrev Answered : Option ℕ → Type 0
   Answered to = (answer : Result Bool TiffError) × (after : Links) × Inserts links from to answer after
 
-  refused : (to : Option ℕ) → HasAnother links from (target to) ⊎ IsClosing links from (target to) → Answered to
+  refused : (to : Option ℕ) → HasAnother links from (link_target to) ⊎ IsClosing links from (link_target to) → Answered to
   refused to h = (Err (FormatError CycleInOffsets), links, (refl, h, refl))
 
-  by_target : (to t : Option ℕ) → get links from ≡ Some t → (t ≡ target to) ⊎ (t ≡ target to → ⊥) → Answered to
+  by_target : (to t : Option ℕ) → get links from ≡ Some t → (t ≡ link_target to) ⊎ (t ≡ link_target to → ⊥) → Answered to
   by_target to t g (inl h) = (Ok false, links, (g ∙ ap Some h, refl))
   by_target to t g (inr h) = refused to (inl (record { other = t; accepted = g; differs = h }))
 
-  by_closing : (to : Option ℕ) → get links from ≡ None → Closes links from (target to) ⊎ (Closes links from (target to) → ⊥) → Answered to
+  by_closing : (to : Option ℕ) → get links from ≡ None → Closes links from (link_target to) ⊎ (Closes links from (link_target to) → ⊥) → Answered to
   by_closing to g (inl h) = refused to (inr (record { free = g; closes = h }))
-  by_closing to g (inr h) = (Ok true, insert links from (target to), (record { free = g; unclosed = h }, refl))
+  by_closing to g (inr h) = (Ok true, insert links from (link_target to), (record { free = g; unclosed = h }, refl))
 
   by_look : (to : Option ℕ) (x : Found) → get links from ≡ x → Answered to
-  by_look to None g = by_closing to g (closes_or_not (target to))
-  by_look to (Some t) g = by_target to t g (same_option t (target to))
+  by_look to None g = by_closing to g (closes_or_not (link_target to))
+  by_look to (Some t) g = by_target to t g (same_option t (link_target to))
 
 pub some_answer : IsAnswered
 some_answer links from to = by_look links from to (get links from) refl

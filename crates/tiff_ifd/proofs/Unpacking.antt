@@ -9,15 +9,15 @@ use Rattle.tiff_base.specs.declared.error.TiffError.{TiffError}
 use Rattle.tiff_base.specs.declared.error.TiffError.TheVariants.{IoError}
 use Rattle.tiff_base.specs.declared.io.IoKind.TheVariants.{UnexpectedEof}
 use Rattle.tiff_base.specs.Answers.{IsCause}
-use Rattle.tiff_base.specs.Runs.{End, Plain, Broken, Unpacked, before, runs, runs_after}
-use Rattle.tiff_base.specs.Told.{exactly_at, bytes_at, Reads}
+use Rattle.tiff_base.specs.Runs.{End, Plain, Broken, Unpacked, with_front, runs, runs_after}
+use Rattle.tiff_base.specs.SourceAndSink.{exactly_at, bytes_at, Reads}
 use Rattle.tiff_base.proofs.Blocks.{runs_cons, runs_no_op, runs_run, runs_broken}
 use Rattle.tiff_base.proofs.Bytes.{missing}
 use Rattle.tiff_base.proofs.Causes.{cause_along}
 use Rattle.tiff_ifd.specs.declared.packbits.Block.{Block}
 use Rattle.tiff_ifd.specs.declared.packbits.Block.TheVariants.{Literal, Run}
-use Rattle.tiff_ifd.specs.declared.packbits.PackedPlace.{PackedPlace}
-use Rattle.tiff_ifd.specs.Unpacking.{unpacked_at, ended, left_in, left_at, count_of, GivesNext, IsBroken, IsShort}
+use Rattle.tiff_ifd.specs.declared.packbits.PackedPosition.{PackedPosition}
+use Rattle.tiff_ifd.specs.Unpacking.{unpacked_at, ended, left_in, left_at, count_of, GivesNext, IsBroken, HasTooFew}
 
 -- ---- a byte of the source
 
@@ -39,7 +39,7 @@ byte_there s v at =
 pub same_byte : (s t : List ℕ) (at byte : ℕ) → t ≡ s → (at < length t) × (byte ≡ get_or t at 0) → (at < length s) × (byte ≡ get_or s at 0)
 same_byte s t at byte e h = subst (λ (l : List ℕ). (at < length l) × (byte ≡ get_or l at 0)) e h
 
--- ---- the packed bytes from a later place on
+-- ---- the packed bytes from a later offset on
 
 pub early_next : (s : List ℕ) (at len k : ℕ) → k ≤ len → k ≤ length s - at → ltb (length s - (at + k)) (len - k) ≡ ltb (length s - at) len
 early_next s at len k a b =
@@ -67,7 +67,7 @@ packed_nil s at len (inr a) = nil_from_length (bytes_at s at len) (omega (arith,
 
 -- ---- at a header
 
-pub before_before : (xs ys : List ℕ) (u : Unpacked) → before xs (before ys u) ≡ before (xs ++ ys) u
+pub before_before : (xs ys : List ℕ) (u : Unpacked) → with_front xs (with_front ys u) ≡ with_front (xs ++ ys) u
 before_before xs ys u = ap (λ (zs : List ℕ). let r : Unpacked = record { out = zs; end = u.end } in r) (sym (append_assoc xs ys u.out))
 
 runs_nil : (early : Bool) → runs early [] ≡ ended (cond early Broken Plain)
@@ -124,8 +124,8 @@ used_in : (block : Block) (early : Bool) (P : List ℕ) → count_of block ≡ 0
 used_in (Literal n) early P e = ap (λ (m : ℕ). left_in (Literal m) early P) e
 used_in (Run value n) early P e = ap (λ (m : ℕ). left_in (Run value m) early P) e
 
-pub used_up : (s : List ℕ) (place : PackedPlace) → count_of place.block ≡ 0 → left_at s place ≡ unpacked_at s place.at place.len
-used_up s place e = used_in place.block (ltb (length s - place.at) place.len) (bytes_at s place.at place.len) e
+pub used_up : (s : List ℕ) (offset : PackedPosition) → count_of offset.block ≡ 0 → left_at s offset ≡ unpacked_at s offset.at offset.len
+used_up s offset e = used_in offset.block (ltb (length s - offset.at) offset.len) (bytes_at s offset.at offset.len) e
 
 literal_nil : (n : ℕ) (early : Bool) → 0 < n → left_in (Literal n) early [] ≡ ended Plain
 unfolding runs_after
@@ -139,7 +139,7 @@ runs_after_add (suc n) m early [] h = absurd (omega (arith, h))
 runs_after_add (suc n) m early (b ∷ P) h = let e : suc n + m ≡ suc (n + m) = omega arith in rw e (runs_after_add n m early P (omega (arith, h)))
 
 pub literal_part : (s : List ℕ) (at len c n : ℕ) → n ≤ c → n ≤ len → n ≤ length s - at
-    → left_at s (record { block = Literal c; at = at; len = len }) ≡ before (bytes_at s at n) (left_at s (record { block = Literal (c - n); at = at + n; len = len - n }))
+    → left_at s (record { block = Literal c; at = at; len = len }) ≡ with_front (bytes_at s at n) (left_at s (record { block = Literal (c - n); at = at + n; len = len - n }))
 literal_part s at len c n d a b =
     let f : c ≡ n + (c - n) = omega (arith, d) in
     ap (λ (m : ℕ). left_at s (record { block = Literal m; at = at; len = len })) f
@@ -157,19 +157,19 @@ behind_part old n most a b =
     sym (drop-append-le n (take most old) (drop most old) l) ∙ ap (drop n) (take-append-drop most old)
 
 gives : (left rest : Unpacked) (old xs part : List ℕ) (n most : ℕ) → n ≤ most → most ≤ length old → part ≡ xs ++ drop n (take most old) → length xs ≡ n
-    → left ≡ before xs rest → (n ≡ 0 → left ≡ ended Plain) → GivesNext left old n (part ++ drop most old) rest
+    → left ≡ with_front xs rest → (n ≡ 0 → left ≡ ended Plain) → GivesNext left old n (part ++ drop most old) rest
 gives left rest old xs part n most a b p l g z =
     let e : part ++ drop most old ≡ xs ++ drop n old =
     ap (λ (ys : List ℕ). ys ++ drop most old) p ∙ append_assoc xs (drop n (take most old)) (drop most old) ∙ ap (λ (ys : List ℕ). xs ++ ys) (behind_part old n most a b) in
     record {
       in_buffer = omega (arith, a, b);
-      next = g ∙ ap (λ (ys : List ℕ). before ys rest) (sym (ap (take n) e ∙ take_at xs (drop n old) n l));
+      next = g ∙ ap (λ (ys : List ℕ). with_front ys rest) (sym (ap (take n) e ∙ take_at xs (drop n old) n l));
       behind = ap (drop n) e ∙ drop_at xs (drop n old) n l;
       none = λ _ h. z h;
     }
 
-block_is : (s : List ℕ) (place : PackedPlace) (block : Block) → place.block ≡ block → left_at s place ≡ left_at s (record place { block = block })
-block_is s place block e = ap (λ (b : Block). left_in b (ltb (length s - place.at) place.len) (bytes_at s place.at place.len)) e
+block_is : (s : List ℕ) (offset : PackedPosition) (block : Block) → offset.block ≡ block → left_at s offset ≡ left_at s (record offset { block = block })
+block_is s offset block e = ap (λ (b : Block). left_in b (ltb (length s - offset.at) offset.len) (bytes_at s offset.at offset.len)) e
 
 no_byte : (s old part : List ℕ) (at len most n : ℕ) → 0 < length old → most ≤ length old → (most ≡ 0 → len ≡ 0) → Reads s at (take most old) n part → n ≡ 0
     → (at < length s) ⊎ (length s ≤ at) → (len ≡ 0) ⊎ (length s ≤ at)
@@ -179,32 +179,32 @@ no_byte s old part at len most n o b z r e (inl h) =
     (λ (m : 1 ≤ most). absurd (let f : 0 < n = r.some (omega (arith, length-take-le most old b, m)) h in omega (arith, f, e)))
     (cases_lt most 1)
 
-pub literal_gives : (s old part : List ℕ) (place : PackedPlace) (count most n : ℕ) → place.block ≡ Literal count → 0 < count → 0 < length old
-    → most ≤ count → most ≤ length old → most ≤ place.len → (most ≡ 0 → place.len ≡ 0) → Reads s place.at (take most old) n part
-    → GivesNext (left_at s place) old n (part ++ drop most old) (left_at s (record { block = Literal (count - n); at = place.at + n; len = place.len - n }))
-literal_gives s old part place count most n e c o a b d z r =
+pub literal_gives : (s old part : List ℕ) (offset : PackedPosition) (count most n : ℕ) → offset.block ≡ Literal count → 0 < count → 0 < length old
+    → most ≤ count → most ≤ length old → most ≤ offset.len → (most ≡ 0 → offset.len ≡ 0) → Reads s offset.at (take most old) n part
+    → GivesNext (left_at s offset) old n (part ++ drop most old) (left_at s (record { block = Literal (count - n); at = offset.at + n; len = offset.len - n }))
+literal_gives s old part offset count most n e c o a b d z r =
     let l : n ≤ most = omega (arith, r.in_buffer, length-take-le most old b) in
-    gives (left_at s place) (left_at s (record { block = Literal (count - n); at = place.at + n; len = place.len - n })) old (bytes_at s place.at n) part n most l b r.next
-    (length-take-le n (drop place.at s) (omega (arith, r.in_bytes, length-drop place.at s)))
-    (block_is s place (Literal count) e ∙ literal_part s place.at place.len count n (omega (arith, l, a)) (omega (arith, l, d)) r.in_bytes)
-    (λ h. block_is s place (Literal count) e ∙ literal_cut s place.at place.len count c (no_byte s old part place.at place.len most n o b z r h (cases_lt place.at (length s))))
+    gives (left_at s offset) (left_at s (record { block = Literal (count - n); at = offset.at + n; len = offset.len - n })) old (bytes_at s offset.at n) part n most l b r.next
+    (length-take-le n (drop offset.at s) (omega (arith, r.in_bytes, length-drop offset.at s)))
+    (block_is s offset (Literal count) e ∙ literal_part s offset.at offset.len count n (omega (arith, l, a)) (omega (arith, l, d)) r.in_bytes)
+    (λ h. block_is s offset (Literal count) e ∙ literal_cut s offset.at offset.len count c (no_byte s old part offset.at offset.len most n o b z r h (cases_lt offset.at (length s))))
 
-run_part : (s : List ℕ) (place : PackedPlace) (value c n : ℕ) → n ≤ c
-    → left_at s (record place { block = Run value c }) ≡ before (replicate n value) (left_at s (record place { block = Run value (c - n) }))
-run_part s place value c n a =
+run_part : (s : List ℕ) (offset : PackedPosition) (value c n : ℕ) → n ≤ c
+    → left_at s (record offset { block = Run value c }) ≡ with_front (replicate n value) (left_at s (record offset { block = Run value (c - n) }))
+run_part s offset value c n a =
     let f : c ≡ n + (c - n) = omega (arith, a) in
-    ap (λ (m : ℕ). left_at s (record place { block = Run value m })) f
+    ap (λ (m : ℕ). left_at s (record offset { block = Run value m })) f
     ∙ rw (← replicate-append-replicate n (c - n) value)
-    (sym (before_before (replicate n value) (replicate (c - n) value) (unpacked_at s place.at place.len)))
+    (sym (before_before (replicate n value) (replicate (c - n) value) (unpacked_at s offset.at offset.len)))
 
-pub run_gives : (s old part : List ℕ) (place : PackedPlace) (value count n : ℕ) → place.block ≡ Run value count → n ≤ count → n ≤ length old → 0 < n → part ≡ replicate n value
-    → GivesNext (left_at s place) old n (part ++ drop n old) (left_at s (record { block = Run value (count - n); at = place.at; len = place.len }))
-run_gives s old part place value count n e a b o p =
+pub run_gives : (s old part : List ℕ) (offset : PackedPosition) (value count n : ℕ) → offset.block ≡ Run value count → n ≤ count → n ≤ length old → 0 < n → part ≡ replicate n value
+    → GivesNext (left_at s offset) old n (part ++ drop n old) (left_at s (record { block = Run value (count - n); at = offset.at; len = offset.len }))
+run_gives s old part offset value count n e a b o p =
     let w : n ≤ n = omega arith in
     let d : drop n (take n old) ≡ [] = drop_all n (take n old) (omega (arith, length-take-le n old b)) in
-    gives (left_at s place) (left_at s (record { block = Run value (count - n); at = place.at; len = place.len })) old (replicate n value) part n n w b
+    gives (left_at s offset) (left_at s (record { block = Run value (count - n); at = offset.at; len = offset.len })) old (replicate n value) part n n w b
     (p ∙ sym (ap (λ (ys : List ℕ). replicate n value ++ ys) d ∙ append-nil (replicate n value))) (length-replicate n value)
-    (block_is s place (Run value count) e ∙ run_part s place value count n a)
+    (block_is s offset (Run value count) e ∙ run_part s offset value count n a)
     (λ h. absurd (omega (arith, o, h)))
 
 -- ---- reads in a row
@@ -216,16 +216,16 @@ read_behind buf part done k n h g =
     ap (λ (m : ℕ). take (m + n) (put_mid done k buf part)) (sym l)
     ∙ (take-append-add (take done buf) (part ++ post_of done k buf) n ∙ ap (λ (x : List ℕ). take done buf ++ x) (take-append-le n part (post_of done k buf) g))
 
-more_read : (first mid last : Unpacked) (buf part old : List ℕ) (done k n : ℕ) → done ≤ length buf → length part ≡ length old → first ≡ before (take done buf) mid
-    → GivesNext mid old n part last → first ≡ before (take (done + n) (put_mid done k buf part)) last
+more_read : (first mid last : Unpacked) (buf part old : List ℕ) (done k n : ℕ) → done ≤ length buf → length part ≡ length old → first ≡ with_front (take done buf) mid
+    → GivesNext mid old n part last → first ≡ with_front (take (done + n) (put_mid done k buf part)) last
 more_read first mid last buf part old done k n h l e r =
-    e ∙ ap (before (take done buf)) r.next ∙ before_before (take done buf) (take n part) last
-    ∙ ap (λ (xs : List ℕ). before xs last) (sym (read_behind buf part done k n h (omega (arith, r.in_buffer, l))))
+    e ∙ ap (with_front (take done buf)) r.next ∙ before_before (take done buf) (take n part) last
+    ∙ ap (λ (xs : List ℕ). with_front xs last) (sym (read_behind buf part done k n h (omega (arith, r.in_buffer, l))))
 
 -- the same of a source that tells the same before and after
-pub more_read_at : (s t u : List ℕ) (first mid last : PackedPlace) (buf part old : List ℕ) (done k n : ℕ) → t ≡ s → u ≡ s → done ≤ length buf → length part ≡ length old
-    → left_at s first ≡ before (take done buf) (left_at s mid) → GivesNext (left_at t mid) old n part (left_at u last)
-    → left_at s first ≡ before (take (done + n) (put_mid done k buf part)) (left_at s last)
+pub more_read_at : (s t u : List ℕ) (first mid last : PackedPosition) (buf part old : List ℕ) (done k n : ℕ) → t ≡ s → u ≡ s → done ≤ length buf → length part ≡ length old
+    → left_at s first ≡ with_front (take done buf) (left_at s mid) → GivesNext (left_at t mid) old n part (left_at u last)
+    → left_at s first ≡ with_front (take (done + n) (put_mid done k buf part)) (left_at s last)
 more_read_at s t u first mid last buf part old done k n e f h l g r =
     let R : List ℕ → Type 0 = λ xs. GivesNext (left_at xs mid) old n part (left_at u last) in
     let Q : List ℕ → Type 0 = λ xs. GivesNext (left_at s mid) old n part (left_at xs last) in
@@ -236,13 +236,13 @@ room_behind buf part old done k n h l g =
     omega (arith, length-append (take done buf) (part ++ post_of done k buf), length-append part (post_of done k buf), length-take-le done buf h, h, l, g)
 
 -- at an end there are fewer bytes than the buffer has room for
-pub short_by : (first left : Unpacked) (end : End) (buf : List ℕ) (done : ℕ) → done < length buf → first ≡ before (take done buf) left → left ≡ ended end → length first.out < length buf
+pub short_by : (first left : Unpacked) (end : End) (buf : List ℕ) (done : ℕ) → done < length buf → first ≡ with_front (take done buf) left → left ≡ ended end → length first.out < length buf
 short_by first left end buf done h e f =
     let l : length first.out ≡ length (take done buf ++ left.out) = ap (λ (u : Unpacked). length u.out) e in
     let m : left.out ≡ [] = ap (λ (u : Unpacked). u.out) f in
     omega (arith, l, length-append (take done buf) left.out, ap length m, length-take-le done buf (omega (arith, h)), h)
 
-pub short_cause : (failed failed' : Type 0) (first left : Unpacked) (buf : List ℕ) (done wanted : ℕ) (e : TiffError) → done < length buf → (failed → failed') → first ≡ before (take done buf) left
-    → IsCause ⊥ failed e (IsBroken left wanted e) → IsCause ⊥ failed' e (IsShort first (length buf) e)
+pub short_cause : (failed failed' : Type 0) (first left : Unpacked) (buf : List ℕ) (done wanted : ℕ) (e : TiffError) → done < length buf → (failed → failed') → first ≡ with_front (take done buf) left
+    → IsCause ⊥ failed e (IsBroken left wanted e) → IsCause ⊥ failed' e (HasTooFew first (length buf) e)
 short_cause failed failed' first left buf done wanted e h f b g =
     cause_along e (λ w. w) f (λ k. record { fault = k.fault; short = short_by first left Broken buf done h b k.broken }) g

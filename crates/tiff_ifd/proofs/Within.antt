@@ -8,17 +8,17 @@ use Rattle.tiff_base.specs.declared.tags.ByteOrder.{ByteOrder}
 use Rattle.tiff_base.specs.declared.tags.«Type».{«Type»}
 use Rattle.tiff_base.specs.declared.tags.«Type».TheVariants as t
 use Rattle.tiff_base.specs.Answers.{◌>>=◌}
-use Rattle.tiff_base.specs.Sparing.{IsWithin}
+use Rattle.tiff_base.specs.Sparing.{IsWithinLimits}
 use Rattle.tiff_ifd.specs.Datum.{Datum, ascii}
 use Rattle.tiff_ifd.specs.FieldValue.{value_from, placed_text}
 use Rattle.tiff_ifd.specs.Into.{into_string}
 
-text_within : {Y : Type 0} (b : Bool) (y : Y) → IsWithin (if b then Ok y else Err (FormatError InvalidTag))
+text_within : {Y : Type 0} (b : Bool) (y : Y) → IsWithinLimits (if b then Ok y else Err (FormatError InvalidTag))
 text_within true y = tt
 text_within false y = tt
 
 -- what bytes that were read are refused as is no limit
-pub value_within : (inline : Bool) (type : «Type») (order : ByteOrder) (count : ℕ) (bytes : List ℕ) → IsWithin (value_from inline type order count bytes)
+pub value_within : (inline : Bool) (type : «Type») (order : ByteOrder) (count : ℕ) (bytes : List ℕ) → IsWithinLimits (value_from inline type order count bytes)
 value_within true t.ASCII order count bytes = text_within _ _
 value_within false t.ASCII order count bytes = text_within _ _
 value_within inline t.BYTE order count bytes = tt
@@ -39,20 +39,20 @@ value_within inline t.IFD8 order count bytes = tt
 
 -- bytes that are there are refused as no limit
 pub read_within : (inline : Bool) (type : «Type») (order : ByteOrder) (count : ℕ) (found : Result (List ℕ) TiffError)
-    → IsOk found → IsWithin (found >>= λ bytes. value_from inline type order count bytes)
+    → IsOk found → IsWithinLimits (found >>= λ bytes. value_from inline type order count bytes)
 read_within inline type order count (Ok bytes) h = value_within inline type order count bytes
 read_within inline type order count (Err e) h = absurd (cc)
 
-text_string_within : (b : Bool) (text : List ℕ) → IsWithin ((if b then Ok (ascii text) else Err (FormatError InvalidTag)) >>= into_string)
+text_string_within : (b : Bool) (text : List ℕ) → IsWithinLimits ((if b then Ok (ascii text) else Err (FormatError InvalidTag)) >>= into_string)
 text_string_within true text = tt
 text_string_within false text = tt
 
 -- the same of a text alone
-pub text_read_within : (found : Result (List ℕ) TiffError) → IsOk found → IsWithin (found >>= placed_text >>= into_string)
+pub text_read_within : (found : Result (List ℕ) TiffError) → IsOk found → IsWithinLimits (found >>= placed_text >>= into_string)
 text_read_within (Ok bytes) h = text_string_within _ _
 text_read_within (Err e) h = absurd (cc)
 
 -- a value that is looked for, and there
-pub found_within : (given : Result Datum TiffError) → IsWithin given → IsWithin (given >>= λ d. Ok (Some d))
+pub found_within : (given : Result Datum TiffError) → IsWithinLimits given → IsWithinLimits (given >>= λ d. Ok (Some d))
 found_within (Ok d) h = tt
 found_within (Err e) h = h

@@ -9,54 +9,54 @@ use Rattle.tiff_base.specs.declared.tags.FileKind.{FileKind}
 use Rattle.tiff_base.specs.Answers.{◌>>=◌}
 use Rattle.tiff_base.specs.Directory.{directory_at}
 
--- the link of the directory at a place
+-- the link of the directory at an offset
 abbrev pub link_from : FileKind → ByteOrder → List ℕ → ℕ → Result (Option ℕ) TiffError
 link_from kind order bytes at = do
   directory ← directory_at kind order bytes at
   Ok directory.next
 
--- a link, where it is none of these places
+-- a link, where it is none of these offsets
 abbrev pub unless_met : List ℕ → Option ℕ → Result (Option ℕ) TiffError
 unless_met met None = Ok None
 unless_met met (Some next) = if list_any (nat_eq next) met then Err (FormatError CycleInOffsets) else Ok (Some next)
 
 module _ (link : ℕ → Result (Option ℕ) TiffError) where
-  -- to enter the directory at a place after these others: its link, or why it isn't entered; it is unreadable, or its link
-  -- is one of the places up to and with it
+  -- to enter the directory at an offset after these others: its link, or why it isn't entered; it is unreadable, or its link
+  -- is one of the offsets up to and with it
   abbrev pub entered : List ℕ → ℕ → Result (Option ℕ) TiffError
-  entered met place = link place >>= unless_met (place ∷ met)
+  entered met offset = link offset >>= unless_met (offset ∷ met)
 
-  -- Places that are entered one after another, from the next one on, after these others.
+  -- Offsets that are entered one after another, from the next one on, after these others.
   abbrev pub AreEntered : List ℕ → Option ℕ → List ℕ → Type 0
   AreEntered met next [] = Unit {0}
-  AreEntered met None (place ∷ places) = ⊥
-  AreEntered met (Some next) (place ∷ places) = (place ≡ next) × (after : Option ℕ) × (entered met next ≡ Ok after) × AreEntered (next ∷ met) after places
+  AreEntered met None (offset ∷ offsets) = ⊥
+  AreEntered met (Some next) (offset ∷ offsets) = (offset ≡ next) × (after : Option ℕ) × (entered met next ≡ Ok after) × AreEntered (next ∷ met) after offsets
 
-  -- The places that are entered, from the next one on, after these others; and the end: none at a link of 0, else the fault
+  -- The offsets that are entered, from the next one on, after these others; and the end: none at a link of 0, else the fault
   -- of the directory that isn't entered.
   abbrev pub IsChain : List ℕ → Option ℕ → List ℕ → Option TiffError → Type 0
   IsChain met None [] end = end ≡ None
-  IsChain met None (place ∷ places) end = ⊥
+  IsChain met None (offset ∷ offsets) end = ⊥
   IsChain met (Some next) [] end = (e : TiffError) × (entered met next ≡ Err e) × (end ≡ Some e)
-  IsChain met (Some next) (place ∷ places) end = (place ≡ next) × (after : Option ℕ) × (entered met next ≡ Ok after) × IsChain (next ∷ met) after places end
+  IsChain met (Some next) (offset ∷ offsets) end = (offset ≡ next) × (after : Option ℕ) × (entered met next ≡ Ok after) × IsChain (next ∷ met) after offsets end
 
--- the places of a chain, and its end: none at a link of 0, else the fault of the directory that isn't entered
+-- the offsets of a chain, and its end: none at a link of 0, else the fault of the directory that isn't entered
 pub record Chain : Type 0 where
-  pub places : List ℕ
+  pub offsets : List ℕ
   pub end : Option TiffError
 
--- one more place in front, or the end
+-- one more offset in front, or the end
 abbrev pub onto : ℕ → Result (Option ℕ) TiffError → (Option ℕ → Chain) → Chain
-onto place (Ok after) rest = record { places = place ∷ (rest after).places; end = (rest after).end }
-onto place (Err e) rest = record { places = []; end = Some e }
+onto offset (Ok after) rest = record { offsets = offset ∷ (rest after).offsets; end = (rest after).end }
+onto offset (Err e) rest = record { offsets = []; end = Some e }
 
--- the chain from a next place on after these others, in so many steps at most
+-- the chain from a next offset on after these others, in so many steps at most
 abbrev pub walk : (ℕ → Result (Option ℕ) TiffError) → ℕ → List ℕ → Option ℕ → Chain
-walk link steps met None = record { places = []; end = None }
-walk link zero met (Some next) = onto next (entered link met next) (λ _. record { places = []; end = None })
+walk link steps met None = record { offsets = []; end = None }
+walk link zero met (Some next) = onto next (entered link met next) (λ _. record { offsets = []; end = None })
 walk link (suc steps) met (Some next) = onto next (entered link met next) (walk link steps (next ∷ met))
 
--- the chain of a file from its first place on; no chain is longer than the file
+-- the chain of a file from its first offset on; no chain is longer than the file
 unfoldable pub chain : FileKind → ByteOrder → List ℕ → ℕ → Chain
 chain kind order bytes first = walk (link_from kind order bytes) (length bytes) [] (Some first)
 
@@ -65,28 +65,28 @@ chain kind order bytes first = walk (link_from kind order bytes) (length bytes) 
 -- what `chain` gives is a chain
 abbrev pub IsTheChain : Type 0
 IsTheChain = (kind : FileKind) (order : ByteOrder) (bytes : List ℕ) (first : ℕ)
-    → IsChain (link_from kind order bytes) [] (Some first) (chain kind order bytes first).places (chain kind order bytes first).end
+    → IsChain (link_from kind order bytes) [] (Some first) (chain kind order bytes first).offsets (chain kind order bytes first).end
 
 -- there is one at most
 abbrev pub IsOneChain : Type 0
 IsOneChain = (kind : FileKind) (order : ByteOrder) (bytes : List ℕ) (met : List ℕ) (next : Option ℕ) (ps qs : List ℕ) (e f : Option TiffError)
     → IsChain (link_from kind order bytes) met next ps e → IsChain (link_from kind order bytes) met next qs f → (ps ≡ qs) × (e ≡ f)
 
--- The longest list of places, empty or beginning with the first place, in which each place has a readable directory whose
--- link is 0 or none of the places up to and with it, and each next place is that link, which isn't 0.
-pub record IsLongest (kind : FileKind) (order : ByteOrder) (bytes : List ℕ) (first : ℕ) (places : List ℕ) : Type 0 where
-  pub entered : AreEntered (link_from kind order bytes) [] (Some first) places
-  pub longest : (others : List ℕ) → AreEntered (link_from kind order bytes) [] (Some first) others → (rest : List ℕ) × (places ≡ others ++ rest)
+-- The longest list of offsets, empty or beginning with the first offset, in which each offset has a readable directory whose
+-- link is 0 or none of the offsets up to and with it, and each next offset is that link, which isn't 0.
+pub record IsLongest (kind : FileKind) (order : ByteOrder) (bytes : List ℕ) (first : ℕ) (offsets : List ℕ) : Type 0 where
+  pub entered : AreEntered (link_from kind order bytes) [] (Some first) offsets
+  pub longest : (others : List ℕ) → AreEntered (link_from kind order bytes) [] (Some first) others → (rest : List ℕ) × (offsets ≡ others ++ rest)
 
 abbrev pub IsLongestChain : Type 0
 IsLongestChain = (kind : FileKind) (order : ByteOrder) (bytes : List ℕ) (first : ℕ)
-    → IsLongest kind order bytes first (chain kind order bytes first).places
+    → IsLongest kind order bytes first (chain kind order bytes first).offsets
 
--- Places differ, and each lies below the number of the file's bytes.
-pub record AreApart (bytes : List ℕ) (places : List ℕ) : Type 0 where
-  pub differ : IsDistinct nat_eq places
-  pub below : (place : ℕ) → list_any (nat_eq place) places ≡ true → place < length bytes
+-- Offsets differ, and each lies below the number of the file's bytes.
+pub record AreApart (bytes : List ℕ) (offsets : List ℕ) : Type 0 where
+  pub differ : IsDistinct nat_eq offsets
+  pub below : (offset : ℕ) → list_any (nat_eq offset) offsets ≡ true → offset < length bytes
 
 abbrev pub IsChainApart : Type 0
 IsChainApart = (kind : FileKind) (order : ByteOrder) (bytes : List ℕ) (first : ℕ)
-    → AreApart bytes (chain kind order bytes first).places
+    → AreApart bytes (chain kind order bytes first).offsets

@@ -30,9 +30,9 @@ mutual
     none : DatumList
     more : Datum → DatumList → DatumList
 
-abbrev pub data_of : List Datum → DatumList
-data_of [] = none
-data_of (f ∷ fs) = more f (data_of fs)
+abbrev pub datum_list_of : List Datum → DatumList
+datum_list_of [] = none
+datum_list_of (f ∷ fs) = more f (datum_list_of fs)
 
 -- how deep lists nest
 abbrev mutual
@@ -45,7 +45,7 @@ abbrev mutual
   depths (more f fs) = max (depth f) (depths fs)
 
 abbrev pub list_depth : List Datum → ℕ
-list_depth fs = depths (data_of fs)
+list_depth fs = depths (datum_list_of fs)
 
 -- ---- how the logic stores one
 

@@ -11,13 +11,13 @@ use Rattle.tiff_base.specs.declared.tags.FileKind.{FileKind}
 use Rattle.tiff_base.specs.declared.tags.«Type».{«Type»}
 use Rattle.tiff_base.specs.declared.tags.«Type».TheVariants as t
 use Rattle.tiff_base.specs.Field.{Field}
-use Rattle.tiff_base.specs.Told.{exactly_at}
+use Rattle.tiff_base.specs.SourceAndSink.{exactly_at}
 use Rattle.tiff_base.specs.Types.{type_size}
 use Rattle.tiff_base.specs.Answers.{◌>>=◌}
-use Rattle.tiff_base.specs.Directory.{place_width}
+use Rattle.tiff_base.specs.Directory.{offset_width}
 use Rattle.tiff_base.specs.FieldBytes.{field_len, field_bytes}
 use Rattle.tiff_ifd.specs.declared.limits.Limits.{Limits}
-use Rattle.tiff_ifd.specs.Datum.{Datum, data_of}
+use Rattle.tiff_ifd.specs.Datum.{Datum, datum_list_of}
 use Rattle.tiff_ifd.specs.Datum as f
 use Rattle.tiff_ifd.specs.Into.{into_string}
 use Rattle.tiff_ifd.specs.Item.{item, list_item, items}
@@ -41,13 +41,13 @@ abbrev pub placed_text : List ℕ → Result Datum TiffError
 placed_text bs =
     let text = before_first is_zero bs in if is_utf8 text then Ok (f.ascii text) else Err (FormatError InvalidTag)
 
--- a text of so many bytes at a place
+-- a text of so many bytes at an offset
 abbrev pub text_at : List ℕ → ℕ → ℕ → Result (List ℕ) TiffError
 text_at bytes at len = exactly_at bytes at len >>= placed_text >>= into_string
 
 -- numbers: one stands alone, several are a list
 abbrev pub numbers : Bool → «Type» → ByteOrder → ℕ → List ℕ → Datum
-numbers inline type o n bs = if n == 1 then item type o bs else f.list (data_of (items (list_item inline type o) (type_size type) n bs))
+numbers inline type o n bs = if n == 1 then item type o bs else f.list (datum_list_of (items (list_item inline type o) (type_size type) n bs))
 
 abbrev pub value_from : Bool → «Type» → ByteOrder → ℕ → List ℕ → Result Datum TiffError
 value_from inline t.ASCII o n bs = if inline then inline_text bs else placed_text bs
@@ -68,7 +68,7 @@ placed_value kind order bytes limits e =
 -- the value of a field; no values are an empty list
 unfoldable pub field_value : FileKind → ByteOrder → List ℕ → Limits → Field → Result Datum TiffError
 field_value kind order bytes limits e =
-    if e.count == 0 then Ok (f.list (data_of []))
+    if e.count == 0 then Ok (f.list (datum_list_of []))
     else if not (nat_lt (field_len e) (2 ^ 64)) then Err LimitsExceeded
-    else if nat_le (field_len e) (byte_len (place_width kind)) then value_from true e.field_type order e.count (take (field_len e) e.value)
+    else if nat_le (field_len e) (byte_len (offset_width kind)) then value_from true e.field_type order e.count (take (field_len e) e.value)
     else placed_value kind order bytes limits e

@@ -10,9 +10,9 @@ abbrev pub fit : Tag → ℕ → ℕ → Result ℕ TiffError
 fit tag limit n = if nat_lt n limit then Ok n else Err (FormatError (InvalidTagValueType tag))
 
 -- the numbers of a tag, or the fault of the first that isn't below the limit
-abbrev pub fitted : Tag → ℕ → List ℕ → Result (List ℕ) TiffError
-fitted tag limit [] = Ok []
-fitted tag limit (n ∷ ns) = do
+abbrev pub fitted_numbers : Tag → ℕ → List ℕ → Result (List ℕ) TiffError
+fitted_numbers tag limit [] = Ok []
+fitted_numbers tag limit (n ∷ ns) = do
   m ← fit tag limit n
-  ms ← fitted tag limit ns
+  ms ← fitted_numbers tag limit ns
   Ok (m ∷ ms)

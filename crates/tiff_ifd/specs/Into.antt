@@ -8,41 +8,41 @@ use Rattle.tiff_base.specs.Answers.{◌>>=◌}
 use Rattle.tiff_ifd.specs.Datum.{Datum, DatumList, none, more, list, byte, short, signed_byte, signed_short, signed, signed_big, unsigned, unsigned_big, float, double, ifd, ifd_big, ascii, rational, rational_big, srational, srational_big}
 
 -- the conversion does not accept this kind of value
-abbrev pub mistyped : {A : Type 0} → Result A TiffError
-mistyped = Err (FormatError InvalidTypeForTag)
+abbrev pub wrong_type : {A : Type 0} → Result A TiffError
+wrong_type = Err (FormatError InvalidTypeForTag)
 
 -- a number that has to be below a limit
-abbrev pub below : ℕ → ℕ → Result ℕ TiffError
-below limit n = if nat_lt n limit then Ok n else Err IntSizeError
+abbrev pub below_limit : ℕ → ℕ → Result ℕ TiffError
+below_limit limit n = if nat_lt n limit then Ok n else Err IntSizeError
 
 -- a signed number that has to be at least -half, and below half
-abbrev pub within : ℕ → ℤ → Result ℤ TiffError
-within half (pos n) = if nat_lt n half then Ok (pos n) else Err IntSizeError
-within half (negsuc n) = if nat_lt n half then Ok (negsuc n) else Err IntSizeError
+abbrev pub in_signed_range : ℕ → ℤ → Result ℤ TiffError
+in_signed_range half (pos n) = if nat_lt n half then Ok (pos n) else Err IntSizeError
+in_signed_range half (negsuc n) = if nat_lt n half then Ok (negsuc n) else Err IntSizeError
 
 abbrev pub into_u8 : Datum → Result ℕ TiffError
 into_u8 (byte n) = Ok n
-into_u8 _ = mistyped
+into_u8 _ = wrong_type
 
 abbrev pub into_i8 : Datum → Result ℤ TiffError
 into_i8 (signed_byte n) = Ok n
-into_i8 _ = mistyped
+into_i8 _ = wrong_type
 
 abbrev pub into_u16 : Datum → Result ℕ TiffError
 into_u16 (byte n) = Ok n
 into_u16 (short n) = Ok n
-into_u16 (unsigned n) = below (2 ^ 16) n
-into_u16 (unsigned_big n) = below (2 ^ 16) n
-into_u16 _ = mistyped
+into_u16 (unsigned n) = below_limit (2 ^ 16) n
+into_u16 (unsigned_big n) = below_limit (2 ^ 16) n
+into_u16 _ = wrong_type
 
 abbrev pub into_u32 : Datum → Result ℕ TiffError
 into_u32 (byte n) = Ok n
 into_u32 (short n) = Ok n
 into_u32 (unsigned n) = Ok n
-into_u32 (unsigned_big n) = below (2 ^ 32) n
+into_u32 (unsigned_big n) = below_limit (2 ^ 32) n
 into_u32 (ifd n) = Ok n
-into_u32 (ifd_big n) = below (2 ^ 32) n
-into_u32 _ = mistyped
+into_u32 (ifd_big n) = below_limit (2 ^ 32) n
+into_u32 _ = wrong_type
 
 abbrev pub into_u64 : Datum → Result ℕ TiffError
 into_u64 (byte n) = Ok n
@@ -51,54 +51,54 @@ into_u64 (unsigned n) = Ok n
 into_u64 (unsigned_big n) = Ok n
 into_u64 (ifd n) = Ok n
 into_u64 (ifd_big n) = Ok n
-into_u64 _ = mistyped
+into_u64 _ = wrong_type
 
 abbrev pub into_i16 : Datum → Result ℤ TiffError
 into_i16 (signed_byte n) = Ok n
 into_i16 (signed_short n) = Ok n
-into_i16 (signed n) = within (2 ^ 15) n
-into_i16 (signed_big n) = within (2 ^ 15) n
-into_i16 _ = mistyped
+into_i16 (signed n) = in_signed_range (2 ^ 15) n
+into_i16 (signed_big n) = in_signed_range (2 ^ 15) n
+into_i16 _ = wrong_type
 
 abbrev pub into_i32 : Datum → Result ℤ TiffError
 into_i32 (signed_byte n) = Ok n
 into_i32 (signed_short n) = Ok n
 into_i32 (signed n) = Ok n
-into_i32 (signed_big n) = within (2 ^ 31) n
-into_i32 _ = mistyped
+into_i32 (signed_big n) = in_signed_range (2 ^ 31) n
+into_i32 _ = wrong_type
 
 abbrev pub into_i64 : Datum → Result ℤ TiffError
 into_i64 (signed_byte n) = Ok n
 into_i64 (signed_short n) = Ok n
 into_i64 (signed n) = Ok n
 into_i64 (signed_big n) = Ok n
-into_i64 _ = mistyped
+into_i64 _ = wrong_type
 
 -- the bits of a floating number
 abbrev pub into_f32 : Datum → Result ℕ TiffError
 into_f32 (float n) = Ok n
-into_f32 _ = mistyped
+into_f32 _ = wrong_type
 
 abbrev pub into_f64 : Datum → Result ℕ TiffError
 into_f64 (double n) = Ok n
-into_f64 _ = mistyped
+into_f64 _ = wrong_type
 
--- the place of a directory
+-- the offset of a directory
 abbrev pub into_ifd_pointer : Datum → Result ℕ TiffError
 into_ifd_pointer (unsigned n) = Ok n
 into_ifd_pointer (ifd n) = Ok n
 into_ifd_pointer (ifd_big n) = Ok n
-into_ifd_pointer _ = mistyped
+into_ifd_pointer _ = wrong_type
 
 -- the bytes of a text
 abbrev pub into_string : Datum → Result (List ℕ) TiffError
 into_string (ascii text) = Ok text
-into_string _ = mistyped
+into_string _ = wrong_type
 
 -- what a list gives: what its items give in order, or the fault of the first that fails
-abbrev pub each : {A : Type 0} → (Datum → Result A TiffError) → DatumList → Result (List A) TiffError
-each into none = Ok []
-each into (more f fs) = into f >>= λ x. each into fs >>= λ xs. Ok (x ∷ xs)
+abbrev pub each_item : {A : Type 0} → (Datum → Result A TiffError) → DatumList → Result (List A) TiffError
+each_item into none = Ok []
+each_item into (more f fs) = into f >>= λ x. each_item into fs >>= λ xs. Ok (x ∷ xs)
 
 -- the same, where an item gives a list
 abbrev pub each_joined : {A : Type 0} → (Datum → Result (List A) TiffError) → DatumList → Result (List A) TiffError
@@ -106,45 +106,45 @@ each_joined into none = Ok []
 each_joined into (more f fs) = into f >>= λ xs. each_joined into fs >>= λ ys. Ok (xs ++ ys)
 
 -- some numbers behind others
-abbrev pub appended : {A : Type 0} → List A → Result (List A) TiffError → Result (List A) TiffError
-appended old found = found >>= λ xs. Ok (old ++ xs)
+abbrev pub append_numbers : {A : Type 0} → List A → Result (List A) TiffError → Result (List A) TiffError
+append_numbers old found = found >>= λ xs. Ok (old ++ xs)
 
 -- one number, as a list
-abbrev pub one : {A : Type 0} → Result A TiffError → Result (List A) TiffError
-one found = found >>= λ x. Ok (x ∷ [])
+abbrev pub single_number : {A : Type 0} → Result A TiffError → Result (List A) TiffError
+single_number found = found >>= λ x. Ok (x ∷ [])
 
 -- two numbers, the first of which is tested first
-abbrev pub two : {A : Type 0} → Result A TiffError → Result A TiffError → Result (List A) TiffError
-two first second = first >>= λ x. second >>= λ y. Ok (x ∷ y ∷ [])
+abbrev pub both_numbers : {A : Type 0} → Result A TiffError → Result A TiffError → Result (List A) TiffError
+both_numbers first second = first >>= λ x. second >>= λ y. Ok (x ∷ y ∷ [])
 
 abbrev pub into_u8_vec : Datum → Result (List ℕ) TiffError
-into_u8_vec (list items) = each into_u8 items
+into_u8_vec (list items) = each_item into_u8 items
 into_u8_vec (byte n) = Ok (n ∷ [])
-into_u8_vec _ = mistyped
+into_u8_vec _ = wrong_type
 
 abbrev pub into_u16_vec : Datum → Result (List ℕ) TiffError
-into_u16_vec (list items) = each into_u16 items
+into_u16_vec (list items) = each_item into_u16 items
 into_u16_vec (byte n) = Ok (n ∷ [])
 into_u16_vec (short n) = Ok (n ∷ [])
-into_u16_vec _ = mistyped
+into_u16_vec _ = wrong_type
 
 -- a rational gives two numbers, a text those of its characters
 abbrev pub into_u32_vec : Datum → Result (List ℕ) TiffError
-into_u32_vec (list items) = each into_u32 items
+into_u32_vec (list items) = each_item into_u32 items
 into_u32_vec (byte n) = Ok (n ∷ [])
 into_u32_vec (short n) = Ok (n ∷ [])
 into_u32_vec (unsigned n) = Ok (n ∷ [])
-into_u32_vec (unsigned_big n) = one (below (2 ^ 32) n)
+into_u32_vec (unsigned_big n) = single_number (below_limit (2 ^ 32) n)
 into_u32_vec (ifd n) = Ok (n ∷ [])
-into_u32_vec (ifd_big n) = one (below (2 ^ 32) n)
+into_u32_vec (ifd_big n) = single_number (below_limit (2 ^ 32) n)
 into_u32_vec (rational n d) = Ok (n ∷ d ∷ [])
-into_u32_vec (rational_big n d) = two (below (2 ^ 32) n) (below (2 ^ 32) d)
+into_u32_vec (rational_big n d) = both_numbers (below_limit (2 ^ 32) n) (below_limit (2 ^ 32) d)
 into_u32_vec (ascii text) = Ok (chars text)
-into_u32_vec _ = mistyped
+into_u32_vec _ = wrong_type
 
 -- the same of larger numbers
 abbrev pub into_u64_vec : Datum → Result (List ℕ) TiffError
-into_u64_vec (list items) = each into_u64 items
+into_u64_vec (list items) = each_item into_u64 items
 into_u64_vec (byte n) = Ok (n ∷ [])
 into_u64_vec (short n) = Ok (n ∷ [])
 into_u64_vec (unsigned n) = Ok (n ∷ [])
@@ -154,13 +154,13 @@ into_u64_vec (ifd_big n) = Ok (n ∷ [])
 into_u64_vec (rational n d) = Ok (n ∷ d ∷ [])
 into_u64_vec (rational_big n d) = Ok (n ∷ d ∷ [])
 into_u64_vec (ascii text) = Ok (chars text)
-into_u64_vec _ = mistyped
+into_u64_vec _ = wrong_type
 
 -- a signed rational gives two numbers
 abbrev pub i32s_of : Datum → Result (List ℤ) TiffError
 i32s_of (srational n d) = Ok (n ∷ d ∷ [])
-i32s_of (srational_big n d) = two (within (2 ^ 31) n) (within (2 ^ 31) d)
-i32s_of f = one (into_i32 f)
+i32s_of (srational_big n d) = both_numbers (in_signed_range (2 ^ 31) n) (in_signed_range (2 ^ 31) d)
+i32s_of f = single_number (into_i32 f)
 
 abbrev pub into_i32_vec : Datum → Result (List ℤ) TiffError
 into_i32_vec (list items) = each_joined i32s_of items
@@ -170,21 +170,21 @@ into_i32_vec f = i32s_of f
 abbrev pub i64s_of : Datum → Result (List ℤ) TiffError
 i64s_of (srational n d) = Ok (n ∷ d ∷ [])
 i64s_of (srational_big n d) = Ok (n ∷ d ∷ [])
-i64s_of f = one (into_i64 f)
+i64s_of f = single_number (into_i64 f)
 
 abbrev pub into_i64_vec : Datum → Result (List ℤ) TiffError
 into_i64_vec (list items) = each_joined i64s_of items
 into_i64_vec f = i64s_of f
 
 abbrev pub into_f32_vec : Datum → Result (List ℕ) TiffError
-into_f32_vec (list items) = each into_f32 items
-into_f32_vec f = one (into_f32 f)
+into_f32_vec (list items) = each_item into_f32 items
+into_f32_vec f = single_number (into_f32 f)
 
 abbrev pub into_f64_vec : Datum → Result (List ℕ) TiffError
-into_f64_vec (list items) = each into_f64 items
-into_f64_vec f = one (into_f64 f)
+into_f64_vec (list items) = each_item into_f64 items
+into_f64_vec f = single_number (into_f64 f)
 
--- the places of directories
+-- the offsets of directories
 abbrev pub into_ifd_vec : Datum → Result (List ℕ) TiffError
-into_ifd_vec (list items) = each into_ifd_pointer items
-into_ifd_vec f = one (into_ifd_pointer f)
+into_ifd_vec (list items) = each_item into_ifd_pointer items
+into_ifd_vec f = single_number (into_ifd_pointer f)

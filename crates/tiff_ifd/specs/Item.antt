@@ -6,7 +6,7 @@ use Rattle.tiff_base.specs.declared.tags.ByteOrder.{ByteOrder}
 use Rattle.tiff_base.specs.declared.tags.«Type».{«Type»}
 use Rattle.tiff_base.specs.declared.tags.«Type».TheVariants as t
 use Rattle.tiff_base.specs.Number.{number}
-use Rattle.tiff_base.specs.Told.{bytes_at}
+use Rattle.tiff_base.specs.SourceAndSink.{bytes_at}
 use Rattle.tiff_ifd.specs.Datum.{Datum}
 use Rattle.tiff_ifd.specs.Datum as f
 

@@ -11,7 +11,7 @@ pub mod Chain
 pub mod Links
 pub mod Walk
 pub mod Fitted
-pub mod Ask
+pub mod TagQueries
 pub mod Same
 pub mod Stream
 pub mod Unpacking

@@ -7,50 +7,50 @@ use Rattle.tiff_base.specs.declared.error.TiffError.TheVariants.{FormatError}
 use Rattle.tiff_base.specs.declared.error.TiffFormatError.TheVariants.{CycleInOffsets}
 use Rattle.tiff_base.specs.Directory.{link}
 
--- the accepted links: each place has at most one, to a place or to none
+-- the accepted links: each offset has at most one, to an offset or to none
 abbrev pub Links : Type 0
 Links = FinMap nat_cmp (Option ℕ)
 
--- what a link leads to: the place 0 is none
-abbrev pub target : Option ℕ → Option ℕ
-target None = None
-target (Some to) = link to
+-- what a link leads to: the offset 0 is none
+abbrev pub link_target : Option ℕ → Option ℕ
+link_target None = None
+link_target (Some to) = link to
 
 module _ (links : Links) where
-  -- Accepted links go from this place over these others, the last of which is that one. Over no others a place goes to
+  -- Accepted links go from this offset over these others, the last of which is that one. Over no others an offset goes to
   -- itself.
   abbrev pub Goes : ℕ → List ℕ → ℕ → Type 0
-  Goes place [] last = place ≡ last
-  Goes place (next ∷ others) last = (get links place ≡ Some (Some next)) × Goes next others last
+  Goes offset [] last = offset ≡ last
+  Goes offset (next ∷ others) last = (get links offset ≡ Some (Some next)) × Goes next others last
 
   -- A link would close a cycle: accepted links go from what it leads to, to where it begins.
   abbrev pub Closes : ℕ → Option ℕ → Type 0
   Closes from None = ⊥
   Closes from (Some to) = (others : List ℕ) × Goes to others from
 
-  -- This place has another accepted link.
+  -- This offset has another accepted link.
   pub record HasAnother (from : ℕ) (to : Option ℕ) : Type 0 where
     pub other : Option ℕ
     pub accepted : get links from ≡ Some other
     pub differs : other ≢ to
 
-  -- This place has no accepted link, and the link would close a cycle.
+  -- This offset has no accepted link, and the link would close a cycle.
   pub record IsClosing (from : ℕ) (to : Option ℕ) : Type 0 where
     pub free : get links from ≡ None
     pub closes : Closes from to
 
-  -- This place has no accepted link, and the link wouldn't close a cycle.
+  -- This offset has no accepted link, and the link wouldn't close a cycle.
   pub record IsNew (from : ℕ) (to : Option ℕ) : Type 0 where
     pub free : get links from ≡ None
     pub unclosed : Closes from to → ⊥
 
--- A link is handed in: false where it is accepted already, `CycleInOffsets` where its place has another one or it would
+-- A link is handed in: false where it is accepted already, `CycleInOffsets` where its offset has another one or it would
 -- close a cycle, else true, and it is accepted. Nothing else changes the accepted links.
 abbrev pub Inserts : Links → ℕ → Option ℕ → Result Bool TiffError → Links → Type 0
-Inserts links from to (Ok false) after = (get links from ≡ Some (target to)) × (after ≡ links)
-Inserts links from to (Ok true) after = IsNew links from (target to) × (after ≡ insert links from (target to))
+Inserts links from to (Ok false) after = (get links from ≡ Some (link_target to)) × (after ≡ links)
+Inserts links from to (Ok true) after = IsNew links from (link_target to) × (after ≡ insert links from (link_target to))
 Inserts links from to (Err e) after =
-    (e ≡ FormatError CycleInOffsets) × (HasAnother links from (target to) ⊎ IsClosing links from (target to)) × (after ≡ links)
+    (e ≡ FormatError CycleInOffsets) × (HasAnother links from (link_target to) ⊎ IsClosing links from (link_target to)) × (after ≡ links)
 
 -- ---- its laws
 

@@ -22,7 +22,7 @@ pub record Look : Type 0 where
 
 -- what tags tell: the look-up, and the bytes, the kind and the byte order of the file, the directory and the limits that it
 -- is of
-pub record Told : Type 0 where
+pub record DirectoryTags : Type 0 where
   pub look : Look
   pub bytes : List ℕ
   pub kind : FileKind
@@ -30,35 +30,29 @@ pub record Told : Type 0 where
   pub directory : DirectoryRecord
   pub limits : Limits
 
--- the value of a field, where there is one
-abbrev pub value_if : (Field → Result Datum TiffError) → Option Field → Result (Option Datum) TiffError
-value_if value None = Ok None
-value_if value (Some f) = do
-  found ← value f
-  Ok (Some found)
+-- what is found, read or converted or tested
+abbrev pub if_found : {A B : Type 0} → (A → Result B TiffError) → Option A → Result (Option B) TiffError
+if_found read None = Ok None
+if_found read (Some x) = do
+  y ← read x
+  Ok (Some y)
 
 -- the look-up in a directory's fields, whose values are read in this way
-abbrev pub looked : (Field → Result Datum TiffError) → FinMap nat_cmp Field → Look
-looked value fields = record {
+abbrev pub look_up_in : (Field → Result Datum TiffError) → FinMap nat_cmp Field → Look
+look_up_in value fields = record {
   has = λ tag. contains_key fields (tag_number tag);
-  value = λ tag. value_if value (get fields (tag_number tag));
+  value = λ tag. if_found value (get fields (tag_number tag));
 }
 
 -- the tags of a file's directory
 unfoldable pub look_in : FileKind → ByteOrder → List ℕ → Limits → FinMap nat_cmp Field → Look
-look_in kind order bytes limits fields = looked (field_value kind order bytes limits) fields
-
-abbrev pub converted : {A : Type 0} → (Datum → Result A TiffError) → Option Datum → Result (Option A) TiffError
-converted into None = Ok None
-converted into (Some d) = do
-  x ← into d
-  Ok (Some x)
+look_in kind order bytes limits fields = look_up_in (field_value kind order bytes limits) fields
 
 -- a tag's value by a conversion, if there is the tag
 unfoldable pub find : {A : Type 0} → (Datum → Result A TiffError) → Look → Tag → Result (Option A) TiffError
 find into look tag = do
   found ← look.value tag
-  converted into found
+  if_found into found
 
 -- the same, or another where there is no such tag
 abbrev pub find_or : {A : Type 0} → (Datum → Result A TiffError) → Look → Tag → A → Result A TiffError
@@ -67,12 +61,12 @@ find_or into look tag otherwise = do
   Ok (unwrap_or found otherwise)
 
 -- a value that has to be there, else the fault
-abbrev pub known : {A : Type 0} → Option A → TiffError → Result A TiffError
-known None fault = Err fault
-known (Some x) fault = Ok x
+abbrev pub ok_or_fault : {A : Type 0} → Option A → TiffError → Result A TiffError
+ok_or_fault None fault = Err fault
+ok_or_fault (Some x) fault = Ok x
 
 -- a required tag's value by a conversion
 unfoldable pub require : {A : Type 0} → (Datum → Result A TiffError) → Look → Tag → Result A TiffError
 require into look tag = do
   found ← find into look tag
-  known found (FormatError (RequiredTagNotFound tag))
+  ok_or_fault found (FormatError (RequiredTagNotFound tag))

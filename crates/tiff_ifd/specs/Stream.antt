@@ -5,25 +5,25 @@ use Rattle.tiff_base.specs.declared.error.TiffError.{TiffError}
 use Rattle.tiff_base.specs.declared.tags.ByteOrder.{ByteOrder}
 use Rattle.tiff_base.specs.declared.tags.Bits32.{Bits32}
 use Rattle.tiff_base.specs.declared.tags.Bits64.{Bits64}
-use Rattle.tiff_base.specs.Answers.{AnswersExactly, NoneSwallowed, ◌>>=◌}
+use Rattle.tiff_base.specs.Answers.{AnswersWithoutMemory, NoneSwallowed, ◌>>=◌}
 use Rattle.tiff_base.specs.Number.{number_at}
 
--- the bytes of its source, how many reads of it failed so far, the byte order, and the place of the next number
+-- the bytes of its source, how many reads of it failed so far, the byte order, and the offset of the next number
 pub record Reading : Type 0 where
   pub bytes : List ℕ
   pub failures : ℕ
   pub order : ByteOrder
-  pub place : ℕ
+  pub offset : ℕ
 
--- the place after a read of so many bytes; a refused one leaves it
-abbrev pub place_behind : {X : Type 0} → Result X TiffError → ℕ → ℕ → ℕ
-place_behind (Ok x) len place = place + len
-place_behind (Err e) len place = place
+-- the offset after a read of so many bytes; a refused one leaves it
+abbrev pub offset_behind : {X : Type 0} → Result X TiffError → ℕ → ℕ → ℕ
+offset_behind (Ok x) len offset = offset + len
+offset_behind (Err e) len offset = offset
 
--- The number of this width at the place was read, and answered as this.
+-- The number of this width at the offset was read, and answered as this.
 pub record NumberRead {X : Type 0} (w : Width) (as_number : ℕ → X) (result : Result X TiffError) (old new : Reading) : Type 0 where
-  pub answer : AnswersExactly (λ x. x) result (number_at old.order w old.bytes old.place >>= λ n. Ok (as_number n)) old.failures new.failures
-  pub stands : new ≡ record old { failures = new.failures; place = place_behind result (byte_len w) old.place }
+  pub answer : AnswersWithoutMemory (λ x. x) result (number_at old.order w old.bytes old.offset >>= λ n. Ok (as_number n)) old.failures new.failures
+  pub stands : new ≡ record old { failures = new.failures; offset = offset_behind result (byte_len w) old.offset }
   pub failures : old.failures ≤ new.failures
   pub swallowed : NoneSwallowed result old.failures new.failures
 

@@ -5,7 +5,7 @@ ghost use Rattle.tiff_base.specs.declared.error.TiffError.TheVariants as tiff;
 ghost use Rattle.tiff_base.specs.declared.error.TiffFormatError.TheVariants as format;
 ghost use Rattle.std.specs.FinMap as map;
 ghost use Rattle.tiff_base.specs.Answers.{IsCause};
-ghost use Rattle.tiff_ifd.specs.Links.{target, Closes, IsClosing, IsNew, Inserts};
+ghost use Rattle.tiff_ifd.specs.Links.{link_target, Closes, IsClosing, IsNew, Inserts};
 
 use std::alloc::{AllocError, Global};
 use std::collections::BTreeMap;
@@ -13,7 +13,7 @@ use std::marker::Model;
 use tiff_base::error::{TiffError, TiffFormatError, TiffResult};
 use tiff_base::tags::IfdPointer;
 
-/// The links between directories that were accepted: each place has at most one, and they close no cycle.
+/// The links between directories that were accepted: each offset has at most one, and they close no cycle.
 #[derive(Debug, Drop)]
 pub struct IfdCycles {
     links: BTreeMap<u64, Option<u64>>,
@@ -32,13 +32,13 @@ impl Model for IfdCycles {
     ghost view = { λ c. map.from_entries c.links.entries };
 }
 
-// What a link leads to: the place 0 is none.
+// What a link leads to: the offset 0 is none.
 fn target(to: Option<IfdPointer>) -> Option<u64>
-    ensures { result ≡ target (option_map (λ p. p.0) to) }
+    ensures { result ≡ link_target (option_map (λ p. p.0) to) }
 {
     match to {
         Some(IfdPointer(0)) | None => None,
-        Some(place) => Some(place.0),
+        Some(offset) => Some(offset.0),
     }
 }
 
@@ -52,12 +52,12 @@ impl IfdCycles {
         }
     }
 
-    // The accepted link of a place.
+    // The accepted link of an offset.
     #[tactic(auto, using(tiff_base::proofs::Maps::get_of_tree))]
-    fn link_of(&self, place: u64) -> Option<Option<u64>>
-        ensures { result ≡ map.get self.now place }
+    fn link_of(&self, offset: u64) -> Option<Option<u64>>
+        ensures { result ≡ map.get self.now offset }
     {
-        self.links.get(&place).copied()
+        self.links.get(&offset).copied()
     }
 
     // How many links are accepted.
@@ -68,7 +68,7 @@ impl IfdCycles {
         self.links.len()
     }
 
-    // Accepts the link of a place.
+    // Accepts the link of an offset.
     #[tactic(auto, using(tiff_base::proofs::Maps::insert_of_tree))]
     fn insert(&mut self, from: u64, to: Option<u64>) -> Result<(), AllocError>
         ensures ok { OnOk result (self.new ≡ map.insert self.old from to) }
@@ -78,26 +78,26 @@ impl IfdCycles {
         Ok(())
     }
 
-    // Whether accepted links go from a place to another one, which has none. So many steps as there are links are enough.
+    // Whether accepted links go from an offset to another one, which has none. So many steps as there are links are enough.
     #[tactic(auto, using(crate::proofs::Followed::still_here, crate::proofs::Followed::gone_on, crate::proofs::Followed::met, crate::proofs::Followed::ended, crate::proofs::Followed::too_far))]
     fn goes(&self, to: u64, from: u64) -> bool
         requires { map.get self.now from ≡ None }
         ensures { MatchBool result (Closes self.now from (Some to)) (Closes self.now from (Some to) → ⊥) }
     {
-        let mut place = to;
+        let mut offset = to;
         for _step in 0..self.len() {
-            if place == from {
+            if offset == from {
                 return true;
             }
-            match self.link_of(place) {
-                Some(Some(next)) => place = next,
+            match self.link_of(offset) {
+                Some(Some(next)) => offset = next,
                 _ => return false,
             }
         }
-        place == from
+        offset == from
     }
 
-    // Accepts the link of a place that has none, unless it closes a cycle.
+    // Accepts the link of an offset that has none, unless it closes a cycle.
     fn insert_new(&mut self, from: u64, to: Option<u64>) -> TiffResult<bool>
         requires { map.get self.old from ≡ None }
         ensures ok { IfOk result (λ new. (new ≡ true) × IsNew self.old from to × (self.new ≡ map.insert self.old from to)) }
@@ -113,12 +113,12 @@ impl IfdCycles {
         Ok(true)
     }
 
-    /// Hands in the link of the directory at `from`; the place 0 is none. True where it is accepted now, false where it was
+    /// Hands in the link of the directory at `from`; the offset 0 is none. True where it is accepted now, false where it was
     /// accepted before. `FormatError(CycleInOffsets)` where `from` has another accepted link, or where accepted links go
     /// from `to` to `from`: it isn't accepted then. `OutOfMemory` only where it would be accepted; it isn't then.
     pub fn insert_next(&mut self, from: IfdPointer, to: Option<IfdPointer>) -> TiffResult<bool>
         ensures ok { IfOk result (λ new. Inserts self.old from.0 (option_map (λ p. p.0) to) (Ok new) self.new) }
-        ensures err { IfErr result (λ e. IsCause (IsNew self.old from.0 (target (option_map (λ p. p.0) to)) × (self.new ≡ self.old)) ⊥ e
+        ensures err { IfErr result (λ e. IsCause (IsNew self.old from.0 (link_target (option_map (λ p. p.0) to)) × (self.new ≡ self.old)) ⊥ e
             (Inserts self.old from.0 (option_map (λ p. p.0) to) (Err e) self.new)) }
         ensures stays { OnErr result (self.new ≡ self.old) }
     {

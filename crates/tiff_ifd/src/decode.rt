@@ -4,9 +4,9 @@ ghost use Rattle.std.specs.Prelude.{◌≡◌, ◌+◌, ◌*◌, ◌≤◌, ◌<
 ghost use Rattle.tiff_base.specs.declared.error.TiffError.TheVariants as tiff;
 ghost use Rattle.tiff_base.specs.declared.io.IoKind.TheVariants as io_kind;
 ghost use Rattle.std.specs.Int.{w16, w32, w64, byte_len};
-ghost use Rattle.tiff_base.specs.Answers.{Answers, AnswersExactly, IsCause, IsKept};
+ghost use Rattle.tiff_base.specs.Answers.{Answers, AnswersWithoutMemory, IsCause, IsKept};
 ghost use Rattle.tiff_base.specs.Number.{number_at};
-ghost use Rattle.tiff_base.specs.Directory.{count_width, place_width, entry_len, entry_of, entry_at, value_of, directory_at, entries_from, last_of_each};
+ghost use Rattle.tiff_base.specs.Directory.{count_width, offset_width, entry_len, entry_of, entry_at, value_of, directory_at, entries_from, last_of_each};
 
 use std::alloc::Global;
 use tiff_base::directory::{Directory, Entry};
@@ -65,7 +65,7 @@ fn entry_of(kind: FileKind, order: ByteOrder, entry: &[u8]) -> Option<(u16, Entr
     Some((u16_in(order, entry, 0), field))
 }
 
-// The entry at a place, where its type is known.
+// The entry at an offset, where its type is known.
 fn read_entry_at<R: Source>(
     source: &mut R,
     at: u64,
@@ -73,7 +73,7 @@ fn read_entry_at<R: Source>(
     order: ByteOrder,
 ) -> TiffResult<Option<(u16, Entry)>>
     ensures kept { IsKept R.bytes R.failures result source.old source.new }
-    ensures answer { AnswersExactly (λ e. e) result (entry_at kind order (R.bytes source.old) at) (R.failures source.old) (R.failures source.new) }
+    ensures answer { AnswersWithoutMemory (λ e. e) result (entry_at kind order (R.bytes source.old) at) (R.failures source.old) (R.failures source.new) }
 {
     let mut buf = [0u8; 20];
     let entry = &mut buf[..entry_len(kind)];
@@ -89,7 +89,7 @@ fn read_count_at<R: Source>(
     order: ByteOrder,
 ) -> TiffResult<u64>
     ensures kept { IsKept R.bytes R.failures result source.old source.new }
-    ensures answer { AnswersExactly (λ n. n) result (number_at order (count_width kind) (R.bytes source.old) at) (R.failures source.old) (R.failures source.new) }
+    ensures answer { AnswersWithoutMemory (λ n. n) result (number_at order (count_width kind) (R.bytes source.old) at) (R.failures source.old) (R.failures source.new) }
 {
     match kind {
         FileKind::Classic => Ok(u64::from(read_u16_at(source, at, order)?)),
@@ -97,7 +97,7 @@ fn read_count_at<R: Source>(
     }
 }
 
-/// Reads a place of 4 or 8 bytes, as a directory holds it. Fewer bytes there: `IoError(UnexpectedEof)`.
+/// Reads an offset of 4 or 8 bytes, as a directory holds it. Fewer bytes there: `IoError(UnexpectedEof)`.
 pub fn read_link_at<R: Source>(
     source: &mut R,
     at: u64,
@@ -105,7 +105,7 @@ pub fn read_link_at<R: Source>(
     order: ByteOrder,
 ) -> TiffResult<u64>
     ensures kept { IsKept R.bytes R.failures result source.old source.new }
-    ensures answer { AnswersExactly (λ n. n) result (number_at order (place_width kind) (R.bytes source.old) at) (R.failures source.old) (R.failures source.new) }
+    ensures answer { AnswersWithoutMemory (λ n. n) result (number_at order (offset_width kind) (R.bytes source.old) at) (R.failures source.old) (R.failures source.new) }
 {
     match kind {
         FileKind::Classic => Ok(u64::from(read_u32_at(source, at, order)?)),
@@ -113,7 +113,7 @@ pub fn read_link_at<R: Source>(
     }
 }
 
-// The fields of the first `count` entries from a place on, and the place after them.
+// The fields of the first `count` entries from an offset on, and the offset after them.
 #[tactic(auto, using(crate::proofs::Entries::no_entries, crate::proofs::Entries::read_there, crate::proofs::Entries::entry_kept, crate::proofs::Entries::entry_skipped))]
 fn read_entries<R: Source>(
     alloc: Global,
@@ -125,22 +125,22 @@ fn read_entries<R: Source>(
 ) -> TiffResult<(Directory, u64)>
     ensures kept { IsKept R.bytes R.failures result source.old source.new }
     ensures fields { IfOk result (λ r. r.0 ≡ record { entries = last_of_each (entries_from kind order (R.bytes source.old) first count); next = None }) }
-    ensures place { IfOk result (λ r. r.1 ≡ first + entry_len kind * count) }
+    ensures offset { IfOk result (λ r. r.1 ≡ first + entry_len kind * count) }
     ensures cut { IfErr result (λ e. IsCause (Unit {0}) (R.failures source.old < R.failures source.new) e
         ((e ≡ tiff.IoError io_kind.UnexpectedEof) × (length (R.bytes source.old) ≤ first + entry_len kind * count))) }
 {
     let mut directory = Directory::empty(alloc);
-    let mut place = first;
+    let mut offset = first;
     for i in 0..count {
-        if let Some((tag, entry)) = read_entry_at(source, place, kind, order)? {
+        if let Some((tag, entry)) = read_entry_at(source, offset, kind, order)? {
             directory.insert(tag, entry)?;
         }
-        place += entry_len(kind) as u64;
+        offset += entry_len(kind) as u64;
     }
-    Ok((directory, place))
+    Ok((directory, offset))
 }
 
-/// Reads the directory at a place: the last entry of each tag, entries of unknown type left out. Cut anywhere, it is
+/// Reads the directory at an offset: the last entry of each tag, entries of unknown type left out. Cut anywhere, it is
 /// `IoError(UnexpectedEof)`.
 #[tactic(auto, using(crate::proofs::Entries::directory_cut), unfolding(tiff_base::specs::Directory::directory_at))]
 pub fn read_directory<R: Source>(
@@ -155,8 +155,8 @@ pub fn read_directory<R: Source>(
 {
     let count = read_count_at(source, at, kind, order)?;
     let first = at + count_len(kind);
-    let (mut directory, place) = read_entries(alloc, source, first, count, kind, order)?;
-    let next = read_link_at(source, place, kind, order)?;
+    let (mut directory, offset) = read_entries(alloc, source, first, count, kind, order)?;
+    let next = read_link_at(source, offset, kind, order)?;
     directory.link_to(next);
     Ok(directory)
 }

@@ -1,7 +1,7 @@
 //! The header of a file.
 
 ghost use Rattle.std.specs.Prelude.{◌≡◌};
-ghost use Rattle.tiff_base.specs.Answers.{AnswersExactly, IsKept};
+ghost use Rattle.tiff_base.specs.Answers.{AnswersWithoutMemory, IsKept};
 ghost use Rattle.tiff_base.specs.Header.{header_at, order_at};
 
 use tiff_base::error::{TiffError, TiffFormatError, TiffResult};
@@ -14,13 +14,13 @@ use tiff_base::tags::{ByteOrder, FileKind};
 pub struct FileHeader {
     pub order: ByteOrder,
     pub kind: FileKind,
-    /// The place of the first directory.
+    /// The offset of the first directory.
     pub first: u64,
 }
 
 fn read_order<R: Source>(source: &mut R) -> TiffResult<ByteOrder>
     ensures kept { IsKept R.bytes R.failures result source.old source.new }
-    ensures answer { AnswersExactly (λ o. o) result (order_at (R.bytes source.old)) (R.failures source.old) (R.failures source.new) }
+    ensures answer { AnswersWithoutMemory (λ o. o) result (order_at (R.bytes source.old)) (R.failures source.old) (R.failures source.new) }
 {
     let mark = match read_u16_at(source, 0, ByteOrder::LittleEndian) {
         Ok(mark) => mark,
@@ -37,11 +37,11 @@ fn read_order<R: Source>(source: &mut R) -> TiffResult<ByteOrder>
 }
 
 /// Reads the header. No `II` or `MM`, or in BigTIFF not 8 and 0: `TiffSignatureNotFound`; neither 42 nor 43:
-/// `TiffSignatureInvalid`; a number cut: `IoError(UnexpectedEof)`; the first place 0: `ImageFileDirectoryNotFound`.
+/// `TiffSignatureInvalid`; a number cut: `IoError(UnexpectedEof)`; the first offset 0: `ImageFileDirectoryNotFound`.
 #[tactic(auto, unfolding(tiff_base::specs::Header::header_at))]
 pub fn read_header<R: Source>(source: &mut R) -> TiffResult<FileHeader>
     ensures kept { IsKept R.bytes R.failures result source.old source.new }
-    ensures answer { AnswersExactly (λ h. record { order = h.order; kind = h.kind; first = h.first }) result (header_at (R.bytes source.old)) (R.failures source.old) (R.failures source.new) }
+    ensures answer { AnswersWithoutMemory (λ h. record { order = h.order; kind = h.kind; first = h.first }) result (header_at (R.bytes source.old)) (R.failures source.old) (R.failures source.new) }
 {
     let order = read_order(source)?;
     let version = read_u16_at(source, 2, order)?;

@@ -3,7 +3,7 @@
 ghost use Rattle.tiff_ifd.specs.Chain.{IsTheChain, IsOneChain, IsLongestChain, IsChainApart};
 ghost use Rattle.tiff_ifd.specs.Links.{IsAnswered, IsOneAnswer};
 
-/// There is a chain from each first place of each file, and `chain` is it.
+/// There is a chain from each first offset of each file, and `chain` is it.
 pub fn the_chain()
     ensures { IsTheChain }
 {}
@@ -13,12 +13,12 @@ pub fn one_chain()
     ensures { IsOneChain }
 {}
 
-/// The chain is the longest list of places that are entered one after another.
+/// The chain is the longest list of offsets that are entered one after another.
 pub fn longest_chain()
     ensures { IsLongestChain }
 {}
 
-/// The places of a chain differ, and lie within the file.
+/// The offsets of a chain differ, and lie within the file.
 pub fn apart_chain()
     ensures { IsChainApart }
 {}

@@ -2,8 +2,8 @@
 
 ghost use Rattle.std.specs.Prelude.{◌≡◌, ℕ, ◌<◌, ◌≤◌, List, length, Ok, OnOk, IfErr, IfSome, IfNone};
 ghost use Rattle.tiff_base.specs.Answers.{IsCause, IsKept, NoneSwallowed};
-ghost use Rattle.tiff_base.specs.Runs.{before};
-ghost use Rattle.tiff_ifd.specs.Unpacking.{unpacked_at, left_at, unpacking, count_of, GivesNext, IsShort, ReadsByte, Finds, ReadsBlock, PieceReads, Fills, UnpacksFront};
+ghost use Rattle.tiff_base.specs.Runs.{with_front};
+ghost use Rattle.tiff_ifd.specs.Unpacking.{unpacked_at, left_at, unpacking, count_of, GivesNext, HasTooFew, ReadsByte, Finds, ReadsBlock, PieceReads, Fills, UnpacksFront};
 ghost use Rattle.tiff_ifd.specs.declared.packbits.Block.TheVariants.{Literal, Run};
 
 use std::marker::Model;
@@ -21,10 +21,10 @@ enum Block {
     Run(u8, usize),
 }
 
-/// A place in packed bytes: what is left of a block, and where how many packed bytes follow. It is a [`PackBitsReader`] without
+/// An offset in packed bytes: what is left of a block, and where how many packed bytes follow. It is a [`PackBitsReader`] without
 /// its source, which each call of it is lent, the same each time.
 #[derive(Clone, Copy, Debug)]
-pub struct PackedPlace {
+pub struct PackedPosition {
     block: Block,
     at: u64,
     len: u64,
@@ -41,7 +41,7 @@ impl Block {
     }
 }
 
-// The byte at a place.
+// The byte at an offset.
 #[tactic(auto, using(crate::proofs::Unpacking::byte_there, crate::proofs::Unpacking::byte_missing))]
 fn read_byte<R: Source>(source: &mut R, at: u64) -> TiffResult<u8>
     ensures kept { IsKept R.bytes R.failures result source.old source.new }
@@ -55,7 +55,7 @@ fn read_byte<R: Source>(source: &mut R, at: u64) -> TiffResult<u8>
 }
 
 // The next block of packed bytes. Headers that stand for nothing are passed.
-fn next_block<R: Source>(source: &mut R, at: u64, len: u64) -> TiffResult<Option<PackedPlace>>
+fn next_block<R: Source>(source: &mut R, at: u64, len: u64) -> TiffResult<Option<PackedPosition>>
     ensures kept { IsKept R.bytes R.failures result source.old source.new }
     ensures block { Finds (R.bytes source.old) (unpacked_at (R.bytes source.old) at len) (R.failures source.old < R.failures source.new) result }
 {
@@ -70,7 +70,7 @@ fn next_block<R: Source>(source: &mut R, at: u64, len: u64) -> TiffResult<Option
         len -= 1;
         if header < 128 {
             let block = Block::Literal(usize::from(header) + 1);
-            return Ok(Some(PackedPlace { block, at, len }));
+            return Ok(Some(PackedPosition { block, at, len }));
         }
         if header > 128 {
             if len == 0 {
@@ -80,7 +80,7 @@ fn next_block<R: Source>(source: &mut R, at: u64, len: u64) -> TiffResult<Option
                 Ok(value) => value,
                 Err(fault) => return Err(fault),
             };
-            return Ok(Some(PackedPlace {
+            return Ok(Some(PackedPosition {
                 block: Block::Run(value, 257 - usize::from(header)),
                 at: at + 1,
                 len: len - 1,
@@ -90,61 +90,69 @@ fn next_block<R: Source>(source: &mut R, at: u64, len: u64) -> TiffResult<Option
     Ok(None)
 }
 
-// The block of the next byte: that of the place, or the next one where none of it is left.
+// The block of the next byte: that of the offset, or the next one where none of it is left.
 #[tactic(auto, using(crate::proofs::Unpacking::used_up))]
-fn begun_block<R: Source>(source: &mut R, place: PackedPlace) -> TiffResult<Option<PackedPlace>>
+fn begun_block<R: Source>(
+    source: &mut R,
+    offset: PackedPosition,
+) -> TiffResult<Option<PackedPosition>>
     ensures kept { IsKept R.bytes R.failures result source.old source.new }
-    ensures block { Finds (R.bytes source.old) (left_at (R.bytes source.old) place) (R.failures source.old < R.failures source.new) result }
+    ensures block { Finds (R.bytes source.old) (left_at (R.bytes source.old) offset) (R.failures source.old < R.failures source.new) result }
 {
-    if place.block.count() > 0 {
-        return Ok(Some(place));
+    if offset.block.count() > 0 {
+        return Ok(Some(offset));
     }
-    next_block(source, place.at, place.len)
+    next_block(source, offset.at, offset.len)
 }
 
 // Bytes of a literal: as many as the source gives, none only where they end.
 fn read_literal<R: Source>(
     source: &mut R,
-    place: PackedPlace,
+    offset: PackedPosition,
     count: usize,
     buf: &mut [u8],
-) -> TiffResult<(usize, PackedPlace)>
-    requires literal { place.block ≡ Literal count }
+) -> TiffResult<(usize, PackedPosition)>
+    requires literal { offset.block ≡ Literal count }
     requires begun { 0 < count }
     requires some { 0 < length buf.old }
     ensures kept { IsKept R.bytes R.failures result source.old source.new }
-    ensures bytes { ReadsBlock (R.bytes source.old) place (R.failures source.old < R.failures source.new) buf.old buf.new result }
+    ensures bytes { ReadsBlock (R.bytes source.old) offset (R.failures source.old < R.failures source.new) buf.old buf.new result }
 {
-    let most = (count.min(buf.len()) as u64).min(place.len) as usize;
-    let n = match source.read_at(place.at, &mut buf[..most]) {
+    let most = (count.min(buf.len()) as u64).min(offset.len) as usize;
+    let n = match source.read_at(offset.at, &mut buf[..most]) {
         Ok(n) => n,
         Err(fault) => return Err(fault.into()),
     };
     Ok((
         n,
-        PackedPlace {
+        PackedPosition {
             block: Block::Literal(count - n),
-            at: place.at + n as u64,
-            len: place.len - n as u64,
+            at: offset.at + n as u64,
+            len: offset.len - n as u64,
         },
     ))
 }
 
 // Bytes of a run.
-fn repeat(place: PackedPlace, value: u8, count: usize, buf: &mut [u8]) -> (usize, PackedPlace)
-    requires run { place.block ≡ Run value count }
+fn repeat(
+    offset: PackedPosition,
+    value: u8,
+    count: usize,
+    buf: &mut [u8],
+) -> (usize, PackedPosition)
+    requires run { offset.block ≡ Run value count }
     requires begun { 0 < count }
     requires some { 0 < length buf.old }
-    ensures { (bytes : List ℕ) → GivesNext (left_at bytes place) buf.old result.0 buf.new (left_at bytes result.1) }
+    ensures { (bytes : List ℕ) → GivesNext (left_at bytes offset) buf.old result.0 buf.new (left_at bytes result.1) }
 {
     let n = count.min(buf.len());
     buf[..n].fill(value);
     (
         n,
-        PackedPlace {
+        PackedPosition {
             block: Block::Run(value, count - n),
-            at: place.at,
-            len: place.len,
+            at: offset.at,
+            len: offset.len,
         },
     )
 }
@@ -152,17 +160,17 @@ fn repeat(place: PackedPlace, value: u8, count: usize, buf: &mut [u8]) -> (usize
 // Bytes of a block of which some are left.
 fn read_block<R: Source>(
     source: &mut R,
-    place: PackedPlace,
+    offset: PackedPosition,
     buf: &mut [u8],
-) -> TiffResult<(usize, PackedPlace)>
-    requires begun { 0 < count_of place.block }
+) -> TiffResult<(usize, PackedPosition)>
+    requires begun { 0 < count_of offset.block }
     requires some { 0 < length buf.old }
     ensures kept { IsKept R.bytes R.failures result source.old source.new }
-    ensures bytes { ReadsBlock (R.bytes source.old) place (R.failures source.old < R.failures source.new) buf.old buf.new result }
+    ensures bytes { ReadsBlock (R.bytes source.old) offset (R.failures source.old < R.failures source.new) buf.old buf.new result }
 {
-    match place.block {
-        Block::Literal(count) => read_literal(source, place, count, buf),
-        Block::Run(value, count) => Ok(repeat(place, value, count, buf)),
+    match offset.block {
+        Block::Literal(count) => read_literal(source, offset, count, buf),
+        Block::Run(value, count) => Ok(repeat(offset, value, count, buf)),
     }
 }
 
@@ -213,12 +221,12 @@ fn unpack_blocks(packed: &[u8], buf: &mut [u8]) -> (usize, usize)
     (used, done)
 }
 
-impl PackedPlace {
+impl PackedPosition {
     /// Before the `length` packed bytes from `at` on; a source may end before them.
     pub fn new(at: u64, length: u64) -> Self
         ensures { (bytes : List ℕ) → left_at bytes result ≡ unpacked_at bytes at length }
     {
-        PackedPlace {
+        PackedPosition {
             block: Block::Literal(0),
             at,
             len: length,
@@ -234,12 +242,12 @@ impl PackedPlace {
         if buf.is_empty() {
             return Ok(0);
         }
-        let place = match begun_block(source, *self) {
-            Ok(Some(place)) => place,
+        let offset = match begun_block(source, *self) {
+            Ok(Some(offset)) => offset,
             Ok(None) => return Ok(0),
             Err(fault) => return Err(fault),
         };
-        match read_block(source, place, buf) {
+        match read_block(source, offset, buf) {
             Ok((n, rest)) => {
                 *self = rest;
                 Ok(n)
@@ -276,8 +284,8 @@ impl PackedPlace {
     #[tactic(auto, using(crate::proofs::Unpacking::short_by, crate::proofs::Unpacking::short_cause))]
     fn fill<R: Source>(&mut self, source: &mut R, buf: &mut [u8]) -> TiffResult<()>
         ensures kept { IsKept R.bytes R.failures result source.old source.new }
-        ensures ok { OnOk result (left_at (R.bytes source.old) self.old ≡ before buf.new (left_at (R.bytes source.old) self.new)) }
-        ensures err { IfErr result (λ e. IsCause ⊥ (R.failures source.old < R.failures source.new) e (IsShort (left_at (R.bytes source.old) self.old) (length buf.old) e)) }
+        ensures ok { OnOk result (left_at (R.bytes source.old) self.old ≡ with_front buf.new (left_at (R.bytes source.old) self.new)) }
+        ensures err { IfErr result (λ e. IsCause ⊥ (R.failures source.old < R.failures source.new) e (HasTooFew (left_at (R.bytes source.old) self.old) (length buf.old) e)) }
     {
         let mut done = 0;
         while done < buf.len() {
@@ -298,10 +306,10 @@ impl PackedPlace {
         ensures kept { IsKept R.bytes R.failures result source.old source.new }
         ensures filled { Fills result (unpacking R.bytes R.failures source.old self.old) (unpacking R.bytes R.failures source.new self.new) buf.new }
     {
-        let mut place = *self;
-        match place.fill(source, buf) {
+        let mut offset = *self;
+        match offset.fill(source, buf) {
             Ok(()) => {
-                *self = place;
+                *self = offset;
                 Ok(())
             }
             Err(fault) => Err(fault),
@@ -313,7 +321,7 @@ impl PackedPlace {
 #[derive(Debug, Drop)]
 pub struct PackBitsReader<R: Source> {
     source: R,
-    place: PackedPlace,
+    offset: PackedPosition,
 }
 
 impl<R: Source> Model for PackBitsReader<R> {
@@ -321,7 +329,7 @@ impl<R: Source> Model for PackBitsReader<R> {
 
     ghost Value = { Unpacking };
 
-    ghost view = { λ r. unpacking R.bytes R.failures r.source r.place };
+    ghost view = { λ r. unpacking R.bytes R.failures r.source r.offset };
 }
 
 impl<R: Source> PackBitsReader<R> {
@@ -331,7 +339,7 @@ impl<R: Source> PackBitsReader<R> {
     {
         PackBitsReader {
             source,
-            place: PackedPlace::new(at, length),
+            offset: PackedPosition::new(at, length),
         }
     }
 
@@ -346,7 +354,7 @@ impl<R: Source> PackBitsReader<R> {
         ensures swallowed { NoneSwallowed result self.old.failures self.new.failures }
         ensures piece { PieceReads result self.old self.new buf.old buf.new }
     {
-        self.place.read(&mut self.source, buf)
+        self.offset.read(&mut self.source, buf)
     }
 
     /// Fills the buffer with the next bytes. Fewer are left, however the packed bytes end: `IoError(UnexpectedEof)`. After a
@@ -357,6 +365,6 @@ impl<R: Source> PackBitsReader<R> {
         ensures swallowed { NoneSwallowed result self.old.failures self.new.failures }
         ensures filled { Fills result self.old self.new buf.new }
     {
-        self.place.read_exact(&mut self.source, buf)
+        self.offset.read_exact(&mut self.source, buf)
     }
 }

@@ -2,11 +2,11 @@
 
 ghost use Rattle.std.specs.Prelude.{◌≡◌, ◌≤◌, IfOk, length, take, drop};
 ghost use Rattle.std.specs.Int.{byte_len};
-ghost use Rattle.tiff_base.specs.Answers.{AnswersExactly, IsKept};
+ghost use Rattle.tiff_base.specs.Answers.{AnswersWithoutMemory, IsKept};
 ghost use Rattle.tiff_base.specs.Sparing.{AnswersSparingly};
 ghost use Rattle.tiff_base.specs.Number.{number};
-ghost use Rattle.tiff_base.specs.Directory.{place_width};
-ghost use Rattle.tiff_ifd.specs.Ask.{buffer_of, part_of_field};
+ghost use Rattle.tiff_base.specs.Directory.{offset_width};
+ghost use Rattle.tiff_ifd.specs.TagQueries.{buffer_of, part_of_field};
 
 use crate::limits::Limits;
 use std::alloc::Global;
@@ -16,9 +16,9 @@ use tiff_base::io::Source;
 use tiff_base::read::{read_bytes_at, read_exact_at, u32_from, u64_from};
 use tiff_base::tags::{ByteOrder, FileKind};
 
-/// How many bytes a place has, and the value field of an entry.
-pub fn place_len(kind: FileKind) -> u64
-    ensures { result ≡ byte_len (place_width kind) }
+/// How many bytes an offset has, and the value field of an entry.
+pub fn offset_len(kind: FileKind) -> u64
+    ensures { result ≡ byte_len (offset_width kind) }
 {
     match kind {
         FileKind::Classic => 4,
@@ -26,10 +26,10 @@ pub fn place_len(kind: FileKind) -> u64
     }
 }
 
-// The place that a value field holds.
+// The offset that a value field holds.
 #[tactic(auto, unfolding(tiff_base::specs::Number::number))]
-pub(crate) fn place_in(kind: FileKind, order: ByteOrder, value: [u8; 8]) -> u64
-    ensures { result ≡ number order (place_width kind) value }
+pub(crate) fn offset_in(kind: FileKind, order: ByteOrder, value: [u8; 8]) -> u64
+    ensures { result ≡ number order (offset_width kind) value }
 {
     match kind {
         FileKind::Classic => {
@@ -41,7 +41,7 @@ pub(crate) fn place_in(kind: FileKind, order: ByteOrder, value: [u8; 8]) -> u64
 
 /// Reads the bytes of a field, in the file's order. 2^64 bytes or more, or more than the limit: `LimitsExceeded`; bytes
 /// past the end: `IoError(UnexpectedEof)`. Memory is taken after these.
-#[tactic(auto, unfolding(crate::specs::Ask::buffer_of, tiff_base::specs::FieldBytes::field_bytes))]
+#[tactic(auto, unfolding(crate::specs::TagQueries::buffer_of, tiff_base::specs::FieldBytes::field_bytes))]
 pub fn read_field_bytes<R: Source>(
     alloc: Global,
     source: &mut R,
@@ -62,18 +62,18 @@ pub fn read_field_bytes<R: Source>(
         return Err(TiffError::LimitsExceeded);
     }
     let value = entry.value();
-    if len <= place_len(kind) {
+    if len <= offset_len(kind) {
         let mut bytes = vec![in alloc; 0u8; len as usize]?;
         bytes.copy_from_slice(&value[..len as usize]);
         return Ok(bytes);
     }
-    read_bytes_at(alloc, source, place_in(kind, order, value), len as usize)
+    read_bytes_at(alloc, source, offset_in(kind, order, value), len as usize)
 }
 
 /// Copies the bytes of a field from `at` on, as many as fit, and answers how many; 0 where `at` isn't below their number.
-/// 2^64 bytes or more: `LimitsExceeded`; a place of 2^64 or more: `InconsistentSizesEncountered`; what is copied past the
+/// 2^64 bytes or more: `LimitsExceeded`; an offset of 2^64 or more: `InconsistentSizesEncountered`; what is copied past the
 /// end: `IoError(UnexpectedEof)`.
-#[tactic(auto, unfolding(crate::specs::Ask::part_of_field))]
+#[tactic(auto, unfolding(crate::specs::TagQueries::part_of_field))]
 pub fn read_part<R: Source>(
     source: &mut R,
     kind: FileKind,
@@ -83,7 +83,7 @@ pub fn read_part<R: Source>(
     buf: &mut [u8],
 ) -> TiffResult<usize>
     ensures kept { IsKept R.bytes R.failures result source.old source.new }
-    ensures answer { AnswersExactly (λ n. take n buf.new) result (part_of_field kind order (R.bytes source.old) entry.now (length buf.old) at)
+    ensures answer { AnswersWithoutMemory (λ n. take n buf.new) result (part_of_field kind order (R.bytes source.old) entry.now (length buf.old) at)
         (R.failures source.old) (R.failures source.new) }
     ensures rest { IfOk result (λ n. (n ≤ length buf.old) × (drop n buf.new ≡ drop n buf.old)) }
 {
@@ -96,14 +96,14 @@ pub fn read_part<R: Source>(
     }
     let n = std::cmp::min(buf.len() as u64, len - at) as usize;
     let value = entry.value();
-    if len <= place_len(kind) {
+    if len <= offset_len(kind) {
         let first = at as usize;
         buf[..n].copy_from_slice(&value[first..first + n]);
         return Ok(n);
     }
-    let Some(place) = place_in(kind, order, value).checked_add(at) else {
+    let Some(offset) = offset_in(kind, order, value).checked_add(at) else {
         return Err(TiffError::FormatError(TiffFormatError::InconsistentSizesEncountered));
     };
-    read_exact_at(source, place, &mut buf[..n])?;
+    read_exact_at(source, offset, &mut buf[..n])?;
     Ok(n)
 }

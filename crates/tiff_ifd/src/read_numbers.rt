@@ -2,18 +2,18 @@
 
 ghost use Rattle.std.specs.Prelude.{◌≡◌, ◌*◌, ◌<◌, true, length, slice_index, EachIndex, option_map};
 ghost use Rattle.std.specs.Int.{byte_len};
-ghost use Rattle.tiff_base.specs.Answers.{Answers, AnswersHere, IsKept};
-ghost use Rattle.tiff_base.specs.Directory.{place_width};
+ghost use Rattle.tiff_base.specs.Answers.{Answers, AnswersWithoutSource, IsKept};
+ghost use Rattle.tiff_base.specs.Directory.{offset_width};
 ghost use Rattle.tiff_base.specs.FieldBytes.{field_len};
 ghost use Rattle.tiff_base.specs.Number.{number};
-ghost use Rattle.tiff_base.specs.Told.{bytes_at};
+ghost use Rattle.tiff_base.specs.SourceAndSink.{bytes_at};
 ghost use Rattle.tiff_base.specs.Types.{type_size};
 ghost use Rattle.tiff_ifd.specs.Into.{into_u64_vec};
 ghost use Rattle.tiff_ifd.specs.Look.{find, look_in};
 ghost use Rattle.tiff_ifd.specs.Unsigned.{IsUnsigned, field_numbers, numbers_from, placed_numbers, unsigned_width};
 
 use crate::limits::Limits;
-use crate::read_bytes::{place_in, place_len};
+use crate::read_bytes::{offset_in, offset_len};
 use crate::read_value::{is_allowed, read_value, u16_of, u32_of, u64_of};
 use std::alloc::Global;
 use tiff_base::directory::{Directory, Entry};
@@ -67,7 +67,7 @@ fn unsigned_from(
 ) -> TiffResult<Vec<u64>>
     requires numbers { IsUnsigned field_type }
     requires whole { length bytes.now ≡ count * type_size field_type }
-    ensures { AnswersHere (λ v. v.items) result (numbers_from field_type order count bytes.now) }
+    ensures { AnswersWithoutSource (λ v. v.items) result (numbers_from field_type order count bytes.now) }
 {
     let mut all = vec![in alloc; 0u64; count as usize]?;
     fill_numbers(field_type, order, bytes, &mut all);
@@ -87,7 +87,7 @@ fn read_placed<R: Source>(
 ) -> TiffResult<Vec<u64>>
     requires numbers { IsUnsigned entry.now.field_type }
     requires len { len ≡ field_len entry.now }
-    requires elsewhere { byte_len (place_width kind) < len }
+    requires elsewhere { byte_len (offset_width kind) < len }
     ensures kept { IsKept R.bytes R.failures result source.old source.new }
     ensures answer { Answers (λ v. v.items) result (placed_numbers kind order (R.bytes source.old) limits.now entry.now) (R.failures source.old) (R.failures source.new) }
 {
@@ -95,8 +95,8 @@ fn read_placed<R: Source>(
     if !is_allowed(limits, field_type, count) {
         return Err(TiffError::LimitsExceeded);
     }
-    let place = place_in(kind, order, entry.value());
-    let bytes = read_bytes_at(alloc, source, place, len as usize)?;
+    let offset = offset_in(kind, order, entry.value());
+    let bytes = read_bytes_at(alloc, source, offset, len as usize)?;
     unsigned_from(alloc, field_type, order, count, &bytes)
 }
 
@@ -118,7 +118,7 @@ pub fn read_numbers<R: Source>(
     let Some(len) = entry.count().checked_mul(u64::from(field_type.byte_len())) else {
         return Err(TiffError::LimitsExceeded);
     };
-    if is_unsigned(field_type) && len > place_len(kind) {
+    if is_unsigned(field_type) && len > offset_len(kind) {
         return read_placed(alloc, source, kind, order, limits, entry, len);
     }
     read_value(alloc, source, kind, order, limits, entry)?.into_u64_vec(alloc)

@@ -6,7 +6,7 @@ ghost use Rattle.std.specs.List.{list_all, position_or_len, prefix_len, suffix_l
 ghost use Rattle.std.specs.Str.{is_utf8};
 ghost use Rattle.tiff_base.specs.declared.error.TiffError.TheVariants as tiff;
 ghost use Rattle.tiff_base.specs.declared.error.TiffFormatError.TheVariants as format;
-ghost use Rattle.tiff_base.specs.Answers.{AnswersHere, IsKept};
+ghost use Rattle.tiff_base.specs.Answers.{AnswersWithoutSource, IsKept};
 ghost use Rattle.tiff_base.specs.Sparing.{AnswersWithin, GivesSparingly};
 ghost use Rattle.std.specs.FinMap.{get};
 ghost use Rattle.tiff_base.specs.Tags.{tag_number};
@@ -19,7 +19,7 @@ ghost use Rattle.tiff_ifd.specs.FieldValue as value;
 ghost use Rattle.tiff_ifd.specs.Look.{look_in};
 
 use crate::limits::Limits;
-use crate::read_bytes::{place_in, place_len};
+use crate::read_bytes::{offset_in, offset_len};
 use crate::value::{AsciiText, Value, ValueList};
 use std::alloc::Global;
 use std::str;
@@ -131,7 +131,7 @@ fn list_from(
     bytes: &[u8],
 ) -> TiffResult<ValueList>
     requires { length bytes.now ≡ count * type_size field_type }
-    ensures { AnswersHere (λ l. l) result (Ok (spec.items (spec.list_item inline field_type order) (type_size field_type) count bytes.now)) }
+    ensures { AnswersWithoutSource (λ l. l) result (Ok (spec.items (spec.list_item inline field_type order) (type_size field_type) count bytes.now)) }
 {
     let width = usize::from(field_type.byte_len());
     let mut all = Vec::new(alloc);
@@ -156,7 +156,7 @@ fn numbers_from(
     bytes: &[u8],
 ) -> TiffResult<Value>
     requires { length bytes.now ≡ count * type_size field_type }
-    ensures { AnswersHere datum result (Ok (value.numbers inline field_type order count bytes.now)) }
+    ensures { AnswersWithoutSource datum result (Ok (value.numbers inline field_type order count bytes.now)) }
 {
     if count == 1 {
         Ok(item_from(field_type, order, bytes))
@@ -176,7 +176,7 @@ fn text_from(alloc: Global, bytes: &[u8]) -> TiffResult<Value>
     }
 }
 
-// The place of the first zero, or the length.
+// The offset of the first zero, or the length.
 fn first_zero(bytes: &[u8]) -> usize
     ensures value { result ≡ position_or_len value.is_zero bytes.now }
     ensures bound { result ≤ length bytes.now }
@@ -322,7 +322,7 @@ pub fn read_value<R: Source>(
         return Err(TiffError::LimitsExceeded);
     };
     let field = entry.value();
-    if len <= place_len(kind) {
+    if len <= offset_len(kind) {
         return value_from(
             alloc,
             true,
@@ -335,8 +335,8 @@ pub fn read_value<R: Source>(
     if !is_allowed(limits, field_type, count) {
         return Err(TiffError::LimitsExceeded);
     }
-    let place = place_in(kind, order, field);
-    let bytes = read_bytes_at(alloc, source, place, len as usize)?;
+    let offset = offset_in(kind, order, field);
+    let bytes = read_bytes_at(alloc, source, offset, len as usize)?;
     value_from(alloc, false, field_type, order, count, &bytes)
 }
 

@@ -16,7 +16,7 @@ use tiff_base::tags::{Bits32, Bits64, ByteOrder};
 pub struct EndianReader<R: Source> {
     source: R,
     byte_order: ByteOrder,
-    place: u64,
+    offset: u64,
 }
 
 impl<R: Source> Model for EndianReader<R> {
@@ -28,19 +28,19 @@ impl<R: Source> Model for EndianReader<R> {
       bytes = R.bytes r.source;
       failures = R.failures r.source;
       order = r.byte_order;
-      place = r.place;
+      offset = r.offset;
     } };
 }
 
 impl<R: Source> EndianReader<R> {
     /// Reads from the source's start on.
     pub fn new(source: R, byte_order: ByteOrder) -> Self
-        ensures { result ≡ record { bytes = R.bytes source; failures = R.failures source; order = byte_order; place = 0 } }
+        ensures { result ≡ record { bytes = R.bytes source; failures = R.failures source; order = byte_order; offset = 0 } }
     {
         EndianReader {
             source,
             byte_order,
-            place: 0,
+            offset: 0,
         }
     }
 
@@ -52,22 +52,22 @@ impl<R: Source> EndianReader<R> {
         &self.source
     }
 
-    /// The next number is read from here on; any place will do.
+    /// The next number is read from here on; any offset will do.
     pub fn goto_offset(&mut self, offset: u64) -> TiffResult<()>
         ensures answer { result ≡ Ok tt }
-        ensures state { self.new ≡ record self.old { place = offset } }
+        ensures state { self.new ≡ record self.old { offset = offset } }
     {
-        self.place = offset;
+        self.offset = offset;
         Ok(())
     }
 
     /// The next two bytes as a number. Fewer bytes there: `IoError(UnexpectedEof)`, as of each of these reads; a refused
-    /// one stays at its place.
+    /// one stays at its offset.
     pub fn read_u16(&mut self) -> TiffResult<u16>
         ensures { NumberRead w16 (λ n. n) result self.old self.new }
     {
-        let n = read_u16_at(&mut self.source, self.place, self.byte_order)?;
-        self.place += 2;
+        let n = read_u16_at(&mut self.source, self.offset, self.byte_order)?;
+        self.offset += 2;
         Ok(n)
     }
 
@@ -82,8 +82,8 @@ impl<R: Source> EndianReader<R> {
     pub fn read_u32(&mut self) -> TiffResult<u32>
         ensures { NumberRead w32 (λ n. n) result self.old self.new }
     {
-        let n = read_u32_at(&mut self.source, self.place, self.byte_order)?;
-        self.place += 4;
+        let n = read_u32_at(&mut self.source, self.offset, self.byte_order)?;
+        self.offset += 4;
         Ok(n)
     }
 
@@ -98,8 +98,8 @@ impl<R: Source> EndianReader<R> {
     pub fn read_u64(&mut self) -> TiffResult<u64>
         ensures { NumberRead w64 (λ n. n) result self.old self.new }
     {
-        let n = read_u64_at(&mut self.source, self.place, self.byte_order)?;
-        self.place += 8;
+        let n = read_u64_at(&mut self.source, self.offset, self.byte_order)?;
+        self.offset += 8;
         Ok(n)
     }
 

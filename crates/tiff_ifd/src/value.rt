@@ -1,11 +1,11 @@
 //! The values of fields.
 
 ghost use Rattle.std.specs.Prelude.{◌≡◌, ◌^◌, Ok, map, [], ◌∷◌, ◌++◌, IfOk, length, take, string_bytes};
-ghost use Rattle.tiff_ifd.specs.Datum.{data_of};
+ghost use Rattle.tiff_ifd.specs.Datum.{datum_list_of};
 ghost use Rattle.tiff_ifd.specs.Into as spec;
 ghost use Rattle.tiff_ifd.specs.Same as equal;
 ghost use Rattle.std.specs.Str.{chars as letters};
-ghost use Rattle.tiff_base.specs.Answers.{AnswersHere, Gives};
+ghost use Rattle.tiff_base.specs.Answers.{AnswersWithoutSource, Gives};
 ghost use Rattle.tiff_ifd.specs.View.{datum, datum_list};
 
 use std::alloc::{AllocError, Global};
@@ -207,7 +207,7 @@ impl Value {
         }
     }
 
-    /// The place of a directory. Another kind of value: `InvalidTypeForTag`.
+    /// The offset of a directory. Another kind of value: `InvalidTypeForTag`.
     pub fn into_ifd_pointer(self) -> TiffResult<IfdPointer>
         ensures { Gives (λ x. x.0) result (spec.into_ifd_pointer (datum self)) }
     {
@@ -275,7 +275,7 @@ impl Value {
     /// Bytes, of a list or of one byte. The first item that fails gives the fault.
     #[tactic(auto, using(crate::proofs::Joined::as_they_are))]
     pub fn into_u8_vec(self, alloc: Global) -> TiffResult<Vec<u8>>
-        ensures { AnswersHere (λ v. v.items) result (spec.into_u8_vec (datum self)) }
+        ensures { AnswersWithoutSource (λ v. v.items) result (spec.into_u8_vec (datum self)) }
     {
         match self {
             Value::List(list) => each::<u8>(alloc, list),
@@ -288,7 +288,7 @@ impl Value {
     /// gives the fault; a number that doesn't fit: `IntSizeError`.
     #[tactic(auto, using(crate::proofs::Joined::as_they_are))]
     pub fn into_u32_vec(self, alloc: Global) -> TiffResult<Vec<u32>>
-        ensures { AnswersHere (λ v. v.items) result (spec.into_u32_vec (datum self)) }
+        ensures { AnswersWithoutSource (λ v. v.items) result (spec.into_u32_vec (datum self)) }
     {
         match self {
             Value::List(list) => each::<u32>(alloc, list),
@@ -307,7 +307,7 @@ impl Value {
 
     /// The bits of floating numbers of 32 bits, of a list or of one value. The first item that fails gives the fault.
     pub fn into_f32_vec(self, alloc: Global) -> TiffResult<Vec<Bits32>>
-        ensures { AnswersHere (λ v. map (λ n. n.0) v.items) result (spec.into_f32_vec (datum self)) }
+        ensures { AnswersWithoutSource (λ v. map (λ n. n.0) v.items) result (spec.into_f32_vec (datum self)) }
     {
         match self {
             Value::List(list) => each::<Bits32>(alloc, list),
@@ -317,7 +317,7 @@ impl Value {
 
     /// The bits of floating numbers of 64 bits, of a list or of one value. The first item that fails gives the fault.
     pub fn into_f64_vec(self, alloc: Global) -> TiffResult<Vec<Bits64>>
-        ensures { AnswersHere (λ v. map (λ n. n.0) v.items) result (spec.into_f64_vec (datum self)) }
+        ensures { AnswersWithoutSource (λ v. map (λ n. n.0) v.items) result (spec.into_f64_vec (datum self)) }
     {
         match self {
             Value::List(list) => each::<Bits64>(alloc, list),
@@ -325,9 +325,9 @@ impl Value {
         }
     }
 
-    /// The places of directories, of a list or of one value. The first item that fails gives the fault.
+    /// The offsets of directories, of a list or of one value. The first item that fails gives the fault.
     pub fn into_ifd_vec(self, alloc: Global) -> TiffResult<Vec<IfdPointer>>
-        ensures { AnswersHere (λ v. map (λ n. n.0) v.items) result (spec.into_ifd_vec (datum self)) }
+        ensures { AnswersWithoutSource (λ v. map (λ n. n.0) v.items) result (spec.into_ifd_vec (datum self)) }
     {
         match self {
             Value::List(list) => each::<IfdPointer>(alloc, list),
@@ -338,7 +338,7 @@ impl Value {
     /// Signed numbers of 32 bits, of a list or of one value; a signed rational gives two. The first item that fails gives the
     /// fault; a number that doesn't fit: `IntSizeError`.
     pub fn into_i32_vec(self, alloc: Global) -> TiffResult<Vec<i32>>
-        ensures { AnswersHere (λ v. v.items) result (spec.into_i32_vec (datum self)) }
+        ensures { AnswersWithoutSource (λ v. v.items) result (spec.into_i32_vec (datum self)) }
     {
         match self {
             Value::List(list) => each_joined::<i32>(alloc, list),
@@ -348,7 +348,7 @@ impl Value {
 
     /// Signed numbers, of a list or of one value; a signed rational gives two. The first item that fails gives the fault.
     pub fn into_i64_vec(self, alloc: Global) -> TiffResult<Vec<i64>>
-        ensures { AnswersHere (λ v. v.items) result (spec.into_i64_vec (datum self)) }
+        ensures { AnswersWithoutSource (λ v. v.items) result (spec.into_i64_vec (datum self)) }
     {
         match self {
             Value::List(list) => each_joined::<i64>(alloc, list),
@@ -359,7 +359,7 @@ impl Value {
     /// Numbers below 2^16, of a list or of one number. The first item that fails gives the fault.
     #[tactic(auto, using(crate::proofs::Joined::as_they_are))]
     pub fn into_u16_vec(self, alloc: Global) -> TiffResult<Vec<u16>>
-        ensures { AnswersHere (λ v. v.items) result (spec.into_u16_vec (datum self)) }
+        ensures { AnswersWithoutSource (λ v. v.items) result (spec.into_u16_vec (datum self)) }
     {
         match self {
             Value::List(list) => each::<u16>(alloc, list),
@@ -373,7 +373,7 @@ impl Value {
     /// fault.
     #[tactic(auto, using(crate::proofs::Joined::as_they_are))]
     pub fn into_u64_vec(self, alloc: Global) -> TiffResult<Vec<u64>>
-        ensures { AnswersHere (λ v. v.items) result (spec.into_u64_vec (datum self)) }
+        ensures { AnswersWithoutSource (λ v. v.items) result (spec.into_u64_vec (datum self)) }
     {
         match self {
             Value::List(list) => each::<u64>(alloc, list),
@@ -392,7 +392,7 @@ impl Value {
 }
 
 fn two<T: Drop>(alloc: Global, x: T, y: T) -> TiffResult<Vec<T>>
-    ensures { AnswersHere (λ v. v.items) result (Ok (x ∷ y ∷ [])) }
+    ensures { AnswersWithoutSource (λ v. v.items) result (Ok (x ∷ y ∷ [])) }
 {
     let mut all = Vec::new(alloc);
     all.push(x)?;
@@ -426,12 +426,12 @@ impl Clone for AsciiText {
 
 impl PartialEq for ValueList {
     ghost use Rattle.std.specs.Cmp.{on_per};
-    ghost use Rattle.tiff_ifd.specs.Datum.{data_of};
+    ghost use Rattle.tiff_ifd.specs.Datum.{datum_list_of};
     ghost use Rattle.tiff_ifd.specs.Same.{all_same, all_same_per};
 
-    ghost eq = { λ l m. all_same (data_of l) (data_of m) };
+    ghost eq = { λ l m. all_same (datum_list_of l) (datum_list_of m) };
 
-    ghost laws = { on_per data_of all_same_per };
+    ghost laws = { on_per datum_list_of all_same_per };
 
     fn eq(&self, other: &ValueList) -> bool {
         all_same(self.items.as_slice(), other.items.as_slice())
@@ -502,7 +502,7 @@ fn same(a: &Value, b: &Value) -> bool
 
 #[cycle(same)]
 fn all_same(a: &[Value], b: &[Value]) -> bool
-    ensures { result ≡ equal.all_same (data_of (datum_list a.now)) (data_of (datum_list b.now)) }
+    ensures { result ≡ equal.all_same (datum_list_of (datum_list a.now)) (datum_list_of (datum_list b.now)) }
 {
     if a.len() != b.len() {
         return false;
@@ -609,13 +609,13 @@ impl FromValue for u64 {
 
 // A number that has to be below 2^32.
 fn narrow(n: u64) -> TiffResult<u32>
-    ensures { Gives (λ n. n) result (spec.below (2 ^ 32) n) }
+    ensures { Gives (λ n. n) result (spec.below_limit (2 ^ 32) n) }
 {
     u32::try_from(n).map_err(|_| TiffError::IntSizeError)
 }
 
 fn narrow_chars(alloc: Global, text: &str) -> TiffResult<Vec<u32>>
-    ensures { AnswersHere (λ v. v.items) result (Ok (letters text.now)) }
+    ensures { AnswersWithoutSource (λ v. v.items) result (Ok (letters text.now)) }
 {
     let mut all = Vec::new(alloc);
     for c in text.chars() {
@@ -625,7 +625,7 @@ fn narrow_chars(alloc: Global, text: &str) -> TiffResult<Vec<u32>>
 }
 
 fn chars(alloc: Global, text: &str) -> TiffResult<Vec<u64>>
-    ensures { AnswersHere (λ v. v.items) result (Ok (letters text.now)) }
+    ensures { AnswersWithoutSource (λ v. v.items) result (Ok (letters text.now)) }
 {
     let mut all = Vec::new(alloc);
     for c in text.chars() {
@@ -675,7 +675,7 @@ pub trait AppendValue: Sized {
 
     // After an error too, `out` begins with what it held.
     fn append_value(value: Value, out: &mut Vec<Self>) -> TiffResult<()>
-        ensures answer { AnswersHere (λ _. out.new.items) result (spec.appended out.old.items (numbers (datum value))) }
+        ensures answer { AnswersWithoutSource (λ _. out.new.items) result (spec.append_numbers out.old.items (numbers (datum value))) }
         ensures front { take (length out.old.items) out.new.items ≡ out.old.items };
 }
 
@@ -707,14 +707,14 @@ impl AppendValue for i64 {
 
 // A signed number that has to fit into 32 bits.
 fn narrow_signed(n: i64) -> TiffResult<i32>
-    ensures { Gives (λ n. n) result (spec.within (2 ^ 31) n) }
+    ensures { Gives (λ n. n) result (spec.in_signed_range (2 ^ 31) n) }
 {
     i32::try_from(n).map_err(|_| TiffError::IntSizeError)
 }
 
 #[tactic(auto, using(crate::proofs::Joined::front_appended, crate::proofs::Joined::front_same))]
 fn append_one<T: Drop>(out: &mut Vec<T>, x: T) -> TiffResult<()>
-    ensures answer { AnswersHere (λ _. out.new.items) result (Ok (out.old.items ++ x ∷ [])) }
+    ensures answer { AnswersWithoutSource (λ _. out.new.items) result (Ok (out.old.items ++ x ∷ [])) }
     ensures front { take (length out.old.items) out.new.items ≡ out.old.items }
 {
     out.push(x)?;
@@ -723,7 +723,7 @@ fn append_one<T: Drop>(out: &mut Vec<T>, x: T) -> TiffResult<()>
 
 #[tactic(auto, using(crate::proofs::Joined::two_more, crate::proofs::Joined::front_appended, crate::proofs::Joined::front_same))]
 fn append_two<T: Drop>(out: &mut Vec<T>, x: T, y: T) -> TiffResult<()>
-    ensures answer { AnswersHere (λ _. out.new.items) result (Ok (out.old.items ++ x ∷ y ∷ [])) }
+    ensures answer { AnswersWithoutSource (λ _. out.new.items) result (Ok (out.old.items ++ x ∷ y ∷ [])) }
     ensures front { take (length out.old.items) out.new.items ≡ out.old.items }
 {
     out.push(x)?;
@@ -732,7 +732,7 @@ fn append_two<T: Drop>(out: &mut Vec<T>, x: T, y: T) -> TiffResult<()>
 }
 
 fn all_of<T: AppendValue + Drop>(alloc: Global, value: Value) -> TiffResult<Vec<T>>
-    ensures { AnswersHere (λ v. v.items) result (T.numbers (datum value)) }
+    ensures { AnswersWithoutSource (λ v. v.items) result (T.numbers (datum value)) }
 {
     let mut all = Vec::new(alloc);
     T::append_value(value, &mut all)?;
@@ -740,7 +740,7 @@ fn all_of<T: AppendValue + Drop>(alloc: Global, value: Value) -> TiffResult<Vec<
 }
 
 fn each_joined<T: AppendValue + Drop>(alloc: Global, list: ValueList) -> TiffResult<Vec<T>>
-    ensures { AnswersHere (λ v. v.items) result (spec.each_joined T.numbers (data_of list)) }
+    ensures { AnswersWithoutSource (λ v. v.items) result (spec.each_joined T.numbers (datum_list_of list)) }
 {
     let ValueList { items } = list;
     let mut all = Vec::new(alloc);
@@ -751,7 +751,7 @@ fn each_joined<T: AppendValue + Drop>(alloc: Global, list: ValueList) -> TiffRes
 }
 
 fn one<T: Drop>(alloc: Global, x: T) -> TiffResult<Vec<T>>
-    ensures { AnswersHere (λ v. v.items) result (Ok (x ∷ [])) }
+    ensures { AnswersWithoutSource (λ v. v.items) result (Ok (x ∷ [])) }
 {
     let mut all = Vec::new(alloc);
     all.push(x)?;
@@ -760,7 +760,7 @@ fn one<T: Drop>(alloc: Global, x: T) -> TiffResult<Vec<T>>
 
 #[tactic(auto, using(crate::proofs::Joined::one_seen))]
 fn each<T: FromValue + Drop>(alloc: Global, list: ValueList) -> TiffResult<Vec<T>>
-    ensures { AnswersHere (λ v. map T.number v.items) result (spec.each T.into (data_of list)) }
+    ensures { AnswersWithoutSource (λ v. map T.number v.items) result (spec.each_item T.into (datum_list_of list)) }
 {
     let ValueList { items } = list;
     let mut all = Vec::new(alloc);

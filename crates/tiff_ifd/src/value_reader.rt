@@ -6,9 +6,9 @@ ghost use Rattle.tiff_ifd.specs.View.{datum};
 ghost use Rattle.tiff_ifd.specs.Look.{look_in};
 
 use crate::limits::Limits;
+use crate::lookup::Tags;
 use crate::read_numbers::find_numbers;
 use crate::read_value::find_value;
-use crate::tags::Tags;
 use crate::value::Value;
 use std::alloc::Global;
 use tiff_base::directory::Directory;

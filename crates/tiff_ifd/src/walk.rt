@@ -6,7 +6,7 @@ ghost use Rattle.tiff_base.specs.Answers.{IsCause, IsKept};
 ghost use Rattle.tiff_base.specs.declared.tags.ByteOrder.{ByteOrder};
 ghost use Rattle.tiff_base.specs.declared.tags.FileKind.{FileKind};
 ghost use Rattle.tiff_ifd.specs.Chain.{unless_met, chain};
-ghost use Rattle.tiff_ifd.specs.Links.{target};
+ghost use Rattle.tiff_ifd.specs.Links.{link_target};
 ghost use Rattle.tiff_ifd.specs.Walk.{Steps, Begins, Ends};
 
 use crate::cycles::IfdCycles;
@@ -18,10 +18,10 @@ use tiff_base::error::TiffResult;
 use tiff_base::io::Source;
 use tiff_base::tags::{ByteOrder, FileKind, IfdPointer};
 
-/// The places of a file's directories, as far as they were entered, and the link behind the last of them.
+/// The offsets of a file's directories, as far as they were entered, and the link behind the last of them.
 #[derive(Debug, Drop)]
 pub struct Walk {
-    places: Vec<u64>,
+    offsets: Vec<u64>,
     links: IfdCycles,
     next: Option<u64>,
 }
@@ -32,19 +32,19 @@ impl Model for Walk {
 
     ghost Value = { Walked };
 
-    ghost view = { λ w. record { places = w.places.items; next = w.next } };
+    ghost view = { λ w. record { offsets = w.offsets.items; next = w.next } };
 
-    ghost invariant = { λ w. AreLinked w.links (reverse w.places.items) w.next };
+    ghost invariant = { λ w. AreLinked w.links (reverse w.offsets.items) w.next };
 }
 
-// The place of a link, if it leads to one.
+// The offset of a link, if it leads to one.
 fn pointer(next: Option<u64>) -> Option<IfdPointer>
     ensures { option_map (λ p. p.0) result ≡ next }
 {
     next.map(IfdPointer)
 }
 
-// The place that a directory's link leads to.
+// The offset that a directory's link leads to.
 fn behind(directory: &Directory) -> Option<u64>
     ensures { result ≡ directory.now.next }
 {
@@ -52,76 +52,76 @@ fn behind(directory: &Directory) -> Option<u64>
 }
 
 impl Walk {
-    /// No place was entered yet; `first` is the next one.
+    /// No offset was entered yet; `first` is the next one.
     #[tactic(auto, using(crate::proofs::Begun::none_linked, crate::proofs::Begun::none_begun))]
     pub fn new(alloc: Global, first: u64) -> Self
-        ensures walked { result ≡ record { places = []; next = Some first } }
+        ensures walked { result ≡ record { offsets = []; next = Some first } }
         ensures begins { (kind : FileKind) (order : ByteOrder) (bytes : List ℕ) → Begins kind order bytes first result }
     {
         Walk {
-            places: Vec::new(alloc),
+            offsets: Vec::new(alloc),
             links: IfdCycles::new(alloc),
             next: Some(first),
         }
     }
 
-    /// How many places were entered.
+    /// How many offsets were entered.
     pub fn len(&self) -> usize
-        ensures { result ≡ length self.now.places }
+        ensures { result ≡ length self.now.offsets }
     {
-        self.places.len()
+        self.offsets.len()
     }
 
-    /// Whether no place was entered.
+    /// Whether no offset was entered.
     pub fn is_empty(&self) -> bool
-        ensures { result ≡ (length self.now.places == 0) }
+        ensures { result ≡ (length self.now.offsets == 0) }
     {
         self.len() == 0
     }
 
-    /// The place that was entered after `index` others.
+    /// The offset that was entered after `index` others.
     pub fn get(&self, index: usize) -> Option<u64>
-        ensures { result ≡ slice_get self.now.places index }
+        ensures { result ≡ slice_get self.now.offsets index }
     {
-        self.places.get(index).copied()
+        self.offsets.get(index).copied()
     }
 
-    /// The place that was entered last.
+    /// The offset that was entered last.
     pub fn last(&self) -> Option<u64>
-        ensures { result ≡ slice_get self.now.places (length self.now.places - 1) }
+        ensures { result ≡ slice_get self.now.offsets (length self.now.offsets - 1) }
     {
-        self.places.last().copied()
+        self.offsets.last().copied()
     }
 
-    /// The next place, if there is one.
+    /// The next offset, if there is one.
     pub fn next(&self) -> Option<u64>
         ensures { result ≡ self.now.next }
     {
         self.next
     }
 
-    // Adds the next place with its link, unless that is one of the places up to and with it.
+    // Adds the next offset with its link, unless that is one of the offsets up to and with it.
     #[tactic(auto, using(crate::proofs::Begun::not_met, crate::proofs::Begun::why_refused, crate::proofs::Begun::stays_linked, crate::proofs::Begun::now_linked))]
-    fn add(&mut self, place: u64, next: Option<u64>) -> TiffResult<()>
-        requires at { self.old.next ≡ Some place }
-        requires link { target next ≡ next }
-        ensures unmet { IfOk result (λ _. unless_met (place ∷ reverse self.old.places) next ≡ Ok next) }
-        ensures added { IfOk result (λ _. self.new ≡ record { places = self.old.places ++ place ∷ []; next = next }) }
-        ensures err { IfErr result (λ e. IsCause (Unit {0}) ⊥ e (unless_met (place ∷ reverse self.old.places) next ≡ Err e)) }
+    fn add(&mut self, offset: u64, next: Option<u64>) -> TiffResult<()>
+        requires at { self.old.next ≡ Some offset }
+        requires link { link_target next ≡ next }
+        ensures unmet { IfOk result (λ _. unless_met (offset ∷ reverse self.old.offsets) next ≡ Ok next) }
+        ensures added { IfOk result (λ _. self.new ≡ record { offsets = self.old.offsets ++ offset ∷ []; next = next }) }
+        ensures err { IfErr result (λ e. IsCause (Unit {0}) ⊥ e (unless_met (offset ∷ reverse self.old.offsets) next ≡ Err e)) }
         ensures stays { OnErr result (self.new ≡ self.old) }
     {
-        self.places.push(place)?;
-        if let Err(e) = self.links.insert_next(IfdPointer(place), pointer(next)) {
-            self.places.pop();
+        self.offsets.push(offset)?;
+        if let Err(e) = self.links.insert_next(IfdPointer(offset), pointer(next)) {
+            self.offsets.pop();
             return Err(e);
         }
         self.next = next;
         Ok(())
     }
 
-    /// Enters the next place: its directory, or `None` where there is no next place. Where the place isn't entered, the walk
+    /// Enters the next offset: its directory, or `None` where there is no next offset. Where the offset isn't entered, the walk
     /// is as it was: `IoError(UnexpectedEof)` where the directory is cut, `FormatError(CycleInOffsets)` where its link is one
-    /// of the places up to and with it; or `OutOfMemory`, or `IoError(Device)`.
+    /// of the offsets up to and with it; or `OutOfMemory`, or `IoError(Device)`.
     #[tactic(auto, using(crate::proofs::Begun::read_target, crate::proofs::Begun::unread, crate::proofs::Begun::unentered, crate::proofs::Begun::one_entered, crate::proofs::Begun::ends_none, crate::proofs::Begun::begins_entered, crate::proofs::Begun::cut_unread, crate::proofs::Begun::cut_unentered))]
     pub fn enter_next<R: Source>(
         &mut self,
@@ -140,18 +140,18 @@ impl Walk {
         ensures cut { IfErr result (λ e. IsCause (Unit {0}) (R.failures source.old < R.failures source.new) e
             ((first : ℕ) → Begins kind order (R.bytes source.old) first self.old → Ends kind order (R.bytes source.old) first self.old (Some e))) }
     {
-        let Some(place) = self.next else {
+        let Some(offset) = self.next else {
             return Ok(None);
         };
-        let directory = read_directory(alloc, source, place, kind, order)?;
-        self.add(place, behind(&directory))?;
+        let directory = read_directory(alloc, source, offset, kind, order)?;
+        self.add(offset, behind(&directory))?;
         Ok(Some(directory))
     }
 
-    /// The place that comes after `index` others in the file's chain: goes along the chain as far as it must, and reads
-    /// nothing for a place that was entered before. `None` where the chain ends before it; where a directory on the way, or
-    /// its own, isn't entered, the fault that `enter_next` answers. The places that were entered on the way stay so.
-    pub fn place_of<R: Source>(
+    /// The offset that comes after `index` others in the file's chain: goes along the chain as far as it must, and reads
+    /// nothing for an offset that was entered before. `None` where the chain ends before it; where a directory on the way, or
+    /// its own, isn't entered, the fault that `enter_next` answers. The offsets that were entered on the way stay so.
+    pub fn offset_of<R: Source>(
         &mut self,
         alloc: Global,
         source: &mut R,
@@ -160,19 +160,19 @@ impl Walk {
         index: usize,
     ) -> TiffResult<Option<u64>>
         ensures kept { IsKept R.bytes R.failures result source.old source.new }
-        ensures there { IfOk result (λ place. place ≡ slice_get self.new.places index) }
-        ensures short { OnErr result (length self.new.places ≤ index) }
-        ensures no_further { length self.old.places ≤ index → length self.new.places ≤ index + 1 }
-        ensures longer { (more : List ℕ) × (self.new.places ≡ self.old.places ++ more) }
-        ensures known { index < length self.old.places → (self.new ≡ self.old) × (source.new ≡ source.old) }
+        ensures there { IfOk result (λ offset. offset ≡ slice_get self.new.offsets index) }
+        ensures short { OnErr result (length self.new.offsets ≤ index) }
+        ensures no_further { length self.old.offsets ≤ index → length self.new.offsets ≤ index + 1 }
+        ensures longer { (more : List ℕ) × (self.new.offsets ≡ self.old.offsets ++ more) }
+        ensures known { index < length self.old.offsets → (self.new ≡ self.old) × (source.new ≡ source.old) }
         ensures begins { (first : ℕ) → Begins kind order (R.bytes source.old) first self.old → Begins kind order (R.bytes source.old) first self.new }
-        ensures place { IfOk result (λ place. (first : ℕ) → Begins kind order (R.bytes source.old) first self.old
-            → slice_get (chain kind order (R.bytes source.old) first).places index ≡ place) }
-        ensures end { IfOk result (λ place. IfNone place ((first : ℕ) → Begins kind order (R.bytes source.old) first self.old
+        ensures offset { IfOk result (λ offset. (first : ℕ) → Begins kind order (R.bytes source.old) first self.old
+            → slice_get (chain kind order (R.bytes source.old) first).offsets index ≡ offset) }
+        ensures end { IfOk result (λ offset. IfNone offset ((first : ℕ) → Begins kind order (R.bytes source.old) first self.old
             → Ends kind order (R.bytes source.old) first self.new None)) }
         ensures cut { IfErr result (λ e. IsCause (Unit {0}) (R.failures source.old < R.failures source.new) e
             ((first : ℕ) → Begins kind order (R.bytes source.old) first self.old
-            → (slice_get (chain kind order (R.bytes source.old) first).places index ≡ None) × Ends kind order (R.bytes source.old) first self.new (Some e))) }
+            → (slice_get (chain kind order (R.bytes source.old) first).offsets index ≡ None) × Ends kind order (R.bytes source.old) first self.new (Some e))) }
     {
         while self.len() <= index {
             if self.enter_next(alloc, source, kind, order)?.is_none() {

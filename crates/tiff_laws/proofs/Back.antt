@@ -9,7 +9,7 @@ use Rattle.std.specs.Prelude.{replicate}
 use Rattle.std.specs.Int.{div_ceil}
 use Rattle.tiff_base.specs.declared.tags.ByteOrder.TheVariants.{LittleEndian}
 use Rattle.tiff_base.specs.Number.{number, le}
-use Rattle.tiff_base.specs.Told.{AreOctets}
+use Rattle.tiff_base.specs.SourceAndSink.{AreOctets}
 use Rattle.tiff_page.specs.declared.layout.DecodingSampleType.TheVariants as type
 use Rattle.tiff_page.specs.Pixels.{each_to, width_of, numbers_in}
 use Rattle.tiff_decode.specs.Result.{whole_numbers, BytesAgain}

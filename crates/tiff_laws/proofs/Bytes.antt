@@ -5,10 +5,10 @@ use Rattle.std.proofs.Math.Nat.{mul-le-mul_right}
 use Rattle.tiff_page.specs.Page.{PageRecord}
 use Rattle.tiff_page.specs.Rect.{rect, across, chunks_of_plane}
 use Rattle.tiff_page.specs.Layout.{LayoutRecord, row_bits, row_bytes, shown}
-use Rattle.tiff_page.specs.Laws.{HasSides, IsWithin, ChunksWithin}
+use Rattle.tiff_page.specs.Laws.{HasSides, ChunkIsWithin, ChunksWithin}
 use Rattle.tiff_page.proofs.Chunks.{start_is, none_before}
 use Rattle.tiff_laws.specs.Whole.{IsOfChunk, PlanesCovered, chunk_row, at_image}
-use Rattle.tiff_laws.specs.Bytes.{plane_of, line_of, along_of, full_row, chunk_of, row_of, byte_of, IsByteAt, IsFoundAt, OneByte}
+use Rattle.tiff_laws.specs.Bytes.{plane_of_byte, line_of_byte, column_of_byte, full_row, chunk_of_byte, row_of_byte, byte_in_row, IsByteAt, IsFoundAt, OneByte}
 use Rattle.tiff_laws.proofs.Laid.{IsLaid, laid}
 use Rattle.tiff_laws.proofs.Whole as whole
 use Rattle.tiff_laws.proofs.WhereChunks.{fewer_bytes}
@@ -21,7 +21,7 @@ below_planes n planes size rest l r =
     let b : (n + 1) * size ≡ n * size + size = omega arith in
     omega (arith, a, b, r)
 
-module _ (p : PageRecord) (l : LayoutRecord) (sides : HasSides p) (is : IsLaid p p.width p.height l) (i r b : ℕ) (inside : IsWithin p i) (rl : r < (rect p i).height) (bl : b < chunk_row p l i) where
+module _ (p : PageRecord) (l : LayoutRecord) (sides : HasSides p) (is : IsLaid p p.width p.height l) (i r b : ℕ) (inside : ChunkIsWithin p i) (rl : r < (rect p i).height) (bl : b < chunk_row p l i) where
   abbrev s : ℕ
   s = l.row_bytes
 
@@ -32,7 +32,7 @@ module _ (p : PageRecord) (l : LayoutRecord) (sides : HasSides p) (is : IsLaid p
   y = (rect p i).y + r
 
   abbrev t : ℕ
-  t = row_bits p l.colour (rect p i).x / 8 + b
+  t = row_bits p l.color (rect p i).x / 8 + b
 
   abbrev at : ℕ
   at = at_image p l i r b
@@ -49,9 +49,9 @@ module _ (p : PageRecord) (l : LayoutRecord) (sides : HasSides p) (is : IsLaid p
   y_below : y < p.height
   y_below = omega (arith, inside.rows, rl)
 
-  row_within : row_bits p l.colour (rect p i).x / 8 + chunk_row p l i ≤ row_bytes p l.colour p.width
+  row_within : row_bits p l.color (rect p i).x / 8 + chunk_row p l i ≤ row_bytes p l.color p.width
   unfolding row_bits
-  row_within = whole.bits_within (rect p i).x (rect p i).width p.depth (shown p.planar l.colour) p.width inside.columns
+  row_within = whole.bits_within (rect p i).x (rect p i).width p.depth (shown p.planar l.color) p.width inside.columns
 
   t_below : t < s
   t_below = omega (arith, row_within, bl, is.rows)
@@ -59,13 +59,13 @@ module _ (p : PageRecord) (l : LayoutRecord) (sides : HasSides p) (is : IsLaid p
   stride_is : l.plane_stride ≡ s * p.height
   stride_is = is.stride ∙ ap (λ (z : ℕ). z * p.height) (sym is.rows)
 
-  plane_is : plane_of l at ≡ n
+  plane_is : plane_of_byte l at ≡ n
   plane_is = (λ k. at_is k / stride_is k) ∙ whole.plane_at n p.height y s t y_below t_below
 
-  line_is : line_of l at ≡ y
+  line_is : line_of_byte l at ≡ y
   line_is = (λ k. at_is k % stride_is k / s) ∙ whole.line_at n p.height y s t y_below t_below
 
-  along_is : along_of l at ≡ t
+  along_is : column_of_byte l at ≡ t
   along_is = ap (λ (z : ℕ). z % s) at_is ∙ whole.column_at n p.height y s t y_below t_below
 
   within : (planes : ℕ) → n < planes → at < planes * l.plane_stride
@@ -78,23 +78,23 @@ module _ (p : PageRecord) (l : LayoutRecord) (sides : HasSides p) (is : IsLaid p
   across_some : 0 < across p
   across_some = parts_some p.width p.chunk_width sides.chunk_wide sides.wide
 
-  left_is : row_bits p l.colour (j % across p * p.chunk_width) / 8 ≡ j % across p * full
+  left_is : row_bits p l.color (j % across p * p.chunk_width) / 8 ≡ j % across p * full
   unfolding row_bits
   left_is =
       ⊎_elim
       (λ (one : across p ≤ 1).
       let z : j % across p ≡ 0 = omega (arith, mod_below j (across p) across_some, one) in
-      ap (λ (m : ℕ). m * p.chunk_width * p.depth * shown p.planar l.colour / 8) z
-      ∙ none_before p.chunk_width p.depth (shown p.planar l.colour) full
+      ap (λ (m : ℕ). m * p.chunk_width * p.depth * shown p.planar l.color / 8) z
+      ∙ none_before p.chunk_width p.depth (shown p.planar l.color) full
       ∙ ap (λ (m : ℕ). m * full) (sym z))
-      (λ (e : row_bits p l.colour p.chunk_width ≡ row_bits p l.colour p.chunk_width / 8 * 8).
-      start_is (j % across p) p.chunk_width p.depth (shown p.planar l.colour) e)
-      (aligned_rows p l.colour p.width is.lined.0 is.lined.1)
+      (λ (e : row_bits p l.color p.chunk_width ≡ row_bits p l.color p.chunk_width / 8 * 8).
+      start_is (j % across p) p.chunk_width p.depth (shown p.planar l.color) e)
+      (aligned_rows p l.color p.width is.lined.0 is.lined.1)
 
   b_below : b < full
   unfolding row_bits rect
   b_below =
-      let a : chunk_row p l i ≤ full = fewer_bytes (rect p i).width p.chunk_width p.depth (shown p.planar l.colour) (omega arith) in
+      let a : chunk_row p l i ≤ full = fewer_bytes (rect p i).width p.chunk_width p.depth (shown p.planar l.color) (omega arith) in
       omega (arith, a, bl)
 
   r_below : r < p.chunk_height
@@ -109,19 +109,19 @@ module _ (p : PageRecord) (l : LayoutRecord) (sides : HasSides p) (is : IsLaid p
   unfolding rect
   y_is = omega arith
 
-  row_is : row_of p l at ≡ r
+  row_is : row_of_byte p l at ≡ r
   row_is = ap (λ (z : ℕ). z % p.chunk_height) (line_is ∙ y_is) ∙ mod-mul-add (j / across p) p.chunk_height r r_below
 
-  line_chunk : line_of l at / p.chunk_height ≡ j / across p
+  line_chunk : line_of_byte l at / p.chunk_height ≡ j / across p
   line_chunk = ap (λ (z : ℕ). z / p.chunk_height) (line_is ∙ y_is) ∙ div-mul-add (j / across p) p.chunk_height r r_below
 
-  byte_is : byte_of p l at ≡ b
+  byte_is : byte_in_row p l at ≡ b
   byte_is = ap (λ (z : ℕ). z % full) (along_is ∙ t_is) ∙ mod-mul-add (j % across p) full b b_below
 
-  along_chunk : along_of l at / full ≡ j % across p
+  along_chunk : column_of_byte l at / full ≡ j % across p
   along_chunk = ap (λ (z : ℕ). z / full) (along_is ∙ t_is) ∙ div-mul-add (j % across p) full b b_below
 
-  chunk_is : chunk_of p l at ≡ i
+  chunk_is : chunk_of_byte p l at ≡ i
   unfolding rect
   chunk_is =
       let c : ℕ = chunks_of_plane p in

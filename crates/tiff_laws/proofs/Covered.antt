@@ -60,11 +60,11 @@ whole_before col cw u e =
 module _ (one_chunk : OneChunk) (p : PageRecord) (l : LayoutRecord) (sides : HasSides p) (is : IsLaid p p.width p.height l) (n at : ℕ) (in_planes : at < n * l.plane_stride) where
   -- the bits of a pixel
   abbrev bits : ℕ
-  bits = p.depth * shown p.planar l.colour
+  bits = p.depth * shown p.planar l.color
 
-  bits_of : (w : ℕ) → row_bits p l.colour w ≡ w * bits
+  bits_of : (w : ℕ) → row_bits p l.color w ≡ w * bits
   unfolding row_bits
-  bits_of w = mul_assoc w p.depth (shown p.planar l.colour)
+  bits_of w = mul_assoc w p.depth (shown p.planar l.color)
 
   stride_is : l.plane_stride ≡ p.height * l.row_bytes
   stride_is = is.stride ∙ ap (λ (z : ℕ). z * p.height) (sym is.rows) ∙ mul_comm l.row_bytes p.height
@@ -131,9 +131,9 @@ module _ (one_chunk : OneChunk) (p : PageRecord) (l : LayoutRecord) (sides : Has
       let z : col ≡ 0 = omega (arith, mod_below (i % chunks_of_plane p) (across p) (parts_some p.width p.chunk_width sides.chunk_wide sides.wide), one) in
       let none : 0 * p.chunk_width * bits ≡ 0 * p.chunk_width * bits / 8 * 8 = omega arith in
       subst (λ (m : ℕ). m * p.chunk_width * bits ≡ m * p.chunk_width * bits / 8 * 8) (sym z) none)
-      (λ (e : row_bits p l.colour p.chunk_width ≡ row_bits p l.colour p.chunk_width / 8 * 8).
+      (λ (e : row_bits p l.color p.chunk_width ≡ row_bits p l.color p.chunk_width / 8 * 8).
       whole_before col p.chunk_width bits (subst (λ (m : ℕ). m ≡ m / 8 * 8) (bits_of p.chunk_width) e))
-      (aligned_rows p l.colour p.width is.lined.0 is.lined.1)
+      (aligned_rows p l.color p.width is.lined.0 is.lined.1)
 
   columns : ((rect p i).x * bits / 8 ≤ k) × (k - (rect p i).x * bits / 8 < ((rect p i).width * bits + 7) / 8)
   columns =
@@ -141,7 +141,7 @@ module _ (one_chunk : OneChunk) (p : PageRecord) (l : LayoutRecord) (sides : Has
 
   pub covered : IsOfChunk p l n at
   covered =
-      let start : ℕ = row_bits p l.colour (rect p i).x / 8 in
+      let start : ℕ = row_bits p l.color (rect p i).x / 8 in
       let b : start ≡ (rect p i).x * bits / 8 = ap (λ (z : ℕ). z / 8) (bits_of (rect p i).x) in
       let c : chunk_row p l i ≡ ((rect p i).width * bits + 7) / 8 = ap (λ (z : ℕ). (z + 7) / 8) (bits_of (rect p i).width) in
       let lines : (rect p i).plane * p.height ≡ plane * p.height = ap (λ (z : ℕ). z * p.height) has.of_plane in

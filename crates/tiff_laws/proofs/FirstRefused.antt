@@ -16,7 +16,7 @@ use Rattle.tiff_page.specs.PixelCalls.{Part, image_part, chunk_part, part_fault,
 use Rattle.tiff_page.specs.Laws.{HasSides, IsFirst, ChunksWithin, NoFault, FirstFault}
 use Rattle.tiff_decode.specs.Machine.{Decoding}
 use Rattle.tiff_decode.specs.Outcome as outcome
-use Rattle.tiff_laws.specs.Whole.{IsChunkRead, IsChunkRefused, IsFirstRefused, RefusedWhereChunks, chunk_row, chunk_bytes}
+use Rattle.tiff_laws.specs.Whole.{IsChunkRead, IsChunkRefused, IsFirstRefused, RefusedWhereChunks, chunk_row, chunk_byte_count}
 use Rattle.tiff_laws.proofs.WhereChunks.{fault_of, chunk_layout, chunk_laid, chunk_read, chunk_none, one_fault, has_room}
 
 -- ---- refused reads
@@ -27,18 +27,18 @@ fault_first (Err f) x e h = cc
 
 module _ (file : List ℕ) (order : ByteOrder) (p : PageRecord) (limits : Limits) (width height : ℕ) (part : LayoutRecord → Part file order p) (buf : List ℕ) (l : LayoutRecord) (whole : planes_layout p width height ≡ Ok l) (room : l.plane_stride ≤ length buf) where
   abbrev answer : Result (List ℕ) TiffError
-  answer = planes_layout p width height >>= (λ l. room_fault (length buf) l.plane_stride >>= (λ _. filled file order p limits l.colour (part l) buf))
+  answer = planes_layout p width height >>= (λ l. room_fault (length buf) l.plane_stride >>= (λ _. filled file order p limits l.color (part l) buf))
 
   abbrev none_or : Result (Unit {0}) TiffError
-  none_or = part_fault file order p limits l.colour (part l)
+  none_or = part_fault file order p limits l.color (part l)
 
   -- with a layout and room it answers the part's fault, or bytes
-  answer_is : answer ≡ (none_or >>= (λ _. Ok (placed file order p l.colour (part l).region (part l).stride (part l).planes buf)))
+  answer_is : answer ≡ (none_or >>= (λ _. Ok (placed file order p l.color (part l).region (part l).stride (part l).planes buf)))
   unfolding filled
   answer_is = let a : room_fault (length buf) l.plane_stride ≡ Ok tt = has_room (length buf) l.plane_stride room in rw (whole, a) refl
 
   pub refusal_of : (e : TiffError) → answer ≡ Err e → none_or ≡ Err e
-  refusal_of e h = fault_first none_or (placed file order p l.colour (part l).region (part l).stride (part l).planes buf) e (sym answer_is ∙ h)
+  refusal_of e h = fault_first none_or (placed file order p l.color (part l).region (part l).stride (part l).planes buf) e (sym answer_is ∙ h)
 
   pub refusal_by : (e : TiffError) → none_or ≡ Err e → answer ≡ Err e
   refusal_by e h = answer_is ∙ rw h refl
@@ -48,7 +48,7 @@ module _ (within_image : ChunksWithin) (d : Decoding) (sides : HasSides d.state.
   page = d.state.page
 
   abbrev fault : ℕ → Result (Unit {0}) TiffError
-  fault i = fault_of d.bytes d.order page d.state.limits l.colour i
+  fault i = fault_of d.bytes d.order page d.state.limits l.color i
 
   abbrev into : ℕ → LayoutRecord → Part d.bytes d.order page
   into i layout = chunk_part d.bytes d.order page i 1 layout.row_bytes
@@ -59,19 +59,19 @@ module _ (within_image : ChunksWithin) (d : Decoding) (sides : HasSides d.state.
   chunk_refused i e h part room =
       refusal_by d.bytes d.order page d.state.limits (rect page i).width (rect page i).height (into i) part
       (chunk_layout page l sides whole i (within_image page i sides)) (chunk_laid page l sides whole i (within_image page i sides)) room e
-      (one_fault d.bytes d.order page d.state.limits l.colour i (chunk_row page l i) ∙ h)
+      (one_fault d.bytes d.order page d.state.limits l.color i (chunk_row page l i) ∙ h)
 
   abbrev some_part : ℕ → List ℕ
-  some_part i = replicate (chunk_bytes page l i) 0
+  some_part i = replicate (chunk_byte_count page l i) 0
 
-  has_part : (i : ℕ) → chunk_bytes page l i ≤ length (some_part i)
-  has_part i = omega (arith, length-replicate {A = ℕ} (chunk_bytes page l i) 0)
+  has_part : (i : ℕ) → chunk_byte_count page l i ≤ length (some_part i)
+  has_part i = omega (arith, length-replicate {A = ℕ} (chunk_byte_count page l i) 0)
 
   -- and has one where it is refused
   pub fault_is : (i : ℕ) (e : TiffError) → IsChunkRefused d l e i → fault i ≡ Err e
   unfolding outcome.read_chunk_bytes pixels.read_chunk_bytes
   fault_is i e h =
-      sym (one_fault d.bytes d.order page d.state.limits l.colour i (chunk_row page l i))
+      sym (one_fault d.bytes d.order page d.state.limits l.color i (chunk_row page l i))
       ∙ refusal_of d.bytes d.order page d.state.limits (rect page i).width (rect page i).height (into i) (some_part i)
       (chunk_layout page l sides whole i (within_image page i sides)) (chunk_laid page l sides whole i (within_image page i sides)) (has_part i) e
       (h (some_part i) (has_part i))
@@ -92,7 +92,7 @@ module _ (within_image : ChunksWithin) (d : Decoding) (sides : HasSides d.state.
     at_chunk : (j plane : ℕ) → of_chunk j plane ≡ fault (plane * c + j)
     at_chunk j plane = let e : 0 + j ≡ j = omega arith in ap (λ (z : ℕ). fault (plane * c + z)) e
 
-    pub first_of : (e : TiffError) → part_fault d.bytes d.order page d.state.limits l.colour (image_part d.bytes d.order page used s) ≡ Err e
+    pub first_of : (e : TiffError) → part_fault d.bytes d.order page d.state.limits l.color (image_part d.bytes d.order page used s) ≡ Err e
         → (plane k : ℕ) × IsFirstRefused d l used plane k e
     first_of e h =
         let a : (k : ℕ) × ((k < c) × IsFirst of_column k e) = (first_fault of_column c e).0 h in
@@ -110,7 +110,7 @@ module _ (within_image : ChunksWithin) (d : Decoding) (sides : HasSides d.state.
         )
 
     pub by_first : (e : TiffError) (plane k : ℕ) → IsFirstRefused d l used plane k e
-        → part_fault d.bytes d.order page d.state.limits l.colour (image_part d.bytes d.order page used s) ≡ Err e
+        → part_fault d.bytes d.order page d.state.limits l.color (image_part d.bytes d.order page used s) ≡ Err e
     by_first e plane k is =
         let found : of_column k ≡ Err e =
         (first_fault (of_chunk k) used e).1 plane is.used (record {

@@ -10,7 +10,7 @@ use Rattle.tiff_base.specs.declared.tags.ByteOrder.{ByteOrder}
 use Rattle.tiff_base.specs.Answers.{◌>>=◌}
 use Rattle.tiff_ifd.specs.declared.limits.Limits.{Limits}
 use Rattle.tiff_page.specs.Page.{PageRecord}
-use Rattle.tiff_page.specs.Layout.{LayoutRecord, layout_of, colour_of, row_bytes, planes, wide, aligned, whole_chroma}
+use Rattle.tiff_page.specs.Layout.{LayoutRecord, layout_of, color_of, row_bytes, planes, wide, aligned, whole_chroma}
 use Rattle.tiff_page.specs.PixelFault.{unless}
 use Rattle.tiff_page.specs.Buffers.{planes_layout}
 use Rattle.tiff_page.specs.PixelCalls.{Part, room_fault, part_fault, placed, filled}
@@ -46,33 +46,33 @@ room_ok provided needed h = ltb-false provided needed (unless_ok (nat_lt provide
 
 -- a layout of so many columns and rows
 pub record IsLaid (p : PageRecord) (width height : ℕ) (l : LayoutRecord) : Type 0 where
-  pub colour : colour_of p ≡ Ok l.colour
-  pub rows : l.row_bytes ≡ row_bytes p l.colour width
-  pub stride : l.plane_stride ≡ row_bytes p l.colour width * height
-  pub tall : row_bytes p l.colour width * p.chunk_height < 2 ^ 64
-  pub few : row_bytes p l.colour width * height < 2 ^ 64
-  pub lined : (c : ColorType) × (aligned p l.colour width ≡ Ok c)
-  pub chroma : (c : ColorType) × (whole_chroma p l.colour ≡ Ok c)
+  pub color : color_of p ≡ Ok l.color
+  pub rows : l.row_bytes ≡ row_bytes p l.color width
+  pub stride : l.plane_stride ≡ row_bytes p l.color width * height
+  pub tall : row_bytes p l.color width * p.chunk_height < 2 ^ 64
+  pub few : row_bytes p l.color width * height < 2 ^ 64
+  pub lined : (c : ColorType) × (aligned p l.color width ≡ Ok c)
+  pub chroma : (c : ColorType) × (whole_chroma p l.color ≡ Ok c)
 
 pub laid : (p : PageRecord) (width height : ℕ) (l : LayoutRecord) → layout_of p width height ≡ Ok l → IsLaid p width height l
 unfolding layout_of
 laid p width height l h =
     let last : ColorType → ℕ → Result LayoutRecord TiffError =
-    λ colour stride. Ok (record { colour = colour; row_bytes = row_bytes p colour width; plane_stride = stride }) in
-    let chroma : ColorType → ℕ → Result LayoutRecord TiffError = λ colour stride. whole_chroma p colour >>= (λ _. last colour stride) in
-    let row : ColorType → ℕ → Result LayoutRecord TiffError = λ colour stride. aligned p colour width >>= (λ _. chroma colour stride) in
-    let plane : ColorType → Result LayoutRecord TiffError = λ colour. wide (row_bytes p colour width * height) >>= (λ stride. row colour stride) in
-    let tall : ColorType → Result LayoutRecord TiffError = λ colour. wide (row_bytes p colour width * p.chunk_height) >>= (λ _. plane colour) in
-    let a = bind_ok (colour_of p) tall l h in
+    λ color stride. Ok (record { color = color; row_bytes = row_bytes p color width; plane_stride = stride }) in
+    let chroma : ColorType → ℕ → Result LayoutRecord TiffError = λ color stride. whole_chroma p color >>= (λ _. last color stride) in
+    let row : ColorType → ℕ → Result LayoutRecord TiffError = λ color stride. aligned p color width >>= (λ _. chroma color stride) in
+    let plane : ColorType → Result LayoutRecord TiffError = λ color. wide (row_bytes p color width * height) >>= (λ stride. row color stride) in
+    let tall : ColorType → Result LayoutRecord TiffError = λ color. wide (row_bytes p color width * p.chunk_height) >>= (λ _. plane color) in
+    let a = bind_ok (color_of p) tall l h in
     let b = bind_ok (wide (row_bytes p a.0 width * p.chunk_height)) (λ _. plane a.0) l a.1.1 in
     let c = bind_ok (wide (row_bytes p a.0 width * height)) (λ stride. row a.0 stride) l b.1.1 in
     let d = bind_ok (aligned p a.0 width) (λ _. chroma a.0 c.0) l c.1.1 in
     let e = bind_ok (whole_chroma p a.0) (λ _. last a.0 c.0) l d.1.1 in
     let s = wide_ok (row_bytes p a.0 width * height) c.0 c.1.0 in
-    let made : LayoutRecord = record { colour = a.0; row_bytes = row_bytes p a.0 width; plane_stride = c.0 } in
+    let made : LayoutRecord = record { color = a.0; row_bytes = row_bytes p a.0 width; plane_stride = c.0 } in
     subst (λ (z : LayoutRecord). IsLaid p width height z) {x = made} (ok_is made l e.1.1)
     (record {
-      colour = a.1.0;
+      color = a.1.0;
       rows = refl;
       stride = s.1;
       tall = (wide_ok (row_bytes p a.0 width * p.chunk_height) b.0 b.1.0).0;
@@ -83,48 +83,48 @@ laid p width height l h =
 
 -- of so many planes
 pub planes_laid : (p : PageRecord) (width height : ℕ) (l : LayoutRecord) → planes_layout p width height ≡ Ok l
-    → (layout_of p width height ≡ Ok l) × (l.plane_stride * planes p.planar l.colour < 2 ^ 64)
+    → (layout_of p width height ≡ Ok l) × (l.plane_stride * planes p.planar l.color < 2 ^ 64)
 unfolding planes_layout
 planes_laid p width height l h =
-    let whole : LayoutRecord → Result LayoutRecord TiffError = λ layout. wide (layout.plane_stride * planes p.planar layout.colour) >>= (λ _. Ok layout) in
+    let whole : LayoutRecord → Result LayoutRecord TiffError = λ layout. wide (layout.plane_stride * planes p.planar layout.color) >>= (λ _. Ok layout) in
     let a = bind_ok (layout_of p width height) whole l h in
-    let b = bind_ok (wide (a.0.plane_stride * planes p.planar a.0.colour)) (λ _. Ok a.0) l a.1.1 in
-    let few = (wide_ok (a.0.plane_stride * planes p.planar a.0.colour) b.0 b.1.0).0 in
-    subst (λ (z : LayoutRecord). (layout_of p width height ≡ Ok z) × (z.plane_stride * planes p.planar z.colour < 2 ^ 64)) (ok_is a.0 l b.1.1) (a.1.0, few)
+    let b = bind_ok (wide (a.0.plane_stride * planes p.planar a.0.color)) (λ _. Ok a.0) l a.1.1 in
+    let few = (wide_ok (a.0.plane_stride * planes p.planar a.0.color) b.0 b.1.0).0 in
+    subst (λ (z : LayoutRecord). (layout_of p width height ≡ Ok z) × (z.plane_stride * planes p.planar z.color < 2 ^ 64)) (ok_is a.0 l b.1.1) (a.1.0, few)
 
 -- ---- reads
 
 module _ (file : List ℕ) (order : ByteOrder) (p : PageRecord) (limits : Limits) where
   -- what a read of pixels was when it gave these bytes
-  pub record IsFilled (colour : ColorType) (part : Part file order p) (buf new : List ℕ) : Type 0 where
-    pub none : part_fault file order p limits colour part ≡ Ok tt
-    pub bytes : new ≡ placed file order p colour part.region part.stride part.planes buf
+  pub record IsFilled (color : ColorType) (part : Part file order p) (buf new : List ℕ) : Type 0 where
+    pub none : part_fault file order p limits color part ≡ Ok tt
+    pub bytes : new ≡ placed file order p color part.region part.stride part.planes buf
 
-  pub filled_gives : (colour : ColorType) (part : Part file order p) (buf new : List ℕ) → filled file order p limits colour part buf ≡ Ok new
-      → IsFilled colour part buf new
+  pub filled_gives : (color : ColorType) (part : Part file order p) (buf new : List ℕ) → filled file order p limits color part buf ≡ Ok new
+      → IsFilled color part buf new
   unfolding filled
-  filled_gives colour part buf new h =
-      let all : List ℕ = placed file order p colour part.region part.stride part.planes buf in
-      let a = bind_ok (part_fault file order p limits colour part) (λ _. Ok all) new h in
+  filled_gives color part buf new h =
+      let all : List ℕ = placed file order p color part.region part.stride part.planes buf in
+      let a = bind_ok (part_fault file order p limits color part) (λ _. Ok all) new h in
       record { none = a.1.0; bytes = sym (ok_is all new a.1.1) }
 
   -- a layout, room for a plane of it, and then the bytes
   pub record IsReadInto (width height : ℕ) (part : LayoutRecord → Part file order p) (buf new : List ℕ) (l : LayoutRecord) : Type 0 where
     pub laid : planes_layout p width height ≡ Ok l
     pub room : l.plane_stride ≤ length buf
-    pub filled : IsFilled l.colour (part l) buf new
+    pub filled : IsFilled l.color (part l) buf new
 
   pub read_gives : (width height : ℕ) (part : LayoutRecord → Part file order p) (buf new : List ℕ)
-      → (planes_layout p width height >>= (λ l. room_fault (length buf) l.plane_stride >>= (λ _. filled file order p limits l.colour (part l) buf))) ≡ Ok new
+      → (planes_layout p width height >>= (λ l. room_fault (length buf) l.plane_stride >>= (λ _. filled file order p limits l.color (part l) buf))) ≡ Ok new
       → (l : LayoutRecord) × IsReadInto width height part buf new l
   read_gives width height part buf new h =
-      let fill : LayoutRecord → Result (List ℕ) TiffError = λ l. filled file order p limits l.colour (part l) buf in
+      let fill : LayoutRecord → Result (List ℕ) TiffError = λ l. filled file order p limits l.color (part l) buf in
       let a = bind_ok (planes_layout p width height) (λ l. room_fault (length buf) l.plane_stride >>= (λ _. fill l)) new h in
       let b = bind_ok (room_fault (length buf) a.0.plane_stride) (λ _. fill a.0) new a.1.1 in (
         a.0,
         record {
           laid = a.1.0;
           room = room_ok (length buf) a.0.plane_stride b.1.0;
-          filled = filled_gives a.0.colour (part a.0) buf new b.1.1;
+          filled = filled_gives a.0.color (part a.0) buf new b.1.1;
         },
       )

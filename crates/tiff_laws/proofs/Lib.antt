@@ -1,4 +1,4 @@
-mod Once
+mod OneAnswer
 mod Laid
 mod Whole
 mod WhereChunks

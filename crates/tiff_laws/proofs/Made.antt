@@ -15,7 +15,7 @@ use Rattle.tiff_page.specs.PixelCalls.{Part, image_part, planes_used, placed}
 use Rattle.tiff_page.specs.Laws.{HasSides, PlacedEach}
 use Rattle.tiff_decode.specs.Machine.{Decoding}
 use Rattle.tiff_decode.specs.Outcome as outcome
-use Rattle.tiff_laws.specs.Whole.{EachUsed, HasRoom, IsChunkRead, IsLayout, IsMadeOfChunks, IsOfChunk, ImageIsItsChunks, PlaneOfChunks, PlanesCovered, ReadWhereChunks, at_image, chunk_bytes}
+use Rattle.tiff_laws.specs.Whole.{EachUsed, HasRoom, IsChunkRead, IsLayout, IsMadeOfChunks, IsOfChunk, ImageIsItsChunks, PlaneOfChunks, PlanesCovered, ReadWhereChunks, at_image, chunk_byte_count}
 use Rattle.tiff_laws.proofs.Laid.{IsLaid, IsReadInto, laid, planes_laid, read_gives, good, ok_is}
 use Rattle.tiff_laws.proofs.WhereChunks.{ok_or, is_good}
 
@@ -26,17 +26,17 @@ none_found true true x v (inl h) = cc
 none_found true true x v (inr h) = cc
 
 -- past the planes there is no byte of the region
-pub none_at : (file : List ℕ) (order : ByteOrder) (p : PageRecord) (colour : ColorType) (region : Region file order p) (stride planes at v : ℕ)
-    → (planes ≤ at / (stride * region.height)) ⊎ (row_bytes p colour region.width ≤ at % stride)
-    → unwrap_or (byte_at file order p colour region stride planes at) v ≡ v
+pub none_at : (file : List ℕ) (order : ByteOrder) (p : PageRecord) (color : ColorType) (region : Region file order p) (stride planes at v : ℕ)
+    → (planes ≤ at / (stride * region.height)) ⊎ (row_bytes p color region.width ≤ at % stride)
+    → unwrap_or (byte_at file order p color region stride planes at) v ≡ v
 unfolding byte_at
-none_at file order p colour region stride planes at v h =
+none_at file order p color region stride planes at v h =
     let plane : ℕ = at / (stride * region.height) in
-    none_found (nat_lt plane planes) (nat_lt (at % stride) (row_bytes p colour region.width))
-    (region_byte file order p colour region (region.plane + plane) (at % (stride * region.height) / stride) (at % stride)) v
+    none_found (nat_lt plane planes) (nat_lt (at % stride) (row_bytes p color region.width))
+    (region_byte file order p color region (region.plane + plane) (at % (stride * region.height) / stride) (at % stride)) v
     (⊎_elim
     (λ (a : planes ≤ plane). inl (le-ltb plane planes a))
-    (λ (b : row_bytes p colour region.width ≤ at % stride). inr (le-ltb (at % stride) (row_bytes p colour region.width) b))
+    (λ (b : row_bytes p color region.width ≤ at % stride). inr (le-ltb (at % stride) (row_bytes p color region.width) b))
     h)
 
 -- which is so where a position is past them
@@ -56,10 +56,10 @@ module _ (placed_each : PlacedEach) (file : List ℕ) (order : ByteOrder) (p : P
 
   module _ (read : IsReadInto file order p limits p.width p.height into buf image l) where
     abbrev all : List ℕ
-    all = placed file order p l.colour (whole_image file order p) l.row_bytes count buf
+    all = placed file order p l.color (whole_image file order p) l.row_bytes count buf
 
     pub as_long : length image ≡ length buf
-    as_long = ap length read.filled.bytes ∙ (placed_each file order p l.colour (whole_image file order p) l.row_bytes count buf).0
+    as_long = ap length read.filled.bytes ∙ (placed_each file order p l.color (whole_image file order p) l.row_bytes count buf).0
 
     pub stays : (at : ℕ) → count * l.plane_stride ≤ at → at < length buf → slice_index image at ≡ slice_index buf at
     stays at above below =
@@ -67,9 +67,9 @@ module _ (placed_each : PlacedEach) (file : List ℕ) (order : ByteOrder) (p : P
         let stride : l.plane_stride ≡ l.row_bytes * p.height = is.stride ∙ ap (λ (z : ℕ). z * p.height) (sym is.rows) in
         let over : count * (l.row_bytes * p.height) ≤ at = subst (λ (z : ℕ). count * z ≤ at) stride above in
         ap (λ (z : List ℕ). slice_index z at) read.filled.bytes
-        ∙ (placed_each file order p l.colour (whole_image file order p) l.row_bytes count buf).1 at below
-        ∙ none_at file order p l.colour (whole_image file order p) l.row_bytes count at (slice_index buf at)
-        (past l.row_bytes p.height count at (row_bytes p l.colour p.width) sides.high is.rows over)
+        ∙ (placed_each file order p l.color (whole_image file order p) l.row_bytes count buf).1 at below
+        ∙ none_at file order p l.color (whole_image file order p) l.row_bytes count at (slice_index buf at)
+        (past l.row_bytes p.height count at (row_bytes p l.color p.width) sides.high is.rows over)
 
 module _ (placed_each : PlacedEach) (plane_of_chunks : PlaneOfChunks) (planes_covered : PlanesCovered) where
   image_byte : (d : Decoding) (l : LayoutRecord) (buf image made : List ℕ) → HasSides d.state.page → IsLayout d.state.page l
@@ -120,8 +120,8 @@ module _ (placed_each : PlacedEach) (plane_of_chunks : PlaneOfChunks) (planes_co
     is_made each = record {
       long = length_is;
       placed = λ i below.
-          let part : List ℕ = replicate (chunk_bytes page l i) 0 in
-          let room : chunk_bytes page l i ≤ length part = omega (arith, length-replicate {A = ℕ} (chunk_bytes page l i) 0) in
+          let part : List ℕ = replicate (chunk_byte_count page l i) 0 in
+          let room : chunk_byte_count page l i ≤ length part = omega (arith, length-replicate {A = ℕ} (chunk_byte_count page l i) 0) in
           let bytes = ok_or (outcome.read_chunk_bytes d i part).answer (each i below part room) in
           (part, bytes.0, (bytes.1, plane_of_chunks d l buf image part bytes.0 i sides given below read bytes.1));
       stays = past_is;

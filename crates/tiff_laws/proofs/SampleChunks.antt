@@ -9,7 +9,7 @@ use Rattle.tiff_page.specs.declared.layout.BufferLayoutPreference.{BufferLayoutP
 use Rattle.tiff_page.specs.declared.layout.DecodingSampleType.{DecodingSampleType}
 use Rattle.tiff_page.specs.Layout.{LayoutRecord, planes, size_of}
 use Rattle.tiff_page.specs.PixelFault.{samples_fault}
-use Rattle.tiff_page.specs.Image.{Decoded, decoded}
+use Rattle.tiff_page.specs.Image.{Decoded, decoded_samples}
 use Rattle.tiff_page.specs.Buffers.{all_planes}
 use Rattle.tiff_page.specs.PixelCalls.{planes_used}
 use Rattle.tiff_page.specs.Laws.{HasSides, SomeBytes}
@@ -27,7 +27,7 @@ bad_after (Ok x) f e h = cc
 bad_after (Err g) f e h = cc
 
 -- the numbers of so many bytes, which are those of some planes
-module _ (some_bytes : SomeBytes) (d : Decoding) (l : LayoutRecord) (type : DecodingSampleType) (sides : HasSides d.state.page) (has : HasSamples d.state.page) (len used : ℕ) (is : HasNumbers d l type len) (bytes : len ≡ l.plane_stride * used) (some : 0 < used) (few : used ≤ planes d.state.page.planar l.colour) where
+module _ (some_bytes : SomeBytes) (d : Decoding) (l : LayoutRecord) (type : DecodingSampleType) (sides : HasSides d.state.page) (has : HasSamples d.state.page) (len used : ℕ) (is : HasNumbers d l type len) (bytes : len ≡ l.plane_stride * used) (some : 0 < used) (few : used ≤ planes d.state.page.planar l.color) where
   abbrev zeros : List ℕ
   zeros = replicate len 0
 
@@ -38,10 +38,10 @@ module _ (some_bytes : SomeBytes) (d : Decoding) (l : LayoutRecord) (type : Deco
   long = length-replicate {A = ℕ} len 0 ∙ bytes
 
   -- with a type, and within the limit, they are those of the bytes that are read
-  numbers_of : numbers ≡ (image_read d zeros >>= (λ bytes. good (decoded type bytes)))
+  numbers_of : numbers ≡ (image_read d zeros >>= (λ bytes. good (decoded_samples type bytes)))
   numbers_of =
-      ap (λ (r : Result DecodingSampleType TiffError). r >>= (λ type. samples_fault d.state.limits (size_of type) len >>= (λ _. image_read d zeros >>= (λ bytes. good (decoded type bytes))))) is.typed
-      ∙ ap (λ (r : Result (Unit {0}) TiffError). r >>= (λ _. image_read d zeros >>= (λ bytes. good (decoded type bytes)))) is.few
+      ap (λ (r : Result DecodingSampleType TiffError). r >>= (λ type. samples_fault d.state.limits (size_of type) len >>= (λ _. image_read d zeros >>= (λ bytes. good (decoded_samples type bytes))))) is.typed
+      ∙ ap (λ (r : Result (Unit {0}) TiffError). r >>= (λ _. image_read d zeros >>= (λ bytes. good (decoded_samples type bytes)))) is.few
 
   room : HasRoom d.state.page l (length zeros)
   room =
@@ -50,37 +50,37 @@ module _ (some_bytes : SomeBytes) (d : Decoding) (l : LayoutRecord) (type : Deco
 
   used_is : planes_used d.state.page l (length zeros) ≡ used
   used_is =
-      ap (λ (z : ℕ). min (planes d.state.page.planar l.colour) (z / l.plane_stride)) long
-      ∙ used_of (planes d.state.page.planar l.colour) used l.plane_stride few (some_plane some_bytes d sides has l is.laid)
+      ap (λ (z : ℕ). min (planes d.state.page.planar l.color) (z / l.plane_stride)) long
+      ∙ used_of (planes d.state.page.planar l.color) used l.plane_stride few (some_plane some_bytes d sides has l is.laid)
 
   module _ (image_is_its_chunks : ImageIsItsChunks) (x : Decoded) where
     pub made_of : numbers ≡ Ok x → AreOfChunks d l type len x
     made_of h =
-        let a = bind_ok (image_read d zeros) (λ bytes. good (decoded type bytes)) x (sym numbers_of ∙ h) in
-        (a.0, ((image_is_its_chunks d l zeros a.0 sides room).0 a.1.0, ok_is (decoded type a.0) x a.1.1))
+        let a = bind_ok (image_read d zeros) (λ bytes. good (decoded_samples type bytes)) x (sym numbers_of ∙ h) in
+        (a.0, ((image_is_its_chunks d l zeros a.0 sides room).0 a.1.0, ok_is (decoded_samples type a.0) x a.1.1))
 
     pub read_of : AreOfChunks d l type len x → numbers ≡ Ok x
     read_of m =
         numbers_of
-        ∙ ap (λ (r : Result (List ℕ) TiffError). r >>= (λ bytes. good (decoded type bytes))) ((image_is_its_chunks d l zeros m.0 sides room).1 m.1.0)
+        ∙ ap (λ (r : Result (List ℕ) TiffError). r >>= (λ bytes. good (decoded_samples type bytes))) ((image_is_its_chunks d l zeros m.0 sides room).1 m.1.0)
         ∙ ap good m.1.1
 
   module _ (refused_where_chunks : RefusedWhereChunks) (e : TiffError) where
     pub refused_of : numbers ≡ Err e → (plane k : ℕ) × IsFirstRefused d l used plane k e
     refused_of h =
-        let a = (refused_where_chunks d l zeros e sides room).0 (bad_after (image_read d zeros) (decoded type) e (sym numbers_of ∙ h)) in
+        let a = (refused_where_chunks d l zeros e sides room).0 (bad_after (image_read d zeros) (decoded_samples type) e (sym numbers_of ∙ h)) in
         (a.0, a.1, subst (λ (n : ℕ). IsFirstRefused d l n a.0 a.1 e) used_is a.2)
 
     pub fault_of : (plane k : ℕ) × IsFirstRefused d l used plane k e → numbers ≡ Err e
     fault_of m =
         numbers_of
-        ∙ ap (λ (r : Result (List ℕ) TiffError). r >>= (λ bytes. good (decoded type bytes)))
+        ∙ ap (λ (r : Result (List ℕ) TiffError). r >>= (λ bytes. good (decoded_samples type bytes)))
         ((refused_where_chunks d l zeros e sides room).1 m.0 m.1 (subst (λ (n : ℕ). IsFirstRefused d l n m.0 m.1 e) (sym used_is) m.2))
 
 module _ (some_bytes : SomeBytes) (image_is_its_chunks : ImageIsItsChunks) (refused_where_chunks : RefusedWhereChunks) where
   pub samples_of : ImageByBytes → SamplesOfChunks
   samples_of image_by_bytes d l type sides has is =
-      let all : 0 < planes d.state.page.planar l.colour = all_some some_bytes d sides has l is.laid in
+      let all : 0 < planes d.state.page.planar l.color = all_some some_bytes d sides has l is.laid in
       let len : ℕ = l.plane_stride in
       let one : len ≡ l.plane_stride * 1 = omega arith in
       let some : 0 < 1 = omega arith in
@@ -98,10 +98,10 @@ module _ (some_bytes : SomeBytes) (image_is_its_chunks : ImageIsItsChunks) (refu
 
   pub buffer_of : BufferByBytes → BufferOfChunks
   buffer_of buffer_by_bytes d l type sides has is =
-      let all : 0 < planes d.state.page.planar l.colour = all_some some_bytes d sides has l is.laid in
+      let all : 0 < planes d.state.page.planar l.color = all_some some_bytes d sides has l is.laid in
       let used : ℕ = planes_let d l in
       let len : ℕ = l.plane_stride * used in
-      let a = all_or_one (nat_le (l.plane_stride * planes d.state.page.planar l.colour) d.state.limits.decoding_buffer_size) (planes d.state.page.planar l.colour) all in
+      let a = all_or_one (nat_le (l.plane_stride * planes d.state.page.planar l.color) d.state.limits.decoding_buffer_size) (planes d.state.page.planar l.color) all in
       let named : LayoutRecord → Decoded → BufferLayoutPreference × Decoded = λ l x. (all_planes d.state.page l, x) in
       let same : (outcome.read_image_to_buffer d).answer ≡ (numbers_by d (image_read d) len >>= (λ x. good (named l x))) =
       buffer_by_bytes d sides has

@@ -11,10 +11,10 @@ use Rattle.tiff_base.specs.declared.color.ChunkType.TheVariants.{Strip, Tile}
 use Rattle.tiff_base.specs.Answers.{◌>>=◌}
 use Rattle.tiff_ifd.specs.Into.{into_u16, into_u32, into_u64_vec}
 use Rattle.tiff_ifd.specs.Look.{Look, find, find_or, require}
-use Rattle.tiff_ifd.specs.Fitted.{fitted}
+use Rattle.tiff_ifd.specs.Fitted.{fitted_numbers}
 use Rattle.tiff_page.specs.Counts.{planes_of}
 use Rattle.tiff_page.specs.Page.{PageRecord, Chunks}
-use Rattle.tiff_page.specs.Checks.{sides, size_of, interpretation_of, method_of, some_samples, samples_of, extra_of, format_of, same_depth, one_depth, depth_from, depth_of, predictor_of, planar_of, subsampling_of, chunk_type_of, counted, some_rows, strips_of, some_side, tiles_of, chunks_of, page_of}
+use Rattle.tiff_page.specs.Checks.{sides, size_in, interpretation_in, method_in, some_samples, samples_in, extra_in, format_in, same_depth, one_depth, depth_from, depth_in, predictor_in, planar_in, subsampling_in, chunk_type_in, chunks_counted, some_rows, strips_in, some_side, tiles_in, chunks_in, page_of}
 use Rattle.tiff_page.specs.Laws.{HasSides}
 use Rattle.tiff_laws.specs.Sides.{HasSamples, PageHasSides}
 use Rattle.tiff_laws.proofs.Laid.{bind_ok, good, ok_is}
@@ -49,8 +49,8 @@ neither false b h = (refl, h)
 -- ---- what the checks gave
 
 module _ (look : Look) where
-  size_some : (s : ℕ × ℕ) → size_of look ≡ Ok s → (0 < s.0) × (0 < s.1)
-  unfolding size_of
+  size_some : (s : ℕ × ℕ) → size_in look ≡ Ok s → (0 < s.0) × (0 < s.1)
+  unfolding size_in
   size_some s h =
       let a = bind_ok (require into_u32 look tag.ImageWidth) (λ width. require into_u32 look tag.ImageLength >>= (λ height. sides width height)) s h in
       let b = bind_ok (require into_u32 look tag.ImageLength) (λ height. sides a.0 height) s a.1.1 in
@@ -58,8 +58,8 @@ module _ (look : Look) where
       let d = neither (a.0 == 0) (b.0 == 0) c.0 in
       subst (λ (z : ℕ × ℕ). (0 < z.0) × (0 < z.1)) c.1 (some_of a.0 d.0, some_of b.0 d.1)
 
-  samples_some : (n : ℕ) → samples_of look ≡ Ok n → 0 < n
-  unfolding samples_of
+  samples_some : (n : ℕ) → samples_in look ≡ Ok n → 0 < n
+  unfolding samples_in
   samples_some n h =
       let a = bind_ok (find_or into_u16 look tag.SamplesPerPixel 1) some_samples n h in
       let b = pick_no a.0 n _ (a.0 == 0) a.1.1 in
@@ -78,29 +78,29 @@ module _ (look : Look) where
   depth_some_from : (samples : ℕ) (found : Option (List ℕ)) (d : ℕ) → depth_from samples found ≡ Ok d → 0 < d
   depth_some_from samples None d h = let e : 1 ≡ d = ok_is 1 d h in omega (arith, e)
   depth_some_from samples (Some numbers) d h =
-      let a = bind_ok (fitted tag.BitsPerSample (2 ^ 8) numbers) (one_depth samples) d h in
+      let a = bind_ok (fitted_numbers tag.BitsPerSample (2 ^ 8) numbers) (one_depth samples) d h in
       one_some (length a.0 == samples || length a.0 == 1) a.0 _ d a.1.1
 
-  depth_some : (samples d : ℕ) → depth_of look samples ≡ Ok d → 0 < d
-  unfolding depth_of
+  depth_some : (samples d : ℕ) → depth_in look samples ≡ Ok d → 0 < d
+  unfolding depth_in
   depth_some samples d h =
       let a = bind_ok (find into_u64_vec look tag.BitsPerSample) (depth_from samples) d h in
       depth_some_from samples a.0 d a.1.1
 
   -- the chunks are those that were counted
-  counted_is : (width height planes : ℕ) (c x : Chunks) → counted width height planes c ≡ Ok x → c ≡ x
-  unfolding counted
+  counted_is : (width height planes : ℕ) (c x : Chunks) → chunks_counted width height planes c ≡ Ok x → c ≡ x
+  unfolding chunks_counted
   counted_is width height planes c x h = (pick_yes c x _ _ h).1
 
   abbrev AreSome : Chunks → Type 0
   AreSome c = (0 < c.chunk_width) × (0 < c.chunk_height)
 
   module _ (width height planes : ℕ) where
-    strips_some : (c : Chunks) → 0 < width → strips_of look width height planes ≡ Ok c → AreSome c
-    unfolding strips_of
+    strips_some : (c : Chunks) → 0 < width → strips_in look width height planes ≡ Ok c → AreSome c
+    unfolding strips_in
     strips_some c wide h =
         let table : List ℕ → List ℕ → ℕ → Chunks = λ offsets byte_counts rows. record { chunk_width = width; chunk_height = rows; offsets = offsets; byte_counts = byte_counts } in
-        let last : List ℕ → List ℕ → ℕ → Result Chunks TiffError = λ offsets byte_counts rows. counted width height planes (table offsets byte_counts rows) in
+        let last : List ℕ → List ℕ → ℕ → Result Chunks TiffError = λ offsets byte_counts rows. chunks_counted width height planes (table offsets byte_counts rows) in
         let tall : List ℕ → List ℕ → ℕ → Result Chunks TiffError = λ offsets byte_counts rows. some_rows rows >>= (λ _. last offsets byte_counts rows) in
         let third : List ℕ → List ℕ → Result Chunks TiffError = λ offsets byte_counts. find_or into_u32 look tag.RowsPerStrip height >>= (λ rows. tall offsets byte_counts rows) in
         let second : List ℕ → Result Chunks TiffError = λ offsets. require into_u64_vec look tag.StripByteCounts >>= (λ byte_counts. third offsets byte_counts) in
@@ -111,11 +111,11 @@ module _ (look : Look) where
         let f = pick_no d.0 e.0 _ (d.0 == 0) e.1.0 in
         subst AreSome {x = table a.0 b.0 d.0} (counted_is width height planes (table a.0 b.0 d.0) c e.1.1) (wide, some_of d.0 f.0)
 
-    tiles_some : (c : Chunks) → tiles_of look width height planes ≡ Ok c → AreSome c
-    unfolding tiles_of
+    tiles_some : (c : Chunks) → tiles_in look width height planes ≡ Ok c → AreSome c
+    unfolding tiles_in
     tiles_some c h =
         let table : ℕ → ℕ → List ℕ → List ℕ → Chunks = λ w t offsets byte_counts. record { chunk_width = w; chunk_height = t; offsets = offsets; byte_counts = byte_counts } in
-        let last : ℕ → ℕ → List ℕ → List ℕ → Result Chunks TiffError = λ w t offsets byte_counts. counted width height planes (table w t offsets byte_counts) in
+        let last : ℕ → ℕ → List ℕ → List ℕ → Result Chunks TiffError = λ w t offsets byte_counts. chunks_counted width height planes (table w t offsets byte_counts) in
         let sixth : ℕ → ℕ → List ℕ → Result Chunks TiffError = λ w t offsets. require into_u64_vec look tag.TileByteCounts >>= (λ byte_counts. last w t offsets byte_counts) in
         let fifth : ℕ → ℕ → Result Chunks TiffError = λ w t. require into_u64_vec look tag.TileOffsets >>= (λ offsets. sixth w t offsets) in
         let fourth : ℕ → ℕ → Result Chunks TiffError = λ w t. some_side t (FormatError (InvalidTagValueType tag.TileLength)) >>= (λ _. fifth w t) in
@@ -131,7 +131,7 @@ module _ (look : Look) where
         let j = pick_no b.0 e.0 _ (b.0 == 0) e.1.0 in
         subst AreSome {x = table a.0 b.0 f.0 g.0} (counted_is width height planes (table a.0 b.0 f.0 g.0) c g.1.1) (some_of a.0 i.0, some_of b.0 j.0)
 
-    chunks_some : (which : ChunkType) (c : Chunks) → 0 < width → chunks_of look which width height planes ≡ Ok c → AreSome c
+    chunks_some : (which : ChunkType) (c : Chunks) → 0 < width → chunks_in look which width height planes ≡ Ok c → AreSome c
     chunks_some Strip c wide h = strips_some c wide h
     chunks_some Tile c wide h = tiles_some c h
 
@@ -148,18 +148,18 @@ Both p = HasSides p × HasSamples p
 pub page_has_sides : PageHasSides
 unfolding page_of
 page_has_sides look p given =
-    step {G = Both p} (size_of look) (λ e q. let g : Err e ≡ Ok p = rw q at given in cc) (λ size h1. let g1 = rw h1 at given in
-    step {G = Both p} (interpretation_of look) (λ e q. let g : Err e ≡ Ok p = rw q at g1 in cc) (λ interpretation h2. let g2 = rw h2 at g1 in
-    step {G = Both p} (method_of look) (λ e q. let g : Err e ≡ Ok p = rw q at g2 in cc) (λ method h3. let g3 = rw h3 at g2 in
-    step {G = Both p} (samples_of look) (λ e q. let g : Err e ≡ Ok p = rw q at g3 in cc) (λ samples h4. let g4 = rw h4 at g3 in
-    step {G = Both p} (extra_of look samples) (λ e q. let g : Err e ≡ Ok p = rw q at g4 in cc) (λ extra h5. let g5 = rw h5 at g4 in
-    step {G = Both p} (format_of look) (λ e q. let g : Err e ≡ Ok p = rw q at g5 in cc) (λ format h6. let g6 = rw h6 at g5 in
-    step {G = Both p} (depth_of look samples) (λ e q. let g : Err e ≡ Ok p = rw q at g6 in cc) (λ depth h7. let g7 = rw h7 at g6 in
-    step {G = Both p} (predictor_of look) (λ e q. let g : Err e ≡ Ok p = rw q at g7 in cc) (λ predictor h8. let g8 = rw h8 at g7 in
-    step {G = Both p} (planar_of look) (λ e q. let g : Err e ≡ Ok p = rw q at g8 in cc) (λ planar h9. let g9 = rw h9 at g8 in
-    step {G = Both p} (subsampling_of look) (λ e q. let g : Err e ≡ Ok p = rw q at g9 in cc) (λ subsampling h10. let g10 = rw h10 at g9 in
-    step {G = Both p} (chunk_type_of look) (λ e q. let g : Err e ≡ Ok p = rw q at g10 in cc) (λ which h11. let g11 = rw h11 at g10 in
-    step {G = Both p} (chunks_of look which size.0 size.1 (planes_of planar samples)) (λ e q. let g : Err e ≡ Ok p = rw q at g11 in cc) (λ chunks h12. let g12 = rw h12 at g11 in
+    step {G = Both p} (size_in look) (λ e q. let g : Err e ≡ Ok p = rw q at given in cc) (λ size h1. let g1 = rw h1 at given in
+    step {G = Both p} (interpretation_in look) (λ e q. let g : Err e ≡ Ok p = rw q at g1 in cc) (λ interpretation h2. let g2 = rw h2 at g1 in
+    step {G = Both p} (method_in look) (λ e q. let g : Err e ≡ Ok p = rw q at g2 in cc) (λ method h3. let g3 = rw h3 at g2 in
+    step {G = Both p} (samples_in look) (λ e q. let g : Err e ≡ Ok p = rw q at g3 in cc) (λ samples h4. let g4 = rw h4 at g3 in
+    step {G = Both p} (extra_in look samples) (λ e q. let g : Err e ≡ Ok p = rw q at g4 in cc) (λ extra h5. let g5 = rw h5 at g4 in
+    step {G = Both p} (format_in look) (λ e q. let g : Err e ≡ Ok p = rw q at g5 in cc) (λ format h6. let g6 = rw h6 at g5 in
+    step {G = Both p} (depth_in look samples) (λ e q. let g : Err e ≡ Ok p = rw q at g6 in cc) (λ depth h7. let g7 = rw h7 at g6 in
+    step {G = Both p} (predictor_in look) (λ e q. let g : Err e ≡ Ok p = rw q at g7 in cc) (λ predictor h8. let g8 = rw h8 at g7 in
+    step {G = Both p} (planar_in look) (λ e q. let g : Err e ≡ Ok p = rw q at g8 in cc) (λ planar h9. let g9 = rw h9 at g8 in
+    step {G = Both p} (subsampling_in look) (λ e q. let g : Err e ≡ Ok p = rw q at g9 in cc) (λ subsampling h10. let g10 = rw h10 at g9 in
+    step {G = Both p} (chunk_type_in look) (λ e q. let g : Err e ≡ Ok p = rw q at g10 in cc) (λ which h11. let g11 = rw h11 at g10 in
+    step {G = Both p} (chunks_in look which size.0 size.1 (planes_of planar samples)) (λ e q. let g : Err e ≡ Ok p = rw q at g11 in cc) (λ chunks h12. let g12 = rw h12 at g11 in
     let s = size_some look size h1 in
     let c = chunks_some look size.0 size.1 (planes_of planar samples) which chunks s.0 h12 in
     subst Both (ok_is _ p g12) (

@@ -16,7 +16,7 @@ use Rattle.tiff_page.specs.PixelCalls.{planes_used, placed}
 use Rattle.tiff_page.specs.Laws.{HasSides, ChunksWithin, PlacedEach, UnitOfChunks}
 use Rattle.tiff_decode.specs.Machine.{Decoding}
 use Rattle.tiff_decode.specs.Outcome as outcome
-use Rattle.tiff_laws.specs.Whole.{IsChunkRead, chunk_bytes}
+use Rattle.tiff_laws.specs.Whole.{IsChunkRead, chunk_byte_count}
 use Rattle.tiff_laws.specs.Units.{HasUnitRoom, EachPlane, IsBehind, IsMadeOfUnit, UnitIsItsChunks, UnitWhereChunks, unit_chunk}
 use Rattle.tiff_laws.proofs.Laid.{IsLaid, IsReadInto, read_gives, good, ok_is}
 use Rattle.tiff_laws.proofs.Whole as whole
@@ -59,14 +59,14 @@ module _ (n h s k : ℕ) (below : k < s * h) where
   along_at = ap (λ (z : ℕ). z % s) is_at ∙ whole.column_at n h (k / s) s (k % s) line_below rest_below
 
 -- a byte of a plane of a region that was placed
-module _ (placed_each : PlacedEach) (file : List ℕ) (order : ByteOrder) (p : PageRecord) (colour : ColorType) (region : Region file order p) (s planes n k : ℕ) (buf : List ℕ) where
-  pub byte_placed : s ≡ row_bytes p colour region.width → k < s * region.height → n < planes → n * (s * region.height) + k < length buf
-      → slice_index (placed file order p colour region s planes buf) (n * (s * region.height) + k) ≡ region_byte file order p colour region (region.plane + n) (k / s) (k % s)
+module _ (placed_each : PlacedEach) (file : List ℕ) (order : ByteOrder) (p : PageRecord) (color : ColorType) (region : Region file order p) (s planes n k : ℕ) (buf : List ℕ) where
+  pub byte_placed : s ≡ row_bytes p color region.width → k < s * region.height → n < planes → n * (s * region.height) + k < length buf
+      → slice_index (placed file order p color region s planes buf) (n * (s * region.height) + k) ≡ region_byte file order p color region (region.plane + n) (k / s) (k % s)
   byte_placed rows below nl room =
       let at : ℕ = n * (s * region.height) + k in
-      let rest : k % s < row_bytes p colour region.width = omega (arith, rest_below n region.height s k below, rows) in
-      (placed_each file order p colour region s planes buf).1 at room
-      ∙ byte_is file order p colour region s planes at n (k / s) (k % s) (slice_index buf at) (plane_at n region.height s k below) (line_at n region.height s k below) (along_at n region.height s k below) nl rest
+      let rest : k % s < row_bytes p color region.width = omega (arith, rest_below n region.height s k below, rows) in
+      (placed_each file order p color region s planes buf).1 at room
+      ∙ byte_is file order p color region s planes at n (k / s) (k % s) (slice_index buf at) (plane_at n region.height s k below) (line_at n region.height s k below) (along_at n region.height s k below) nl rest
 
 module _ (chunks_within : ChunksWithin) (placed_each : PlacedEach) (unit_of_chunks : UnitOfChunks) (d : Decoding) (l : LayoutRecord) (unit : ℕ) (sides : HasSides d.state.page) (buf image : List ℕ) (has : HasUnitRoom d.state.page l unit (length buf)) (read : (outcome.read_coding_unit_bytes d unit buf).answer ≡ Ok image) where
   abbrev p : PageRecord
@@ -90,22 +90,22 @@ module _ (chunks_within : ChunksWithin) (placed_each : PlacedEach) (unit_of_chun
   plane_bytes : l.plane_stride ≡ s * h
   plane_bytes = is.stride ∙ ap (λ (z : ℕ). z * h) (sym is.rows)
 
-  pub image_is : image ≡ placed d.bytes d.order p l.colour region s used buf
+  pub image_is : image ≡ placed d.bytes d.order p l.color region s used buf
   image_is =
       let a = unit_gives d unit buf image read in
       let same : a.0 ≡ l = ok_is a.0 l (sym a.1.has.laid ∙ has.laid) in
-      a.1.filled.bytes ∙ ap (λ (z : LayoutRecord). placed d.bytes d.order p z.colour region z.row_bytes (planes_used p z (length buf)) buf) same
+      a.1.filled.bytes ∙ ap (λ (z : LayoutRecord). placed d.bytes d.order p z.color region z.row_bytes (planes_used p z (length buf)) buf) same
 
   pub as_long : length image ≡ length buf
-  as_long = ap length image_is ∙ (placed_each d.bytes d.order p l.colour region s used buf).0
+  as_long = ap length image_is ∙ (placed_each d.bytes d.order p l.color region s used buf).0
 
   pub stays : (at : ℕ) → used * l.plane_stride ≤ at → at < length buf → slice_index image at ≡ slice_index buf at
   stays at above below =
       let over : used * (s * h) ≤ at = subst (λ (z : ℕ). used * z ≤ at) plane_bytes above in
       ap (λ (z : List ℕ). slice_index z at) image_is
-      ∙ (placed_each d.bytes d.order p l.colour region s used buf).1 at below
-      ∙ none_at d.bytes d.order p l.colour region s used at (slice_index buf at)
-      (past s h used at (row_bytes p l.colour (rect p unit).width) (chunks_within p unit sides).some_row is.rows over)
+      ∙ (placed_each d.bytes d.order p l.color region s used buf).1 at below
+      ∙ none_at d.bytes d.order p l.color region s used at (slice_index buf at)
+      (past s h used at (row_bytes p l.color (rect p unit).width) (chunks_within p unit sides).some_row is.rows over)
 
   -- the planes that are taken lie in the slice
   in_slice : (n k : ℕ) → n < used → k < s * h → n * (s * h) + k < length buf
@@ -128,12 +128,12 @@ module _ (chunks_within : ChunksWithin) (placed_each : PlacedEach) (unit_of_chun
     unit_plane = div-eq_of_lt has.listed
 
     -- byte k of the plane, in the unit and in the chunk
-    unit_byte : (k : ℕ) → k < s * h → slice_index image (plane * (s * h) + k) ≡ region_byte d.bytes d.order p l.colour region plane (k / s) (k % s)
+    unit_byte : (k : ℕ) → k < s * h → slice_index image (plane * (s * h) + k) ≡ region_byte d.bytes d.order p l.color region plane (k / s) (k % s)
     unit_byte k kl =
         let e : (rect p unit).plane + plane ≡ plane = omega (arith, unit_plane) in
         ap (λ (z : List ℕ). slice_index z (plane * (s * h) + k)) image_is
-        ∙ byte_placed placed_each d.bytes d.order p l.colour region s used plane k buf is.rows kl below (in_slice plane k below kl)
-        ∙ ap (λ (z : ℕ). region_byte d.bytes d.order p l.colour region z (k / s) (k % s)) e
+        ∙ byte_placed placed_each d.bytes d.order p l.color region s used plane k buf is.rows kl below (in_slice plane k below kl)
+        ∙ ap (λ (z : ℕ). region_byte d.bytes d.order p l.color region z (k / s) (k % s)) e
 
     module _ (part chunk : List ℕ) (of_chunk : (outcome.read_chunk_bytes d i part).answer ≡ Ok chunk) where
       abbrev of : Region d.bytes d.order p
@@ -146,13 +146,13 @@ module _ (chunks_within : ChunksWithin) (placed_each : PlacedEach) (unit_of_chun
           let same : a.0 ≡ l = ok_is a.0 l (sym a.1.laid ∙ chunk_laid d l unit has.laid has.listed plane) in
           subst (IsReadInto d.bytes d.order p d.state.limits (rect p i).width (rect p i).height (into d l unit has.laid has.listed i) part chunk) same a.1
 
-      rows_is : s ≡ row_bytes p l.colour (rect p i).width
-      rows_is = is.rows ∙ ap (row_bytes p l.colour) (sym (same_width d l unit has.laid has.listed plane))
+      rows_is : s ≡ row_bytes p l.color (rect p i).width
+      rows_is = is.rows ∙ ap (row_bytes p l.color) (sym (same_width d l unit has.laid has.listed plane))
 
       high_is : (rect p i).height ≡ h
       high_is = same_height d l unit has.laid has.listed plane
 
-      chunk_byte : (k : ℕ) → k < s * h → slice_index chunk k ≡ region_byte d.bytes d.order p l.colour of plane (k / s) (k % s)
+      chunk_byte : (k : ℕ) → k < s * h → slice_index chunk k ≡ region_byte d.bytes d.order p l.color of plane (k / s) (k % s)
       chunk_byte k kl =
           let kl' : k < s * (rect p i).height = subst (λ (z : ℕ). k < s * z) (sym high_is) kl in
           let from : k ≡ 0 * (s * (rect p i).height) + k = omega arith in
@@ -160,8 +160,8 @@ module _ (chunks_within : ChunksWithin) (placed_each : PlacedEach) (unit_of_chun
           let one : 0 < 1 = omega arith in
           let e : (rect p i).plane + 0 ≡ plane = omega (arith, chunk_plane) in
           (λ t. slice_index (chunk_read.filled.bytes t) (from t))
-          ∙ byte_placed placed_each d.bytes d.order p l.colour of s 1 0 k part rows_is kl' one room
-          ∙ ap (λ (z : ℕ). region_byte d.bytes d.order p l.colour of z (k / s) (k % s)) e
+          ∙ byte_placed placed_each d.bytes d.order p l.color of s 1 0 k part rows_is kl' one room
+          ∙ ap (λ (z : ℕ). region_byte d.bytes d.order p l.color of z (k / s) (k % s)) e
 
       pub behind : IsBehind l plane chunk image
       behind = record {
@@ -169,7 +169,7 @@ module _ (chunks_within : ChunksWithin) (placed_each : PlacedEach) (unit_of_chun
             let kl' : k < s * h = omega (arith, kl, plane_bytes) in
             ap (λ (z : ℕ). slice_index image (plane * z + k)) plane_bytes
             ∙ unit_byte k kl'
-            ∙ unit_of_chunks d.bytes d.order p l.colour unit plane (k / s) (k % s) has.listed
+            ∙ unit_of_chunks d.bytes d.order p l.color unit plane (k / s) (k % s) has.listed
             ∙ sym (chunk_byte k kl');
       }
 
@@ -205,8 +205,8 @@ module _ (chunks_within : ChunksWithin) (placed_each : PlacedEach) (unit_of_chun
     long = as_long;
     placed = λ plane below.
         let k : ℕ = unit_chunk p unit plane in
-        let part : List ℕ = replicate (chunk_bytes p l k) 0 in
-        let room : chunk_bytes p l k ≤ length part = omega (arith, length-replicate {A = ℕ} (chunk_bytes p l k) 0) in
+        let part : List ℕ = replicate (chunk_byte_count p l k) 0 in
+        let room : chunk_byte_count p l k ≤ length part = omega (arith, length-replicate {A = ℕ} (chunk_byte_count p l k) 0) in
         let bytes = ok_or (outcome.read_chunk_bytes d k part).answer (each plane below part room) in
         (part, bytes.0, (bytes.1, behind plane below part bytes.0 bytes.1));
     stays = stays;

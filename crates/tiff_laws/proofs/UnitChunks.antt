@@ -21,7 +21,7 @@ use Rattle.tiff_page.specs.Laws.{IsFirst, NoFault, FirstFault}
 use Rattle.tiff_page.proofs.Planes.{each_same}
 use Rattle.tiff_decode.specs.Machine.{Decoding}
 use Rattle.tiff_decode.specs.Outcome as outcome
-use Rattle.tiff_laws.specs.Whole.{IsChunkRead, IsChunkRefused, chunk_bytes}
+use Rattle.tiff_laws.specs.Whole.{IsChunkRead, IsChunkRefused, chunk_byte_count}
 use Rattle.tiff_laws.specs.Units.{HasUnitRoom, IsFirstPlaneRefused, UnitWhereChunks, UnitRefusedWhereChunks, unit_chunk}
 use Rattle.tiff_laws.proofs.Laid.{IsLaid, IsFilled, laid, planes_laid, bind_ok, filled_gives, read_gives, room_ok, ok_is}
 use Rattle.tiff_laws.proofs.WhereChunks.{fault_of, read_into, one_fault, ok_or, is_good, has_room}
@@ -50,7 +50,7 @@ module _ (d : Decoding) (l : LayoutRecord) (unit : ℕ) (whole : planes_layout d
   page = d.state.page
 
   abbrev pub fault : ℕ → Result (Unit {0}) TiffError
-  fault i = fault_of d.bytes d.order page d.state.limits l.colour i
+  fault i = fault_of d.bytes d.order page d.state.limits l.color i
 
   abbrev pub into : ℕ → LayoutRecord → Part d.bytes d.order page
   into i layout = chunk_part d.bytes d.order page i 1 layout.row_bytes
@@ -77,15 +77,15 @@ module _ (d : Decoding) (l : LayoutRecord) (unit : ℕ) (whole : planes_layout d
     pub chunk_laid : planes_layout page (rect page i).width (rect page i).height ≡ Ok l
     chunk_laid = (λ t. planes_layout page (same_width t) (same_height t)) ∙ whole
 
-    pub stride_is : l.plane_stride ≡ chunk_bytes page l i
-    stride_is = is_laid.stride ∙ (λ t. row_bytes page l.colour (sym same_width t) * sym same_height t)
+    pub stride_is : l.plane_stride ≡ chunk_byte_count page l i
+    stride_is = is_laid.stride ∙ (λ t. row_bytes page l.color (sym same_width t) * sym same_height t)
 
     -- a chunk without a fault is read
     pub chunk_read : fault i ≡ Ok tt → IsChunkRead d l i
     unfolding outcome.read_chunk_bytes pixels.read_chunk_bytes
     chunk_read none part room =
         read_into d.bytes d.order page d.state.limits (rect page i).width (rect page i).height (into i) part l chunk_laid (omega (arith, stride_is, room))
-        (one_fault d.bytes d.order page d.state.limits l.colour i l.row_bytes ∙ none)
+        (one_fault d.bytes d.order page d.state.limits l.color i l.row_bytes ∙ none)
 
     -- and has none where it is read
     pub chunk_none : (part : List ℕ) → IsOk (outcome.read_chunk_bytes d i part).answer → fault i ≡ Ok tt
@@ -94,8 +94,8 @@ module _ (d : Decoding) (l : LayoutRecord) (unit : ℕ) (whole : planes_layout d
         let bytes = ok_or (outcome.read_chunk_bytes d i part).answer ok in
         let a = read_gives d.bytes d.order page d.state.limits (rect page i).width (rect page i).height (into i) part bytes.0 bytes.1 in
         let same : l ≡ a.0 = ok_is l a.0 (sym chunk_laid ∙ a.1.laid) in
-        ap (λ (z : LayoutRecord). fault_of d.bytes d.order page d.state.limits z.colour i) same
-        ∙ sym (one_fault d.bytes d.order page d.state.limits a.0.colour i a.0.row_bytes)
+        ap (λ (z : LayoutRecord). fault_of d.bytes d.order page d.state.limits z.color i) same
+        ∙ sym (one_fault d.bytes d.order page d.state.limits a.0.color i a.0.row_bytes)
         ∙ a.1.filled.none
 
     -- one with a fault is refused
@@ -103,19 +103,19 @@ module _ (d : Decoding) (l : LayoutRecord) (unit : ℕ) (whole : planes_layout d
     unfolding outcome.read_chunk_bytes pixels.read_chunk_bytes
     chunk_refused e h part room =
         refusal_by d.bytes d.order page d.state.limits (rect page i).width (rect page i).height (into i) part l chunk_laid (omega (arith, stride_is, room)) e
-        (one_fault d.bytes d.order page d.state.limits l.colour i l.row_bytes ∙ h)
+        (one_fault d.bytes d.order page d.state.limits l.color i l.row_bytes ∙ h)
 
     abbrev some_part : List ℕ
-    some_part = replicate (chunk_bytes page l i) 0
+    some_part = replicate (chunk_byte_count page l i) 0
 
-    has_part : chunk_bytes page l i ≤ length some_part
-    has_part = omega (arith, length-replicate {A = ℕ} (chunk_bytes page l i) 0)
+    has_part : chunk_byte_count page l i ≤ length some_part
+    has_part = omega (arith, length-replicate {A = ℕ} (chunk_byte_count page l i) 0)
 
     -- and has one where it is refused
     pub fault_is : (e : TiffError) → IsChunkRefused d l e i → fault i ≡ Err e
     unfolding outcome.read_chunk_bytes pixels.read_chunk_bytes
     fault_is e h =
-        sym (one_fault d.bytes d.order page d.state.limits l.colour i l.row_bytes)
+        sym (one_fault d.bytes d.order page d.state.limits l.color i l.row_bytes)
         ∙ refusal_of d.bytes d.order page d.state.limits (rect page i).width (rect page i).height (into i) some_part l chunk_laid (omega (arith, stride_is, has_part)) e
         (h some_part has_part)
 
@@ -130,7 +130,7 @@ module _ (d : Decoding) (l : LayoutRecord) (unit : ℕ) (whole : planes_layout d
   abbrev pub unit_part : ℕ → ℕ → Part d.bytes d.order page
   unit_part used s = chunk_part d.bytes d.order page unit used s
 
-  pub faults_are : (used s : ℕ) → part_fault d.bytes d.order page d.state.limits l.colour (unit_part used s) ≡ each_below of_plane used
+  pub faults_are : (used s : ℕ) → part_fault d.bytes d.order page d.state.limits l.color (unit_part used s) ≡ each_below of_plane used
   faults_are used s =
       let e : unit + 0 ≡ unit = omega arith in
       each_same (λ plane. fault (plane * chunks_of_plane page + (unit + 0))) of_plane used (λ plane. ap (λ (z : ℕ). fault (plane * chunks_of_plane page + z)) e)
@@ -140,7 +140,7 @@ module _ (d : Decoding) (l : LayoutRecord) (unit : ℕ) (whole : planes_layout d
     used = planes_used page l (length buf)
 
     abbrev pub bytes : List ℕ
-    bytes = placed d.bytes d.order page l.colour (unit_part used l.row_bytes).region l.row_bytes used buf
+    bytes = placed d.bytes d.order page l.color (unit_part used l.row_bytes).region l.row_bytes used buf
 
     -- what is answered of a unit that has room
     pub answer_is : (outcome.read_coding_unit_bytes d unit buf).answer ≡ (each_below of_plane used >>= (λ _. Ok bytes))
@@ -175,7 +175,7 @@ module _ (d : Decoding) (l : LayoutRecord) (unit : ℕ) (whole : planes_layout d
 -- what a read of a unit was when it gave bytes
 pub record IsUnitRead (d : Decoding) (unit : ℕ) (buf new : List ℕ) (l : LayoutRecord) : Type 0 where
   pub has : HasUnitRoom d.state.page l unit (length buf)
-  pub filled : IsFilled d.bytes d.order d.state.page d.state.limits l.colour (chunk_part d.bytes d.order d.state.page unit (planes_used d.state.page l (length buf)) l.row_bytes) buf new
+  pub filled : IsFilled d.bytes d.order d.state.page d.state.limits l.color (chunk_part d.bytes d.order d.state.page unit (planes_used d.state.page l (length buf)) l.row_bytes) buf new
 
 pub unit_gives : (d : Decoding) (unit : ℕ) (buf new : List ℕ) → (outcome.read_coding_unit_bytes d unit buf).answer ≡ Ok new
     → (l : LayoutRecord) × IsUnitRead d unit buf new l
@@ -183,7 +183,7 @@ unfolding outcome.read_coding_unit_bytes pixels.read_coding_unit_bytes
 unit_gives d unit buf new h =
     let p : PageRecord = d.state.page in
     let part : LayoutRecord → Part d.bytes d.order p = λ l. chunk_part d.bytes d.order p unit (planes_used p l (length buf)) l.row_bytes in
-    let fill : LayoutRecord → Result (List ℕ) TiffError = λ l. filled d.bytes d.order p d.state.limits l.colour (part l) buf in
+    let fill : LayoutRecord → Result (List ℕ) TiffError = λ l. filled d.bytes d.order p d.state.limits l.color (part l) buf in
     let sized : LayoutRecord → Result (List ℕ) TiffError = λ l. room_fault (length buf) l.plane_stride >>= (λ _. fill l) in
     let a = bind_ok (planes_layout p (rect p unit).width (rect p unit).height) (λ l. unit_fault p unit >>= (λ _. sized l)) new h in
     let b = bind_ok (unit_fault p unit) (λ _. sized a.0) new a.1.1 in
@@ -191,7 +191,7 @@ unit_gives d unit buf new h =
       a.0,
       record {
         has = record { laid = a.1.0; listed = unit_listed p unit b.0 b.1.0; room = room_ok (length buf) a.0.plane_stride c.1.0 };
-        filled = filled_gives d.bytes d.order p d.state.limits a.0.colour (part a.0) buf new c.1.1;
+        filled = filled_gives d.bytes d.order p d.state.limits a.0.color (part a.0) buf new c.1.1;
       },
     )
 

@@ -19,10 +19,10 @@ use Rattle.tiff_page.specs.Pixels.{is_short}
 use Rattle.tiff_page.specs.Buffers.{planes_layout}
 use Rattle.tiff_page.specs.PixelCalls as pixels
 use Rattle.tiff_page.specs.PixelCalls.{Part, image_part, chunk_part, part_fault, room_fault, planes_used, placed, filled}
-use Rattle.tiff_page.specs.Laws.{HasSides, IsWithin, ChunksWithin, NoFault}
+use Rattle.tiff_page.specs.Laws.{HasSides, ChunkIsWithin, ChunksWithin, NoFault}
 use Rattle.tiff_decode.specs.Machine.{Decoding}
 use Rattle.tiff_decode.specs.Outcome as outcome
-use Rattle.tiff_laws.specs.Whole.{HasRoom, EachUsed, IsChunkRead, ReadWhereChunks, chunk_row, chunk_bytes}
+use Rattle.tiff_laws.specs.Whole.{HasRoom, EachUsed, IsChunkRead, ReadWhereChunks, chunk_row, chunk_byte_count}
 use Rattle.tiff_laws.proofs.Whole.{some_chunk, plane_of}
 use Rattle.tiff_laws.proofs.Laid.{IsLaid, laid, planes_laid, read_gives, ok_is}
 
@@ -49,9 +49,9 @@ aligned_alone p c w some h =
     let t : nat_lt 1 (parts w p.chunk_width) ≡ false = le-ltb 1 (parts w p.chunk_width) (one_part w p.chunk_width some h) in
     rw t refl
 
-module _ (p : PageRecord) (l : LayoutRecord) (sides : HasSides p) (whole : planes_layout p p.width p.height ≡ Ok l) (i : ℕ) (inside : IsWithin p i) where
+module _ (p : PageRecord) (l : LayoutRecord) (sides : HasSides p) (whole : planes_layout p p.width p.height ≡ Ok l) (i : ℕ) (inside : ChunkIsWithin p i) where
   abbrev pub chunk_layout : LayoutRecord
-  chunk_layout = record { colour = l.colour; row_bytes = chunk_row p l i; plane_stride = chunk_bytes p l i }
+  chunk_layout = record { color = l.color; row_bytes = chunk_row p l i; plane_stride = chunk_byte_count p l i }
 
   is_laid : IsLaid p p.width p.height l
   is_laid = laid p p.width p.height l (planes_laid p p.width p.height l whole).0
@@ -60,25 +60,25 @@ module _ (p : PageRecord) (l : LayoutRecord) (sides : HasSides p) (whole : plane
   unfolding rect
   no_wider = omega arith
 
-  row_less : chunk_row p l i ≤ row_bytes p l.colour p.width
+  row_less : chunk_row p l i ≤ row_bytes p l.color p.width
   unfolding row_bits
-  row_less = fewer_bytes (rect p i).width p.width p.depth (shown p.planar l.colour) (omega (arith, inside.columns))
+  row_less = fewer_bytes (rect p i).width p.width p.depth (shown p.planar l.color) (omega (arith, inside.columns))
 
-  plane_less : chunk_bytes p l i ≤ row_bytes p l.colour p.width * p.height
+  plane_less : chunk_byte_count p l i ≤ row_bytes p l.color p.width * p.height
   plane_less = mul-le-mul row_less (omega (arith, inside.rows))
 
   -- the layout that it has
   pub chunk_laid : planes_layout p (rect p i).width (rect p i).height ≡ Ok chunk_layout
   unfolding planes_layout layout_of
   chunk_laid =
-      let a : chunk_row p l i * p.chunk_height ≤ row_bytes p l.colour p.width * p.chunk_height = mul-le-mul_right p.chunk_height row_less in
+      let a : chunk_row p l i * p.chunk_height ≤ row_bytes p l.color p.width * p.chunk_height = mul-le-mul_right p.chunk_height row_less in
       let tall : wide (chunk_row p l i * p.chunk_height) ≡ Ok (chunk_row p l i * p.chunk_height) = wide_is (chunk_row p l i * p.chunk_height) (omega (arith, a, is_laid.tall)) in
-      let few : wide (chunk_bytes p l i) ≡ Ok (chunk_bytes p l i) = wide_is (chunk_bytes p l i) (omega (arith, plane_less, is_laid.few)) in
-      let alone : aligned p l.colour (rect p i).width ≡ Ok l.colour = aligned_alone p l.colour (rect p i).width sides.chunk_wide no_wider in
-      let n : ℕ = planes p.planar l.colour in
-      let b : chunk_bytes p l i * n ≤ l.plane_stride * n = mul-le-mul_right n (omega (arith, plane_less, is_laid.stride)) in
-      let all : wide (chunk_bytes p l i * n) ≡ Ok (chunk_bytes p l i * n) = wide_is (chunk_bytes p l i * n) (omega (arith, b, (planes_laid p p.width p.height l whole).1)) in
-      rw (is_laid.colour, tall, few, alone, is_laid.chroma.1, all) refl
+      let few : wide (chunk_byte_count p l i) ≡ Ok (chunk_byte_count p l i) = wide_is (chunk_byte_count p l i) (omega (arith, plane_less, is_laid.few)) in
+      let alone : aligned p l.color (rect p i).width ≡ Ok l.color = aligned_alone p l.color (rect p i).width sides.chunk_wide no_wider in
+      let n : ℕ = planes p.planar l.color in
+      let b : chunk_byte_count p l i * n ≤ l.plane_stride * n = mul-le-mul_right n (omega (arith, plane_less, is_laid.stride)) in
+      let all : wide (chunk_byte_count p l i * n) ≡ Ok (chunk_byte_count p l i * n) = wide_is (chunk_byte_count p l i * n) (omega (arith, b, (planes_laid p p.width p.height l whole).1)) in
+      rw (is_laid.color, tall, few, alone, is_laid.chroma.1, all) refl
 
 -- ---- faults of chunks
 
@@ -94,49 +94,49 @@ has_room provided needed h = let t : nat_lt provided needed ≡ false = le-ltb p
 
 module _ (file : List ℕ) (order : ByteOrder) (p : PageRecord) (limits : Limits) where
   abbrev pub fault_of : ColorType → ℕ → Result (Unit {0}) TiffError
-  fault_of colour i = chunk_fault p limits (is_short file order p colour) colour i
+  fault_of color i = chunk_fault p limits (is_short file order p color) color i
 
   -- a part without a fault is read
-  pub fills : (colour : ColorType) (part : Part file order p) (buf : List ℕ) → part_fault file order p limits colour part ≡ Ok tt
-      → filled file order p limits colour part buf ≡ Ok (placed file order p colour part.region part.stride part.planes buf)
+  pub fills : (color : ColorType) (part : Part file order p) (buf : List ℕ) → part_fault file order p limits color part ≡ Ok tt
+      → filled file order p limits color part buf ≡ Ok (placed file order p color part.region part.stride part.planes buf)
   unfolding filled
-  fills colour part buf none = rw none refl
+  fills color part buf none = rw none refl
 
   -- as is a slice with room for it
   pub read_into : (width height : ℕ) (part : LayoutRecord → Part file order p) (buf : List ℕ) (l : LayoutRecord) → planes_layout p width height ≡ Ok l
-      → l.plane_stride ≤ length buf → part_fault file order p limits l.colour (part l) ≡ Ok tt
-      → IsOk (planes_layout p width height >>= (λ l. room_fault (length buf) l.plane_stride >>= (λ _. filled file order p limits l.colour (part l) buf)))
+      → l.plane_stride ≤ length buf → part_fault file order p limits l.color (part l) ≡ Ok tt
+      → IsOk (planes_layout p width height >>= (λ l. room_fault (length buf) l.plane_stride >>= (λ _. filled file order p limits l.color (part l) buf)))
   read_into width height part buf l whole room none =
       let a : room_fault (length buf) l.plane_stride ≡ Ok tt = has_room (length buf) l.plane_stride room in
-      let b : filled file order p limits l.colour (part l) buf ≡ Ok (placed file order p l.colour (part l).region (part l).stride (part l).planes buf) = fills l.colour (part l) buf none in
+      let b : filled file order p limits l.color (part l) buf ≡ Ok (placed file order p l.color (part l).region (part l).stride (part l).planes buf) = fills l.color (part l) buf none in
       rw (whole, a, b) refl
 
   -- the only chunk of its part
-  pub one_fault : (colour : ColorType) (i s : ℕ) → part_fault file order p limits colour (chunk_part file order p i 1 s) ≡ fault_of colour i
-  one_fault colour i s = let e : 0 * chunks_of_plane p + (i + 0) ≡ i = omega arith in ap (fault_of colour) e
+  pub one_fault : (color : ColorType) (i s : ℕ) → part_fault file order p limits color (chunk_part file order p i 1 s) ≡ fault_of color i
+  one_fault color i s = let e : 0 * chunks_of_plane p + (i + 0) ≡ i = omega arith in ap (fault_of color) e
 
-  module _ (no_fault : NoFault) (colour : ColorType) (used s : ℕ) where
+  module _ (no_fault : NoFault) (color : ColorType) (used s : ℕ) where
     abbrev pub of_column : ℕ → Result (Unit {0}) TiffError
-    of_column j = each_below (λ plane. fault_of colour (plane * chunks_of_plane p + (0 + j))) used
+    of_column j = each_below (λ plane. fault_of color (plane * chunks_of_plane p + (0 + j))) used
 
     -- an image without a fault has no chunk with one
-    pub none_has : part_fault file order p limits colour (image_part file order p used s) ≡ Ok tt
-        → (i : ℕ) → i < used * chunks_of_plane p → fault_of colour i ≡ Ok tt
+    pub none_has : part_fault file order p limits color (image_part file order p used s) ≡ Ok tt
+        → (i : ℕ) → i < used * chunks_of_plane p → fault_of color i ≡ Ok tt
     none_has none i l =
         let c : ℕ = chunks_of_plane p in
         let column : of_column (i % c) ≡ Ok tt = (no_fault of_column c).0 none (i % c) (mod_below i c (some_chunk i used c l)) in
-        let at : fault_of colour (i / c * c + (0 + i % c)) ≡ Ok tt =
-        (no_fault (λ plane. fault_of colour (plane * c + (0 + i % c))) used).0 column (i / c) (plane_of i used c l) in
+        let at : fault_of color (i / c * c + (0 + i % c)) ≡ Ok tt =
+        (no_fault (λ plane. fault_of color (plane * c + (0 + i % c))) used).0 column (i / c) (plane_of i used c l) in
         let e : i ≡ i / c * c + (0 + i % c) = omega (arith, div-add-mod' i c) in
-        ap (fault_of colour) e ∙ at
+        ap (fault_of color) e ∙ at
 
-    pub none_have : ((i : ℕ) → i < used * chunks_of_plane p → fault_of colour i ≡ Ok tt)
-        → part_fault file order p limits colour (image_part file order p used s) ≡ Ok tt
+    pub none_have : ((i : ℕ) → i < used * chunks_of_plane p → fault_of color i ≡ Ok tt)
+        → part_fault file order p limits color (image_part file order p used s) ≡ Ok tt
     none_have each =
         let c : ℕ = chunks_of_plane p in
         (no_fault of_column c).1
         (λ j jl.
-        (no_fault (λ plane. fault_of colour (plane * c + (0 + j))) used).1
+        (no_fault (λ plane. fault_of color (plane * c + (0 + j))) used).1
         (λ plane l.
         let below : plane * c + j < c * used = mul-add-lt plane c j used l jl in
         each (plane * c + (0 + j)) (omega (arith, below, mul_comm c used))))
@@ -149,7 +149,7 @@ module _ (within_image : ChunksWithin) (no_fault : NoFault) where
     p = d.state.page
 
     abbrev fault : ℕ → Result (Unit {0}) TiffError
-    fault i = fault_of d.bytes d.order p d.state.limits l.colour i
+    fault i = fault_of d.bytes d.order p d.state.limits l.color i
 
     -- a chunk without a fault is read
     pub chunk_read : (i : ℕ) → fault i ≡ Ok tt → IsChunkRead d l i
@@ -157,7 +157,7 @@ module _ (within_image : ChunksWithin) (no_fault : NoFault) where
     chunk_read i none part room =
         read_into d.bytes d.order p d.state.limits (rect p i).width (rect p i).height (λ layout. chunk_part d.bytes d.order p i 1 layout.row_bytes) part
         (chunk_layout p l sides whole i (within_image p i sides)) (chunk_laid p l sides whole i (within_image p i sides)) room
-        (one_fault d.bytes d.order p d.state.limits l.colour i (chunk_row p l i) ∙ none)
+        (one_fault d.bytes d.order p d.state.limits l.color i (chunk_row p l i) ∙ none)
 
     -- and has none where it is read
     pub chunk_none : (i : ℕ) (part : List ℕ) → IsOk (outcome.read_chunk_bytes d i part).answer → fault i ≡ Ok tt
@@ -167,9 +167,9 @@ module _ (within_image : ChunksWithin) (no_fault : NoFault) where
         let a = read_gives d.bytes d.order p d.state.limits (rect p i).width (rect p i).height (λ layout. chunk_part d.bytes d.order p i 1 layout.row_bytes) part bytes.0 bytes.1 in
         let is : IsLaid p (rect p i).width (rect p i).height a.0 = laid p (rect p i).width (rect p i).height a.0 (planes_laid p (rect p i).width (rect p i).height a.0 a.1.laid).0 in
         let is' : IsLaid p p.width p.height l = laid p p.width p.height l (planes_laid p p.width p.height l whole).0 in
-        let colour : l.colour ≡ a.0.colour = ok_is l.colour a.0.colour (sym is'.colour ∙ is.colour) in
-        ap (λ (c : ColorType). fault_of d.bytes d.order p d.state.limits c i) colour
-        ∙ sym (one_fault d.bytes d.order p d.state.limits a.0.colour i a.0.row_bytes)
+        let color : l.color ≡ a.0.color = ok_is l.color a.0.color (sym is'.color ∙ is.color) in
+        ap (λ (c : ColorType). fault_of d.bytes d.order p d.state.limits c i) color
+        ∙ sym (one_fault d.bytes d.order p d.state.limits a.0.color i a.0.row_bytes)
         ∙ a.1.filled.none
 
   image_then_chunks : (d : Decoding) (buf : List ℕ) → HasSides d.state.page → IsOk (outcome.read_image_bytes d buf).answer
@@ -184,7 +184,7 @@ module _ (within_image : ChunksWithin) (no_fault : NoFault) where
         (
           record { laid = a.1.laid; room = a.1.room },
           λ i below. chunk_read d sides a.0 a.1.laid i
-              (none_has d.bytes d.order page d.state.limits no_fault a.0.colour (planes_used page a.0 (length buf)) a.0.row_bytes a.1.filled.none i below),
+              (none_has d.bytes d.order page d.state.limits no_fault a.0.color (planes_used page a.0 (length buf)) a.0.row_bytes a.1.filled.none i below),
         ),
       )
 
@@ -196,7 +196,7 @@ module _ (within_image : ChunksWithin) (no_fault : NoFault) where
       let page : PageRecord = d.state.page in
       let into : LayoutRecord → Part d.bytes d.order page = λ layout. image_part d.bytes d.order page (planes_used page layout (length buf)) layout.row_bytes in
       read_into d.bytes d.order page d.state.limits page.width page.height into buf l room.laid room.room
-      (none_have d.bytes d.order page d.state.limits no_fault l.colour (planes_used page l (length buf)) l.row_bytes
+      (none_have d.bytes d.order page d.state.limits no_fault l.color (planes_used page l (length buf)) l.row_bytes
       (λ i below. chunk_none d sides l room.laid i (each i below).0 (each i below).1))
 
   pub read_where_chunks : ReadWhereChunks

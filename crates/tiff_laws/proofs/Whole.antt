@@ -19,7 +19,7 @@ use Rattle.tiff_page.specs.PixelFault.{unless, depth_fault, predictor_fault, met
 use Rattle.tiff_page.specs.Pixels.{Region, is_short, byte_at, region_byte, whole_image, chunk_region}
 use Rattle.tiff_page.specs.PixelCalls as pixels
 use Rattle.tiff_page.specs.PixelCalls.{Part, image_part, chunk_part, planes_used, placed}
-use Rattle.tiff_page.specs.Laws.{HasSides, IsWithin, HasWholeRows, ChunksWithin, PlacedEach, WholeRows, ImageOfChunks}
+use Rattle.tiff_page.specs.Laws.{HasSides, ChunkIsWithin, HasWholeRows, ChunksWithin, PlacedEach, WholeRows, ImageOfChunks}
 use Rattle.tiff_decode.specs.Outcome as outcome
 use Rattle.tiff_laws.specs.Whole.{IsPlacedIn, PlaneOfChunks, chunks_used, chunk_row, at_chunk, at_image}
 use Rattle.tiff_laws.proofs.Laid.{IsLaid, IsReadInto, laid, planes_laid, bind_ok, read_gives, ok_is}
@@ -62,36 +62,36 @@ bits_within x w d s width h =
     let c : (x + w) * d * s ≡ x * d * s + w * d * s = omega arith in
     omega (arith, b, c)
 
-module _ (file : List ℕ) (order : ByteOrder) (p : PageRecord) (colour : ColorType) where
+module _ (file : List ℕ) (order : ByteOrder) (p : PageRecord) (color : ColorType) where
   -- the byte at a position that is in a plane and a row
   pub byte_is : (region : Region file order p) (stride planes at plane row k v : ℕ) → at / (stride * region.height) ≡ plane
-      → at % (stride * region.height) / stride ≡ row → at % stride ≡ k → plane < planes → k < row_bytes p colour region.width
-      → unwrap_or (byte_at file order p colour region stride planes at) v ≡ region_byte file order p colour region (region.plane + plane) row k
+      → at % (stride * region.height) / stride ≡ row → at % stride ≡ k → plane < planes → k < row_bytes p color region.width
+      → unwrap_or (byte_at file order p color region stride planes at) v ≡ region_byte file order p color region (region.plane + plane) row k
   unfolding byte_at
   byte_is region stride planes at plane row k v ep er ek pl kl =
       let found : ℕ → ℕ → ℕ → ℕ =
-      λ a b c. unwrap_or (if nat_lt a planes && nat_lt c (row_bytes p colour region.width) then Some (region_byte file order p colour region (region.plane + a) b c) else None) v in
+      λ a b c. unwrap_or (if nat_lt a planes && nat_lt c (row_bytes p color region.width) then Some (region_byte file order p color region (region.plane + a) b c) else None) v in
       let in_planes : nat_lt plane planes ≡ true = lt-ltb plane planes pl in
-      let in_row : nat_lt k (row_bytes p colour region.width) ≡ true = lt-ltb k (row_bytes p colour region.width) kl in
+      let in_row : nat_lt k (row_bytes p color region.width) ≡ true = lt-ltb k (row_bytes p color region.width) kl in
       (λ i. found (ep i) (er i) (ek i)) ∙ rw (in_planes, in_row) refl
 
 -- ---- the depth of what was read
 
 -- a chunk that has no fault is of a depth that is read
-pub depth_read : (p : PageRecord) (limits : Limits) (short : ℕ → Bool) (colour : ColorType) (i : ℕ) → chunk_fault p limits short colour i ≡ Ok tt
-    → depth_fault p colour ≡ Ok tt
+pub depth_read : (p : PageRecord) (limits : Limits) (short : ℕ → Bool) (color : ColorType) (i : ℕ) → chunk_fault p limits short color i ≡ Ok tt
+    → depth_fault p color ≡ Ok tt
 unfolding form_fault
-depth_read p limits short colour i h =
+depth_read p limits short color i h =
     let late : Result (Unit {0}) TiffError = unless (short i) (IoError UnexpectedEof) in
     let rest : Result (Unit {0}) TiffError =
-    predictor_fault p colour
+    predictor_fault p color
     >>= (λ _. unless (nat_lt limits.intermediate_buffer_size (slice_index p.byte_counts i)) LimitsExceeded
-    >>= (λ _. method_fault p.method >>= (λ _. white_fault p colour))) in
-    let deep : Result (Unit {0}) TiffError = depth_fault p colour >>= (λ _. rest) in
+    >>= (λ _. method_fault p.method >>= (λ _. white_fault p color))) in
+    let deep : Result (Unit {0}) TiffError = depth_fault p color >>= (λ _. rest) in
     let listed : Result (Unit {0}) TiffError = unless (nat_le (length p.offsets) i) (FormatError InconsistentSizesEncountered) in
-    let a = bind_ok (form_fault p limits colour i) (λ _. late) tt h in
+    let a = bind_ok (form_fault p limits color i) (λ _. late) tt h in
     let b = bind_ok listed (λ _. deep) a.0 a.1.0 in
-    (bind_ok (depth_fault p colour) (λ _. rest) a.0 b.1.1).1.0
+    (bind_ok (depth_fault p color) (λ _. rest) a.0 b.1.1).1.0
 
 -- a chunk below so many planes' is of one of them
 pub some_chunk : (i n c : ℕ) → i < n * c → 0 < c
@@ -124,51 +124,51 @@ module _ (within_image : ChunksWithin) (placed_each : PlacedEach) (whole_rows : 
     unfolding rect
     plane_is len used = plane_of i (planes_used p l len) (chunks_of_plane p) used
 
-    row_within : row_bits p l.colour (rect p i).x / 8 + chunk_row p l i ≤ row_bytes p l.colour p.width
+    row_within : row_bits p l.color (rect p i).x / 8 + chunk_row p l i ≤ row_bytes p l.color p.width
     unfolding row_bits
-    row_within = bits_within (rect p i).x (rect p i).width p.depth (shown p.planar l.colour) p.width (within_image p i sides).columns
+    row_within = bits_within (rect p i).x (rect p i).width p.depth (shown p.planar l.color) p.width (within_image p i sides).columns
 
     -- the byte of the image
     image_byte : (buf image : List ℕ) (r b : ℕ) → IsImageRead buf image l → i < chunks_used p l (length buf)
         → r < (rect p i).height → b < chunk_row p l i
         → slice_index image (at_image p l i r b)
-        ≡ region_byte file order p l.colour (whole_image file order p) (rect p i).plane ((rect p i).y + r) (row_bits p l.colour (rect p i).x / 8 + b)
+        ≡ region_byte file order p l.color (whole_image file order p) (rect p i).plane ((rect p i).y + r) (row_bits p l.color (rect p i).x / 8 + b)
     image_byte buf image r b read used rl bl =
         let region : Region file order p = whole_image file order p in
         let s : ℕ = l.row_bytes in
         let n : ℕ = (rect p i).plane in
         let y : ℕ = (rect p i).y + r in
-        let t : ℕ = row_bits p l.colour (rect p i).x / 8 + b in
+        let t : ℕ = row_bits p l.color (rect p i).x / 8 + b in
         let count : ℕ = planes_used p l (length buf) in
-        let all : List ℕ = placed file order p l.colour region s count buf in
+        let all : List ℕ = placed file order p l.color region s count buf in
         let at : ℕ = (n * p.height + y) * s + t in
-        let inside : IsWithin p i = within_image p i sides in
+        let inside : ChunkIsWithin p i = within_image p i sides in
         let yl : y < p.height = omega (arith, inside.rows, rl) in
-        let tr : t < row_bytes p l.colour p.width = omega (arith, row_within, bl) in
+        let tr : t < row_bytes p l.color p.width = omega (arith, row_within, bl) in
         let tl : t < s = omega (arith, tr, is_laid.rows) in
         let nl : n < count = plane_is (length buf) used in
         let stride : l.plane_stride ≡ s * p.height = is_laid.stride ∙ ap (λ (z : ℕ). z * p.height) (sym is_laid.rows) in
-        let nl' : n < min (planes p.planar l.colour) (length buf / (s * p.height)) = subst (λ (z : ℕ). n < min (planes p.planar l.colour) (length buf / z)) stride nl in
-        let room : at < length buf = in_slice n p.height y s t yl tl (planes p.planar l.colour) (length buf) nl' in
+        let nl' : n < min (planes p.planar l.color) (length buf / (s * p.height)) = subst (λ (z : ℕ). n < min (planes p.planar l.color) (length buf / z)) stride nl in
+        let room : at < length buf = in_slice n p.height y s t yl tl (planes p.planar l.color) (length buf) nl' in
         let from : at_image p l i r b ≡ at = omega arith in
         let zero_and : 0 + n ≡ n = omega arith in
         ap (λ (z : ℕ). slice_index image z) from
         ∙ ap (λ (z : List ℕ). slice_index z at) read.filled.bytes
-        ∙ (placed_each file order p l.colour region s count buf).1 at room
-        ∙ byte_is file order p l.colour region s count at n y t (slice_index buf at) (plane_at n p.height y s t yl tl) (line_at n p.height y s t yl tl) (column_at n p.height y s t yl tl) nl tr
-        ∙ ap (λ (z : ℕ). region_byte file order p l.colour region z y t) zero_and
+        ∙ (placed_each file order p l.color region s count buf).1 at room
+        ∙ byte_is file order p l.color region s count at n y t (slice_index buf at) (plane_at n p.height y s t yl tl) (line_at n p.height y s t yl tl) (column_at n p.height y s t yl tl) nl tr
+        ∙ ap (λ (z : ℕ). region_byte file order p l.color region z y t) zero_and
 
     chunk_laid : (part chunk : List ℕ) (layout : LayoutRecord) → IsChunkRead part chunk layout → IsLaid p (rect p i).width (rect p i).height layout
     chunk_laid part chunk layout read =
         laid p (rect p i).width (rect p i).height layout (planes_laid p (rect p i).width (rect p i).height layout read.laid).0
 
-    same_colour : (part chunk : List ℕ) (layout : LayoutRecord) → IsChunkRead part chunk layout → layout.colour ≡ l.colour
-    same_colour part chunk layout read = ok_is layout.colour l.colour (sym (chunk_laid part chunk layout read).colour ∙ is_laid.colour)
+    same_color : (part chunk : List ℕ) (layout : LayoutRecord) → IsChunkRead part chunk layout → layout.color ≡ l.color
+    same_color part chunk layout read = ok_is layout.color l.color (sym (chunk_laid part chunk layout read).color ∙ is_laid.color)
 
     -- the same byte of the chunk
     chunk_byte : (part chunk : List ℕ) (layout : LayoutRecord) (r b : ℕ) → IsChunkRead part chunk layout
         → r < (rect p i).height → b < chunk_row p l i
-        → slice_index chunk (at_chunk p l i r b) ≡ region_byte file order p l.colour (chunk_region file order p i) (rect p i).plane r b
+        → slice_index chunk (at_chunk p l i r b) ≡ region_byte file order p l.color (chunk_region file order p i) (rect p i).plane r b
     chunk_byte part chunk layout r b read rl bl =
         let region : Region file order p = chunk_region file order p i in
         let s : ℕ = chunk_row p l i in
@@ -176,9 +176,9 @@ module _ (within_image : ChunksWithin) (placed_each : PlacedEach) (whole_rows : 
         let n : ℕ = (rect p i).plane in
         let at : ℕ = r * s + b in
         let is : IsLaid p (rect p i).width h layout = chunk_laid part chunk layout read in
-        let colour : layout.colour ≡ l.colour = same_colour part chunk layout read in
-        let rows : layout.row_bytes ≡ s = is.rows ∙ ap (λ (c : ColorType). row_bytes p c (rect p i).width) colour in
-        let stride : layout.plane_stride ≡ s * h = is.stride ∙ ap (λ (c : ColorType). row_bytes p c (rect p i).width * h) colour in
+        let color : layout.color ≡ l.color = same_color part chunk layout read in
+        let rows : layout.row_bytes ≡ s = is.rows ∙ ap (λ (c : ColorType). row_bytes p c (rect p i).width) color in
+        let stride : layout.plane_stride ≡ s * h = is.stride ∙ ap (λ (c : ColorType). row_bytes p c (rect p i).width * h) color in
         let inside : at < s * h = mul-add-lt r s b h rl bl in
         let room : at < length part = omega (arith, inside, stride, read.room) in
         let plane : at / (s * h) ≡ 0 = div-eq_of_lt inside in
@@ -187,22 +187,22 @@ module _ (within_image : ChunksWithin) (placed_each : PlacedEach) (whole_rows : 
         let one : 0 < 1 = omega arith in
         let and_zero : n + 0 ≡ n = omega arith in
         ap (λ (z : List ℕ). slice_index z at) read.filled.bytes
-        ∙ (λ t. slice_index (placed file order p (colour t) region (rows t) 1 part) at)
-        ∙ (placed_each file order p l.colour region s 1 part).1 at room
-        ∙ byte_is file order p l.colour region s 1 at 0 r b (slice_index part at) plane line column one bl
-        ∙ ap (λ (z : ℕ). region_byte file order p l.colour region z r b) and_zero
+        ∙ (λ t. slice_index (placed file order p (color t) region (rows t) 1 part) at)
+        ∙ (placed_each file order p l.color region s 1 part).1 at room
+        ∙ byte_is file order p l.color region s 1 at 0 r b (slice_index part at) plane line column one bl
+        ∙ ap (λ (z : ℕ). region_byte file order p l.color region z r b) and_zero
 
-    rows_whole : (part chunk : List ℕ) (layout : LayoutRecord) → IsChunkRead part chunk layout → HasWholeRows p l.colour
+    rows_whole : (part chunk : List ℕ) (layout : LayoutRecord) → IsChunkRead part chunk layout → HasWholeRows p l.color
     rows_whole part chunk layout read =
-        let deep : depth_fault p layout.colour ≡ Ok tt = depth_read p limits (is_short file order p layout.colour) layout.colour (0 * chunks_of_plane p + (i + 0)) read.filled.none in
-        whole_rows p l given (ap (depth_fault p) (sym (same_colour part chunk layout read)) ∙ deep)
+        let deep : depth_fault p layout.color ≡ Ok tt = depth_read p limits (is_short file order p layout.color) layout.color (0 * chunks_of_plane p + (i + 0)) read.filled.none in
+        whole_rows p l given (ap (depth_fault p) (sym (same_color part chunk layout read)) ∙ deep)
 
     pub placed_in : (buf image part chunk : List ℕ) (layout : LayoutRecord) → i < chunks_used p l (length buf)
         → IsImageRead buf image l → IsChunkRead part chunk layout → IsPlacedIn p l i chunk image
     placed_in buf image part chunk layout used read read' = record {
       each = λ r b rl bl.
           image_byte buf image r b read used rl bl
-          ∙ image_of_chunks file order p l.colour i r b sides (rows_whole part chunk layout read') rl bl
+          ∙ image_of_chunks file order p l.color i r b sides (rows_whole part chunk layout read') rl bl
           ∙ sym (chunk_byte part chunk layout r b read' rl bl);
     }
 

@@ -7,29 +7,29 @@ use Rattle.tiff_page.specs.Laws.{HasSides}
 use Rattle.tiff_laws.specs.Whole.{IsLayout, chunk_row, at_image}
 
 -- where a byte of an image's planes is: its plane, the line of the plane, and how far along the line
-abbrev pub plane_of : LayoutRecord → ℕ → ℕ
-plane_of layout at = at / layout.plane_stride
+abbrev pub plane_of_byte : LayoutRecord → ℕ → ℕ
+plane_of_byte layout at = at / layout.plane_stride
 
-abbrev pub line_of : LayoutRecord → ℕ → ℕ
-line_of layout at = at % layout.plane_stride / layout.row_bytes
+abbrev pub line_of_byte : LayoutRecord → ℕ → ℕ
+line_of_byte layout at = at % layout.plane_stride / layout.row_bytes
 
-abbrev pub along_of : LayoutRecord → ℕ → ℕ
-along_of layout at = at % layout.row_bytes
+abbrev pub column_of_byte : LayoutRecord → ℕ → ℕ
+column_of_byte layout at = at % layout.row_bytes
 
 -- the bytes of a row of a chunk that no edge cuts
 abbrev pub full_row : PageRecord → LayoutRecord → ℕ
-full_row p layout = row_bytes p layout.colour p.chunk_width
+full_row p layout = row_bytes p layout.color p.chunk_width
 
 -- which byte it is: its chunk, among those of all planes, the row of the chunk, and the byte of the row
-abbrev pub chunk_of : PageRecord → LayoutRecord → ℕ → ℕ
-chunk_of p layout at =
-    plane_of layout at * chunks_of_plane p + (line_of layout at / p.chunk_height * across p + along_of layout at / full_row p layout)
+abbrev pub chunk_of_byte : PageRecord → LayoutRecord → ℕ → ℕ
+chunk_of_byte p layout at =
+    plane_of_byte layout at * chunks_of_plane p + (line_of_byte layout at / p.chunk_height * across p + column_of_byte layout at / full_row p layout)
 
-abbrev pub row_of : PageRecord → LayoutRecord → ℕ → ℕ
-row_of p layout at = line_of layout at % p.chunk_height
+abbrev pub row_of_byte : PageRecord → LayoutRecord → ℕ → ℕ
+row_of_byte p layout at = line_of_byte layout at % p.chunk_height
 
-abbrev pub byte_of : PageRecord → LayoutRecord → ℕ → ℕ
-byte_of p layout at = along_of layout at % full_row p layout
+abbrev pub byte_in_row : PageRecord → LayoutRecord → ℕ → ℕ
+byte_in_row p layout at = column_of_byte layout at % full_row p layout
 
 -- A byte of a row of a chunk of one of so many planes stands at this position of them.
 pub record IsByteAt (p : PageRecord) (layout : LayoutRecord) (planes plane chunk row byte at : ℕ) : Type 0 where
@@ -42,10 +42,10 @@ pub record IsByteAt (p : PageRecord) (layout : LayoutRecord) (planes plane chunk
 -- This position is among so many planes, and it is of this byte of this row of this chunk of this plane.
 pub record IsFoundAt (p : PageRecord) (layout : LayoutRecord) (planes plane chunk row byte at : ℕ) : Type 0 where
   pub within : at < planes * layout.plane_stride
-  pub its_plane : plane_of layout at ≡ plane
-  pub its_chunk : chunk_of p layout at ≡ chunk
-  pub its_row : row_of p layout at ≡ row
-  pub its_byte : byte_of p layout at ≡ byte
+  pub its_plane : plane_of_byte layout at ≡ plane
+  pub its_chunk : chunk_of_byte p layout at ≡ chunk
+  pub its_row : row_of_byte p layout at ≡ row
+  pub its_byte : byte_in_row p layout at ≡ byte
 
 -- each position of so many planes is of one byte of one row of one chunk of one plane, and each of these has one position
 abbrev pub OneByte : Type 0

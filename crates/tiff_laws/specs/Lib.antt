@@ -1,4 +1,4 @@
-pub mod Once
+pub mod OneAnswer
 pub mod Sides
 pub mod Whole
 pub mod Bytes

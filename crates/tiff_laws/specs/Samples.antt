@@ -7,7 +7,7 @@ use Rattle.tiff_page.specs.declared.layout.DecodingSampleType.{DecodingSampleTyp
 use Rattle.tiff_page.specs.Rect.{rect}
 use Rattle.tiff_page.specs.Layout.{LayoutRecord, planes, sample_type_of, size_of}
 use Rattle.tiff_page.specs.PixelFault.{samples_fault}
-use Rattle.tiff_page.specs.Image.{Decoded, decoded}
+use Rattle.tiff_page.specs.Image.{Decoded, decoded_samples}
 use Rattle.tiff_page.specs.Buffers.{planes_layout, all_planes}
 use Rattle.tiff_page.specs.Laws.{HasSides}
 use Rattle.tiff_decode.specs.Machine.{Decoding}
@@ -22,7 +22,7 @@ numbers_by d read len = do
   type ← sample_type_of d.state.page
   _ ← samples_fault d.state.limits (size_of type) len
   bytes ← read (replicate len 0)
-  Ok (decoded type bytes)
+  Ok (decoded_samples type bytes)
 
 -- the bytes of an image, or of a chunk, in a slice
 abbrev pub image_read : Decoding → List ℕ → Result (List ℕ) TiffError
@@ -40,7 +40,7 @@ image_by_bytes d = do
 -- the planes that a limit lets through: all, or the first
 abbrev pub planes_let : Decoding → LayoutRecord → ℕ
 planes_let d layout =
-    let all = planes d.state.page.planar layout.colour in
+    let all = planes d.state.page.planar layout.color in
     if nat_le (layout.plane_stride * all) d.state.limits.decoding_buffer_size then all else 1
 
 -- an image by the bytes of these planes, with the layout of all
@@ -74,7 +74,7 @@ pub record HasNumbers (d : Decoding) (layout : LayoutRecord) (type : DecodingSam
 
 -- these are the numbers of what the chunks of an image make, read one by one and placed into so many zeros
 abbrev pub AreOfChunks : Decoding → LayoutRecord → DecodingSampleType → ℕ → Decoded → Type 0
-AreOfChunks d layout type len numbers = (made : List ℕ) × (IsMadeOfChunks d layout (replicate len 0) made × (decoded type made ≡ numbers))
+AreOfChunks d layout type len numbers = (made : List ℕ) × (IsMadeOfChunks d layout (replicate len 0) made × (decoded_samples type made ≡ numbers))
 
 -- so the samples of an image are the numbers of what the chunks of one plane make, and are refused with the fault of the first of
 -- these chunks that is refused

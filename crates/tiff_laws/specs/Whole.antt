@@ -30,7 +30,7 @@ pub record HasRoom (p : PageRecord) (layout : LayoutRecord) (len : ℕ) : Type 0
 
 -- the bytes of a row of a chunk
 abbrev pub chunk_row : PageRecord → LayoutRecord → ℕ → ℕ
-chunk_row p layout i = row_bytes p layout.colour (rect p i).width
+chunk_row p layout i = row_bytes p layout.color (rect p i).width
 
 -- where byte b of row r of a chunk is: in a slice of that chunk, and in a slice of the image's planes
 abbrev pub at_chunk : PageRecord → LayoutRecord → ℕ → ℕ → ℕ → ℕ
@@ -38,7 +38,7 @@ at_chunk p layout i r b = r * chunk_row p layout i + b
 
 abbrev pub at_image : PageRecord → LayoutRecord → ℕ → ℕ → ℕ → ℕ
 at_image p layout i r b =
-    ((rect p i).plane * p.height + (rect p i).y + r) * layout.row_bytes + row_bits p layout.colour (rect p i).x / 8 + b
+    ((rect p i).plane * p.height + (rect p i).y + r) * layout.row_bytes + row_bits p layout.color (rect p i).x / 8 + b
 
 -- A chunk stands in an image: each byte of each of its rows.
 pub record IsPlacedIn (p : PageRecord) (layout : LayoutRecord) (i : ℕ) (chunk image : List ℕ) : Type 0 where
@@ -88,12 +88,12 @@ ImageIsItsChunks = (d : Decoding) (layout : LayoutRecord) (buf made : List ℕ) 
 -- ---- where they are read
 
 -- the bytes of a chunk
-abbrev pub chunk_bytes : PageRecord → LayoutRecord → ℕ → ℕ
-chunk_bytes p layout i = chunk_row p layout i * (rect p i).height
+abbrev pub chunk_byte_count : PageRecord → LayoutRecord → ℕ → ℕ
+chunk_byte_count p layout i = chunk_row p layout i * (rect p i).height
 
 -- a chunk is read into each slice that has room for it
 abbrev pub IsChunkRead : Decoding → LayoutRecord → ℕ → Type 0
-IsChunkRead d layout i = (part : List ℕ) → chunk_bytes d.state.page layout i ≤ length part → IsOk (outcome.read_chunk_bytes d i part).answer
+IsChunkRead d layout i = (part : List ℕ) → chunk_byte_count d.state.page layout i ≤ length part → IsOk (outcome.read_chunk_bytes d i part).answer
 
 -- an image is read into a slice that has room exactly where each chunk of those planes is read
 abbrev pub ReadWhereChunks : Type 0
@@ -107,7 +107,7 @@ ReadWhereChunks = (d : Decoding) (buf : List ℕ) → HasSides d.state.page
 -- a chunk is refused with this fault, in each slice that has room for it
 abbrev pub IsChunkRefused : Decoding → LayoutRecord → TiffError → ℕ → Type 0
 IsChunkRefused d layout e i =
-    (part : List ℕ) → chunk_bytes d.state.page layout i ≤ length part → (outcome.read_chunk_bytes d i part).answer ≡ Err e
+    (part : List ℕ) → chunk_byte_count d.state.page layout i ≤ length part → (outcome.read_chunk_bytes d i part).answer ≡ Err e
 
 -- Chunk k of a plane is the first that is refused, with this fault: the chunks before it are read, in each plane, and so is
 -- chunk k of the planes before.

@@ -1,6 +1,6 @@
 //! The laws of a decoder's calls, each the contract of a function with no work.
 
-ghost use Rattle.tiff_laws.specs.Once.{IsEachAlong, IsOneAnswer};
+ghost use Rattle.tiff_laws.specs.OneAnswer.{IsEachAlong, IsSingleAnswer};
 ghost use Rattle.tiff_decode.specs.Result.{BytesAgain};
 ghost use Rattle.tiff_laws.specs.Samples.{BufferByBytes, BufferOfChunks, ChunkByBytes, ImageByBytes, SamplesOfChunks};
 ghost use Rattle.tiff_laws.specs.Units.{UnitIsItsChunks, UnitRefusedWhereChunks, UnitWhereChunks};
@@ -16,7 +16,7 @@ pub fn each_along()
 
 /// A call's answer is one, but for want of memory and faults of the device.
 pub fn one_answer()
-    ensures { IsOneAnswer }
+    ensures { IsSingleAnswer }
 {}
 
 /// The numbers that some bytes hold have those bytes again, and behind them the zeros that fill up the last number.

@@ -17,7 +17,7 @@ enum Begun {
         parent: Option<usize>,
     },
     Image {
-        colour: ColorTypeName,
+        color: ColorTypeName,
         width: u32,
         height: u32,
     },
@@ -42,12 +42,12 @@ fn directory_begun(chained: bool, words: &str) -> Result<Begun, Unread> {
     Ok(Begun::Directory { chained, parent })
 }
 
-// The beginning of an image: its colour type and its sides.
+// The beginning of an image: its color type and its sides.
 fn image_begun(words: &str) -> Result<Begun, Unread> {
-    let (colour, words) = first_word(words);
+    let (color, words) = first_word(words);
     let (width, height) = first_word(words);
     Ok(Begun::Image {
-        colour: read(colour)?,
+        color: read(color)?,
         width: read(width)?,
         height: read(height)?,
     })
@@ -135,14 +135,14 @@ impl JobList {
     // The end of an image.
     fn end_image(
         &mut self,
-        colour: ColorTypeName,
+        color: ColorTypeName,
         width: u32,
         height: u32,
         end: ImageEnd,
     ) -> Result<(), Unread> {
         self.begun = None;
         let job = ImageJob {
-            colour,
+            color,
             width,
             height,
             steps: taken(self.alloc, &mut self.image_steps),
@@ -171,13 +171,13 @@ impl JobList {
     // A line of an image.
     fn go_on_image(
         &mut self,
-        colour: ColorTypeName,
+        color: ColorTypeName,
         width: u32,
         height: u32,
         line: &str,
     ) -> Result<(), Unread> {
         match self.image_end(line)? {
-            Some(end) => self.end_image(colour, width, height, end),
+            Some(end) => self.end_image(color, width, height, end),
             None => {
                 let (name, words) = first_word(line);
                 self.add_image_step(name, words)
@@ -200,11 +200,11 @@ impl JobList {
             }
             Some(
                 Begun::Image {
-                    colour,
+                    color,
                     width,
                     height,
                 },
-            ) => self.go_on_image(colour, width, height, line),
+            ) => self.go_on_image(color, width, height, line),
         }
     }
 

@@ -110,7 +110,8 @@ pub fn run_told<W: Sink + Drop, K: TiffKind>(
     sink: W,
     jobs: &[Job],
 ) -> TiffResult<(W, String)>
-    ensures { IfOk result (λ told. (replies : List JobReply) × RunsJobs W.told W.failures W.fault K.kind jobs.now sink [] replies (Ok told.0)) }
+    ensures { IfOk result (λ told. (replies : List JobReply) × RunsJobs W.told W.failures W.fault K.kind jobs.now sink [] replies
+        (Ok told.0)) }
 {
     let mut replies = Vec::new(alloc);
     let answered = run_jobs::<W, K>(alloc, sink, jobs, &mut replies);

@@ -6,7 +6,7 @@ use tiff_base::directory::{Directory, Entry};
 use tiff_base::tags::{Tag, Type};
 use tiff_encode::encoder::script::{JobBuffer, JobValue};
 
-// A value of places or fractions.
+// A value of offsets or fractions.
 fn place_value(alloc: Global, name: &str, words: &str) -> Result<JobValue, Unread> {
     match name {
         "ifd" => Ok(JobValue::Ifd(list_of(alloc, words)?)),

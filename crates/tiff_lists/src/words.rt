@@ -208,7 +208,7 @@ impl FromWord for Compression {
     }
 }
 
-// A colour type of one sample.
+// A color type of one sample.
 fn gray_name(word: &str) -> Option<ColorTypeName> {
     match word {
         "Gray8" => Some(ColorTypeName::Gray8),
@@ -225,7 +225,7 @@ fn gray_name(word: &str) -> Option<ColorTypeName> {
     }
 }
 
-// A colour type of red, green and blue.
+// A color type of red, green and blue.
 fn rgb_name(word: &str) -> Option<ColorTypeName> {
     match word {
         "RGB8" => Some(ColorTypeName::RGB8),
@@ -244,7 +244,7 @@ fn rgb_name(word: &str) -> Option<ColorTypeName> {
     }
 }
 
-// A colour type of inks or of luminance.
+// A color type of inks or of luminance.
 fn print_name(word: &str) -> Option<ColorTypeName> {
     match word {
         "CMYK8" => Some(ColorTypeName::CMYK8),

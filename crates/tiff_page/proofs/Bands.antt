@@ -23,12 +23,12 @@ use Rattle.tiff_page.specs.Layout.{row_bits, row_bytes, shown}
 use Rattle.tiff_page.specs.Laws.{HasSides}
 use Rattle.tiff_page.specs.PixelFault.{unless}
 use Rattle.tiff_page.specs.Pixels.{width_of, stored_samples, chunk_data, stored_row_bytes, is_byte_plane, needed_of_last, is_short}
-use Rattle.tiff_page.specs.Place.{Writes, IsIn, in_rect, chunk_byte}
+use Rattle.tiff_page.specs.BufferPositions.{Writes, IsIn, in_rect, chunk_byte}
 use Rattle.tiff_page.specs.Row.{row_number}
-use Rattle.tiff_page.specs.Handed.{IsStored, complemented, number_in, handed_byte}
-use Rattle.tiff_page.specs.Reading.{needed_of_row, TakesRow}
-use Rattle.tiff_page.specs.Stored.{IsTooShort}
-use Rattle.tiff_page.specs.Together.{LieTogether}
+use Rattle.tiff_page.specs.OutputRow.{StoresAllShown, complement_of, number_in, handed_byte}
+use Rattle.tiff_page.specs.RowReads.{needed_of_row, TakesRow}
+use Rattle.tiff_page.specs.ChunkData.{IsTooShort}
+use Rattle.tiff_page.specs.AdjacentRows.{LieTogether}
 use Rattle.tiff_page.proofs.ChunkRows.{row_handed, bits_are, number_in_row, none_dropped}
 use Rattle.tiff_page.proofs.Rects.{writes_more, writes_as}
 use Rattle.tiff_page.proofs.Rows.{each_same}
@@ -56,12 +56,12 @@ number_alone order p many one predictor.Horizontal c d sample e h = cc
 number_alone order p many one predictor.FloatingPoint c d sample e h = cc
 
 -- rows of so many columns, of which the one after q others is alone
-module _ (order : ByteOrder) (p : PageRecord) (colour : ColorType) (w q b : ℕ) (many one : List ℕ) (stored : IsStored p colour) (all : stored_samples p ≤ shown p.planar colour) (alone : p.predictor ≡ predictor.None) (bl : b < row_bytes p colour w) (same : (m : ℕ) → m < row_bytes p colour w → slice_index many (q * row_bytes p colour w + m) ≡ slice_index one m) where
+module _ (order : ByteOrder) (p : PageRecord) (color : ColorType) (w q b : ℕ) (many one : List ℕ) (stored : StoresAllShown p color) (all : stored_samples p ≤ shown p.planar color) (alone : p.predictor ≡ predictor.None) (bl : b < row_bytes p color w) (same : (m : ℕ) → m < row_bytes p color w → slice_index many (q * row_bytes p color w + m) ≡ slice_index one m) where
   abbrev len : ℕ
-  len = row_bytes p colour w
+  len = row_bytes p color w
 
   abbrev s : ℕ
-  s = shown p.planar colour
+  s = shown p.planar color
 
   abbrev t : ℕ
   t = stored_samples p
@@ -90,8 +90,8 @@ module _ (order : ByteOrder) (p : PageRecord) (colour : ColorType) (w q b : ℕ)
         let x : (q * w + n / s) * t + n % s ≡ q * (w * t) + (n / s * t + n % s) = omega arith in
         ap (row_number order size many) x ∙ number_moved order size len q (w * t) (n / s * t + n % s) many one e (omega (arith, k)) same
 
-    whole_moved : complemented p.interpretation (2 ^ p.depth) (number_in order p many p.predictor ((q * len + b) / size / s) ((q * len + b) / size % s)) / 256 ^ ((q * len + b) % size) % 256
-        ≡ complemented p.interpretation (2 ^ p.depth) (number_in order p one p.predictor (n / s) (n % s)) / 256 ^ (b % size) % 256
+    whole_moved : complement_of p.interpretation (2 ^ p.depth) (number_in order p many p.predictor ((q * len + b) / size / s) ((q * len + b) / size % s)) / 256 ^ ((q * len + b) % size) % 256
+        ≡ complement_of p.interpretation (2 ^ p.depth) (number_in order p one p.predictor (n / s) (n % s)) / 256 ^ (b % size) % 256
     whole_moved =
         let sz : 0 < size = omega (arith, big) in
         let x : (q * len + b) / size ≡ q * (w * s) + n = ap (λ z. (z + b) / size) before ∙ mul-add-div_right sz (q * (w * s)) b in
@@ -99,16 +99,16 @@ module _ (order : ByteOrder) (p : PageRecord) (colour : ColorType) (w q b : ℕ)
         let y : q * (w * s) ≡ q * w * s = omega arith in
         let c : (q * (w * s) + n) / s ≡ q * w + n / s = ap (λ z. (z + n) / s) y ∙ mul-add-div_right stored.shows (q * w) n in
         let d : (q * (w * s) + n) % s ≡ n % s = ap (λ z. (z + n) % s) y ∙ mul-add-mod_self_right (q * w) s n in
-        (λ z. complemented p.interpretation (2 ^ p.depth) (number_in order p many p.predictor (x z / s) (x z % s)) / 256 ^ m z % 256)
-        ∙ (λ z. complemented p.interpretation (2 ^ p.depth) (number_in order p many p.predictor (c z) (d z)) / 256 ^ (b % size) % 256)
-        ∙ ap (λ v. complemented p.interpretation (2 ^ p.depth) v / 256 ^ (b % size) % 256) (number_alone order p many one p.predictor (q * w + n / s) (n / s) (n % s) alone number_here)
+        (λ z. complement_of p.interpretation (2 ^ p.depth) (number_in order p many p.predictor (x z / s) (x z % s)) / 256 ^ m z % 256)
+        ∙ (λ z. complement_of p.interpretation (2 ^ p.depth) (number_in order p many p.predictor (c z) (d z)) / 256 ^ (b % size) % 256)
+        ∙ ap (λ v. complement_of p.interpretation (2 ^ p.depth) v / 256 ^ (b % size) % 256) (number_alone order p many one p.predictor (q * w + n / s) (n / s) (n % s) alone number_here)
 
-  pub handed_moved : handed_byte order p many colour (q * len + b) ≡ handed_byte order p one colour b
+  pub handed_moved : handed_byte order p many color (q * len + b) ≡ handed_byte order p one color b
   handed_moved =
       ⊎_elim
       (λ (l : p.depth < 8).
       let e : nat_lt p.depth 8 ≡ true = lt-ltb p.depth 8 l in
-      rw e (ap (complemented p.interpretation 256) (same b bl)))
+      rw e (ap (complement_of p.interpretation 256) (same b bl)))
       (λ (g : 8 ≤ p.depth).
       let e : nat_lt p.depth 8 ≡ false = le-ltb p.depth 8 g in
       ⊎_elim
@@ -118,12 +118,12 @@ module _ (order : ByteOrder) (p : PageRecord) (colour : ColorType) (w q b : ℕ)
       (cases_lt p.depth 8)
 
 -- several rows of whole bytes are of whole numbers
-pub band_of_numbers : (p : PageRecord) (colour : ColorType) (w q n : ℕ) → IsStored p colour → n ≡ q * row_bytes p colour w
+pub band_of_numbers : (p : PageRecord) (color : ColorType) (w q n : ℕ) → StoresAllShown p color → n ≡ q * row_bytes p color w
     → (p.depth < 8) ⊎ (n / (p.depth / 8) * (p.depth / 8) ≡ n)
 unfolding row_bits
-band_of_numbers p colour w q n stored e =
+band_of_numbers p color w q n stored e =
     let size : ℕ = p.depth / 8 in
-    let s : ℕ = shown p.planar colour in
+    let s : ℕ = shown p.planar color in
     ⊎_elim
     (λ (l : p.depth < 8). inl l)
     (λ (whole : p.depth ≡ p.depth / 8 * 8).
@@ -185,24 +185,24 @@ band_put value stride top row n left len at out old mid new s l e f c v w put =
 
 -- ---- the rows of a chunk
 
-module _ (file : List ℕ) (order : ByteOrder) (p : PageRecord) (colour : ColorType) (k left stride : ℕ) (sides : HasSides p) (stored : IsStored p colour) (listed : k < all_chunks p) (together : LieTogether p colour (row_bytes p colour (rect p k).width) left stride) where
+module _ (file : List ℕ) (order : ByteOrder) (p : PageRecord) (color : ColorType) (k left stride : ℕ) (sides : HasSides p) (stored : StoresAllShown p color) (listed : k < all_chunks p) (together : LieTogether p color (row_bytes p color (rect p k).width) left stride) where
   abbrev h : ℕ
   h = (rect p k).height
 
   abbrev bytes : List ℕ
   bytes = chunk_data file order p k
 
-  needed_last : needed_of_last file order p colour k ≡ row_bytes p colour (rect p k).width
+  needed_last : needed_of_last file order p color k ≡ row_bytes p color (rect p k).width
   needed_last = rw together.shown refl
 
-  needed_here : (m : ℕ) → needed_of_row p colour m ≡ m
+  needed_here : (m : ℕ) → needed_of_row p color m ≡ m
   needed_here m = rw together.shown refl
 
-  one_row : (row q m n : ℕ) → m < row_bytes p colour (rect p k).width → q * row_bytes p colour (rect p k).width + m < n
-      → slice_index (take n (drop (row * row_bytes p colour (rect p k).width) bytes)) (q * row_bytes p colour (rect p k).width + m)
-      ≡ slice_index (take (row_bytes p colour (rect p k).width) (drop ((row + q) * row_bytes p colour (rect p k).width) bytes)) m
+  one_row : (row q m n : ℕ) → m < row_bytes p color (rect p k).width → q * row_bytes p color (rect p k).width + m < n
+      → slice_index (take n (drop (row * row_bytes p color (rect p k).width) bytes)) (q * row_bytes p color (rect p k).width + m)
+      ≡ slice_index (take (row_bytes p color (rect p k).width) (drop ((row + q) * row_bytes p color (rect p k).width) bytes)) m
   one_row row q m n a b =
-      let len : ℕ = row_bytes p colour (rect p k).width in
+      let len : ℕ = row_bytes p color (rect p k).width in
       let e : row * len + (q * len + m) ≡ (row + q) * len + m = omega arith in
       get_or-take n (drop (row * len) bytes) (q * len + m) 0 b
       ∙ get_or-drop (row * len) bytes (q * len + m) 0
@@ -211,10 +211,10 @@ module _ (file : List ℕ) (order : ByteOrder) (p : PageRecord) (colour : ColorT
 
   -- the bytes of several rows that were read are those of the chunk's rows
   pub band_bytes_are : (row n i : ℕ) (ahead rest out : List ℕ) → 0 < stride → row + n ≤ h → length out ≡ n * stride → ahead ≡ drop (row * stride) bytes
-      → TakesRow order p colour ahead rest out → i < length out
-      → slice_index out i ≡ chunk_byte file order p colour k (row + i / stride) (i % stride)
+      → TakesRow order p color ahead rest out → i < length out
+      → slice_index out i ≡ chunk_byte file order p color k (row + i / stride) (i % stride)
   band_bytes_are row n i ahead rest out s rl c d t il =
-      let len : ℕ = row_bytes p colour (rect p k).width in
+      let len : ℕ = row_bytes p color (rect p k).width in
       let q : ℕ = i / stride in
       let b : ℕ = i % stride in
       let e : stride ≡ len = together.in_buffer in
@@ -223,20 +223,20 @@ module _ (file : List ℕ) (order : ByteOrder) (p : PageRecord) (colour : ColorT
       let u : q * stride ≡ q * len = ap (λ z. q * z) e in
       let v : q * len + b ≡ i = omega (arith, div-add-mod' i stride, u) in
       let from : ahead ≡ drop (row * len) bytes = d ∙ ap (λ z. drop (row * z) bytes) e in
-      let count : needed_of_row p colour (length out) ≡ length out = needed_here (length out) in
+      let count : needed_of_row p color (length out) ≡ length out = needed_here (length out) in
       let top : (q + 1) * len ≤ n * len = mul-le-mul_right len (omega (arith, ql)) in
       let size : length out ≡ n * len = c ∙ ap (λ z. n * z) e in
       t.handed i il
-      ∙ (λ z. handed_byte order p (take (count z) (from z)) colour (sym v z))
-      ∙ handed_moved order p colour (rect p k).width q b (take (length out) (drop (row * len) bytes)) (take len (drop ((row + q) * len) bytes)) stored
-      (none_dropped (is_byte_plane p.predictor) (shown p.planar colour) (stored_samples p) together.shown) together.alone bl
+      ∙ (λ z. handed_byte order p (take (count z) (from z)) color (sym v z))
+      ∙ handed_moved order p color (rect p k).width q b (take (length out) (drop (row * len) bytes)) (take len (drop ((row + q) * len) bytes)) stored
+      (none_dropped (is_byte_plane p.predictor) (shown p.planar color) (stored_samples p) together.shown) together.alone bl
       (λ m ml. one_row row q m (length out) ml (omega (arith, ml, top, size)))
-      ∙ (λ z. handed_byte order p (take (sym needed_last z) (drop ((row + q) * sym together.in_data z) bytes)) colour b)
-      ∙ sym (row_handed file order p colour k (row + q) b sides stored listed (omega (arith, ql, rl)) bl)
+      ∙ (λ z. handed_byte order p (take (sym needed_last z) (drop ((row + q) * sym together.in_data z) bytes)) color b)
+      ∙ sym (row_handed file order p color k (row + q) b sides stored listed (omega (arith, ql, rl)) bl)
 
   -- the data hold the rows so far
   pub band_held : (row n : ℕ) (ahead rest out : List ℕ) → 0 < stride → 0 < n → length out ≡ n * stride → ahead ≡ drop (row * stride) bytes
-      → TakesRow order p colour ahead rest out → (row + n) * stride ≤ length bytes
+      → TakesRow order p color ahead rest out → (row + n) * stride ≤ length bytes
   band_held row n ahead rest out s some c d t =
       let a : length out ≤ length ahead = subst (λ (m : ℕ). m ≤ length ahead) (needed_here (length out)) t.enough in
       let f : length ahead ≡ length bytes - row * stride = ap (λ (z : List ℕ). length z) d ∙ length-drop (row * stride) bytes in
@@ -246,26 +246,26 @@ module _ (file : List ℕ) (order : ByteOrder) (p : PageRecord) (colour : ColorT
 
   -- where the next row stands
   pub next_band : (row n : ℕ) (ahead rest out : List ℕ) → length out ≡ n * stride → ahead ≡ drop (row * stride) bytes
-      → TakesRow order p colour ahead rest out → rest ≡ drop ((row + n) * stride) bytes
+      → TakesRow order p color ahead rest out → rest ≡ drop ((row + n) * stride) bytes
   next_band row n ahead rest out c d t =
-      let e : needed_of_row p colour (length out) ≡ n * stride = needed_here (length out) ∙ c in
+      let e : needed_of_row p color (length out) ≡ n * stride = needed_here (length out) ∙ c in
       t.behind
       ∙ (λ z. drop (e z) (d z))
       ∙ drop-drop (n * stride) (row * stride) bytes
       ∙ ap (λ (m : ℕ). drop m bytes) (omega arith)
 
-  rows_needed : 0 < h → (h - 1) * stored_row_bytes p + needed_of_last file order p colour k ≡ h * stride
+  rows_needed : 0 < h → (h - 1) * stored_row_bytes p + needed_of_last file order p color k ≡ h * stride
   rows_needed some =
       let a : stored_row_bytes p ≡ stride = together.in_data ∙ sym together.in_buffer in
-      let b : needed_of_last file order p colour k ≡ stride = needed_last ∙ sym together.in_buffer in
+      let b : needed_of_last file order p color k ≡ stride = needed_last ∙ sym together.in_buffer in
       let c : h - 1 + 1 ≡ h = omega (arith, some) in
       let d : (h - 1) * stride + stride ≡ (h - 1 + 1) * stride = omega arith in
       (λ z. (h - 1) * a z + b z) ∙ d ∙ ap (λ m. m * stride) c
 
   -- too few bytes for rows are too few for the chunk
   pub short_band : (failed failed' : Type 0) (row n m : ℕ) (ahead : List ℕ) (e : TiffError) → (failed → failed') → 0 < h → row + n ≤ h → m ≡ n * stride
-      → ahead ≡ drop (row * stride) bytes → IsCause (Unit {0}) failed e (IsTooShort ahead (needed_of_row p colour m) e)
-      → IsCause (Unit {0}) failed' e (unless (is_short file order p colour k) (IoError UnexpectedEof) ≡ Err e)
+      → ahead ≡ drop (row * stride) bytes → IsCause (Unit {0}) failed e (IsTooShort ahead (needed_of_row p color m) e)
+      → IsCause (Unit {0}) failed' e (unless (is_short file order p color k) (IoError UnexpectedEof) ≡ Err e)
   short_band failed failed' row n m ahead e f some rl c d q =
       cause_along e (λ w. w) f
       (λ t.
@@ -274,6 +274,6 @@ module _ (file : List ℕ) (order : ByteOrder) (p : PageRecord) (colour : ColorT
       let y : (row + n) * stride ≡ row * stride + n * stride = omega arith in
       let x : (row + n) * stride ≤ h * stride = mul-le-mul_right stride rl in
       let u = rows_needed some in
-      let s : is_short file order p colour k ≡ true = lt-ltb (length bytes) ((h - 1) * stored_row_bytes p + needed_of_last file order p colour k) (omega (arith, l, g, c, y, x, u)) in
+      let s : is_short file order p color k ≡ true = lt-ltb (length bytes) ((h - 1) * stored_row_bytes p + needed_of_last file order p color k) (omega (arith, l, g, c, y, x, u)) in
       rw (s, t.fault) refl)
       q

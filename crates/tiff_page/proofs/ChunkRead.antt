@@ -17,10 +17,10 @@ use Rattle.tiff_page.specs.Layout.{row_bits, row_bytes, shown}
 use Rattle.tiff_page.specs.PixelFault.{unless}
 use Rattle.tiff_page.specs.Pixels.{chunk_data, stored_row_bytes, needs_whole_rows, is_short}
 use Rattle.tiff_page.specs.Laws.{HasSides}
-use Rattle.tiff_page.specs.Place.{chunk_byte}
-use Rattle.tiff_page.specs.Handed.{IsStored, handed_byte}
-use Rattle.tiff_page.specs.Reading.{needed_of_row, TakesRow}
-use Rattle.tiff_page.specs.Stored.{IsTooShort}
+use Rattle.tiff_page.specs.BufferPositions.{chunk_byte}
+use Rattle.tiff_page.specs.OutputRow.{StoresAllShown, handed_byte}
+use Rattle.tiff_page.specs.RowReads.{needed_of_row, TakesRow}
+use Rattle.tiff_page.specs.ChunkData.{IsTooShort}
 use Rattle.tiff_page.proofs.Sizes.{product_some}
 use Rattle.tiff_page.proofs.ChunkRows.{row_handed, stored_more, needed_more}
 
@@ -35,54 +35,54 @@ unfolding rect
 width_within p k = omega arith
 
 -- a row is of some bytes
-pub row_some : (p : PageRecord) (colour : ColorType) (w : ℕ) → 0 < w → 0 < p.depth → 0 < shown p.planar colour → 0 < row_bytes p colour w
+pub row_some : (p : PageRecord) (color : ColorType) (w : ℕ) → 0 < w → 0 < p.depth → 0 < shown p.planar color → 0 < row_bytes p color w
 unfolding row_bits
-row_some p colour w a b s = product_some w p.depth (shown p.planar colour) a b s
+row_some p color w a b s = product_some w p.depth (shown p.planar color) a b s
 
-module _ (file : List ℕ) (order : ByteOrder) (p : PageRecord) (colour : ColorType) (k : ℕ) (sides : HasSides p) (stored : IsStored p colour) (listed : k < all_chunks p) where
+module _ (file : List ℕ) (order : ByteOrder) (p : PageRecord) (color : ColorType) (k : ℕ) (sides : HasSides p) (stored : StoresAllShown p color) (listed : k < all_chunks p) where
   abbrev pub h : ℕ
   h = (rect p k).height
 
   abbrev pub len : ℕ
-  len = row_bytes p colour (rect p k).width
+  len = row_bytes p color (rect p k).width
 
   abbrev pub need : ℕ
-  need = needed_of_row p colour len
+  need = needed_of_row p color len
 
   abbrev pub bytes : List ℕ
   bytes = chunk_data file order p k
 
   -- the bytes of a row that was read are those of the chunk's row
-  pub row_bytes_are : (r : ℕ) (left rest out : List ℕ) → r < h → length out ≡ len → left ≡ drop (r * stored_row_bytes p) bytes → TakesRow order p colour left rest out
-      → (b : ℕ) → b < len → slice_index out b ≡ chunk_byte file order p colour k r b
+  pub row_bytes_are : (r : ℕ) (left rest out : List ℕ) → r < h → length out ≡ len → left ≡ drop (r * stored_row_bytes p) bytes → TakesRow order p color left rest out
+      → (b : ℕ) → b < len → slice_index out b ≡ chunk_byte file order p color k r b
   row_bytes_are r left rest out rl e d t b bl =
       t.handed b (omega (arith, bl, e))
-      ∙ (λ z. handed_byte order p (take (needed_of_row p colour (e z)) (d z)) colour b)
-      ∙ sym (row_handed file order p colour k r b sides stored listed rl bl)
+      ∙ (λ z. handed_byte order p (take (needed_of_row p color (e z)) (d z)) color b)
+      ∙ sym (row_handed file order p color k r b sides stored listed rl bl)
 
   -- the data hold the rows so far
-  pub row_held : (r : ℕ) (left rest out : List ℕ) → 0 < len → r < h → length out ≡ len → left ≡ drop (r * stored_row_bytes p) bytes → TakesRow order p colour left rest out
+  pub row_held : (r : ℕ) (left rest out : List ℕ) → 0 < len → r < h → length out ≡ len → left ≡ drop (r * stored_row_bytes p) bytes → TakesRow order p color left rest out
       → r * stored_row_bytes p + need ≤ length bytes
   row_held r left rest out some rl e d t =
-      let a : need ≤ length left = subst (λ (n : ℕ). needed_of_row p colour n ≤ length left) e t.enough in
+      let a : need ≤ length left = subst (λ (n : ℕ). needed_of_row p color n ≤ length left) e t.enough in
       let f : length left ≡ length bytes - r * stored_row_bytes p = ap (λ (z : List ℕ). length z) d ∙ length-drop (r * stored_row_bytes p) bytes in
-      let g : len ≤ need = needed_more file order p colour k r 0 sides stored listed rl some in
+      let g : len ≤ need = needed_more file order p color k r 0 sides stored listed rl some in
       omega (arith, a, f, g, some)
 
   pub need_within : 0 < len → 0 < h → need ≤ stored_row_bytes p
   need_within some rows =
-      let l : len ≤ stored_row_bytes p = stored_more file order p colour k 0 0 sides stored listed rows some in
+      let l : len ≤ stored_row_bytes p = stored_more file order p color k 0 0 sides stored listed rows some in
       ⊎_elim
-      (λ (e : needs_whole_rows p colour ≡ true). rw e (omega arith))
-      (λ (e : needs_whole_rows p colour ≡ false). rw e (omega (arith, l)))
-      (cases_Bool (needs_whole_rows p colour))
+      (λ (e : needs_whole_rows p color ≡ true). rw e (omega arith))
+      (λ (e : needs_whole_rows p color ≡ false). rw e (omega (arith, l)))
+      (cases_Bool (needs_whole_rows p color))
 
   -- where the next row stands
-  pub next_row : (r gap : ℕ) (left rest next out : List ℕ) → 0 < len → r + 1 < h → length out ≡ len → left ≡ drop (r * stored_row_bytes p) bytes → TakesRow order p colour left rest out
+  pub next_row : (r gap : ℕ) (left rest next out : List ℕ) → 0 < len → r + 1 < h → length out ≡ len → left ≡ drop (r * stored_row_bytes p) bytes → TakesRow order p color left rest out
       → gap ≡ stored_row_bytes p - need → next ≡ drop gap rest → next ≡ drop ((r + 1) * stored_row_bytes p) bytes
   next_row r gap left rest next out some rl e d t g n =
       let w : need ≤ stored_row_bytes p = need_within some (omega (arith, rl)) in
-      let a : rest ≡ drop need left = subst (λ (m : ℕ). rest ≡ drop (needed_of_row p colour m) left) e t.behind in
+      let a : rest ≡ drop need left = subst (λ (m : ℕ). rest ≡ drop (needed_of_row p color m) left) e t.behind in
       let b : next ≡ drop gap (drop need (drop (r * stored_row_bytes p) bytes)) = n ∙ ap (drop gap) (a ∙ ap (drop need) d) in
       b
       ∙ ap (drop gap) (drop-drop need (r * stored_row_bytes p) bytes)
@@ -90,18 +90,18 @@ module _ (file : List ℕ) (order : ByteOrder) (p : PageRecord) (colour : ColorT
       ∙ ap (λ (m : ℕ). drop m bytes) (omega (arith, g, w))
 
   -- too few bytes for a row are too few for the chunk
-  pub short_row : (r : ℕ) (left : List ℕ) → r < h → left ≡ drop (r * stored_row_bytes p) bytes → length left < need → is_short file order p colour k ≡ true
+  pub short_row : (r : ℕ) (left : List ℕ) → r < h → left ≡ drop (r * stored_row_bytes p) bytes → length left < need → is_short file order p color k ≡ true
   short_row r left rl d l =
       let f : length left ≡ length bytes - r * stored_row_bytes p = ap (λ (z : List ℕ). length z) d ∙ length-drop (r * stored_row_bytes p) bytes in
       let m : r * stored_row_bytes p ≤ (h - 1) * stored_row_bytes p = mul-le-mul_right (stored_row_bytes p) (omega (arith, rl)) in
       lt-ltb (length bytes) ((h - 1) * stored_row_bytes p + need) (omega (arith, f, m, l))
 
   pub too_short : (failed failed' : Type 0) (r n : ℕ) (left : List ℕ) (e : TiffError) → (failed → failed') → r < h → n ≡ len → left ≡ drop (r * stored_row_bytes p) bytes
-      → IsCause (Unit {0}) failed e (IsTooShort left (needed_of_row p colour n) e)
-      → IsCause (Unit {0}) failed' e (unless (is_short file order p colour k) (IoError UnexpectedEof) ≡ Err e)
+      → IsCause (Unit {0}) failed e (IsTooShort left (needed_of_row p color n) e)
+      → IsCause (Unit {0}) failed' e (unless (is_short file order p color k) (IoError UnexpectedEof) ≡ Err e)
   too_short failed failed' r n left e f rl q d c =
       cause_along e (λ w. w) f
       (λ t.
-      let s : is_short file order p colour k ≡ true = short_row r left rl d (subst (λ (m : ℕ). length left < needed_of_row p colour m) q t.short) in
+      let s : is_short file order p color k ≡ true = short_row r left rl d (subst (λ (m : ℕ). length left < needed_of_row p color m) q t.short) in
       rw (s, t.fault) refl)
       c

@@ -22,12 +22,12 @@ use Rattle.tiff_page.specs.Layout.{row_bits, row_bytes, shown}
 use Rattle.tiff_page.specs.Pixels.{each_to, width_of, planar_or, stored_samples, stored_row_bytes, chunk_data, stored_byte, is_byte_plane, needs_whole_rows, needed_of_last, inverted, number_by, packed_byte, number_byte, chunk_region, shown_sample}
 use Rattle.tiff_page.specs.Laws.{HasSides}
 use Rattle.tiff_page.specs.Row.{row_number, summed_byte_in}
-use Rattle.tiff_page.specs.Handed as law
-use Rattle.tiff_page.specs.Handed.{IsStored, complemented, number_in, handed_number, handed_byte, stored_row}
+use Rattle.tiff_page.specs.OutputRow as law
+use Rattle.tiff_page.specs.OutputRow.{StoresAllShown, complement_of, number_in, handed_number, handed_byte, stored_row}
 use Rattle.tiff_page.proofs.Chunks.{fewer_bytes}
 use Rattle.tiff_page.proofs.Rows.{each_same, sum_same}
 
-pub complemented_is : (file : List ℕ) (order : ByteOrder) (p : PageRecord) (i : PhotometricInterpretation) (n v : ℕ) → inverted file order p i n v ≡ complemented i n v
+pub complemented_is : (file : List ℕ) (order : ByteOrder) (p : PageRecord) (i : PhotometricInterpretation) (n v : ℕ) → inverted file order p i n v ≡ complement_of i n v
 complemented_is file order p i n v = search rules
 
 -- bytes of whole numbers
@@ -59,16 +59,16 @@ pub plane_for : (planar : PlanarConfiguration) (plane chunks j k m : ℕ) → pl
 plane_for Planar plane chunks j k m h c = h
 plane_for Chunky plane chunks j k m h c = let e : j ≡ k = c refl in omega (arith, e)
 
-pub sample_for : (planar : PlanarConfiguration) (plane m : ℕ) (colour : ColorType)
-    → planar_or planar 0 (planar_or planar plane (m % shown planar colour)) ≡ m % shown planar colour
-sample_for Planar plane m colour = omega arith
-sample_for Chunky plane m colour = refl
+pub sample_for : (planar : PlanarConfiguration) (plane m : ℕ) (color : ColorType)
+    → planar_or planar 0 (planar_or planar plane (m % shown planar color)) ≡ m % shown planar color
+sample_for Planar plane m color = omega arith
+sample_for Chunky plane m color = refl
 
 pub first_planes : (planar : PlanarConfiguration) (k chunks samples : ℕ) → k < chunks * planes_of planar samples → planar ≡ Chunky → k < chunks
 first_planes Chunky k chunks samples h e = omega (arith, h)
 first_planes Planar k chunks samples h e = cc
 
-module _ (file : List ℕ) (order : ByteOrder) (p : PageRecord) (colour : ColorType) (k r b : ℕ) (sides : HasSides p) (stored : IsStored p colour) (listed : k < all_chunks p) (rl : r < (rect p k).height) (bl : b < row_bytes p colour (rect p k).width) where
+module _ (file : List ℕ) (order : ByteOrder) (p : PageRecord) (color : ColorType) (k r b : ℕ) (sides : HasSides p) (stored : StoresAllShown p color) (listed : k < all_chunks p) (rl : r < (rect p k).height) (bl : b < row_bytes p color (rect p k).width) where
   abbrev pub a : ℕ
   a = across p
 
@@ -82,7 +82,7 @@ module _ (file : List ℕ) (order : ByteOrder) (p : PageRecord) (colour : ColorT
   cy = j / a
 
   abbrev pub s : ℕ
-  s = shown p.planar colour
+  s = shown p.planar color
 
   abbrev pub t : ℕ
   t = stored_samples p
@@ -91,10 +91,10 @@ module _ (file : List ℕ) (order : ByteOrder) (p : PageRecord) (colour : ColorT
   size = p.depth / 8
 
   abbrev pub need : ℕ
-  need = needed_of_last file order p colour k
+  need = needed_of_last file order p color k
 
   abbrev pub row : List ℕ
-  row = stored_row file order p colour k r
+  row = stored_row file order p color k r
 
   pub x_is : (rect p k).x ≡ cx * p.chunk_width
   unfolding rect
@@ -123,38 +123,38 @@ module _ (file : List ℕ) (order : ByteOrder) (p : PageRecord) (colour : ColorT
   pub byte_of_row : (q : ℕ) → q < need → slice_index row q ≡ stored_byte file order p k r q
   byte_of_row q l = get_or-take need (drop (r * stored_row_bytes p) (chunk_data file order p k)) q 0 l ∙ get_or-drop (r * stored_row_bytes p) (chunk_data file order p k) q 0
 
-  pub stored_more : row_bytes p colour (rect p k).width ≤ stored_row_bytes p
+  pub stored_more : row_bytes p color (rect p k).width ≤ stored_row_bytes p
   unfolding row_bits
   stored_more =
       let u : (rect p k).width * p.depth * s ≤ p.chunk_width * p.depth * s = mul-le-mul_right s (mul-le-mul_right p.depth width_below) in
       let v : p.chunk_width * p.depth * s ≤ p.chunk_width * p.depth * t = mul-le-mul_left (p.chunk_width * p.depth) stored.stores in
       omega (arith, u, v)
 
-  pub width_bytes : row_bytes p colour (rect p k).width ≤ row_bytes p colour p.chunk_width
+  pub width_bytes : row_bytes p color (rect p k).width ≤ row_bytes p color p.chunk_width
   unfolding row_bits
   width_bytes = fewer_bytes (rect p k).width p.chunk_width p.depth s width_below
 
-  pub needed_more : row_bytes p colour (rect p k).width ≤ need
+  pub needed_more : row_bytes p color (rect p k).width ≤ need
   needed_more =
       ⊎_elim
-      (λ (e : needs_whole_rows p colour ≡ true). rw e stored_more)
-      (λ (e : needs_whole_rows p colour ≡ false). rw e (omega arith))
-      (cases_Bool (needs_whole_rows p colour))
+      (λ (e : needs_whole_rows p color ≡ true). rw e stored_more)
+      (λ (e : needs_whole_rows p color ≡ false). rw e (omega arith))
+      (cases_Bool (needs_whole_rows p color))
 
   -- ---- depths below 8
 
-  pub packed : packed_byte file order p colour (chunk_region file order p k) (k / chunks_of_plane p) r b
-      ≡ complemented p.interpretation 256 (slice_index row b)
+  pub packed : packed_byte file order p color (chunk_region file order p k) (k / chunks_of_plane p) r b
+      ≡ complement_of p.interpretation 256 (slice_index row b)
   unfolding rect
   packed =
-      let len : row_bytes p colour (min p.chunk_width (p.width - cx * p.chunk_width)) ≤ row_bytes p colour p.chunk_width = width_bytes in
+      let len : row_bytes p color (min p.chunk_width (p.width - cx * p.chunk_width)) ≤ row_bytes p color p.chunk_width = width_bytes in
       let line : (cy * p.chunk_height + r) % p.chunk_height ≡ r = mod-mul-add cy p.chunk_height r row_below in
-      let byte : b % row_bytes p colour p.chunk_width ≡ b = mod-eq_of_lt (omega (arith, bl, len)) in
+      let byte : b % row_bytes p color p.chunk_width ≡ b = mod-eq_of_lt (omega (arith, bl, len)) in
       let here : k / chunks_of_plane p * chunks_of_plane p + j ≡ k = whole_index in
       let n = needed_more in
       (λ z. inverted file order p p.interpretation 256 (stored_byte file order p (here z) (line z) (byte z)))
       ∙ complemented_is file order p p.interpretation 256 (stored_byte file order p k r b)
-      ∙ ap (complemented p.interpretation 256) (sym (byte_of_row b (omega (arith, bl, n))))
+      ∙ ap (complement_of p.interpretation 256) (sym (byte_of_row b (omega (arith, bl, n))))
 
   -- ---- depths of whole bytes
 
@@ -171,7 +171,7 @@ module _ (file : List ℕ) (order : ByteOrder) (p : PageRecord) (colour : ColorT
     abbrev pub sample : ℕ
     sample = n % s
 
-    pub bytes_shown : row_bytes p colour (rect p k).width ≡ (rect p k).width * s * size
+    pub bytes_shown : row_bytes p color (rect p k).width ≡ (rect p k).width * s * size
     unfolding row_bits
     bytes_shown = bits_are (rect p k).width p.depth size s whole
 
@@ -201,14 +201,14 @@ module _ (file : List ℕ) (order : ByteOrder) (p : PageRecord) (colour : ColorT
         let f = bytes_stored in
         let w = width_below in
         ⊎_elim
-        (λ (h : needs_whole_rows p colour ≡ true).
+        (λ (h : needs_whole_rows p color ≡ true).
         let m : (rect p k).width * t * size ≤ p.chunk_width * t * size = mul-le-mul_right size (mul-le-mul_right t w) in
         rw h (omega (arith, m, f)))
-        (λ (h : needs_whole_rows p colour ≡ false).
+        (λ (h : needs_whole_rows p color ≡ false).
         let l : t ≤ s = none_dropped (is_byte_plane p.predictor) s t h in
         let m : (rect p k).width * t * size ≤ (rect p k).width * s * size = mul-le-mul_right size (mul-le-mul_left (rect p k).width l) in
         rw h (omega (arith, m, e)))
-        (cases_Bool (needs_whole_rows p colour))
+        (cases_Bool (needs_whole_rows p color))
 
     pub raw_is : (c : ℕ) → c ≤ col → number order (width_of size) (each_to size (λ i. stored_byte file order p k r ((c * t + sample) * size + i)))
         ≡ row_number order size row (c * t + sample)
@@ -248,8 +248,8 @@ module _ (file : List ℕ) (order : ByteOrder) (p : PageRecord) (colour : ColorT
         let u : size * (p.chunk_width * t) ≡ p.chunk_width * t * size = mul_comm size (p.chunk_width * t) in
         plane_byte_is f (i * (p.chunk_width * t) + (col * t + sample)) (omega (arith, o, u, g, l, w))))
 
-    pub handed : number_byte file order p colour (chunk_region file order p k) (k / chunks_of_plane p) r b
-        ≡ handed_number order p row colour n / 256 ^ (b % size) % 256
+    pub handed : number_byte file order p color (chunk_region file order p k) (k / chunks_of_plane p) r b
+        ≡ handed_number order p row color n / 256 ^ (b % size) % 256
     unfolding rect shown_sample
     handed =
         let line : (cy * p.chunk_height + r) % p.chunk_height ≡ r = mod-mul-add cy p.chunk_height r row_below in
@@ -262,7 +262,7 @@ module _ (file : List ℕ) (order : ByteOrder) (p : PageRecord) (colour : ColorT
         let here : plane * chunks_of_plane p + j ≡ k = plane_for p.planar (k / chunks_of_plane p) (chunks_of_plane p) j k sample whole_index chunky_index in
         (λ z.
         inverted file order p p.interpretation (2 ^ p.depth)
-        (number_by file order p p.predictor (plane * chunks_of_plane p + (row_at z * a + column_at z)) (line z) (column z) (sample_for p.planar (k / chunks_of_plane p) n colour z))
+        (number_by file order p p.predictor (plane * chunks_of_plane p + (row_at z * a + column_at z)) (line z) (column z) (sample_for p.planar (k / chunks_of_plane p) n color z))
         / 256 ^ (b % size) % 256)
         ∙ (λ z. inverted file order p p.interpretation (2 ^ p.depth) (number_by file order p p.predictor (plane * chunks_of_plane p + of_plane z) r col sample) / 256 ^ (b % size) % 256)
         ∙ (λ z. inverted file order p p.interpretation (2 ^ p.depth) (number_by file order p p.predictor (here z) r col sample) / 256 ^ (b % size) % 256)
@@ -271,13 +271,13 @@ module _ (file : List ℕ) (order : ByteOrder) (p : PageRecord) (colour : ColorT
 
 pub row_handed : law.RowHanded
 unfolding rect
-row_handed file order p colour k r b sides stored listed rl bl =
+row_handed file order p color k r b sides stored listed rl bl =
     ⊎_elim
-    (λ (l : p.depth < 8). let e : nat_lt p.depth 8 ≡ true = lt-ltb p.depth 8 l in rw e (packed file order p colour k r b sides stored listed rl bl))
+    (λ (l : p.depth < 8). let e : nat_lt p.depth 8 ≡ true = lt-ltb p.depth 8 l in rw e (packed file order p color k r b sides stored listed rl bl))
     (λ (g : 8 ≤ p.depth).
     let e : nat_lt p.depth 8 ≡ false = le-ltb p.depth 8 g in
     ⊎_elim
     (λ (l : p.depth < 8). Prim.absurd (omega (arith, l, g)))
-    (λ (w : p.depth ≡ p.depth / 8 * 8). rw e (handed file order p colour k r b sides stored listed rl bl w))
+    (λ (w : p.depth ≡ p.depth / 8 * 8). rw e (handed file order p color k r b sides stored listed rl bl w))
     stored.depth)
     (cases_lt p.depth 8)

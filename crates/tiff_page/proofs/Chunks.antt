@@ -56,7 +56,7 @@ pub samples_some : (v d s k : ℕ) → k < (v * d * s + 7) / 8 → 0 < s
 samples_some v d s k h =
     ⊎_elim (λ (l : 0 < s). l) (λ (z : s ≤ 0). let e : (v * d * s + 7) / 8 ≡ 0 = no_samples v d s (omega (arith, z)) in Prim.absurd (omega (arith, h, e))) (cases_lt 0 s)
 
-module _ (file : List ℕ) (order : ByteOrder) (p : PageRecord) (colour : ColorType) (i row k : ℕ) (sides : HasSides p) (whole : HasWholeRows p colour) where
+module _ (file : List ℕ) (order : ByteOrder) (p : PageRecord) (color : ColorType) (i row k : ℕ) (sides : HasSides p) (whole : HasWholeRows p color) where
   abbrev pub a : ℕ
   a = across p
 
@@ -73,10 +73,10 @@ module _ (file : List ℕ) (order : ByteOrder) (p : PageRecord) (colour : ColorT
   first = i / chunks_of_plane p * chunks_of_plane p
 
   abbrev pub c : ℕ
-  c = row_bytes p colour p.chunk_width
+  c = row_bytes p color p.chunk_width
 
   abbrev pub start : ℕ
-  start = row_bits p colour (col * p.chunk_width) / 8
+  start = row_bits p color (col * p.chunk_width) / 8
 
   pub across_some : 0 < a
   across_some = parts_some p.width p.chunk_width sides.chunk_wide sides.wide
@@ -87,24 +87,24 @@ module _ (file : List ℕ) (order : ByteOrder) (p : PageRecord) (colour : ColorT
       ⊎_elim
       (λ (one : a ≤ 1).
       let z : col ≡ 0 = omega (arith, mod_below j a across_some, one) in
-      ap (λ n. n * p.chunk_width * p.depth * shown p.planar colour / 8) z
-      ∙ none_before p.chunk_width p.depth (shown p.planar colour) c
+      ap (λ n. n * p.chunk_width * p.depth * shown p.planar color / 8) z
+      ∙ none_before p.chunk_width p.depth (shown p.planar color) c
       ∙ ap (λ n. n * c) (sym z))
-      (λ (e : row_bits p colour p.chunk_width ≡ row_bits p colour p.chunk_width / 8 * 8). start_is col p.chunk_width p.depth (shown p.planar colour) e)
+      (λ (e : row_bits p color p.chunk_width ≡ row_bits p color p.chunk_width / 8 * 8). start_is col p.chunk_width p.depth (shown p.planar color) e)
       whole.rows
 
-  module _ (rl : row < min p.chunk_height (p.height - line * p.chunk_height)) (kl : k < row_bytes p colour (min p.chunk_width (p.width - col * p.chunk_width))) where
+  module _ (rl : row < min p.chunk_height (p.height - line * p.chunk_height)) (kl : k < row_bytes p color (min p.chunk_width (p.width - col * p.chunk_width))) where
     pub in_chunk : k < c
     unfolding row_bits
     in_chunk =
-        let f : row_bytes p colour (min p.chunk_width (p.width - col * p.chunk_width)) ≤ c = fewer_bytes (min p.chunk_width (p.width - col * p.chunk_width)) p.chunk_width p.depth (shown p.planar colour) (omega arith) in
+        let f : row_bytes p color (min p.chunk_width (p.width - col * p.chunk_width)) ≤ c = fewer_bytes (min p.chunk_width (p.width - col * p.chunk_width)) p.chunk_width p.depth (shown p.planar color) (omega arith) in
         omega (arith, f, kl)
 
     pub in_rows : row < p.chunk_height
     in_rows = omega (arith, rl)
 
-    pub packed_same : packed_byte file order p colour (whole_image file order p) (i / chunks_of_plane p) (line * p.chunk_height + row) (start + k)
-        ≡ packed_byte file order p colour (chunk_region file order p i) (i / chunks_of_plane p) row k
+    pub packed_same : packed_byte file order p color (whole_image file order p) (i / chunks_of_plane p) (line * p.chunk_height + row) (start + k)
+        ≡ packed_byte file order p color (chunk_region file order p i) (i / chunks_of_plane p) row k
     unfolding rect
     packed_same =
         let up : (0 + (line * p.chunk_height + row)) / p.chunk_height ≡ line = ap (λ z. z / p.chunk_height) (from_0 (line * p.chunk_height + row)) ∙ div-mul-add line p.chunk_height row in_rows in
@@ -121,11 +121,11 @@ module _ (file : List ℕ) (order : ByteOrder) (p : PageRecord) (colour : ColorT
         ∙ (λ t. inverted file order p p.interpretation 256 (stored_byte file order p (first + j) (sym inner t) (sym o t)))
 
     pub number_same : 8 ≤ p.depth → p.depth ≡ p.depth / 8 * 8
-        → number_byte file order p colour (whole_image file order p) (i / chunks_of_plane p) (line * p.chunk_height + row) (start + k)
-        ≡ number_byte file order p colour (chunk_region file order p i) (i / chunks_of_plane p) row k
+        → number_byte file order p color (whole_image file order p) (i / chunks_of_plane p) (line * p.chunk_height + row) (start + k)
+        ≡ number_byte file order p color (chunk_region file order p i) (i / chunks_of_plane p) row k
     unfolding rect row_bits
     number_same big e =
-        let s : ℕ = shown p.planar colour in
+        let s : ℕ = shown p.planar color in
         let size : ℕ = p.depth / 8 in
         let x : ℕ = col * p.chunk_width in
         let ss : 0 < s = samples_some (min p.chunk_width (p.width - x)) p.depth s k kl in
@@ -139,8 +139,8 @@ module _ (file : List ℕ) (order : ByteOrder) (p : PageRecord) (colour : ColorT
         let y : 0 + (line * p.chunk_height + row) ≡ line * p.chunk_height + row = from_0 (line * p.chunk_height + row) in
         λ t. shown_sample file order p (h t) (y t) (planar_or p.planar (i / chunks_of_plane p) (g t)) / 256 ^ m t % 256
 
-    pub byte_same : region_byte file order p colour (whole_image file order p) (i / chunks_of_plane p) (line * p.chunk_height + row) (start + k)
-        ≡ region_byte file order p colour (chunk_region file order p i) (i / chunks_of_plane p) row k
+    pub byte_same : region_byte file order p color (whole_image file order p) (i / chunks_of_plane p) (line * p.chunk_height + row) (start + k)
+        ≡ region_byte file order p color (chunk_region file order p i) (i / chunks_of_plane p) row k
     byte_same =
         ⊎_elim
         (λ (l : p.depth < 8). let t : nat_lt p.depth 8 ≡ true = lt-ltb p.depth 8 l in rw t packed_same)
@@ -154,16 +154,16 @@ module _ (file : List ℕ) (order : ByteOrder) (p : PageRecord) (colour : ColorT
 
 pub image_of_chunks : law.ImageOfChunks
 unfolding rect
-image_of_chunks file order p colour i row k sides whole rl kl = byte_same file order p colour i row k sides whole rl kl
+image_of_chunks file order p color i row k sides whole rl kl = byte_same file order p color i row k sides whole rl kl
 
 pub unit_of_chunks : law.UnitOfChunks
 unfolding rect
-unit_of_chunks file order p colour unit plane row k l =
+unit_of_chunks file order p color unit plane row k l =
     let a : unit % chunks_of_plane p ≡ unit = mod-eq_of_lt l in
     let b : (plane * chunks_of_plane p + unit) % chunks_of_plane p ≡ unit = mod-mul-add plane (chunks_of_plane p) unit l in
     ap
     (λ (j : ℕ).
-    region_byte file order p colour (record {
+    region_byte file order p color (record {
       x = j % across p * p.chunk_width;
       y = j / across p * p.chunk_height;
       width = min p.chunk_width (p.width - j % across p * p.chunk_width);

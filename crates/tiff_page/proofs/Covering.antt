@@ -1,4 +1,4 @@
--- The chunks of an image cover its places in a buffer, each place once.
+-- The chunks of an image cover its positions in a buffer, each position once.
 use Rattle.std.proofs.Common.{◌≡◌, ℕ, ◌+◌, ◌-◌, ◌*◌, ◌/◌, ◌%◌, ◌<◌, ◌≤◌, ◌⊎◌, min, true, false, Some, None, List, length, refl, ap, sym, ◌∙◌, inl, inr, ⊎_elim, arith}
 use Rattle.std.specs.Prelude.{nat_lt, slice_index, unwrap_or}
 use Rattle.std.proofs.lemmas.Bool.{cases_Bool, cases_lt, lt-ltb, le-ltb}
@@ -15,12 +15,12 @@ use Rattle.tiff_page.specs.Layout.{row_bits, row_bytes, shown}
 use Rattle.tiff_page.specs.Pixels.{Region, byte_at, region_byte, whole_image}
 use Rattle.tiff_page.specs.PixelCalls.{placed}
 use Rattle.tiff_page.specs.Laws.{HasSides, HasWholeRows}
-use Rattle.tiff_page.specs.Place.{Writes, in_rect, chunk_byte, plane_of, chunk_of, top_of, left_of, IsInChunk, IsOfChunk, IsBefore, image_byte}
-use Rattle.tiff_page.specs.Placing as law
+use Rattle.tiff_page.specs.BufferPositions.{Writes, in_rect, chunk_byte, plane_of, chunk_of, top_of, left_of, IsInChunk, IsOfChunk, IsBefore, image_byte}
+use Rattle.tiff_page.specs.PositionLaws as law
 use Rattle.tiff_page.proofs.Sizes.{parts_cover, parts_some, parts_within, plane_some}
 use Rattle.tiff_page.proofs.Chunks.{fewer_bytes, start_is, none_before, image_of_chunks}
 use Rattle.tiff_page.proofs.Rects.{writes_more, writes_same, writes_as, writes_none}
-use Rattle.tiff_page.proofs.Placing.{one_below, part_below, placed_each}
+use Rattle.tiff_page.proofs.PositionLaws.{one_below, part_below, placed_each}
 
 -- a row in columns of chunks and the rest
 pub row_parts : (cx cw w d s : ℕ) → cx * cw ≤ w → (cx ≡ 0) ⊎ (cw * d * s ≡ cw * d * s / 8 * 8)
@@ -80,7 +80,7 @@ below_min m cw n d s a b =
     (cases_lt cw n)
 
 -- a chunk of a plane
-module _ (p : PageRecord) (colour : ColorType) (stride plane j : ℕ) (sides : HasSides p) (whole : HasWholeRows p colour) (fits : row_bytes p colour p.width ≤ stride) (in_plane : j < chunks_of_plane p) where
+module _ (p : PageRecord) (color : ColorType) (stride plane j : ℕ) (sides : HasSides p) (whole : HasWholeRows p color) (fits : row_bytes p color p.width ≤ stride) (in_plane : j < chunks_of_plane p) where
   abbrev pub a : ℕ
   a = across p
 
@@ -91,7 +91,7 @@ module _ (p : PageRecord) (colour : ColorType) (stride plane j : ℕ) (sides : H
   cy = j / a
 
   abbrev pub c : ℕ
-  c = row_bytes p colour p.chunk_width
+  c = row_bytes p color p.chunk_width
 
   abbrev pub k : ℕ
   k = plane * chunks_of_plane p + j
@@ -130,41 +130,41 @@ module _ (p : PageRecord) (colour : ColorType) (stride plane j : ℕ) (sides : H
       parts_within p.height p.chunk_height cy sides.chunk_high
       (div_below j a (parts p.height p.chunk_height) across_some (rw (mul_comm (parts p.height p.chunk_height) a) in_plane))
 
-  pub first_or_whole : (cx ≡ 0) ⊎ (row_bits p colour p.chunk_width ≡ row_bits p colour p.chunk_width / 8 * 8)
+  pub first_or_whole : (cx ≡ 0) ⊎ (row_bits p color p.chunk_width ≡ row_bits p color p.chunk_width / 8 * 8)
   first_or_whole =
       ⊎_elim
       (λ (one : a ≤ 1). let l : cx < a = mod_below j a across_some in inl (omega (arith, one, l)))
       (λ e. inr e)
       whole.rows
 
-  pub left_is : left_of p colour stride plane j ≡ cx * c
+  pub left_is : left_of p color stride plane j ≡ cx * c
   unfolding row_bits
   left_is =
-      ap (λ z. z * p.depth * shown p.planar colour / 8) x_is
+      ap (λ z. z * p.depth * shown p.planar color / 8) x_is
       ∙ ⊎_elim
       (λ (z : cx ≡ 0).
-      ap (λ n. n * p.chunk_width * p.depth * shown p.planar colour / 8) z
-      ∙ none_before p.chunk_width p.depth (shown p.planar colour) c
+      ap (λ n. n * p.chunk_width * p.depth * shown p.planar color / 8) z
+      ∙ none_before p.chunk_width p.depth (shown p.planar color) c
       ∙ ap (λ n. n * c) (sym z))
-      (λ e. start_is cx p.chunk_width p.depth (shown p.planar colour) e)
+      (λ e. start_is cx p.chunk_width p.depth (shown p.planar color) e)
       first_or_whole
 
-  pub row_is : row_bytes p colour p.width ≡ cx * c + row_bytes p colour (p.width - cx * p.chunk_width)
+  pub row_is : row_bytes p color p.width ≡ cx * c + row_bytes p color (p.width - cx * p.chunk_width)
   unfolding row_bits
-  row_is = row_parts cx p.chunk_width p.width p.depth (shown p.planar colour) (omega (arith, column_in)) first_or_whole
+  row_is = row_parts cx p.chunk_width p.width p.depth (shown p.planar color) (omega (arith, column_in)) first_or_whole
 
-  pub len_in : row_bytes p colour (rect p k).width ≤ row_bytes p colour (p.width - cx * p.chunk_width)
+  pub len_in : row_bytes p color (rect p k).width ≤ row_bytes p color (p.width - cx * p.chunk_width)
   unfolding row_bits
-  len_in = rw width_is (fewer_bytes (min p.chunk_width (p.width - cx * p.chunk_width)) (p.width - cx * p.chunk_width) p.depth (shown p.planar colour) (omega arith))
+  len_in = rw width_is (fewer_bytes (min p.chunk_width (p.width - cx * p.chunk_width)) (p.width - cx * p.chunk_width) p.depth (shown p.planar color) (omega arith))
 
-  pub len_below : row_bytes p colour (rect p k).width ≤ c
+  pub len_below : row_bytes p color (rect p k).width ≤ c
   unfolding row_bits
-  len_below = rw width_is (fewer_bytes (min p.chunk_width (p.width - cx * p.chunk_width)) p.chunk_width p.depth (shown p.planar colour) (omega arith))
+  len_below = rw width_is (fewer_bytes (min p.chunk_width (p.width - cx * p.chunk_width)) p.chunk_width p.depth (shown p.planar color) (omega arith))
 
-  pub row_in_stride : left_of p colour stride plane j + row_bytes p colour (rect p k).width ≤ stride
+  pub row_in_stride : left_of p color stride plane j + row_bytes p color (rect p k).width ≤ stride
   row_in_stride = let e = left_is in let r = row_is in let l = len_in in omega (arith, e, r, l, fits)
 
-  pub belongs : (i : ℕ) → IsInChunk p colour stride plane j i → IsOfChunk p colour stride plane j i
+  pub belongs : (i : ℕ) → IsInChunk p color stride plane j i → IsOfChunk p color stride plane j i
   belongs i q =
       let e = left_is in
       let r = row_is in
@@ -172,10 +172,10 @@ module _ (p : PageRecord) (colour : ColorType) (stride plane j : ℕ) (sides : H
       let n = len_below in
       let y = y_is in
       let h = height_is in
-      let row : ℕ = i / stride - top_of p colour stride plane j in
-      let b : ℕ = i % stride - left_of p colour stride plane j in
+      let row : ℕ = i / stride - top_of p color stride plane j in
+      let b : ℕ = i % stride - left_of p color stride plane j in
       let rl : row < (rect p k).height = omega (arith, q.below, q.above) in
-      let bl : b < row_bytes p colour (rect p k).width = omega (arith, q.right, q.within) in
+      let bl : b < row_bytes p color (rect p k).width = omega (arith, q.right, q.within) in
       let yi : i / stride ≡ plane * p.height + (cy * p.chunk_height + row) = omega (arith, q.below, y) in
       let yl : cy * p.chunk_height + row < p.height = omega (arith, rl, h, line_in) in
       let xi : i % stride ≡ cx * c + b = omega (arith, q.right, e) in
@@ -189,20 +189,20 @@ module _ (p : PageRecord) (colour : ColorType) (stride plane j : ℕ) (sides : H
         of_chunk = ap (λ z. z * a + i % stride / c) w ∙ ap (λ z. cy * a + z) x ∙ div-add-mod' j a;
       }
 
-  pub covers : row_bytes p colour p.width ≤ a * c
+  pub covers : row_bytes p color p.width ≤ a * c
   unfolding row_bits
-  covers = row_covered a p.chunk_width p.width p.depth (shown p.planar colour) (parts_cover p.width p.chunk_width sides.chunk_wide) whole.rows
+  covers = row_covered a p.chunk_width p.width p.depth (shown p.planar color) (parts_cover p.width p.chunk_width sides.chunk_wide) whole.rows
 
-  pub chunk_bytes_some : 0 < row_bytes p colour p.width → 0 < c
+  pub chunk_bytes_some : 0 < row_bytes p color p.width → 0 < c
   chunk_bytes_some h =
       let l = covers in
       ⊎_elim (λ (g : 0 < c). g) (λ (z : c ≤ 0). let e : c ≡ 0 = omega (arith, z) in let f : a * c ≡ a * 0 = ap (λ n. a * n) e in Prim.absurd (omega (arith, l, h, f))) (cases_lt 0 c)
 
-  pub part_below_min : (b : ℕ) → b < c → b < row_bytes p colour (p.width - cx * p.chunk_width) → b < row_bytes p colour (rect p k).width
+  pub part_below_min : (b : ℕ) → b < c → b < row_bytes p color (p.width - cx * p.chunk_width) → b < row_bytes p color (rect p k).width
   unfolding row_bits
-  part_below_min b l h = rw width_is (below_min b p.chunk_width (p.width - cx * p.chunk_width) p.depth (shown p.planar colour) l h)
+  part_below_min b l h = rw width_is (below_min b p.chunk_width (p.width - cx * p.chunk_width) p.depth (shown p.planar color) l h)
 
-  pub is_of : (i : ℕ) → IsOfChunk p colour stride plane j i → IsInChunk p colour stride plane j i
+  pub is_of : (i : ℕ) → IsOfChunk p color stride plane j i → IsInChunk p color stride plane j i
   is_of i q =
       let e = left_is in
       let r = row_is in
@@ -224,7 +224,7 @@ module _ (p : PageRecord) (colour : ColorType) (stride plane j : ℕ) (sides : H
       let rl : row < p.chunk_height = mod_below (i / stride % p.height) p.chunk_height sides.chunk_high in
       let hl : i / stride % p.height < p.height = mod_below (i / stride) p.height sides.high in
       let bl : b < c = mod_below (i % stride) c cs in
-      let bw : b < row_bytes p colour (rect p k).width = part_below_min b bl (omega (arith, x2, q.byte, r)) in
+      let bw : b < row_bytes p color (rect p k).width = part_below_min b bl (omega (arith, x2, q.byte, r)) in
       record {
         below = omega (arith, w2, v2, y);
         above = omega (arith, w2, v2, y, h, rl, hl);
@@ -233,150 +233,150 @@ module _ (p : PageRecord) (colour : ColorType) (stride plane j : ℕ) (sides : H
       }
 
   module _ (file : List ℕ) (order : ByteOrder) where
-    pub byte_is : (i : ℕ) → IsInChunk p colour stride plane j i
-        → in_rect (chunk_byte file order p colour k) stride (top_of p colour stride plane j) (left_of p colour stride plane j) i
-        ≡ image_byte p colour stride file order i
+    pub byte_is : (i : ℕ) → IsInChunk p color stride plane j i
+        → in_rect (chunk_byte file order p color k) stride (top_of p color stride plane j) (left_of p color stride plane j) i
+        ≡ image_byte p color stride file order i
     byte_is i q =
         let y = y_is in
         let h = height_is in
-        let row : ℕ = i / stride - top_of p colour stride plane j in
-        let b : ℕ = i % stride - left_of p colour stride plane j in
+        let row : ℕ = i / stride - top_of p color stride plane j in
+        let b : ℕ = i % stride - left_of p color stride plane j in
         let rl : row < (rect p k).height = omega (arith, q.below, q.above) in
-        let bl : b < row_bytes p colour (rect p k).width = omega (arith, q.right, q.within) in
+        let bl : b < row_bytes p color (rect p k).width = omega (arith, q.right, q.within) in
         let yi : i / stride ≡ plane * p.height + (cy * p.chunk_height + row) = omega (arith, q.below, y) in
         let yl : cy * p.chunk_height + row < p.height = omega (arith, rl, h, line_in) in
         let v : i / stride % p.height ≡ cy * p.chunk_height + row = ap (λ z. z % p.height) yi ∙ mod-mul-add plane p.height (cy * p.chunk_height + row) yl in
         let v2 : (rect p k).y + row ≡ i / stride % p.height = omega (arith, v, y) in
-        let u : (rect p k).plane ≡ plane_of p colour stride i = plane_is ∙ sym (belongs i q).of_plane in
-        let x : row_bits p colour (rect p k).x / 8 + b ≡ i % stride = omega (arith, q.right) in
-        sym (image_of_chunks file order p colour k row b sides whole rl bl)
-        ∙ (λ t. region_byte file order p colour (whole_image file order p) (u t) (v2 t) (x t))
+        let u : (rect p k).plane ≡ plane_of p color stride i = plane_is ∙ sym (belongs i q).of_plane in
+        let x : row_bits p color (rect p k).x / 8 + b ≡ i % stride = omega (arith, q.right) in
+        sym (image_of_chunks file order p color k row b sides whole rl bl)
+        ∙ (λ t. region_byte file order p color (whole_image file order p) (u t) (v2 t) (x t))
 
-    pub chunk_at_place : (old new : List ℕ)
-        → Writes (IsInChunk p colour stride plane j) (in_rect (chunk_byte file order p colour k) stride (top_of p colour stride plane j) (left_of p colour stride plane j)) old new
-        → Writes (IsOfChunk p colour stride plane j) (image_byte p colour stride file order) old new
-    chunk_at_place old new w =
-        writes_same (IsInChunk p colour stride plane j) (IsOfChunk p colour stride plane j) (image_byte p colour stride file order) old new belongs is_of
-        (writes_as (IsInChunk p colour stride plane j)
-        (in_rect (chunk_byte file order p colour k) stride (top_of p colour stride plane j) (left_of p colour stride plane j))
-        (image_byte p colour stride file order) old new byte_is w)
+    pub chunk_at_position : (old new : List ℕ)
+        → Writes (IsInChunk p color stride plane j) (in_rect (chunk_byte file order p color k) stride (top_of p color stride plane j) (left_of p color stride plane j)) old new
+        → Writes (IsOfChunk p color stride plane j) (image_byte p color stride file order) old new
+    chunk_at_position old new w =
+        writes_same (IsInChunk p color stride plane j) (IsOfChunk p color stride plane j) (image_byte p color stride file order) old new belongs is_of
+        (writes_as (IsInChunk p color stride plane j)
+        (in_rect (chunk_byte file order p color k) stride (top_of p color stride plane j) (left_of p color stride plane j))
+        (image_byte p color stride file order) old new byte_is w)
 
 pub chunk_written : law.ChunkWritten
-chunk_written file order p colour stride plane j old new sides whole fits in_plane w = chunk_at_place p colour stride plane j sides whole fits in_plane file order old new w
+chunk_written file order p color stride plane j old new sides whole fits in_plane w = chunk_at_position p color stride plane j sides whole fits in_plane file order old new w
 
 -- ---- chunks after chunks
 
 pub chunks_written : law.ChunksWritten
-chunks_written p colour stride n j plane value old mid new l a b =
-    writes_more (IsBefore p colour stride n j plane) (IsOfChunk p colour stride plane j) (IsBefore p colour stride n j (plane + 1)) value old mid new
+chunks_written p color stride n j plane value old mid new l a b =
+    writes_more (IsBefore p color stride n j plane) (IsOfChunk p color stride plane j) (IsBefore p color stride n j (plane + 1)) value old mid new
     (λ i q. record {
       byte = q.byte;
       of_plane = q.of_plane;
-      of_chunk = ⊎_elim (λ (z : chunk_of p colour stride i < j). inl z) (λ z. inr (z.0, omega (arith, z.1))) q.of_chunk;
+      of_chunk = ⊎_elim (λ (z : chunk_of p color stride i < j). inl z) (λ z. inr (z.0, omega (arith, z.1))) q.of_chunk;
     })
     (λ i q. record { byte = q.byte; of_plane = omega (arith, q.of_plane, l); of_chunk = inr (q.of_chunk, omega (arith, q.of_plane)) })
     (λ i q. ⊎_elim
-    (λ (z : chunk_of p colour stride i < j). inl (record { byte = q.byte; of_plane = q.of_plane; of_chunk = inl z }))
+    (λ (z : chunk_of p color stride i < j). inl (record { byte = q.byte; of_plane = q.of_plane; of_chunk = inl z }))
     (λ z. ⊎_elim
-    (λ (m : plane_of p colour stride i < plane). inl (record { byte = q.byte; of_plane = q.of_plane; of_chunk = inr (z.0, m) }))
-    (λ (m : plane ≤ plane_of p colour stride i). inr (record { byte = q.byte; of_plane = omega (arith, m, z.1); of_chunk = z.0 }))
-    (cases_lt (plane_of p colour stride i) plane))
+    (λ (m : plane_of p color stride i < plane). inl (record { byte = q.byte; of_plane = q.of_plane; of_chunk = inr (z.0, m) }))
+    (λ (m : plane ≤ plane_of p color stride i). inr (record { byte = q.byte; of_plane = omega (arith, m, z.1); of_chunk = z.0 }))
+    (cases_lt (plane_of p color stride i) plane))
     q.of_chunk)
     a b
 
 -- all planes of the j-th chunk are all chunks below the next, in no plane more
 pub planes_written : law.PlanesWritten
-planes_written p colour stride n j value old new w =
-    writes_same (IsBefore p colour stride n j n) (IsBefore p colour stride n (j + 1) 0) value old new
-    (λ i q. record { byte = q.byte; of_plane = q.of_plane; of_chunk = inl (⊎_elim (λ (z : chunk_of p colour stride i < j). omega (arith, z)) (λ z. omega (arith, z.0)) q.of_chunk) })
+planes_written p color stride n j value old new w =
+    writes_same (IsBefore p color stride n j n) (IsBefore p color stride n (j + 1) 0) value old new
+    (λ i q. record { byte = q.byte; of_plane = q.of_plane; of_chunk = inl (⊎_elim (λ (z : chunk_of p color stride i < j). omega (arith, z)) (λ z. omega (arith, z.0)) q.of_chunk) })
     (λ i q. record {
       byte = q.byte;
       of_plane = q.of_plane;
       of_chunk =
           ⊎_elim
-          (λ (z : chunk_of p colour stride i < j + 1).
-          ⊎_elim (λ (y : chunk_of p colour stride i < j). inl y) (λ (y : j ≤ chunk_of p colour stride i). inr (omega (arith, y, z), q.of_plane)) (cases_lt (chunk_of p colour stride i) j))
+          (λ (z : chunk_of p color stride i < j + 1).
+          ⊎_elim (λ (y : chunk_of p color stride i < j). inl y) (λ (y : j ≤ chunk_of p color stride i). inr (omega (arith, y, z), q.of_plane)) (cases_lt (chunk_of p color stride i) j))
           (λ z. Prim.absurd (omega (arith, z.1)))
           q.of_chunk;
     })
     w
 
 pub none_written : law.NoneWritten
-none_written p colour stride n value old =
-    writes_none (IsBefore p colour stride n 0 0) value old
-    (λ i q. ⊎_elim (λ (z : chunk_of p colour stride i < 0). Prim.absurd (omega (arith, z))) (λ z. Prim.absurd (omega (arith, z.1))) q.of_chunk)
+none_written p color stride n value old =
+    writes_none (IsBefore p color stride n 0 0) value old
+    (λ i q. ⊎_elim (λ (z : chunk_of p color stride i < 0). Prim.absurd (omega (arith, z))) (λ z. Prim.absurd (omega (arith, z.1))) q.of_chunk)
 
-module _ (file : List ℕ) (order : ByteOrder) (p : PageRecord) (colour : ColorType) (stride n : ℕ) (sides : HasSides p) (whole : HasWholeRows p colour) (fits : row_bytes p colour p.width ≤ stride) where
-  pub row_of_place : 0 < stride → (i : ℕ) → i % (stride * p.height) / stride ≡ i / stride % p.height
-  row_of_place s i =
+module _ (file : List ℕ) (order : ByteOrder) (p : PageRecord) (color : ColorType) (stride n : ℕ) (sides : HasSides p) (whole : HasWholeRows p color) (fits : row_bytes p color p.width ≤ stride) where
+  pub row_of_position : 0 < stride → (i : ℕ) → i % (stride * p.height) / stride ≡ i / stride % p.height
+  row_of_position s i =
       let e : i % (p.height * stride) ≡ i / stride % p.height * stride + i % stride = mod-mul i sides.high s in
       ap (λ z. i % z / stride) (mul_comm stride p.height) ∙ ap (λ z. z / stride) e ∙ div-mul-add (i / stride % p.height) stride (i % stride) (mod_below i stride s)
 
-  pub plane_of_place : (i : ℕ) → i / (stride * p.height) ≡ plane_of p colour stride i
-  plane_of_place i = sym (div-div-eq-div-mul i stride p.height)
+  pub plane_of_position : (i : ℕ) → i / (stride * p.height) ≡ plane_of p color stride i
+  plane_of_position i = sym (div-div-eq-div-mul i stride p.height)
 
-  pub place_shown : (i : ℕ) → plane_of p colour stride i < n → i % stride < row_bytes p colour p.width
-      → byte_at file order p colour (whole_image file order p) stride n i ≡ Some (image_byte p colour stride file order i)
+  pub position_shown : (i : ℕ) → plane_of p color stride i < n → i % stride < row_bytes p color p.width
+      → byte_at file order p color (whole_image file order p) stride n i ≡ Some (image_byte p color stride file order i)
   unfolding byte_at
-  place_shown i a b =
+  position_shown i a b =
       let s : 0 < stride = omega (arith, b, fits) in
-      let u = plane_of_place i in
+      let u = plane_of_position i in
       let t : nat_lt (i / (stride * p.height)) n ≡ true = lt-ltb (i / (stride * p.height)) n (omega (arith, a, u)) in
-      let v : nat_lt (i % stride) (row_bytes p colour p.width) ≡ true = lt-ltb (i % stride) (row_bytes p colour p.width) b in
-      let w : 0 + i / (stride * p.height) ≡ plane_of p colour stride i = omega (arith, u) in
-      rw (t, v) (λ z. Some (region_byte file order p colour (whole_image file order p) (w z) (row_of_place s i z) (i % stride)))
+      let v : nat_lt (i % stride) (row_bytes p color p.width) ≡ true = lt-ltb (i % stride) (row_bytes p color p.width) b in
+      let w : 0 + i / (stride * p.height) ≡ plane_of p color stride i = omega (arith, u) in
+      rw (t, v) (λ z. Some (region_byte file order p color (whole_image file order p) (w z) (row_of_position s i z) (i % stride)))
 
-  pub plane_gap : (i : ℕ) → n ≤ plane_of p colour stride i → byte_at file order p colour (whole_image file order p) stride n i ≡ None
+  pub plane_gap : (i : ℕ) → n ≤ plane_of p color stride i → byte_at file order p color (whole_image file order p) stride n i ≡ None
   unfolding byte_at
   plane_gap i a =
-      let u = plane_of_place i in
+      let u = plane_of_position i in
       let t : nat_lt (i / (stride * p.height)) n ≡ false = le-ltb (i / (stride * p.height)) n (omega (arith, a, u)) in
       rw t refl
 
-  pub row_gap : (i : ℕ) → row_bytes p colour p.width ≤ i % stride → byte_at file order p colour (whole_image file order p) stride n i ≡ None
+  pub row_gap : (i : ℕ) → row_bytes p color p.width ≤ i % stride → byte_at file order p color (whole_image file order p) stride n i ≡ None
   unfolding byte_at
   row_gap i b =
-      let v : nat_lt (i % stride) (row_bytes p colour p.width) ≡ false = le-ltb (i % stride) (row_bytes p colour p.width) b in
+      let v : nat_lt (i % stride) (row_bytes p color p.width) ≡ false = le-ltb (i % stride) (row_bytes p color p.width) b in
       ⊎_elim
       (λ (t : nat_lt (i / (stride * p.height)) n ≡ true). rw (t, v) refl)
       (λ (t : nat_lt (i / (stride * p.height)) n ≡ false). rw t refl)
       (cases_Bool (nat_lt (i / (stride * p.height)) n))
 
-  pub chunk_below : (i : ℕ) → i % stride < row_bytes p colour p.width → chunk_of p colour stride i < chunks_of_plane p
+  pub chunk_below : (i : ℕ) → i % stride < row_bytes p color p.width → chunk_of p color stride i < chunks_of_plane p
   chunk_below i b =
       let o : 0 < chunks_of_plane p = plane_some p.width p.height p.chunk_width p.chunk_height sides.wide sides.high sides.chunk_wide sides.chunk_high in
-      let l : row_bytes p colour p.width ≤ across p * row_bytes p colour p.chunk_width = covers p colour stride 0 0 sides whole fits o in
-      one_below (i % stride / row_bytes p colour p.chunk_width) (i / stride % p.height / p.chunk_height) (across p) (parts p.height p.chunk_height)
-      (div_below (i % stride) (row_bytes p colour p.chunk_width) (across p) (chunk_bytes_some p colour stride 0 0 sides whole fits o (omega (arith, b))) (omega (arith, b, l)))
+      let l : row_bytes p color p.width ≤ across p * row_bytes p color p.chunk_width = covers p color stride 0 0 sides whole fits o in
+      one_below (i % stride / row_bytes p color p.chunk_width) (i / stride % p.height / p.chunk_height) (across p) (parts p.height p.chunk_height)
+      (div_below (i % stride) (row_bytes p color p.chunk_width) (across p) (chunk_bytes_some p color stride 0 0 sides whole fits o (omega (arith, b))) (omega (arith, b, l)))
       (part_below (i / stride % p.height) p.height p.chunk_height sides.chunk_high (mod_below (i / stride) p.height sides.high))
 
-  pub is_before : (i : ℕ) → plane_of p colour stride i < n → i % stride < row_bytes p colour p.width → IsBefore p colour stride n (chunks_of_plane p) 0 i
+  pub is_before : (i : ℕ) → plane_of p color stride i < n → i % stride < row_bytes p color p.width → IsBefore p color stride n (chunks_of_plane p) 0 i
   is_before i a b = record { byte = b; of_plane = a; of_chunk = inl (chunk_below i b) }
 
-  pub byte_there : (old new : List ℕ) → Writes (IsBefore p colour stride n (chunks_of_plane p) 0) (image_byte p colour stride file order) old new
+  pub byte_there : (old new : List ℕ) → Writes (IsBefore p color stride n (chunks_of_plane p) 0) (image_byte p color stride file order) old new
       → (i : ℕ) → i < length old
-      → slice_index new i ≡ unwrap_or (byte_at file order p colour (whole_image file order p) stride n i) (slice_index old i)
+      → slice_index new i ≡ unwrap_or (byte_at file order p color (whole_image file order p) stride n i) (slice_index old i)
   byte_there old new w i l =
       ⊎_elim
-      (λ q. q.1 ∙ sym (ap (λ z. unwrap_or z (slice_index old i)) (place_shown i q.0.of_plane q.0.byte)))
+      (λ q. q.1 ∙ sym (ap (λ z. unwrap_or z (slice_index old i)) (position_shown i q.0.of_plane q.0.byte)))
       (λ q. ⊎_elim
-      (λ (a : plane_of p colour stride i < n).
+      (λ (a : plane_of p color stride i < n).
       ⊎_elim
-      (λ (b : i % stride < row_bytes p colour p.width). Prim.absurd (q.0 (is_before i a b)))
-      (λ (b : row_bytes p colour p.width ≤ i % stride). q.1 ∙ sym (ap (λ z. unwrap_or z (slice_index old i)) (row_gap i b)))
-      (cases_lt (i % stride) (row_bytes p colour p.width)))
-      (λ (a : n ≤ plane_of p colour stride i). q.1 ∙ sym (ap (λ z. unwrap_or z (slice_index old i)) (plane_gap i a)))
-      (cases_lt (plane_of p colour stride i) n))
+      (λ (b : i % stride < row_bytes p color p.width). Prim.absurd (q.0 (is_before i a b)))
+      (λ (b : row_bytes p color p.width ≤ i % stride). q.1 ∙ sym (ap (λ z. unwrap_or z (slice_index old i)) (row_gap i b)))
+      (cases_lt (i % stride) (row_bytes p color p.width)))
+      (λ (a : n ≤ plane_of p color stride i). q.1 ∙ sym (ap (λ z. unwrap_or z (slice_index old i)) (plane_gap i a)))
+      (cases_lt (plane_of p color stride i) n))
       (w.1 i l)
 
--- a list with a buffer's byte or what it had at each place is the buffer after a region is placed in it
-pub is_placed : (file : List ℕ) (order : ByteOrder) (p : PageRecord) (colour : ColorType) (region : Region file order p) (stride n : ℕ) (old new : List ℕ) → length new ≡ length old
-    → ((i : ℕ) → i < length old → slice_index new i ≡ unwrap_or (byte_at file order p colour region stride n i) (slice_index old i))
-    → new ≡ placed file order p colour region stride n old
-is_placed file order p colour region stride n old new e h =
-    let q = placed_each file order p colour region stride n old in
-    ext_get_or 0 new (placed file order p colour region stride n old) (e ∙ sym q.0) (λ i l. h i (omega (arith, e, l)) ∙ sym (q.1 i (omega (arith, e, l))))
+-- a list with a buffer's byte or what it had at each position is the buffer after a region is placed in it
+pub is_placed : (file : List ℕ) (order : ByteOrder) (p : PageRecord) (color : ColorType) (region : Region file order p) (stride n : ℕ) (old new : List ℕ) → length new ≡ length old
+    → ((i : ℕ) → i < length old → slice_index new i ≡ unwrap_or (byte_at file order p color region stride n i) (slice_index old i))
+    → new ≡ placed file order p color region stride n old
+is_placed file order p color region stride n old new e h =
+    let q = placed_each file order p color region stride n old in
+    ext_get_or 0 new (placed file order p color region stride n old) (e ∙ sym q.0) (λ i l. h i (omega (arith, e, l)) ∙ sym (q.1 i (omega (arith, e, l))))
 
 pub image_written : law.ImageWritten
-image_written file order p colour stride n old new sides whole fits w =
-    is_placed file order p colour (whole_image file order p) stride n old new w.0 (byte_there file order p colour stride n sides whole fits old new w)
+image_written file order p color stride n old new sides whole fits w =
+    is_placed file order p color (whole_image file order p) stride n old new w.0 (byte_there file order p color stride n sides whole fits old new w)

@@ -15,8 +15,8 @@ use Rattle.tiff_base.specs.declared.tags.ByteOrder.{ByteOrder}
 use Rattle.tiff_base.specs.declared.tags.CompressionMethod.{CompressionMethod}
 use Rattle.tiff_base.specs.declared.tags.CompressionMethod.TheVariants as method
 use Rattle.tiff_base.specs.Answers.{AnswersBut, IsCause}
-use Rattle.tiff_base.specs.Runs.{Broken, Unpacked, before, runs_after, runs}
-use Rattle.tiff_base.specs.Told.{exactly_at}
+use Rattle.tiff_base.specs.Runs.{Broken, Unpacked, with_front, runs_after, runs}
+use Rattle.tiff_base.specs.SourceAndSink.{exactly_at}
 use Rattle.tiff_base.proofs.Blocks.{runs_no_op, runs_literal, runs_run, runs_broken}
 use Rattle.tiff_base.proofs.Bytes.{missing}
 use Rattle.tiff_base.proofs.Causes.{cause_along}
@@ -29,9 +29,9 @@ use Rattle.tiff_page.specs.Layout.{sample_type_of, size_of}
 use Rattle.tiff_page.specs.PixelFault.{unless, form_fault, chunk_fault, samples_fault, each_below}
 use Rattle.tiff_page.specs.PixelCalls.{Part, part_fault, filled, samples, image_part, chunk_part}
 use Rattle.tiff_page.specs.Pixels.{data_by, chunk_data, is_short}
-use Rattle.tiff_page.specs.Early.{needed_bytes, least_stored, held, is_cut, early_fault}
+use Rattle.tiff_page.specs.EarlyFaults.{needed_bytes, least_stored, bytes_held, is_cut, early_fault}
 use Rattle.tiff_page.proofs.Sizes.{plane_some}
-use Rattle.tiff_page.proofs.Placing.{cases_fault}
+use Rattle.tiff_page.proofs.PositionLaws.{cases_fault}
 use Rattle.tiff_page.proofs.Filling.{first_at}
 
 -- the rows of a chunk are of fewer than 2^88 bytes
@@ -83,7 +83,7 @@ run_few : (early : Bool) (h : ℕ) (P : List ℕ) → 128 < h → length (runs_a
 unfolding runs_after
 run_few early h [] a k = of_step (runs early (h ∷ [])) (record { out = []; end = Broken }) (64 * (0 + 1)) (runs_broken early h a) (omega arith)
 run_few early h (v ∷ P) a k =
-    of_step (runs early (h ∷ v ∷ P)) (before (replicate (257 - h) v) (runs early P)) (64 * (length (v ∷ P) + 1)) (runs_run early h v P a)
+    of_step (runs early (h ∷ v ∷ P)) (with_front (replicate (257 - h) v) (runs early P)) (64 * (length (v ∷ P) + 1)) (runs_run early h v P a)
     (omega (arith, a, k, length-append (replicate (257 - h) v) (runs early P).out, length-replicate (257 - h) v))
 
 runs_few : (n : ℕ) (early : Bool) (P : List ℕ) → length (runs_after n early P).out ≤ 64 * (length P - n)
@@ -94,7 +94,7 @@ runs_few zero early [] = omega arith
 runs_few zero early (h ∷ P) =
     ⊎_elim
     (λ (a : h < 128).
-    of_step (runs early (h ∷ P)) (before (take (h + 1) P) (runs_after (h + 1) early P)) (64 * (length (h ∷ P) - 0)) (runs_literal early h P a)
+    of_step (runs early (h ∷ P)) (with_front (take (h + 1) P) (runs_after (h + 1) early P)) (64 * (length (h ∷ P) - 0)) (runs_literal early h P a)
     (omega (arith, runs_few (h + 1) early P, length-append (take (h + 1) P) (runs_after (h + 1) early P).out, length-take (h + 1) P)))
     (λ (a : 128 ≤ h).
     ⊎_elim
@@ -107,42 +107,42 @@ runs_few zero early (h ∷ P) =
 
 -- ---- fewer bytes than the data take are too few data
 
-packed_short : (file : List ℕ) (place count n : ℕ) (early : Bool) → min count (length file - place) < div_ceil n 64 → length (runs early (take count (drop place file))).out < n
-packed_short file place count n early h =
-    let few = runs_few zero early (take count (drop place file)) in
+packed_short : (file : List ℕ) (position count n : ℕ) (early : Bool) → min count (length file - position) < div_ceil n 64 → length (runs early (take count (drop position file))).out < n
+packed_short file position count n early h =
+    let few = runs_few zero early (take count (drop position file)) in
     let ceil = div_ceil_times n 64 (omega arith) in
-    omega (arith, h, few, ceil.1, length-take count (drop place file), length-drop place file)
+    omega (arith, h, few, ceil.1, length-take count (drop position file), length-drop position file)
 
-cut_short : (file : List ℕ) (order : ByteOrder) (p : PageRecord) (m : CompressionMethod) (place count n : ℕ) → held file m place count < least_stored m n
-    → length (data_by file order p m place count) < n
-cut_short file order p method.None place count n h = omega (arith, h, length-drop place file)
-cut_short file order p method.PackBits place count n h = packed_short file place count n (nat_lt (length file - place) count) h
-cut_short file order p m place count n h = omega (arith, h)
+cut_short : (file : List ℕ) (order : ByteOrder) (p : PageRecord) (m : CompressionMethod) (position count n : ℕ) → bytes_held file m position count < least_stored m n
+    → length (data_by file order p m position count) < n
+cut_short file order p method.None position count n h = omega (arith, h, length-drop position file)
+cut_short file order p method.PackBits position count n h = packed_short file position count n (nat_lt (length file - position) count) h
+cut_short file order p m position count n h = omega (arith, h)
 
-module _ (file : List ℕ) (order : ByteOrder) (p : PageRecord) (limits : Limits) (colour : ColorType) where
-  is_short_of : (i : ℕ) → is_cut file p colour i ≡ true → is_short file order p colour i ≡ true
+module _ (file : List ℕ) (order : ByteOrder) (p : PageRecord) (limits : Limits) (color : ColorType) where
+  is_short_of : (i : ℕ) → is_cut file p color i ≡ true → is_short file order p color i ≡ true
   is_short_of i h =
-      lt-ltb (length (chunk_data file order p i)) (needed_bytes p colour i)
-      (cut_short file order p p.method (slice_index p.offsets i) (slice_index p.byte_counts i) (needed_bytes p colour i)
-      (ltb-true (held file p.method (slice_index p.offsets i) (slice_index p.byte_counts i)) (least_stored p.method (needed_bytes p colour i)) h))
+      lt-ltb (length (chunk_data file order p i)) (needed_bytes p color i)
+      (cut_short file order p p.method (slice_index p.offsets i) (slice_index p.byte_counts i) (needed_bytes p color i)
+      (ltb-true (bytes_held file p.method (slice_index p.offsets i) (slice_index p.byte_counts i)) (least_stored p.method (needed_bytes p color i)) h))
 
   abbrev fault_of : ℕ → Result (Unit {0}) TiffError
-  fault_of i = chunk_fault p limits (is_short file order p colour) colour i
+  fault_of i = chunk_fault p limits (is_short file order p color) color i
 
   -- what is found early of a chunk is its fault
-  found_early : (i : ℕ) (e : TiffError) → chunk_fault p limits (is_cut file p colour) colour i ≡ Err e → fault_of i ≡ Err e
+  found_early : (i : ℕ) (e : TiffError) → chunk_fault p limits (is_cut file p color) color i ≡ Err e → fault_of i ≡ Err e
   found_early i e h =
       ⊎_elim
-      (λ (formed : form_fault p limits colour i ≡ Ok tt).
+      (λ (formed : form_fault p limits color i ≡ Ok tt).
       ⊎_elim
-      (λ (t : is_cut file p colour i ≡ true). let g : Err (IoError UnexpectedEof) ≡ Err e = rw (formed, t) at h in rw (formed, is_short_of i t) g)
-      (λ (f : is_cut file p colour i ≡ false). let g : Ok tt ≡ Err e = rw (formed, f) at h in cc)
-      (cases_Bool (is_cut file p colour i)))
+      (λ (t : is_cut file p color i ≡ true). let g : Err (IoError UnexpectedEof) ≡ Err e = rw (formed, t) at h in rw (formed, is_short_of i t) g)
+      (λ (f : is_cut file p color i ≡ false). let g : Ok tt ≡ Err e = rw (formed, f) at h in cc)
+      (cases_Bool (is_cut file p color i)))
       (λ er. let g : Err er.0 ≡ Err e = rw (er.1) at h in rw (er.1) g)
-      (cases_fault (form_fault p limits colour i))
+      (cases_fault (form_fault p limits color i))
 
   -- a fault of the first chunk is the first of a part
-  part_early : (part : Part file order p) (e : TiffError) → 0 < part.count → 0 < part.planes → fault_of part.first ≡ Err e → part_fault file order p limits colour part ≡ Err e
+  part_early : (part : Part file order p) (e : TiffError) → 0 < part.count → 0 < part.planes → fault_of part.first ≡ Err e → part_fault file order p limits color part ≡ Err e
   part_early part e some planes h =
       let in_plane : ℕ → ℕ → Result (Unit {0}) TiffError = λ j plane. fault_of (plane * chunks_of_plane p + (part.first + j)) in
       let at : part.first ≡ 0 * chunks_of_plane p + (part.first + 0) = omega arith in
@@ -151,30 +151,30 @@ module _ (file : List ℕ) (order : ByteOrder) (p : PageRecord) (limits : Limits
 
   -- and of its samples
   pub samples_early : (part : Part file order p) (type : DecodingSampleType) (len : ℕ) (e : TiffError) → 0 < part.count → 0 < part.planes → sample_type_of p ≡ Ok type
-      → early_fault file p limits colour type part.first len ≡ Err e → samples file order p limits colour part len ≡ Err e
+      → early_fault file p limits color type part.first len ≡ Err e → samples file order p limits color part len ≡ Err e
   unfolding samples filled
   samples_early part type len e some planes typed h =
       ⊎_elim
       (λ (few : samples_fault limits (size_of type) len ≡ Ok tt).
-      let g : chunk_fault p limits (is_cut file p colour) colour part.first ≡ Err e = rw few at h in
-      let f : part_fault file order p limits colour part ≡ Err e = part_early part e some planes (found_early part.first e g) in
+      let g : chunk_fault p limits (is_cut file p color) color part.first ≡ Err e = rw few at h in
+      let f : part_fault file order p limits color part ≡ Err e = part_early part e some planes (found_early part.first e g) in
       rw (typed, few, f) refl)
       (λ er. let g : Err er.0 ≡ Err e = rw (er.1) at h in let q : er.0 ≡ e = cc in rw (typed, er.1) (ap Err q))
       (cases_fault (samples_fault limits (size_of type) len))
 
 -- ---- the samples of an image and of a chunk
 
-pub image_early : (wanting failed : Type 0) (file : List ℕ) (order : ByteOrder) (p : PageRecord) (limits : Limits) (colour : ColorType) (type : DecodingSampleType) (planes stride len : ℕ) (e : TiffError)
+pub image_early : (wanting failed : Type 0) (file : List ℕ) (order : ByteOrder) (p : PageRecord) (limits : Limits) (color : ColorType) (type : DecodingSampleType) (planes stride len : ℕ) (e : TiffError)
     → 0 < p.width → 0 < p.height → 0 < p.chunk_width → 0 < p.chunk_height → 0 < planes → sample_type_of p ≡ Ok type
-    → IsCause wanting failed e (early_fault file p limits colour type 0 len ≡ Err e)
-    → IsCause (Unit {0}) failed e (samples file order p limits colour (image_part file order p planes stride) len ≡ Err e)
-image_early wanting failed file order p limits colour type planes stride len e w h cw ch some typed c =
+    → IsCause wanting failed e (early_fault file p limits color type 0 len ≡ Err e)
+    → IsCause (Unit {0}) failed e (samples file order p limits color (image_part file order p planes stride) len ≡ Err e)
+image_early wanting failed file order p limits color type planes stride len e w h cw ch some typed c =
     cause_along e (λ _. tt) (λ f. f)
-    (λ t. samples_early file order p limits colour (image_part file order p planes stride) type len e (plane_some p.width p.height p.chunk_width p.chunk_height w h cw ch) some typed t) c
+    (λ t. samples_early file order p limits color (image_part file order p planes stride) type len e (plane_some p.width p.height p.chunk_width p.chunk_height w h cw ch) some typed t) c
 
-pub chunk_early : (wanting failed : Type 0) (file : List ℕ) (order : ByteOrder) (p : PageRecord) (limits : Limits) (colour : ColorType) (type : DecodingSampleType) (i stride len : ℕ) (e : TiffError)
-    → sample_type_of p ≡ Ok type → IsCause wanting failed e (early_fault file p limits colour type i len ≡ Err e)
-    → IsCause (Unit {0}) failed e (samples file order p limits colour (chunk_part file order p i 1 stride) len ≡ Err e)
-chunk_early wanting failed file order p limits colour type i stride len e typed c =
+pub chunk_early : (wanting failed : Type 0) (file : List ℕ) (order : ByteOrder) (p : PageRecord) (limits : Limits) (color : ColorType) (type : DecodingSampleType) (i stride len : ℕ) (e : TiffError)
+    → sample_type_of p ≡ Ok type → IsCause wanting failed e (early_fault file p limits color type i len ≡ Err e)
+    → IsCause (Unit {0}) failed e (samples file order p limits color (chunk_part file order p i 1 stride) len ≡ Err e)
+chunk_early wanting failed file order p limits color type i stride len e typed c =
     cause_along e (λ _. tt) (λ f. f)
-    (λ t. samples_early file order p limits colour (chunk_part file order p i 1 stride) type len e (omega arith) (omega arith) typed t) c
+    (λ t. samples_early file order p limits color (chunk_part file order p i 1 stride) type len e (omega arith) (omega arith) typed t) c

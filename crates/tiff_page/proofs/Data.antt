@@ -1,12 +1,12 @@
 -- What is left of the data of a chunk.
 use Rattle.std.proofs.Common.{◌≡◌, ℕ, ◌+◌, ◌-◌, ◌<◌, ◌≤◌, ◌^◌, List, [], ◌++◌, length, drop, ap, sym, ◌∙◌, arith, drop-drop, length-drop}
 use Rattle.std.proofs.lemmas.List.{drop_all, drop-append-le}
-use Rattle.tiff_base.specs.Runs.{Unpacked, before}
+use Rattle.tiff_base.specs.Runs.{Unpacked, with_front}
 use Rattle.tiff_ifd.specs.Unpacking.{left_at, unpacked_at}
-use Rattle.tiff_ifd.specs.declared.packbits.PackedPlace.{PackedPlace}
+use Rattle.tiff_ifd.specs.declared.packbits.PackedPosition.{PackedPosition}
 
-pub unpacked_out : (bytes : List ℕ) (place : PackedPlace) (at len : ℕ) → left_at bytes place ≡ unpacked_at bytes at len → (left_at bytes place).out ≡ (unpacked_at bytes at len).out
-unpacked_out bytes place at len e = ap (λ (u : Unpacked). u.out) e
+pub unpacked_out : (bytes : List ℕ) (position : PackedPosition) (at len : ℕ) → left_at bytes position ≡ unpacked_at bytes at len → (left_at bytes position).out ≡ (unpacked_at bytes at len).out
+unpacked_out bytes position at len e = ap (λ (u : Unpacked). u.out) e
 
 -- nothing stands behind the last byte of a source
 pub passed_end : (bytes : List ℕ) (at n : ℕ) → length bytes < 2 ^ 64 → 2 ^ 64 ≤ at + n → [] ≡ drop n (drop at bytes)
@@ -19,7 +19,7 @@ behind_front front rest k e =
 
 -- some more bytes are passed
 pub more_passed : (first mid last : Unpacked) (piece : List ℕ) (n left k : ℕ) → left ≤ n → k ≤ left → length piece ≡ k
-    → mid.out ≡ drop (n - left) first.out → mid ≡ before piece last → last.out ≡ drop (n - (left - k)) first.out
+    → mid.out ≡ drop (n - left) first.out → mid ≡ with_front piece last → last.out ≡ drop (n - (left - k)) first.out
 more_passed first mid last piece n left k h l e a b =
     behind_front piece last.out k e
     ∙ ap (drop k) (sym (ap (λ (u : Unpacked). u.out) b) ∙ a)

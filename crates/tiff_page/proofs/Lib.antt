@@ -1,6 +1,6 @@
 pub mod Sizes
 pub mod Strip
-pub mod Placing
+pub mod PositionLaws
 pub mod Planes
 pub mod Chunks
 pub mod Rects
@@ -14,11 +14,11 @@ pub mod Bands
 pub mod Filling
 pub mod Rows
 pub mod RowLaws
-pub mod Reading
-pub mod Handing
+pub mod RowReads
+pub mod OutputRow
 pub mod PixelSteps
 pub mod Cut
 pub mod NumberBytes
-pub mod Placed
+pub mod PositionsPut
 pub mod Portions
 mod Sums

@@ -11,10 +11,10 @@ use Rattle.std.proofs.Math.ListN.{set}
 use Rattle.std.proofs.Math.Nat.{div-one, div-div-eq-div-mul, pow-suc, mod-eq_of_lt, mul-le-mul_right, mul_comm, mul-div_cancel, zero-div}
 use Rattle.tiff_base.specs.declared.tags.ByteOrder.TheVariants.{LittleEndian}
 use Rattle.tiff_base.specs.Number.{number}
-use Rattle.tiff_base.specs.Told.{AreOctets, bytes_at}
-use Rattle.tiff_page.specs.NumberBytes.{byte_of, all_bytes, bytes_in, IsPut, IsPlaced}
+use Rattle.tiff_base.specs.SourceAndSink.{AreOctets, bytes_at}
+use Rattle.tiff_page.specs.NumberBytes.{byte_of, all_bytes, bytes_in, IsPut, NumbersArePut}
 use Rattle.tiff_page.specs.Pixels.{each_to, width_of, numbers_in}
-use Rattle.tiff_page.specs.Place.{Writes}
+use Rattle.tiff_page.specs.BufferPositions.{Writes}
 use Rattle.tiff_page.specs.Row.{IsSize, row_number}
 use Rattle.tiff_page.proofs.Rects.{writes_more, writes_as, writes_none}
 use Rattle.tiff_page.proofs.RowLaws.{power_pos, bytes_of_numbers}
@@ -137,7 +137,7 @@ of_numbers size first count at len i s a l w =
     (le-div first i size s (omega (arith, w.0, a)), div_below i size (first + count) s (omega (arith, w.1, a, l)))
 
 pub placed_put : (size first count at : ℕ) (row old new : List ℕ) → IsSize size → AreOctets row → at ≡ first * size → length row ≡ count * size
-    → IsPlaced size first row count old new → IsPut at row (bytes_in size old) (bytes_in size new)
+    → NumbersArePut size first row count old new → IsPut at row (bytes_in size old) (bytes_in size new)
 placed_put size first count at row old new z o a l w =
     let s : 0 < size = some_size size z in
     let same : length new * size ≡ length old * size = ap (λ (m : ℕ). m * size) w.0 in (
@@ -162,7 +162,7 @@ of_whole : (n size : ℕ) → n % size ≡ 0 → n ≡ n / size * size
 of_whole n size h = omega (arith, h, div-add-mod' n size)
 
 pub row_put_whole : (size at : ℕ) (row old new : List ℕ) → IsSize size → AreOctets row → at % size ≡ 0 → length row % size ≡ 0
-    → IsPlaced size (at / size) row (length row / size) old new → IsPut at row (bytes_in size old) (bytes_in size new)
+    → NumbersArePut size (at / size) row (length row / size) old new → IsPut at row (bytes_in size old) (bytes_in size new)
 row_put_whole size at row old new z o a l w = placed_put size (at / size) (length row / size) at row old new z o (of_whole at size a) (of_whole (length row) size l) w
 
 -- they are in the list
@@ -174,7 +174,7 @@ numbers_fit bits size at len xs s a l h =
     let c : at / size + len / size ≤ length xs * size / size = le-div (at / size + len / size) (length xs * size) size s b in
     omega (arith, c, mul-div_cancel (length xs) s)
 
--- one place of a list
+-- one position of a list
 pub set_one : (xs : List ℕ) (i v : ℕ) → i < length xs → Writes (λ k. k ≡ i) (λ k. v) xs (set xs i v)
 set_one xs i v h = (
   length-set xs i v,
@@ -197,14 +197,14 @@ within size len n h =
     let a : (n + 1) * size ≤ len / size * size = mul-le-mul_right size (omega (arith, h)) in
     omega (arith, a, div-add-mod' len size)
 
-pub none_placed : (size first : ℕ) (row old : List ℕ) → IsPlaced size first row 0 old old
+pub none_placed : (size first : ℕ) (row old : List ℕ) → NumbersArePut size first row 0 old old
 none_placed size first row old = writes_none (λ i. (first ≤ i) × (i < first + 0)) (λ i. row_number LittleEndian size row (i - first)) old (λ i p. absurd (omega (arith, p.0, p.1)))
 
 -- one more number
 pub placed_more : {X : Type 0} (bits : X → ℕ) (size first k : ℕ) (row : List ℕ) (old mid new : List X) (x : X) (pieces : List (List ℕ)) (piece d : List ℕ)
     → pieces ≡ first_chunks size (length row / size) row → k < length row / size → piece ≡ get_or pieces k d → bits x ≡ number LittleEndian (width_of size) piece
-    → first + k < length mid → new ≡ set mid (first + k) x → IsPlaced size first row k (map bits old) (map bits mid)
-    → IsPlaced size first row (k + 1) (map bits old) (map bits new)
+    → first + k < length mid → new ≡ set mid (first + k) x → NumbersArePut size first row k (map bits old) (map bits mid)
+    → NumbersArePut size first row (k + 1) (map bits old) (map bits new)
 placed_more bits size first k row old mid new x pieces piece d are h here is in_list more w =
     let found : piece ≡ each_to size (λ j. get_or row (k * size + j) 0) =
     here ∙ (ap (λ (ps : List (List ℕ)). get_or ps k d) are ∙ (piece_at size (length row / size) row k d h ∙ sym (each_at size k row (within size (length row) k h)))) in

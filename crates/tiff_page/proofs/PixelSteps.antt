@@ -8,28 +8,28 @@ use Rattle.tiff_base.specs.declared.tags.PlanarConfiguration.TheVariants.{Chunky
 use Rattle.tiff_base.specs.Color.{num_samples}
 use Rattle.tiff_page.specs.Page.{PageRecord}
 use Rattle.tiff_page.specs.Rect.{rect}
-use Rattle.tiff_page.specs.Layout.{colour_of, layout_of, row_bytes, planes}
-use Rattle.tiff_page.proofs.Planes.{layout_gives, Shows, colour_shows}
+use Rattle.tiff_page.specs.Layout.{color_of, layout_of, row_bytes, planes}
+use Rattle.tiff_page.proofs.Planes.{layout_gives, Shows, color_shows}
 
 module _ (p : PageRecord) (w h : ℕ) (c : ColorType) (r s : ℕ)
-    (given : layout_of p w h ≡ Ok (record { colour = c; row_bytes = r; plane_stride = s })) where
-  pub coloured : colour_of p ≡ Ok c
-  coloured = (layout_gives p w h (record { colour = c; row_bytes = r; plane_stride = s }) given).1.0
+    (given : layout_of p w h ≡ Ok (record { color = c; row_bytes = r; plane_stride = s })) where
+  pub colored : color_of p ≡ Ok c
+  colored = (layout_gives p w h (record { color = c; row_bytes = r; plane_stride = s }) given).1.0
 
   pub columns : row_bytes p c w ≤ r
-  columns = let e : r ≡ row_bytes p c w = (layout_gives p w h (record { colour = c; row_bytes = r; plane_stride = s }) given).0.0 in omega (arith, e)
+  columns = let e : r ≡ row_bytes p c w = (layout_gives p w h (record { color = c; row_bytes = r; plane_stride = s }) given).0.0 in omega (arith, e)
 
   pub stride : h * r ≡ s
   stride =
-      let g : (r ≡ row_bytes p c w) × (s ≡ row_bytes p c w * h) = (layout_gives p w h (record { colour = c; row_bytes = r; plane_stride = s }) given).0 in
+      let g : (r ≡ row_bytes p c w) × (s ≡ row_bytes p c w * h) = (layout_gives p w h (record { color = c; row_bytes = r; plane_stride = s }) given).0 in
       mul_comm h r ∙ ap (λ n. n * h) g.0 ∙ sym g.1
 
 pub some_of : (planar : PlanarConfiguration) (c : ColorType) → 0 < num_samples c → 0 < planes planar c
 some_of Chunky c h = omega arith
 some_of Planar c h = h
 
-pub some_planes : (p : PageRecord) (c : ColorType) → 0 < p.samples → colour_of p ≡ Ok c → 0 < planes p.planar c
-some_planes p c s e = some_of p.planar c (subst Shows e (colour_shows p s))
+pub some_planes : (p : PageRecord) (c : ColorType) → 0 < p.samples → color_of p ≡ Ok c → 0 < planes p.planar c
+some_planes p c s e = some_of p.planar c (subst Shows e (color_shows p s))
 
 -- ---- the planes that a slice takes whole
 

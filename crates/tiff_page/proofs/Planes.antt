@@ -25,10 +25,10 @@ use Rattle.tiff_ifd.specs.declared.limits.Limits.{Limits}
 use Rattle.tiff_page.specs.declared.layout.DecodingSampleType.{DecodingSampleType}
 use Rattle.tiff_page.specs.Page.{PageRecord}
 use Rattle.tiff_page.specs.Rect.{chunks_of_plane}
-use Rattle.tiff_page.specs.Layout.{LayoutRecord, layout_of, colour_of, colour_from, no_colour, gray, lab, photometric, first_is_alpha, row_bits, row_bytes, shown, planes, wide, aligned, whole_chroma, sample_type_of, size_of}
+use Rattle.tiff_page.specs.Layout.{LayoutRecord, layout_of, color_of, color_from, no_color, gray, lab, photometric, first_is_alpha, row_bits, row_bytes, shown, planes, wide, aligned, whole_chroma, sample_type_of, size_of}
 use Rattle.tiff_page.specs.PixelFault.{is_whole, depth_fault, each_below, chunk_fault, samples_fault}
 use Rattle.tiff_page.specs.Pixels.{is_short, byte_at, image_bytes, whole_image}
-use Rattle.tiff_page.specs.Image.{decoded, chunks_read, image_of}
+use Rattle.tiff_page.specs.Image.{decoded_samples, chunks_read, image_of}
 use Rattle.tiff_page.specs.Buffers.{planes_layout}
 use Rattle.tiff_page.specs.PixelCalls.{placed, filled, samples, image_part, part_fault}
 use Rattle.tiff_page.specs.Laws as law
@@ -58,50 +58,50 @@ wide_value n = given_if (λ r. value r n ≡ n) (nat_lt n (2 ^ 64)) (Ok n) (Err 
 pub wide_is : (n m : ℕ) → wide n ≡ Ok m → m ≡ n
 wide_is n m h = sym (ap (λ r. value r n) h) ∙ wide_value n
 
-abbrev pub colour_or : Result ColorType TiffError → ColorType → ColorType
-colour_or (Ok c) d = c
-colour_or (Err e) d = d
+abbrev pub color_or : Result ColorType TiffError → ColorType → ColorType
+color_or (Ok c) d = c
+color_or (Err e) d = d
 
--- it gives the colour that it is handed
-pub aligned_gives : (p : PageRecord) (c : ColorType) (w : ℕ) → colour_or (aligned p c w) c ≡ c
+-- it gives the color that it is handed
+pub aligned_gives : (p : PageRecord) (c : ColorType) (w : ℕ) → color_or (aligned p c w) c ≡ c
 aligned_gives p c w =
-    given_if (λ r. colour_or r c ≡ c) (nat_lt 1 (parts w p.chunk_width) && not (row_bits p c p.chunk_width % 8 == 0))
+    given_if (λ r. color_or r c ≡ c) (nat_lt 1 (parts w p.chunk_width) && not (row_bits p c p.chunk_width % 8 == 0))
     (Err (UnsupportedError MisalignedTileBoundaries)) (Ok c) refl refl
 
 pub aligned_is : (p : PageRecord) (c : ColorType) (w : ℕ) (a : ColorType) → aligned p c w ≡ Ok a → a ≡ c
-aligned_is p c w a h = sym (ap (λ r. colour_or r c) h) ∙ aligned_gives p c w
+aligned_is p c w a h = sym (ap (λ r. color_or r c) h) ∙ aligned_gives p c w
 
 -- ---- the layout
 
 module _ (p : PageRecord) (w h : ℕ) where
   abbrev pub Given : Result LayoutRecord TiffError → Type 0
-  Given (Ok l) = ((l.row_bytes ≡ row_bytes p l.colour w) × (l.plane_stride ≡ row_bytes p l.colour w * h)) × ((colour_of p ≡ Ok l.colour) × (aligned p l.colour w ≡ Ok l.colour))
+  Given (Ok l) = ((l.row_bytes ≡ row_bytes p l.color w) × (l.plane_stride ≡ row_bytes p l.color w * h)) × ((color_of p ≡ Ok l.color) × (aligned p l.color w ≡ Ok l.color))
   Given (Err e) = Unit {0}
 
   abbrev pub last : ColorType → ℕ → Result LayoutRecord TiffError
-  last colour s = Ok (record { colour = colour; row_bytes = row_bytes p colour w; plane_stride = s })
+  last color s = Ok (record { color = color; row_bytes = row_bytes p color w; plane_stride = s })
 
   abbrev pub chroma : ColorType → ℕ → Result LayoutRecord TiffError
-  chroma colour s = whole_chroma p colour >>= (λ _. last colour s)
+  chroma color s = whole_chroma p color >>= (λ _. last color s)
 
   abbrev pub line : ColorType → ℕ → Result LayoutRecord TiffError
-  line colour s = aligned p colour w >>= (λ _. chroma colour s)
+  line color s = aligned p color w >>= (λ _. chroma color s)
 
   abbrev pub plane : ColorType → Result LayoutRecord TiffError
-  plane colour = wide (row_bytes p colour w * h) >>= (λ s. line colour s)
+  plane color = wide (row_bytes p color w * h) >>= (λ s. line color s)
 
   abbrev pub stored : ColorType → Result LayoutRecord TiffError
-  stored colour = wide (row_bytes p colour w * p.chunk_height) >>= (λ _. plane colour)
+  stored color = wide (row_bytes p color w * p.chunk_height) >>= (λ _. plane color)
 
   pub layout_given : Given (layout_of p w h)
   unfolding layout_of
   layout_given =
-      given_bind Given (colour_of p) stored (λ e. tt) (λ colour ec.
-      given_bind Given (wide (row_bytes p colour w * p.chunk_height)) (λ _. plane colour) (λ e. tt) (λ n en.
-      given_bind Given (wide (row_bytes p colour w * h)) (line colour) (λ e. tt) (λ s es.
-      given_bind Given (aligned p colour w) (λ _. chroma colour s) (λ e. tt) (λ a ea.
-      given_bind Given (whole_chroma p colour) (λ _. last colour s) (λ e. tt) (λ b eb.
-      ((refl, wide_is (row_bytes p colour w * h) s es), (ec, ea ∙ ap (λ z. Ok z) (aligned_is p colour w a ea))))))))
+      given_bind Given (color_of p) stored (λ e. tt) (λ color ec.
+      given_bind Given (wide (row_bytes p color w * p.chunk_height)) (λ _. plane color) (λ e. tt) (λ n en.
+      given_bind Given (wide (row_bytes p color w * h)) (line color) (λ e. tt) (λ s es.
+      given_bind Given (aligned p color w) (λ _. chroma color s) (λ e. tt) (λ a ea.
+      given_bind Given (whole_chroma p color) (λ _. last color s) (λ e. tt) (λ b eb.
+      ((refl, wide_is (row_bytes p color w * h) s es), (ec, ea ∙ ap (λ z. Ok z) (aligned_is p color w a ea))))))))
 
   pub layout_gives : (l : LayoutRecord) → layout_of p w h ≡ Ok l → Given (Ok l)
   layout_gives l e = subst Given e layout_given
@@ -112,47 +112,47 @@ abbrev pub Shows : Result ColorType TiffError → Type 0
 Shows (Ok c) = 0 < num_samples c
 Shows (Err e) = Unit {0}
 
-pub no_colour_shows : (p : PageRecord) → Shows (no_colour p)
-unfolding no_colour
-no_colour_shows p = tt
+pub no_color_shows : (p : PageRecord) → Shows (no_color p)
+unfolding no_color
+no_color_shows p = tt
 
 pub lab_shows : (f : SampleFormat) (p : PageRecord) → Shows (lab f p)
-lab_shows Uint p = given_if Shows (photometric p == 3) (Ok (Lab p.depth)) (no_colour p) (omega arith) (no_colour_shows p)
-lab_shows Int p = no_colour_shows p
-lab_shows IEEEFP p = no_colour_shows p
-lab_shows Void p = no_colour_shows p
-lab_shows (Unknown n) p = no_colour_shows p
+lab_shows Uint p = given_if Shows (photometric p == 3) (Ok (Lab p.depth)) (no_color p) (omega arith) (no_color_shows p)
+lab_shows Int p = no_color_shows p
+lab_shows IEEEFP p = no_color_shows p
+lab_shows Void p = no_color_shows p
+lab_shows (Unknown n) p = no_color_shows p
 
 pub gray_shows : (p : PageRecord) → 0 < p.samples → Shows (gray p)
 gray_shows p h = given_if Shows (p.samples == 1) (Ok (Gray p.depth)) (Ok (Multiband p.depth p.samples)) (omega arith) h
 
-pub from_shows : (i : PhotometricInterpretation) (p : PageRecord) → 0 < p.samples → Shows (colour_from i p)
+pub from_shows : (i : PhotometricInterpretation) (p : PageRecord) → 0 < p.samples → Shows (color_from i p)
 from_shows meaning.RGB p h =
     given_if Shows (photometric p == 3) (Ok (if first_is_alpha p.extra then RGBA p.depth else RGB p.depth))
-    (if photometric p == 4 then Ok (RGBA p.depth) else no_colour p)
+    (if photometric p == 4 then Ok (RGBA p.depth) else no_color p)
     (given_if (λ c. Shows (Ok c)) (first_is_alpha p.extra) (RGBA p.depth) (RGB p.depth) (omega arith) (omega arith))
-    (given_if Shows (photometric p == 4) (Ok (RGBA p.depth)) (no_colour p) (omega arith) (no_colour_shows p))
+    (given_if Shows (photometric p == 4) (Ok (RGBA p.depth)) (no_color p) (omega arith) (no_color_shows p))
 from_shows meaning.CMYK p h =
     given_if Shows (photometric p == 4) (Ok (if first_is_alpha p.extra then CMYKA p.depth else CMYK p.depth))
-    (if photometric p == 5 then Ok (CMYKA p.depth) else no_colour p)
+    (if photometric p == 5 then Ok (CMYKA p.depth) else no_color p)
     (given_if (λ c. Shows (Ok c)) (first_is_alpha p.extra) (CMYKA p.depth) (CMYK p.depth) (omega arith) (omega arith))
-    (given_if Shows (photometric p == 5) (Ok (CMYKA p.depth)) (no_colour p) (omega arith) (no_colour_shows p))
-from_shows meaning.YCbCr p h = given_if Shows (photometric p == 3) (Ok (YCbCr p.depth)) (no_colour p) (omega arith) (no_colour_shows p)
+    (given_if Shows (photometric p == 5) (Ok (CMYKA p.depth)) (no_color p) (omega arith) (no_color_shows p))
+from_shows meaning.YCbCr p h = given_if Shows (photometric p == 3) (Ok (YCbCr p.depth)) (no_color p) (omega arith) (no_color_shows p)
 from_shows meaning.BlackIsZero p h = gray_shows p h
 from_shows meaning.WhiteIsZero p h = gray_shows p h
 from_shows meaning.IccLab p h = lab_shows p.format p
-from_shows meaning.RGBPalette p h = no_colour_shows p
-from_shows meaning.TransparencyMask p h = no_colour_shows p
-from_shows meaning.CIELab p h = no_colour_shows p
-from_shows meaning.ItuLab p h = no_colour_shows p
+from_shows meaning.RGBPalette p h = no_color_shows p
+from_shows meaning.TransparencyMask p h = no_color_shows p
+from_shows meaning.CIELab p h = no_color_shows p
+from_shows meaning.ItuLab p h = no_color_shows p
 
 pub shown_some : (planar : PlanarConfiguration) (c : ColorType) → 0 < num_samples c → 0 < shown planar c
 shown_some Chunky c h = h
 shown_some Planar c h = omega arith
 
-pub colour_shows : (p : PageRecord) → 0 < p.samples → Shows (colour_of p)
-unfolding colour_of
-colour_shows p h = from_shows p.interpretation p h
+pub color_shows : (p : PageRecord) → 0 < p.samples → Shows (color_of p)
+unfolding color_of
+color_shows p h = from_shows p.interpretation p h
 
 pub row_some : (p : PageRecord) (c : ColorType) (w : ℕ) → 0 < w → 0 < p.depth → 0 < num_samples c → 0 < row_bytes p c w
 unfolding row_bits
@@ -160,16 +160,16 @@ row_some p c w a b s = product_some w p.depth (shown p.planar c) a b (shown_some
 
 pub some_bytes : law.SomeBytes
 some_bytes p w h l wp hp d s e =
-    let g : ((l.row_bytes ≡ row_bytes p l.colour w) × (l.plane_stride ≡ row_bytes p l.colour w * h)) × ((colour_of p ≡ Ok l.colour) × (aligned p l.colour w ≡ Ok l.colour)) = layout_gives p w h l e in
-    let c : 0 < num_samples l.colour = subst Shows g.1.0 (colour_shows p s) in
-    let r : 0 < row_bytes p l.colour w = row_some p l.colour w wp d c in
-    let q : 1 ≤ row_bytes p l.colour w * h = one-le-mul r hp in
+    let g : ((l.row_bytes ≡ row_bytes p l.color w) × (l.plane_stride ≡ row_bytes p l.color w * h)) × ((color_of p ≡ Ok l.color) × (aligned p l.color w ≡ Ok l.color)) = layout_gives p w h l e in
+    let c : 0 < num_samples l.color = subst Shows g.1.0 (color_shows p s) in
+    let r : 0 < row_bytes p l.color w = row_some p l.color w wp d c in
+    let q : 1 ≤ row_bytes p l.color w * h = one-le-mul r hp in
     (omega (arith, r, g.0.0), omega (arith, q, g.0.1))
 
 -- the rows of a page with samples of some bits
-pub some_row : (p : PageRecord) (c : ColorType) (w : ℕ) → 0 < p.depth → 0 < p.samples → colour_of p ≡ Ok c → 0 < w → 0 < row_bytes p c w
+pub some_row : (p : PageRecord) (c : ColorType) (w : ℕ) → 0 < p.depth → 0 < p.samples → color_of p ≡ Ok c → 0 < w → 0 < row_bytes p c w
 some_row p c w d s e wp =
-    let k : 0 < num_samples c = subst Shows e (colour_shows p s) in
+    let k : 0 < num_samples c = subst Shows e (color_shows p s) in
     row_some p c w wp d k
 
 pub some_plane : (n h : ℕ) → 0 < n → 0 < h → 0 < n * h
@@ -187,15 +187,15 @@ one_plane f c j = let e : 0 * c + (0 + j) ≡ j = omega arith in ap f (sym e)
 pub from_0 : (i : ℕ) → 0 + i ≡ i
 from_0 i = omega arith
 
-pub bytes_placed : (file : List ℕ) (order : ByteOrder) (p : PageRecord) (colour : ColorType) (s n : ℕ) → s ≡ row_bytes p colour p.width → n ≡ s * p.height
-    → image_bytes file order p colour ≡ placed file order p colour (whole_image file order p) s 1 (replicate n 0)
+pub bytes_placed : (file : List ℕ) (order : ByteOrder) (p : PageRecord) (color : ColorType) (s n : ℕ) → s ≡ row_bytes p color p.width → n ≡ s * p.height
+    → image_bytes file order p color ≡ placed file order p color (whole_image file order p) s 1 (replicate n 0)
 unfolding image_bytes placed
-bytes_placed file order p colour s n es en =
+bytes_placed file order p color s n es en =
     let l : length (replicate n 0) ≡ n = length-replicate n 0 in
-    let r : ℕ = row_bytes p colour p.width in
-    let at : ℕ → ℕ = λ i. unwrap_or (byte_at file order p colour (whole_image file order p) r 1 i) 0 in
-    let to : ℕ → ℕ = λ i. unwrap_or (byte_at file order p colour (whole_image file order p) s 1 i) (slice_index (replicate n 0) i) in
-    ext_get_or 0 (image_bytes file order p colour) (placed file order p colour (whole_image file order p) s 1 (replicate n 0))
+    let r : ℕ = row_bytes p color p.width in
+    let at : ℕ → ℕ = λ i. unwrap_or (byte_at file order p color (whole_image file order p) r 1 i) 0 in
+    let to : ℕ → ℕ = λ i. unwrap_or (byte_at file order p color (whole_image file order p) s 1 i) (slice_index (replicate n 0) i) in
+    ext_get_or 0 (image_bytes file order p color) (placed file order p color (whole_image file order p) s 1 (replicate n 0))
     (length-map-range_with_len at 0 (r * p.height) ∙ rw (sym es, sym en) (sym l) ∙ sym (length-map-range_with_len to 0 (length (replicate n 0))))
     (λ i k.
     let b : i < n = rw (length-map-range_with_len at 0 (r * p.height), sym es, sym en) at k in
@@ -204,48 +204,48 @@ bytes_placed file order p colour s n es en =
     ∙ sym (get_or-map-range_with_len to 0 (length (replicate n 0)) i i 0 (rw l b) (from_0 i)))
 
 pub finish_same : (a : Result (Unit {0}) TiffError) (x : List ℕ) (type : DecodingSampleType)
-    → (a >>= (λ _. Ok (decoded type x))) ≡ ((a >>= (λ _. Ok x)) >>= (λ bytes. Ok (decoded type bytes)))
+    → (a >>= (λ _. Ok (decoded_samples type x))) ≡ ((a >>= (λ _. Ok x)) >>= (λ bytes. Ok (decoded_samples type bytes)))
 finish_same (Ok u) x type = refl
 finish_same (Err e) x type = refl
 
 pub finish : (a b : Result (Unit {0}) TiffError) (x y : List ℕ) (type : DecodingSampleType) → a ≡ b → x ≡ y
-    → (a >>= (λ _. Ok (decoded type x))) ≡ ((b >>= (λ _. Ok y)) >>= (λ bytes. Ok (decoded type bytes)))
+    → (a >>= (λ _. Ok (decoded_samples type x))) ≡ ((b >>= (λ _. Ok y)) >>= (λ bytes. Ok (decoded_samples type bytes)))
 finish a b x y type e q =
     finish_same a x type
-    ∙ ap (λ (r : Result (Unit {0}) TiffError). (r >>= (λ _. Ok x)) >>= (λ bytes. Ok (decoded type bytes))) e
-    ∙ ap (λ (z : List ℕ). (b >>= (λ _. Ok z)) >>= (λ bytes. Ok (decoded type bytes))) q
+    ∙ ap (λ (r : Result (Unit {0}) TiffError). (r >>= (λ _. Ok x)) >>= (λ bytes. Ok (decoded_samples type bytes))) e
+    ∙ ap (λ (z : List ℕ). (b >>= (λ _. Ok z)) >>= (λ bytes. Ok (decoded_samples type bytes))) q
 
 module _ (file : List ℕ) (order : ByteOrder) (p : PageRecord) (limits : Limits) (l : LayoutRecord) (given : layout_of p p.width p.height ≡ Ok l) where
   pub of_chunks : (type : DecodingSampleType)
-      → chunks_read file order p limits l.colour type
-      ≡ (filled file order p limits l.colour (image_part file order p 1 l.row_bytes) (replicate l.plane_stride 0) >>= (λ bytes. Ok (decoded type bytes)))
+      → chunks_read file order p limits l.color type
+      ≡ (filled file order p limits l.color (image_part file order p 1 l.row_bytes) (replicate l.plane_stride 0) >>= (λ bytes. Ok (decoded_samples type bytes)))
   unfolding filled
   of_chunks type =
-      let g : ((l.row_bytes ≡ row_bytes p l.colour p.width) × (l.plane_stride ≡ row_bytes p l.colour p.width * p.height)) × ((colour_of p ≡ Ok l.colour) × (aligned p l.colour p.width ≡ Ok l.colour)) = layout_gives p p.width p.height l given in
+      let g : ((l.row_bytes ≡ row_bytes p l.color p.width) × (l.plane_stride ≡ row_bytes p l.color p.width * p.height)) × ((color_of p ≡ Ok l.color) × (aligned p l.color p.width ≡ Ok l.color)) = layout_gives p p.width p.height l given in
       let n : l.plane_stride ≡ l.row_bytes * p.height = g.0.1 ∙ ap (λ z. z * p.height) (sym g.0.0) in
-      let f : ℕ → Result (Unit {0}) TiffError = chunk_fault p limits (is_short file order p l.colour) l.colour in
-      finish (each_below f (chunks_of_plane p)) (part_fault file order p limits l.colour (image_part file order p 1 l.row_bytes))
-      (image_bytes file order p l.colour) (placed file order p l.colour (whole_image file order p) l.row_bytes 1 (replicate l.plane_stride 0)) type
+      let f : ℕ → Result (Unit {0}) TiffError = chunk_fault p limits (is_short file order p l.color) l.color in
+      finish (each_below f (chunks_of_plane p)) (part_fault file order p limits l.color (image_part file order p 1 l.row_bytes))
+      (image_bytes file order p l.color) (placed file order p l.color (whole_image file order p) l.row_bytes 1 (replicate l.plane_stride 0)) type
       (each_same f (λ j. each_below (λ plane. f (plane * chunks_of_plane p + (0 + j))) 1) (chunks_of_plane p) (one_plane f (chunks_of_plane p)))
-      (bytes_placed file order p l.colour l.row_bytes l.plane_stride g.0.0 n)
+      (bytes_placed file order p l.color l.row_bytes l.plane_stride g.0.0 n)
 
   pub of_limit : (type : DecodingSampleType)
-      → (samples_fault limits (size_of type) l.plane_stride >>= (λ _. chunks_read file order p limits l.colour type))
+      → (samples_fault limits (size_of type) l.plane_stride >>= (λ _. chunks_read file order p limits l.color type))
       ≡ (samples_fault limits (size_of type) l.plane_stride
-      >>= (λ _. filled file order p limits l.colour (image_part file order p 1 l.row_bytes) (replicate l.plane_stride 0) >>= (λ bytes. Ok (decoded type bytes))))
+      >>= (λ _. filled file order p limits l.color (image_part file order p 1 l.row_bytes) (replicate l.plane_stride 0) >>= (λ bytes. Ok (decoded_samples type bytes))))
   of_limit type =
       ⊎_elim (λ ok. rw (ok.1) (of_chunks type)) (λ er. rw (er.1) refl) (cases_of (samples_fault limits (size_of type) l.plane_stride))
 
-  pub of_type : (sample_type_of p >>= (λ type. samples_fault limits (size_of type) l.plane_stride >>= (λ _. chunks_read file order p limits l.colour type)))
-      ≡ samples file order p limits l.colour (image_part file order p 1 l.row_bytes) l.plane_stride
+  pub of_type : (sample_type_of p >>= (λ type. samples_fault limits (size_of type) l.plane_stride >>= (λ _. chunks_read file order p limits l.color type)))
+      ≡ samples file order p limits l.color (image_part file order p 1 l.row_bytes) l.plane_stride
   unfolding samples
   of_type = ⊎_elim (λ ok. rw (ok.1) (of_limit ok.0)) (λ er. rw (er.1) refl) (cases_of (sample_type_of p))
 
-  pub of_planes : (wide (l.plane_stride * planes p.planar l.colour) >>= (λ _. sample_type_of p
-      >>= (λ type. samples_fault limits (size_of type) l.plane_stride >>= (λ _. chunks_read file order p limits l.colour type))))
-      ≡ ((wide (l.plane_stride * planes p.planar l.colour) >>= (λ _. Ok l))
-      >>= (λ layout. samples file order p limits layout.colour (image_part file order p 1 layout.row_bytes) layout.plane_stride))
-  of_planes = ⊎_elim (λ ok. rw (ok.1) of_type) (λ er. rw (er.1) refl) (cases_of (wide (l.plane_stride * planes p.planar l.colour)))
+  pub of_planes : (wide (l.plane_stride * planes p.planar l.color) >>= (λ _. sample_type_of p
+      >>= (λ type. samples_fault limits (size_of type) l.plane_stride >>= (λ _. chunks_read file order p limits l.color type))))
+      ≡ ((wide (l.plane_stride * planes p.planar l.color) >>= (λ _. Ok l))
+      >>= (λ layout. samples file order p limits layout.color (image_part file order p 1 layout.row_bytes) layout.plane_stride))
+  of_planes = ⊎_elim (λ ok. rw (ok.1) of_type) (λ er. rw (er.1) refl) (cases_of (wide (l.plane_stride * planes p.planar l.color)))
 
 pub image_is_first_plane : law.ImageIsFirstPlane
 unfolding image_of planes_layout
@@ -299,5 +299,5 @@ aligned_rows p c w a h =
 
 pub whole_rows : law.WholeRows
 whole_rows p l e d =
-    let g : ((l.row_bytes ≡ row_bytes p l.colour p.width) × (l.plane_stride ≡ row_bytes p l.colour p.width * p.height)) × ((colour_of p ≡ Ok l.colour) × (aligned p l.colour p.width ≡ Ok l.colour)) = layout_gives p p.width p.height l e in
-    record { depth = read_depth p l.colour d; rows = aligned_rows p l.colour p.width l.colour g.1.1 }
+    let g : ((l.row_bytes ≡ row_bytes p l.color p.width) × (l.plane_stride ≡ row_bytes p l.color p.width * p.height)) × ((color_of p ≡ Ok l.color) × (aligned p l.color p.width ≡ Ok l.color)) = layout_gives p p.width p.height l e in
+    record { depth = read_depth p l.color d; rows = aligned_rows p l.color p.width l.color g.1.1 }

@@ -20,7 +20,7 @@ use Rattle.tiff_ifd.specs.declared.limits.Limits.{Limits}
 use Rattle.tiff_page.specs.declared.layout.DecodingSampleType.{DecodingSampleType}
 use Rattle.tiff_page.specs.declared.samples.Portion.{Portion}
 use Rattle.tiff_page.specs.declared.samples.Portion.TheVariants.{Image, Chunk}
-use Rattle.tiff_page.specs.Early.{early_fault}
+use Rattle.tiff_page.specs.EarlyFaults.{early_fault}
 use Rattle.tiff_page.specs.Laws.{HasSides}
 use Rattle.tiff_page.specs.Layout.{LayoutRecord, row_bytes, sample_type_of, size_of}
 use Rattle.tiff_page.specs.NumberBytes.{bytes_in}
@@ -30,49 +30,49 @@ use Rattle.tiff_page.specs.PixelFault.{samples_fault}
 use Rattle.tiff_page.specs.Pixels.{Region, each_to, width_of, numbers_in, byte_at}
 use Rattle.tiff_page.specs.Rect.{rect}
 use Rattle.tiff_page.specs.Row.{IsSize}
-use Rattle.tiff_page.specs.Samples.{colour_in, first_in, part_of, IsLaid, room_of}
+use Rattle.tiff_page.specs.Samples.{color_in, first_in, part_of, IsLaid, room_of}
 use Rattle.tiff_page.proofs.Cut.{image_early, chunk_early}
 use Rattle.tiff_page.proofs.NumberBytes.{some_size, numbers_again, zeros_in}
-use Rattle.tiff_page.proofs.Placing.{chunks_within, cases_fault}
+use Rattle.tiff_page.proofs.PositionLaws.{chunks_within, cases_fault}
 use Rattle.tiff_page.proofs.Planes.{layout_gives}
 use Rattle.tiff_page.proofs.Rows.{each_same, by_size}
 use Rattle.tiff_page.proofs.Strip.{numbers_are}
 
 -- ---- early faults
 
-pub portion_early : (wanting failed : Type 0) (file : List ℕ) (order : ByteOrder) (p : PageRecord) (limits : Limits) (portion : Portion) (colour : ColorType) (type : DecodingSampleType) (first len : ℕ) (e : TiffError)
-    → HasSides p → IsLaid p portion → sample_type_of p ≡ Ok type → colour ≡ colour_in portion → first ≡ first_in portion
-    → IsCause wanting failed e (early_fault file p limits colour type first len ≡ Err e)
-    → IsCause (Unit {0}) failed e (samples file order p limits (colour_in portion) (part_of file order p portion) len ≡ Err e)
-portion_early wanting failed file order p limits (Image layout planes) colour type first len e sides laid typed c f h =
-    image_early wanting failed file order p limits layout.colour type planes layout.row_bytes len e sides.wide sides.high sides.chunk_wide sides.chunk_high laid.1 typed
-    (subst (λ (n : ℕ). IsCause wanting failed e (early_fault file p limits layout.colour type n len ≡ Err e)) f
+pub portion_early : (wanting failed : Type 0) (file : List ℕ) (order : ByteOrder) (p : PageRecord) (limits : Limits) (portion : Portion) (color : ColorType) (type : DecodingSampleType) (first len : ℕ) (e : TiffError)
+    → HasSides p → IsLaid p portion → sample_type_of p ≡ Ok type → color ≡ color_in portion → first ≡ first_in portion
+    → IsCause wanting failed e (early_fault file p limits color type first len ≡ Err e)
+    → IsCause (Unit {0}) failed e (samples file order p limits (color_in portion) (part_of file order p portion) len ≡ Err e)
+portion_early wanting failed file order p limits (Image layout planes) color type first len e sides laid typed c f h =
+    image_early wanting failed file order p limits layout.color type planes layout.row_bytes len e sides.wide sides.high sides.chunk_wide sides.chunk_high laid.1 typed
+    (subst (λ (n : ℕ). IsCause wanting failed e (early_fault file p limits layout.color type n len ≡ Err e)) f
     (subst (λ (c : ColorType). IsCause wanting failed e (early_fault file p limits c type first len ≡ Err e)) c h))
-portion_early wanting failed file order p limits (Chunk shade i stride) colour type first len e sides laid typed c f h =
+portion_early wanting failed file order p limits (Chunk shade i stride) color type first len e sides laid typed c f h =
     chunk_early wanting failed file order p limits shade type i stride len e typed
     (subst (λ (n : ℕ). IsCause wanting failed e (early_fault file p limits shade type n len ≡ Err e)) f
     (subst (λ (c : ColorType). IsCause wanting failed e (early_fault file p limits c type first len ≡ Err e)) c h))
 
 -- no early fault is none of the limit
-pub within_limit : (file : List ℕ) (p : PageRecord) (limits : Limits) (colour : ColorType) (type : DecodingSampleType) (first len : ℕ)
-    → early_fault file p limits colour type first len ≡ Ok tt → samples_fault limits (size_of type) len ≡ Ok tt
-within_limit file p limits colour type first len h =
+pub within_limit : (file : List ℕ) (p : PageRecord) (limits : Limits) (color : ColorType) (type : DecodingSampleType) (first len : ℕ)
+    → early_fault file p limits color type first len ≡ Ok tt → samples_fault limits (size_of type) len ≡ Ok tt
+within_limit file p limits color type first len h =
     ⊎_elim (λ ok. ok) (λ er. let g : Err er.0 ≡ Ok tt = rw (er.1) at h in cc) (cases_fault (samples_fault limits (size_of type) len))
 
 -- ---- what stands behind a portion
 
 module _ (file : List ℕ) (order : ByteOrder) (p : PageRecord) where
-  past : (colour : ColorType) (r : Region file order p) (stride planes i : ℕ) → row_bytes p colour r.width ≤ stride → 0 < r.height → planes * (stride * r.height) ≤ i
-      → byte_at file order p colour r stride planes i ≡ None
+  past : (color : ColorType) (r : Region file order p) (stride planes i : ℕ) → row_bytes p color r.width ≤ stride → 0 < r.height → planes * (stride * r.height) ≤ i
+      → byte_at file order p color r stride planes i ≡ None
   unfolding byte_at
-  past colour r stride planes i fits high behind =
+  past color r stride planes i fits high behind =
       ⊎_elim
       (λ (s : 0 < stride).
       let some : 0 < stride * r.height = omega (arith, one-le-mul s high) in
       let f : nat_lt (i / (stride * r.height)) planes ≡ false = le-ltb (i / (stride * r.height)) planes (le-div planes i (stride * r.height) some behind) in
       rw f refl)
       (λ (z : stride ≤ 0).
-      let f : nat_lt (i % stride) (row_bytes p colour r.width) ≡ false = le-ltb (i % stride) (row_bytes p colour r.width) (omega (arith, z, fits)) in
+      let f : nat_lt (i % stride) (row_bytes p color r.width) ≡ false = le-ltb (i % stride) (row_bytes p color r.width) (omega (arith, z, fits)) in
       ⊎_elim
       (λ (t : nat_lt (i / (stride * r.height)) planes ≡ true). rw (t, f) refl)
       (λ (t : nat_lt (i / (stride * r.height)) planes ≡ false). rw t refl)
@@ -80,15 +80,15 @@ module _ (file : List ℕ) (order : ByteOrder) (p : PageRecord) where
       (cases_lt 0 stride)
 
   portion_past : (portion : Portion) (i : ℕ) → HasSides p → IsLaid p portion → room_of p portion ≤ i
-      → byte_at file order p (colour_in portion) (part_of file order p portion).region (part_of file order p portion).stride (part_of file order p portion).planes i ≡ None
+      → byte_at file order p (color_in portion) (part_of file order p portion).region (part_of file order p portion).stride (part_of file order p portion).planes i ≡ None
   portion_past (Image layout planes) i sides laid behind =
-      let l : LayoutRecord = record { colour = layout.colour; row_bytes = layout.row_bytes; plane_stride = layout.plane_stride } in
+      let l : LayoutRecord = record { color = layout.color; row_bytes = layout.row_bytes; plane_stride = layout.plane_stride } in
       let g = layout_gives p p.width p.height l laid.0 in
       let plane : layout.plane_stride ≡ layout.row_bytes * p.height = g.0.1 ∙ ap (λ m. m * p.height) (sym g.0.0) in
-      let fits : row_bytes p layout.colour p.width ≤ layout.row_bytes = omega (arith, g.0.0) in
-      past layout.colour (part_of file order p (Image layout planes)).region layout.row_bytes planes i fits sides.high (subst (λ (m : ℕ). planes * m ≤ i) plane behind)
-  portion_past (Chunk colour k stride) i sides laid behind =
-      past colour (part_of file order p (Chunk colour k stride)).region stride 1 i laid.1 (chunks_within p k sides).some_row (omega (arith, behind, mul_comm (rect p k).height stride))
+      let fits : row_bytes p layout.color p.width ≤ layout.row_bytes = omega (arith, g.0.0) in
+      past layout.color (part_of file order p (Image layout planes)).region layout.row_bytes planes i fits sides.high (subst (λ (m : ℕ). planes * m ≤ i) plane behind)
+  portion_past (Chunk color k stride) i sides laid behind =
+      past color (part_of file order p (Chunk color k stride)).region stride 1 i laid.1 (chunks_within p k sides).some_row (omega (arith, behind, mul_comm (rect p k).height stride))
 
 -- ---- lists of zeros that are longer
 
@@ -97,9 +97,9 @@ zero_in zero i = refl
 zero_in (suc n) zero = refl
 zero_in (suc n) (suc i) = zero_in n i
 
--- a list by its places, with zeros behind them
-at_place : (f : ℕ → ℕ) (n i : ℕ) → ((k : ℕ) → n ≤ k → f k ≡ 0) → get_or (each_to n f) i 0 ≡ f i
-at_place f n i none =
+-- a list by its positions, with zeros behind them
+at_position : (f : ℕ → ℕ) (n i : ℕ) → ((k : ℕ) → n ≤ k → f k ≡ 0) → get_or (each_to n f) i 0 ≡ f i
+at_position f n i none =
     ⊎_elim
     (λ (l : i < n). get_or-map-range_with_len f 0 n i i 0 l (omega arith))
     (λ (l : n ≤ i). get_or_past (each_to n f) i 0 (omega (arith, l, length-map-range_with_len f 0 n)) ∙ sym (none i l))
@@ -122,7 +122,7 @@ filled_up size f n z none =
     (λ k h.
     ap (number LittleEndian (width_of size))
     (each_same size (λ j. get_or (each_to more f) (k * size + j) 0) (λ j. get_or (each_to n f) (k * size + j) 0)
-    (λ j l. at_place f more (k * size + j) (λ x y. none x (omega (arith, y, m))) ∙ sym (at_place f n (k * size + j) none))))
+    (λ j l. at_position f more (k * size + j) (λ x y. none x (omega (arith, y, m))) ∙ sym (at_position f n (k * size + j) none))))
 
 -- ---- the samples of a portion
 
@@ -131,80 +131,80 @@ module _ (file : List ℕ) (order : ByteOrder) (p : PageRecord) (limits : Limits
   part = part_of file order p portion
 
   abbrev in_place : ℕ → ℕ
-  in_place i = unwrap_or (byte_at file order p (colour_in portion) part.region part.stride part.planes i) 0
+  in_place i = unwrap_or (byte_at file order p (color_in portion) part.region part.stride part.planes i) 0
 
   -- what is placed in zeros
-  placed_in_zeros : (n : ℕ) → placed file order p (colour_in portion) part.region part.stride part.planes (replicate n 0) ≡ each_to n in_place
+  placed_in_zeros : (n : ℕ) → placed file order p (color_in portion) part.region part.stride part.planes (replicate n 0) ≡ each_to n in_place
   unfolding placed
   placed_in_zeros n =
       let count : length (replicate n 0) ≡ n = length-replicate n 0 in
-      ap (λ (k : ℕ). each_to k (λ i. unwrap_or (byte_at file order p (colour_in portion) part.region part.stride part.planes i) (get_or (replicate n 0) i 0))) count
-      ∙ each_same n (λ i. unwrap_or (byte_at file order p (colour_in portion) part.region part.stride part.planes i) (get_or (replicate n 0) i 0)) in_place
-      (λ i l. ap (unwrap_or (byte_at file order p (colour_in portion) part.region part.stride part.planes i)) (zero_in n i))
+      ap (λ (k : ℕ). each_to k (λ i. unwrap_or (byte_at file order p (color_in portion) part.region part.stride part.planes i) (get_or (replicate n 0) i 0))) count
+      ∙ each_same n (λ i. unwrap_or (byte_at file order p (color_in portion) part.region part.stride part.planes i) (get_or (replicate n 0) i 0)) in_place
+      (λ i l. ap (unwrap_or (byte_at file order p (color_in portion) part.region part.stride part.planes i)) (zero_in n i))
 
   none_behind : (len i : ℕ) → room_of p portion ≤ len → len ≤ i → in_place i ≡ 0
   none_behind len i room l = ap (λ o. unwrap_or o 0) (portion_past file order p portion i sides laid (omega (arith, room, l)))
 
   -- bytes that are filled into some zeros were filled
-  filled_bytes : (zeros new : List ℕ) → filled file order p limits (colour_in portion) part zeros ≡ Ok new
-      → (part_fault file order p limits (colour_in portion) part ≡ Ok tt) × (new ≡ placed file order p (colour_in portion) part.region part.stride part.planes zeros)
+  filled_bytes : (zeros new : List ℕ) → filled file order p limits (color_in portion) part zeros ≡ Ok new
+      → (part_fault file order p limits (color_in portion) part ≡ Ok tt) × (new ≡ placed file order p (color_in portion) part.region part.stride part.planes zeros)
   unfolding filled
   filled_bytes zeros new h =
       ⊎_elim
-      (λ (ok : part_fault file order p limits (colour_in portion) part ≡ Ok tt).
-      let g : Ok (placed file order p (colour_in portion) part.region part.stride part.planes zeros) ≡ Ok new = rw ok at h in
+      (λ (ok : part_fault file order p limits (color_in portion) part ≡ Ok tt).
+      let g : Ok (placed file order p (color_in portion) part.region part.stride part.planes zeros) ≡ Ok new = rw ok at h in
       (ok, cc))
       (λ er. let g : Err er.0 ≡ Ok new = rw (er.1) at h in absurd (let n : ⊥ = cc in n))
-      (cases_fault (part_fault file order p limits (colour_in portion) part))
+      (cases_fault (part_fault file order p limits (color_in portion) part))
 
-  filled_fault : (zeros : List ℕ) (e : TiffError) → filled file order p limits (colour_in portion) part zeros ≡ Err e → part_fault file order p limits (colour_in portion) part ≡ Err e
+  filled_fault : (zeros : List ℕ) (e : TiffError) → filled file order p limits (color_in portion) part zeros ≡ Err e → part_fault file order p limits (color_in portion) part ≡ Err e
   unfolding filled
   filled_fault zeros e h =
       ⊎_elim
-      (λ (ok : part_fault file order p limits (colour_in portion) part ≡ Ok tt).
-      let g : Ok (placed file order p (colour_in portion) part.region part.stride part.planes zeros) ≡ Err e = rw ok at h in cc)
+      (λ (ok : part_fault file order p limits (color_in portion) part ≡ Ok tt).
+      let g : Ok (placed file order p (color_in portion) part.region part.stride part.planes zeros) ≡ Err e = rw ok at h in cc)
       (λ er. let g : Err er.0 ≡ Err e = rw (er.1) at h in let q : er.0 ≡ e = cc in er.1 ∙ ap Err q)
-      (cases_fault (part_fault file order p limits (colour_in portion) part))
+      (cases_fault (part_fault file order p limits (color_in portion) part))
 
   -- the samples, where bytes were filled into as many zeros as whole numbers take
-  pub numbers_given : (colour : ColorType) (type : DecodingSampleType) (size first len : ℕ) (before after : List ℕ) → IsSize size → size_of type ≡ size → sample_type_of p ≡ Ok type
-      → early_fault file p limits colour type first len ≡ Ok tt → room_of p portion ≤ len → before ≡ replicate (div_ceil len size) 0
-      → filled file order p limits (colour_in portion) part (bytes_in size before) ≡ Ok (bytes_in size after)
-      → samples file order p limits (colour_in portion) part len ≡ Ok (record { sample_type = type; numbers = after })
+  pub numbers_given : (color : ColorType) (type : DecodingSampleType) (size first len : ℕ) (before after : List ℕ) → IsSize size → size_of type ≡ size → sample_type_of p ≡ Ok type
+      → early_fault file p limits color type first len ≡ Ok tt → room_of p portion ≤ len → before ≡ replicate (div_ceil len size) 0
+      → filled file order p limits (color_in portion) part (bytes_in size before) ≡ Ok (bytes_in size after)
+      → samples file order p limits (color_in portion) part len ≡ Ok (record { sample_type = type; numbers = after })
   unfolding samples filled
-  numbers_given colour type size first len before after z sized typed early room zeros h =
+  numbers_given color type size first len before after z sized typed early room zeros h =
       let all : bytes_in size before ≡ replicate (div_ceil len size * size) 0 = zeros_in size (div_ceil len size) before z zeros in
       let f = filled_bytes (bytes_in size before) (bytes_in size after) h in
       let new : bytes_in size after ≡ each_to (div_ceil len size * size) in_place =
-      f.1 ∙ (ap (λ (xs : List ℕ). placed file order p (colour_in portion) part.region part.stride part.planes xs) all ∙ placed_in_zeros (div_ceil len size * size)) in
-      let numbers : numbers_in size (placed file order p (colour_in portion) part.region part.stride part.planes (replicate len 0)) ≡ after =
+      f.1 ∙ (ap (λ (xs : List ℕ). placed file order p (color_in portion) part.region part.stride part.planes xs) all ∙ placed_in_zeros (div_ceil len size * size)) in
+      let numbers : numbers_in size (placed file order p (color_in portion) part.region part.stride part.planes (replicate len 0)) ≡ after =
       ap (numbers_in size) (placed_in_zeros len) ∙ (sym (filled_up size in_place len z (λ i l. none_behind len i room l)) ∙ (sym (ap (numbers_in size) new) ∙ numbers_again size after z)) in
-      rw (typed, within_limit file p limits colour type first len early, f.0)
-      (ap Ok (λ i. record { sample_type = type; numbers = ((λ t. numbers_in (sized t) (placed file order p (colour_in portion) part.region part.stride part.planes (replicate len 0))) ∙ numbers) i }))
+      rw (typed, within_limit file p limits color type first len early, f.0)
+      (ap Ok (λ i. record { sample_type = type; numbers = ((λ t. numbers_in (sized t) (placed file order p (color_in portion) part.region part.stride part.planes (replicate len 0))) ∙ numbers) i }))
 
   -- and the bytes, where these are the numbers
-  pub bytes_given : (colour : ColorType) (type : DecodingSampleType) (first len : ℕ) (before after : List ℕ) → size_of type ≡ 1 → sample_type_of p ≡ Ok type
-      → early_fault file p limits colour type first len ≡ Ok tt → before ≡ replicate len 0
-      → filled file order p limits (colour_in portion) part before ≡ Ok after
-      → samples file order p limits (colour_in portion) part len ≡ Ok (record { sample_type = type; numbers = after })
+  pub bytes_given : (color : ColorType) (type : DecodingSampleType) (first len : ℕ) (before after : List ℕ) → size_of type ≡ 1 → sample_type_of p ≡ Ok type
+      → early_fault file p limits color type first len ≡ Ok tt → before ≡ replicate len 0
+      → filled file order p limits (color_in portion) part before ≡ Ok after
+      → samples file order p limits (color_in portion) part len ≡ Ok (record { sample_type = type; numbers = after })
   unfolding samples filled
-  bytes_given colour type first len before after sized typed early zeros h =
+  bytes_given color type first len before after sized typed early zeros h =
       let f = filled_bytes before after h in
-      let numbers : numbers_in 1 (placed file order p (colour_in portion) part.region part.stride part.planes (replicate len 0)) ≡ after =
-      numbers_are (placed file order p (colour_in portion) part.region part.stride part.planes (replicate len 0))
-      ∙ (sym (ap (λ (xs : List ℕ). placed file order p (colour_in portion) part.region part.stride part.planes xs) zeros) ∙ sym f.1) in
-      rw (typed, within_limit file p limits colour type first len early, f.0)
-      (ap Ok (λ i. record { sample_type = type; numbers = ((λ t. numbers_in (sized t) (placed file order p (colour_in portion) part.region part.stride part.planes (replicate len 0))) ∙ numbers) i }))
+      let numbers : numbers_in 1 (placed file order p (color_in portion) part.region part.stride part.planes (replicate len 0)) ≡ after =
+      numbers_are (placed file order p (color_in portion) part.region part.stride part.planes (replicate len 0))
+      ∙ (sym (ap (λ (xs : List ℕ). placed file order p (color_in portion) part.region part.stride part.planes xs) zeros) ∙ sym f.1) in
+      rw (typed, within_limit file p limits color type first len early, f.0)
+      (ap Ok (λ i. record { sample_type = type; numbers = ((λ t. numbers_in (sized t) (placed file order p (color_in portion) part.region part.stride part.planes (replicate len 0))) ∙ numbers) i }))
 
   -- a fault of filling is one of the samples
-  pub filling_cause : (failed failed' : Type 0) (colour : ColorType) (type : DecodingSampleType) (first len : ℕ) (zeros : List ℕ) (e : TiffError) → (failed → failed') → sample_type_of p ≡ Ok type
-      → early_fault file p limits colour type first len ≡ Ok tt
-      → IsCause (Unit {0}) failed e (filled file order p limits (colour_in portion) part zeros ≡ Err e)
-      → IsCause (Unit {0}) failed' e (samples file order p limits (colour_in portion) part len ≡ Err e)
+  pub filling_cause : (failed failed' : Type 0) (color : ColorType) (type : DecodingSampleType) (first len : ℕ) (zeros : List ℕ) (e : TiffError) → (failed → failed') → sample_type_of p ≡ Ok type
+      → early_fault file p limits color type first len ≡ Ok tt
+      → IsCause (Unit {0}) failed e (filled file order p limits (color_in portion) part zeros ≡ Err e)
+      → IsCause (Unit {0}) failed' e (samples file order p limits (color_in portion) part len ≡ Err e)
   unfolding samples filled
-  filling_cause failed failed' colour type first len zeros e grew typed early c =
+  filling_cause failed failed' color type first len zeros e grew typed early c =
       cause_along e (λ w. w) grew
-      (λ h. rw (typed, within_limit file p limits colour type first len early, filled_fault zeros e h) refl)
+      (λ h. rw (typed, within_limit file p limits color type first len early, filled_fault zeros e h) refl)
       c
 
 -- ---- the room of numbers

@@ -5,10 +5,10 @@ use Rattle.std.proofs.lemmas.List.{length-take-le, length-append, length-drop, g
 use Rattle.std.proofs.lemmas.Nat.{div-mul-add, mod-mul-add, div-add-mod'}
 use Rattle.std.proofs.Math.Nat.{mul-le-mul_right}
 use borrow.Rule.Slice.PartMut.{put_mid}
-use Rattle.tiff_page.specs.Place.{Writes, IsIn, in_rect}
-use Rattle.tiff_page.specs.Placing as law
+use Rattle.tiff_page.specs.BufferPositions.{Writes, IsIn, in_rect}
+use Rattle.tiff_page.specs.PositionLaws as law
 
--- new is old with these bytes at a place
+-- new is old with these bytes at a position
 abbrev pub Holds : List ℕ → ℕ → List ℕ → List ℕ → Type 0
 Holds old at bytes new = new ≡ take at old ++ (bytes ++ drop (at + length bytes) old)
 
@@ -22,7 +22,7 @@ pub length_held : (old bytes new : List ℕ) (at : ℕ) → at + length bytes �
 length_held old bytes new at f h =
     rw (h, length-append, length-append, length-drop, length-take-le at old (omega (arith, f))) (omega (arith, f))
 
--- which places change
+-- which positions change
 pub copied : (old bytes new : List ℕ) (at : ℕ) → at + length bytes ≤ length old → Holds old at bytes new
     → Writes (λ i. (at ≤ i) × (i < at + length bytes)) (λ i. get_or bytes (i - at) 0) old new
 copied old bytes new at f h = (
@@ -61,7 +61,7 @@ writes_more P Q R value old mid new f g k a b = (
 pub writes_as : (P : ℕ → Type 0) (f g : ℕ → ℕ) (old new : List ℕ) → ((i : ℕ) → P i → f i ≡ g i) → Writes P f old new → Writes P g old new
 writes_as P f g old new e w = (w.0, λ i l. ⊎_elim (λ p. inl (p.0, p.1 ∙ e i p.0)) (λ p. inr p) (w.1 i l))
 
--- the same places under another name
+-- the same positions under another name
 pub writes_same : (P Q : ℕ → Type 0) (value : ℕ → ℕ) (old new : List ℕ) → ((i : ℕ) → P i → Q i) → ((i : ℕ) → Q i → P i)
     → Writes P value old new → Writes Q value old new
 writes_same P Q value old new f g w = (w.0, λ i l. ⊎_elim (λ p. inl (f i p.0, p.1)) (λ p. inr (λ q. p.0 (g i q), p.1)) (w.1 i l))
@@ -77,7 +77,7 @@ row_room stride top rows r left len size a b c =
     let e : (top + r + 1) * stride ≡ (top + r) * stride + stride = omega arith in
     omega (arith, b, c, d, e)
 
--- where a place of that row is
+-- where a position of that row is
 pub in_row : (stride top r left len at i : ℕ) → left + len ≤ stride → at ≡ (top + r) * stride + left → at ≤ i → i < at + len
     → (i / stride ≡ top + r) × (i % stride ≡ left + (i - at))
 in_row stride top r left len at i b e l h =

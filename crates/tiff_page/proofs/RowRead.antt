@@ -13,9 +13,9 @@ use Rattle.tiff_base.proofs.Causes.{cause_along}
 use Rattle.tiff_page.specs.Page.{PageRecord}
 use Rattle.tiff_page.specs.Layout.{row_bits, row_bytes, shown}
 use Rattle.tiff_page.specs.Pixels.{stored_row_bytes, needs_whole_rows}
-use Rattle.tiff_page.specs.Handed.{IsStored, handed_byte}
-use Rattle.tiff_page.specs.Reading.{needed_of_row, TakesRow}
-use Rattle.tiff_page.specs.Stored.{IsTooShort}
+use Rattle.tiff_page.specs.OutputRow.{StoresAllShown, handed_byte}
+use Rattle.tiff_page.specs.RowReads.{needed_of_row, TakesRow}
+use Rattle.tiff_page.specs.ChunkData.{IsTooShort}
 use Rattle.tiff_page.proofs.ChunkRows.{bits_are}
 use Rattle.tiff_page.proofs.Data.{behind_front}
 
@@ -23,51 +23,51 @@ pub front_of : (front rest : List ℕ) (n : ℕ) → length front ≡ n → take
 front_of front rest n e = ap (λ m. take m (front ++ rest)) (sym e) ∙ take-append_seam front rest
 
 -- the bytes that were taken are the row's
-pub taken : (order : ByteOrder) (p : PageRecord) (colour : ColorType) (left rest filled out : List ℕ) → left ≡ filled ++ rest
-    → length filled ≡ needed_of_row p colour (length out) → ((b : ℕ) → b < length out → slice_index out b ≡ handed_byte order p filled colour b)
-    → TakesRow order p colour left rest out
-taken order p colour left rest filled out e n h =
-    let need : ℕ = needed_of_row p colour (length out) in
+pub taken : (order : ByteOrder) (p : PageRecord) (color : ColorType) (left rest filled out : List ℕ) → left ≡ filled ++ rest
+    → length filled ≡ needed_of_row p color (length out) → ((b : ℕ) → b < length out → slice_index out b ≡ handed_byte order p filled color b)
+    → TakesRow order p color left rest out
+taken order p color left rest filled out e n h =
+    let need : ℕ = needed_of_row p color (length out) in
     let l : length left ≡ length filled + length rest = ap (λ (z : List ℕ). length z) e ∙ length-append filled rest in
     let t : take need left ≡ filled = ap (take need) e ∙ front_of filled rest need n in
     record {
       enough = omega (arith, l, n);
       behind = behind_front filled rest need n ∙ ap (drop need) (sym e);
-      handed = λ b bl. h b bl ∙ ap (λ (z : List ℕ). handed_byte order p z colour b) (sym t);
+      handed = λ b bl. h b bl ∙ ap (λ (z : List ℕ). handed_byte order p z color b) (sym t);
     }
 
-pub row_taken : (order : ByteOrder) (p : PageRecord) (colour : ColorType) (left rest filled out : List ℕ) → needs_whole_rows p colour ≡ false → left ≡ filled ++ rest
-    → length filled ≡ length out → ((b : ℕ) → b < length out → slice_index out b ≡ handed_byte order p filled colour b)
-    → TakesRow order p colour left rest out
-row_taken order p colour left rest filled out w e n h = taken order p colour left rest filled out e (rw w n) h
+pub row_taken : (order : ByteOrder) (p : PageRecord) (color : ColorType) (left rest filled out : List ℕ) → needs_whole_rows p color ≡ false → left ≡ filled ++ rest
+    → length filled ≡ length out → ((b : ℕ) → b < length out → slice_index out b ≡ handed_byte order p filled color b)
+    → TakesRow order p color left rest out
+row_taken order p color left rest filled out w e n h = taken order p color left rest filled out e (rw w n) h
 
-pub whole_taken : (order : ByteOrder) (p : PageRecord) (colour : ColorType) (left rest filled out : List ℕ) → needs_whole_rows p colour ≡ true → left ≡ filled ++ rest
-    → length filled ≡ stored_row_bytes p → ((b : ℕ) → b < length out → slice_index out b ≡ handed_byte order p filled colour b)
-    → TakesRow order p colour left rest out
-whole_taken order p colour left rest filled out w e n h = taken order p colour left rest filled out e (rw w n) h
+pub whole_taken : (order : ByteOrder) (p : PageRecord) (color : ColorType) (left rest filled out : List ℕ) → needs_whole_rows p color ≡ true → left ≡ filled ++ rest
+    → length filled ≡ stored_row_bytes p → ((b : ℕ) → b < length out → slice_index out b ≡ handed_byte order p filled color b)
+    → TakesRow order p color left rest out
+whole_taken order p color left rest filled out w e n h = taken order p color left rest filled out e (rw w n) h
 
-pub row_cause : (p : PageRecord) (colour : ColorType) (wanting failed : Type 0) (left : List ℕ) (n m : ℕ) (e : TiffError) → needs_whole_rows p colour ≡ false → n ≡ m
-    → IsCause ⊥ failed e (IsTooShort left n e) → IsCause wanting failed e (IsTooShort left (needed_of_row p colour m) e)
-row_cause p colour wanting failed left n m e w q c =
+pub row_cause : (p : PageRecord) (color : ColorType) (wanting failed : Type 0) (left : List ℕ) (n m : ℕ) (e : TiffError) → needs_whole_rows p color ≡ false → n ≡ m
+    → IsCause ⊥ failed e (IsTooShort left n e) → IsCause wanting failed e (IsTooShort left (needed_of_row p color m) e)
+row_cause p color wanting failed left n m e w q c =
     cause_along e (λ z. Prim.absurd z) (λ f. f) (λ t. record { fault = t.fault; short = rw w (omega (arith, t.short, q)) }) c
 
-pub whole_cause : (p : PageRecord) (colour : ColorType) (failed : Type 0) (left : List ℕ) (m : ℕ) (e : TiffError) → needs_whole_rows p colour ≡ true
-    → IsCause (Unit {0}) failed e (IsTooShort left (stored_row_bytes p) e) → IsCause (Unit {0}) failed e (IsTooShort left (needed_of_row p colour m) e)
-whole_cause p colour failed left m e w c =
+pub whole_cause : (p : PageRecord) (color : ColorType) (failed : Type 0) (left : List ℕ) (m : ℕ) (e : TiffError) → needs_whole_rows p color ≡ true
+    → IsCause (Unit {0}) failed e (IsTooShort left (stored_row_bytes p) e) → IsCause (Unit {0}) failed e (IsTooShort left (needed_of_row p color m) e)
+whole_cause p color failed left m e w c =
     cause_along e (λ z. z) (λ f. f) (λ t. record { fault = t.fault; short = rw w t.short }) c
 
 -- a row of whole bytes is one of whole numbers
-pub row_of_numbers : (p : PageRecord) (colour : ColorType) (width n : ℕ) → IsStored p colour → n ≡ row_bytes p colour width
+pub row_of_numbers : (p : PageRecord) (color : ColorType) (width n : ℕ) → StoresAllShown p color → n ≡ row_bytes p color width
     → (p.depth < 8) ⊎ (n / (p.depth / 8) * (p.depth / 8) ≡ n)
 unfolding row_bits
-row_of_numbers p colour width n stored e =
+row_of_numbers p color width n stored e =
     ⊎_elim
     (λ (l : p.depth < 8). inl l)
     (λ (w : p.depth ≡ p.depth / 8 * 8).
     let size : ℕ = p.depth / 8 in
-    let a : n ≡ width * shown p.planar colour * size = e ∙ bits_are width p.depth size (shown p.planar colour) w in
+    let a : n ≡ width * shown p.planar color * size = e ∙ bits_are width p.depth size (shown p.planar color) w in
     ⊎_elim
-    (λ (z : 0 < size). inr (ap (λ m. m / size * size) a ∙ ap (λ m. m * size) (mul-div_cancel (width * shown p.planar colour) z) ∙ sym a))
+    (λ (z : 0 < size). inr (ap (λ m. m / size * size) a ∙ ap (λ m. m * size) (mul-div_cancel (width * shown p.planar color) z) ∙ sym a))
     (λ (z : size ≤ 0). inl (omega (arith, z, w)))
     (cases_lt 0 size))
     stored.depth

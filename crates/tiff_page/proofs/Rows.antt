@@ -15,7 +15,7 @@ use Rattle.std.specs.Int.{Width, w16, w32, w64, from_le_bytes, to_le_bytes}
 use Rattle.tiff_base.specs.declared.tags.ByteOrder.{ByteOrder}
 use Rattle.tiff_base.specs.declared.tags.ByteOrder.TheVariants.{LittleEndian, BigEndian}
 use Rattle.tiff_base.specs.Number.{number}
-use Rattle.tiff_base.specs.Told.{bytes_at}
+use Rattle.tiff_base.specs.SourceAndSink.{bytes_at}
 use Rattle.tiff_page.specs.Pixels.{each_to, width_of}
 use Rattle.tiff_page.specs.Row.{IsSize, row_number, summed_number, summed_byte_in, joined_number, Became, AddsNumber, TurnsNumber}
 

@@ -1,4 +1,4 @@
--- The image of one gray strip: what the definitions give is the bytes from the strip's place on.
+-- The image of one gray strip: what the definitions give is the bytes from the strip's position on.
 use Rattle.std.proofs.Common.{◌≡◌, ℕ, ◌+◌, ◌-◌, ◌*◌, ◌/◌, ◌%◌, ◌^◌, ◌<◌, ◌≤◌, true, false, cond, leb, List, [], ◌∷◌, length, take, drop, get_or, Some, None, Ok, refl, ap, sym, subst, ◌∙◌, arith, length-drop, ⊎_elim}
 use Rattle.std.proofs.lemmas.Bool.{cases_Bool, leb-true, lt-ltb}
 use Rattle.std.proofs.lemmas.Nat.{div_below, mod_below, div-add-mod'}
@@ -18,7 +18,7 @@ use Rattle.tiff_base.specs.declared.tags.PlanarConfiguration.TheVariants.{Chunky
 use Rattle.tiff_base.specs.declared.tags.Predictor.TheVariants as predictor
 use Rattle.tiff_base.specs.declared.tags.SampleFormat.TheVariants as format
 use Rattle.tiff_base.specs.Number.{number}
-use Rattle.tiff_base.specs.Told.{exactly_at}
+use Rattle.tiff_base.specs.SourceAndSink.{exactly_at}
 use Rattle.tiff_page.specs.Page.{PageRecord}
 use Rattle.tiff_page.specs.Counts.{parts}
 use Rattle.tiff_page.specs.Rect.{chunks_of_plane}
@@ -46,7 +46,7 @@ gray_page w h extra sub type rows offsets counts = record {
   byte_counts = counts;
 }
 
--- what was read at a place, and that there were so many bytes
+-- what was read at a position, and that there were so many bytes
 pub read_is : (bytes : List ℕ) (at len : ℕ) (v : List ℕ) → exactly_at bytes at len ≡ Ok v → (take len (drop at bytes) ≡ v) × (len ≤ length bytes - at)
 read_is bytes at len v =
     ⊎_elim
@@ -64,7 +64,7 @@ unfolding number
 number_one LittleEndian b = refl
 number_one BigEndian b = refl
 
--- in a strip that covers the image, a sample is the byte at its place
+-- in a strip that covers the image, a sample is the byte at its position
 pub shown_is : (file : List ℕ) (order : ByteOrder) (w h : ℕ) (extra : List ExtraSamples) (sub : ℕ × ℕ) (type : ChunkType) (rows : ℕ) (offsets counts : List ℕ) (x y : ℕ)
     → x < w → y < rows
     → shown_sample file order (gray_page w h extra sub type rows offsets counts) x y 0 ≡ slice_index (drop (slice_index offsets 0) file) (y * w + x)
@@ -76,11 +76,11 @@ shown_is file order w h extra sub type rows offsets counts x y in_row in_strip =
     rw (div-eq_of_lt in_strip, div-eq_of_lt in_row) (omega arith) in
     let row : y % rows ≡ y = mod-eq_of_lt in_strip in
     let column : x % w ≡ x = mod-eq_of_lt in_row in
-    let place : y * ((w * 8 * 1 + 7) / 8) + ((x * 1 + 0) * 1 + 0) ≡ y * w + x =
+    let position : y * ((w * 8 * 1 + 7) / 8) + ((x * 1 + 0) * 1 + 0) ≡ y * w + x =
     ap (λ (n : ℕ). y * n + ((x * 1 + 0) * 1 + 0)) (row_of w) ∙ omega arith in
     (λ i. raw_number file order p (first i) (row i) (column i) 0)
     ∙ number_one order (slice_index data_of_strip (y * ((w * 8 * 1 + 7) / 8) + ((x * 1 + 0) * 1 + 0)))
-    ∙ ap (slice_index data_of_strip) place
+    ∙ ap (slice_index data_of_strip) position
 
 -- byte k of a row
 pub row_byte : (file : List ℕ) (order : ByteOrder) (w h : ℕ) (extra : List ExtraSamples) (sub : ℕ × ℕ) (type : ChunkType) (rows : ℕ) (offsets counts : List ℕ) (row k : ℕ)
@@ -130,7 +130,7 @@ numbers_are bytes =
     ∙ number_one LittleEndian (slice_index bytes (i * 1 + 0))
     ∙ ap (slice_index bytes) at)
 
--- the image's bytes are those from the strip's place on
+-- the image's bytes are those from the strip's position on
 pub image_is : (file : List ℕ) (order : ByteOrder) (w h : ℕ) (extra : List ExtraSamples) (sub : ℕ × ℕ) (type : ChunkType) (rows : ℕ) (offsets counts v : List ℕ)
     → 0 < w → h ≤ rows → exactly_at file (slice_index offsets 0) (w * h) ≡ Ok v → ((i : ℕ) → get_or v i 0 < 256)
     → image_bytes file order (gray_page w h extra sub type rows offsets counts) (Gray 8) ≡ v

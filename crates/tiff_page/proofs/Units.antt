@@ -12,19 +12,19 @@ use Rattle.tiff_page.specs.Rect.{rect, chunks_of_plane}
 use Rattle.tiff_page.specs.Layout.{row_bytes}
 use Rattle.tiff_page.specs.Pixels.{byte_at, chunk_region, region_byte}
 use Rattle.tiff_page.specs.Laws.{HasSides}
-use Rattle.tiff_page.specs.Place.{Writes, IsIn, in_rect, chunk_byte, IsInUnit, unit_byte}
-use Rattle.tiff_page.specs.Placing as law
+use Rattle.tiff_page.specs.BufferPositions.{Writes, IsIn, in_rect, chunk_byte, IsInUnit, unit_byte}
+use Rattle.tiff_page.specs.PositionLaws as law
 use Rattle.tiff_page.proofs.Chunks.{unit_of_chunks}
-use Rattle.tiff_page.proofs.Placing.{chunks_within}
+use Rattle.tiff_page.proofs.PositionLaws.{chunks_within}
 use Rattle.tiff_page.proofs.Rects.{writes_more, writes_as, writes_none}
 use Rattle.tiff_page.proofs.Covering.{is_placed}
 
-module _ (file : List ℕ) (order : ByteOrder) (p : PageRecord) (colour : ColorType) (stride k : ℕ) (sides : HasSides p) where
+module _ (file : List ℕ) (order : ByteOrder) (p : PageRecord) (color : ColorType) (stride k : ℕ) (sides : HasSides p) where
   abbrev pub h : ℕ
   h = (rect p k).height
 
   abbrev pub len : ℕ
-  len = row_bytes p colour (rect p k).width
+  len = row_bytes p color (rect p k).width
 
   pub rows_some : 0 < h
   rows_some = (chunks_within p k sides).some_row
@@ -47,8 +47,8 @@ module _ (file : List ℕ) (order : ByteOrder) (p : PageRecord) (colour : ColorT
         record { below = omega (arith, d, f); above = omega (arith, d, f, m); right = omega arith; within = omega (arith, l) }
 
     -- the byte of a chunk is that of the unit
-    pub of_unit : (row b : ℕ) → chunk_byte file order p colour (plane * chunks_of_plane p + k) row b
-        ≡ region_byte file order p colour (chunk_region file order p k) ((rect p k).plane + plane) row b
+    pub of_unit : (row b : ℕ) → chunk_byte file order p color (plane * chunks_of_plane p + k) row b
+        ≡ region_byte file order p color (chunk_region file order p k) ((rect p k).plane + plane) row b
     unfolding rect
     of_unit row b =
         ⊎_elim
@@ -56,31 +56,31 @@ module _ (file : List ℕ) (order : ByteOrder) (p : PageRecord) (colour : ColorT
         let e : plane * chunks_of_plane p ≡ 0 * chunks_of_plane p = ap (λ m. m * chunks_of_plane p) z in
         let f : plane * chunks_of_plane p + k ≡ k = omega (arith, e) in
         let g : k / chunks_of_plane p ≡ k / chunks_of_plane p + plane = omega (arith, z) in
-        (λ t. region_byte file order p colour (chunk_region file order p (f t)) (f t / chunks_of_plane p) row b)
-        ∙ (λ t. region_byte file order p colour (chunk_region file order p k) (g t) row b))
+        (λ t. region_byte file order p color (chunk_region file order p (f t)) (f t / chunks_of_plane p) row b)
+        ∙ (λ t. region_byte file order p color (chunk_region file order p k) (g t) row b))
         (λ (l : k < chunks_of_plane p).
         let e : (plane * chunks_of_plane p + k) / chunks_of_plane p ≡ plane = div-mul-add plane (chunks_of_plane p) k l in
         let f : k / chunks_of_plane p ≡ 0 = div-eq_of_lt l in
         let g : plane ≡ k / chunks_of_plane p + plane = omega (arith, f) in
-        (λ t. region_byte file order p colour (chunk_region file order p (plane * chunks_of_plane p + k)) (e t) row b)
-        ∙ sym (unit_of_chunks file order p colour k plane row b l)
-        ∙ (λ t. region_byte file order p colour (chunk_region file order p k) (g t) row b))
+        (λ t. region_byte file order p color (chunk_region file order p (plane * chunks_of_plane p + k)) (e t) row b)
+        ∙ sym (unit_of_chunks file order p color k plane row b l)
+        ∙ (λ t. region_byte file order p color (chunk_region file order p k) (g t) row b))
         which
 
     pub byte_is : (i : ℕ) → At i
-        → in_rect (chunk_byte file order p colour (plane * chunks_of_plane p + k)) stride (plane * h) 0 i ≡ unit_byte file order p colour stride k i
+        → in_rect (chunk_byte file order p color (plane * chunks_of_plane p + k)) stride (plane * h) 0 i ≡ unit_byte file order p color stride k i
     byte_is i q =
         let u = plane_at i q in
         let x : i % stride - 0 ≡ i % stride = omega arith in
         of_unit (i / stride - plane * h) (i % stride - 0)
-        ∙ (λ t. region_byte file order p colour (chunk_region file order p k) ((rect p k).plane + sym u.0 t) (sym u.1 t) (x t))
+        ∙ (λ t. region_byte file order p color (chunk_region file order p k) ((rect p k).plane + sym u.0 t) (sym u.1 t) (x t))
 
     pub plane_more : (old mid new : List ℕ)
-        → Writes (IsInUnit p colour stride k plane) (unit_byte file order p colour stride k) old mid
-        → Writes At (in_rect (chunk_byte file order p colour (plane * chunks_of_plane p + k)) stride (plane * h) 0) mid new
-        → Writes (IsInUnit p colour stride k (plane + 1)) (unit_byte file order p colour stride k) old new
+        → Writes (IsInUnit p color stride k plane) (unit_byte file order p color stride k) old mid
+        → Writes At (in_rect (chunk_byte file order p color (plane * chunks_of_plane p + k)) stride (plane * h) 0) mid new
+        → Writes (IsInUnit p color stride k (plane + 1)) (unit_byte file order p color stride k) old new
     plane_more old mid new a b =
-        writes_more (IsInUnit p colour stride k plane) At (IsInUnit p colour stride k (plane + 1)) (unit_byte file order p colour stride k) old mid new
+        writes_more (IsInUnit p color stride k plane) At (IsInUnit p color stride k (plane + 1)) (unit_byte file order p color stride k) old mid new
         (λ i q. record { byte = q.byte; of_plane = omega (arith, q.of_plane) })
         (λ i q. let u = plane_at i q in record { byte = omega (arith, q.within); of_plane = omega (arith, u.0) })
         (λ i q. ⊎_elim
@@ -88,35 +88,35 @@ module _ (file : List ℕ) (order : ByteOrder) (p : PageRecord) (colour : ColorT
         (λ (l : plane ≤ i / stride / h). inr (at_plane i q.byte (omega (arith, l, q.of_plane))))
         (cases_lt (i / stride / h) plane))
         a
-        (writes_as At (in_rect (chunk_byte file order p colour (plane * chunks_of_plane p + k)) stride (plane * h) 0) (unit_byte file order p colour stride k) mid new byte_is b)
+        (writes_as At (in_rect (chunk_byte file order p color (plane * chunks_of_plane p + k)) stride (plane * h) 0) (unit_byte file order p color stride k) mid new byte_is b)
 
   module _ (n : ℕ) (fits : len ≤ stride) where
-    pub row_of_place : 0 < stride → (i : ℕ) → i % (stride * h) / stride ≡ i / stride % h
-    row_of_place s i =
+    pub row_of_position : 0 < stride → (i : ℕ) → i % (stride * h) / stride ≡ i / stride % h
+    row_of_position s i =
         let e : i % (h * stride) ≡ i / stride % h * stride + i % stride = mod-mul i rows_some s in
         ap (λ z. i % z / stride) (mul_comm stride h) ∙ ap (λ z. z / stride) e ∙ div-mul-add (i / stride % h) stride (i % stride) (mod_below i stride s)
 
-    pub plane_of_place : (i : ℕ) → i / (stride * h) ≡ i / stride / h
-    plane_of_place i = sym (div-div-eq-div-mul i stride h)
+    pub plane_of_position : (i : ℕ) → i / (stride * h) ≡ i / stride / h
+    plane_of_position i = sym (div-div-eq-div-mul i stride h)
 
-    pub place_shown : (i : ℕ) → i / stride / h < n → i % stride < len
-        → byte_at file order p colour (chunk_region file order p k) stride n i ≡ Some (unit_byte file order p colour stride k i)
+    pub position_shown : (i : ℕ) → i / stride / h < n → i % stride < len
+        → byte_at file order p color (chunk_region file order p k) stride n i ≡ Some (unit_byte file order p color stride k i)
     unfolding byte_at
-    place_shown i a b =
+    position_shown i a b =
         let s : 0 < stride = omega (arith, b, fits) in
-        let u = plane_of_place i in
+        let u = plane_of_position i in
         let t : nat_lt (i / (stride * h)) n ≡ true = lt-ltb (i / (stride * h)) n (omega (arith, a, u)) in
         let v : nat_lt (i % stride) len ≡ true = lt-ltb (i % stride) len b in
-        rw (t, v) (λ z. Some (region_byte file order p colour (chunk_region file order p k) ((rect p k).plane + u z) (row_of_place s i z) (i % stride)))
+        rw (t, v) (λ z. Some (region_byte file order p color (chunk_region file order p k) ((rect p k).plane + u z) (row_of_position s i z) (i % stride)))
 
-    pub plane_gap : (i : ℕ) → n ≤ i / stride / h → byte_at file order p colour (chunk_region file order p k) stride n i ≡ None
+    pub plane_gap : (i : ℕ) → n ≤ i / stride / h → byte_at file order p color (chunk_region file order p k) stride n i ≡ None
     unfolding byte_at
     plane_gap i a =
-        let u = plane_of_place i in
+        let u = plane_of_position i in
         let t : nat_lt (i / (stride * h)) n ≡ false = le-ltb (i / (stride * h)) n (omega (arith, a, u)) in
         rw t refl
 
-    pub row_gap : (i : ℕ) → len ≤ i % stride → byte_at file order p colour (chunk_region file order p k) stride n i ≡ None
+    pub row_gap : (i : ℕ) → len ≤ i % stride → byte_at file order p color (chunk_region file order p k) stride n i ≡ None
     unfolding byte_at
     row_gap i b =
         let v : nat_lt (i % stride) len ≡ false = le-ltb (i % stride) len b in
@@ -125,12 +125,12 @@ module _ (file : List ℕ) (order : ByteOrder) (p : PageRecord) (colour : ColorT
         (λ (t : nat_lt (i / (stride * h)) n ≡ false). rw t refl)
         (cases_Bool (nat_lt (i / (stride * h)) n))
 
-    pub byte_there : (old new : List ℕ) → Writes (IsInUnit p colour stride k n) (unit_byte file order p colour stride k) old new
+    pub byte_there : (old new : List ℕ) → Writes (IsInUnit p color stride k n) (unit_byte file order p color stride k) old new
         → (i : ℕ) → i < length old
-        → slice_index new i ≡ unwrap_or (byte_at file order p colour (chunk_region file order p k) stride n i) (slice_index old i)
+        → slice_index new i ≡ unwrap_or (byte_at file order p color (chunk_region file order p k) stride n i) (slice_index old i)
     byte_there old new w i l =
         ⊎_elim
-        (λ q. q.1 ∙ sym (ap (λ z. unwrap_or z (slice_index old i)) (place_shown i q.0.of_plane q.0.byte)))
+        (λ q. q.1 ∙ sym (ap (λ z. unwrap_or z (slice_index old i)) (position_shown i q.0.of_plane q.0.byte)))
         (λ q. ⊎_elim
         (λ (a : i / stride / h < n).
         ⊎_elim
@@ -142,11 +142,11 @@ module _ (file : List ℕ) (order : ByteOrder) (p : PageRecord) (colour : ColorT
         (w.1 i l)
 
 pub unit_plane_written : law.UnitPlaneWritten
-unit_plane_written file order p colour stride k plane old mid new sides which a b = plane_more file order p colour stride k sides plane which old mid new a b
+unit_plane_written file order p color stride k plane old mid new sides which a b = plane_more file order p color stride k sides plane which old mid new a b
 
 pub no_plane_written : law.NoPlaneWritten
-no_plane_written p colour stride k value old = writes_none (IsInUnit p colour stride k 0) value old (λ i q. Prim.absurd (omega (arith, q.of_plane)))
+no_plane_written p color stride k value old = writes_none (IsInUnit p color stride k 0) value old (λ i q. Prim.absurd (omega (arith, q.of_plane)))
 
 pub unit_written : law.UnitWritten
-unit_written file order p colour stride k n old new sides fits w =
-    is_placed file order p colour (chunk_region file order p k) stride n old new w.0 (byte_there file order p colour stride k sides n fits old new w)
+unit_written file order p color stride k n old new sides fits w =
+    is_placed file order p color (chunk_region file order p k) stride n old new w.0 (byte_there file order p color stride k sides n fits old new w)

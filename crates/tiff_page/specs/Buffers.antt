@@ -9,7 +9,7 @@ use Rattle.tiff_base.specs.declared.tags.PlanarConfiguration.{PlanarConfiguratio
 use Rattle.tiff_base.specs.declared.tags.PlanarConfiguration.TheVariants.{Chunky, Planar}
 use Rattle.tiff_base.specs.Answers.{◌>>=◌}
 use Rattle.tiff_ifd.specs.declared.limits.Limits.{Limits}
-use Rattle.tiff_ifd.specs.Look.{known}
+use Rattle.tiff_ifd.specs.Look.{ok_or_fault}
 use Rattle.tiff_page.specs.declared.layout.BufferLayoutPreference.{BufferLayoutPreference}
 use Rattle.tiff_page.specs.declared.layout.DecodingSampleType.{DecodingSampleType}
 use Rattle.tiff_page.specs.Page.{PageRecord}
@@ -22,7 +22,7 @@ use Rattle.tiff_page.specs.Image.{Decoded}
 unfoldable pub planes_layout : PageRecord → ℕ → ℕ → Result LayoutRecord TiffError
 planes_layout p width height = do
   layout ← layout_of p width height
-  _ ← wide (layout.plane_stride * planes p.planar layout.colour)
+  _ ← wide (layout.plane_stride * planes p.planar layout.color)
   Ok layout
 
 -- the number type where there is one
@@ -37,9 +37,9 @@ all_planes p layout = record {
   sample_format = p.format;
   sample_type = type_known (sample_type_of p);
   row_stride = Some layout.row_bytes;
-  planes = planes p.planar layout.colour;
+  planes = planes p.planar layout.color;
   plane_stride = Some layout.plane_stride;
-  complete_len = layout.plane_stride * planes p.planar layout.colour;
+  complete_len = layout.plane_stride * planes p.planar layout.color;
 }
 
 -- a buffer for an image
@@ -49,15 +49,15 @@ image_buffer_layout p = do
   Ok (all_planes p layout)
 
 -- so many bytes in whole samples, below 2^63
-abbrev pub rounded : ℕ → ℕ → Result ℕ TiffError
-rounded bytes size = if nat_lt (div_ceil bytes size * size) (2 ^ 63) then Ok (div_ceil bytes size * size) else Err LimitsExceeded
+abbrev pub rounded_size : ℕ → ℕ → Result ℕ TiffError
+rounded_size bytes size = if nat_lt (div_ceil bytes size * size) (2 ^ 63) then Ok (div_ceil bytes size * size) else Err LimitsExceeded
 
 -- a buffer for a chunk: one plane, in whole samples; a page with no number type of samples has none
 unfoldable pub image_chunk_buffer_layout : PageRecord → ℕ → Result BufferLayoutPreference TiffError
 image_chunk_buffer_layout p i = do
   layout ← layout_of p (rect p i).width (rect p i).height
   type ← sample_type_of p
-  len ← rounded layout.plane_stride (size_of type)
+  len ← rounded_size layout.plane_stride (size_of type)
   Ok (record {
     len = len;
     sample_format = p.format;
@@ -84,8 +84,8 @@ unfoldable pub image_coding_unit_layout : PageRecord → ℕ → Result BufferLa
 image_coding_unit_layout p unit = unit_from p.planar p unit
 
 -- zeros for all samples of a layout that has a number type, if they are within the limit
-unfoldable pub resized : BufferLayoutPreference → Limits → Result Decoded TiffError
-resized layout limits = do
-  type ← known layout.sample_type (UnsupportedError UnknownInterpretation)
+unfoldable pub resized_samples : BufferLayoutPreference → Limits → Result Decoded TiffError
+resized_samples layout limits = do
+  type ← ok_or_fault layout.sample_type (UnsupportedError UnknownInterpretation)
   _ ← samples_fault limits (size_of type) layout.complete_len
   Ok (record { sample_type = type; numbers = replicate (div_ceil layout.complete_len (size_of type)) 0 })

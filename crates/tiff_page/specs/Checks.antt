@@ -20,8 +20,8 @@ use Rattle.tiff_base.specs.declared.color.ChunkType.TheVariants.{Strip, Tile}
 use Rattle.tiff_base.specs.Tags as kinds
 use Rattle.tiff_base.specs.Answers.{◌>>=◌}
 use Rattle.tiff_ifd.specs.Into.{into_u16, into_u32, into_u16_vec, into_u64_vec}
-use Rattle.tiff_ifd.specs.Look.{Look, find, find_or, known, require}
-use Rattle.tiff_ifd.specs.Fitted.{fitted}
+use Rattle.tiff_ifd.specs.Look.{Look, find, find_or, ok_or_fault, require}
+use Rattle.tiff_ifd.specs.Fitted.{fitted_numbers}
 use Rattle.std.specs.List.{list_all}
 use Rattle.tiff_page.specs.Counts.{chunk_count, planes_of}
 use Rattle.tiff_page.specs.Page.{PageRecord, Chunks}
@@ -34,32 +34,32 @@ abbrev pub sides : ℕ → ℕ → Result (ℕ × ℕ) TiffError
 sides width height =
     if width == 0 || height == 0 then Err (FormatError (InvalidDimensions width height)) else Ok (width, height)
 
-unfoldable pub size_of : Look → Result (ℕ × ℕ) TiffError
-size_of look = do
+unfoldable pub size_in : Look → Result (ℕ × ℕ) TiffError
+size_in look = do
   width ← require into_u32 look tag.ImageWidth
   height ← require into_u32 look tag.ImageLength
   sides width height
 
 -- an interpretation that has a name
-abbrev pub named : Option ℕ → Result PhotometricInterpretation TiffError
-named None = Err (UnsupportedError UnknownInterpretation)
-named (Some n) = known (kinds.interpretation_of n) (UnsupportedError UnknownInterpretation)
+abbrev pub interpretation_named : Option ℕ → Result PhotometricInterpretation TiffError
+interpretation_named None = Err (UnsupportedError UnknownInterpretation)
+interpretation_named (Some n) = ok_or_fault (kinds.interpretation_of n) (UnsupportedError UnknownInterpretation)
 
-unfoldable pub interpretation_of : Look → Result PhotometricInterpretation TiffError
-interpretation_of look = do
+unfoldable pub interpretation_in : Look → Result PhotometricInterpretation TiffError
+interpretation_in look = do
   number ← find into_u16 look tag.PhotometricInterpretation
-  named number
+  interpretation_named number
 
-unfoldable pub method_of : Look → Result CompressionMethod TiffError
-method_of look = do
+unfoldable pub method_in : Look → Result CompressionMethod TiffError
+method_in look = do
   number ← find_or into_u16 look tag.Compression 1
   Ok (kinds.method_of number)
 
 abbrev pub some_samples : ℕ → Result ℕ TiffError
 some_samples samples = if samples == 0 then Err (FormatError SamplesPerPixelIsZero) else Ok samples
 
-unfoldable pub samples_of : Look → Result ℕ TiffError
-samples_of look = do
+unfoldable pub samples_in : Look → Result ℕ TiffError
+samples_in look = do
   samples ← find_or into_u16 look tag.SamplesPerPixel 1
   some_samples samples
 
@@ -67,8 +67,8 @@ samples_of look = do
 abbrev pub within_samples : ℕ → List ExtraSamples → Result (List ExtraSamples) TiffError
 within_samples samples extra = if nat_le (length extra) samples then Ok extra else Err inconsistent
 
-unfoldable pub extra_of : Look → ℕ → Result (List ExtraSamples) TiffError
-extra_of look samples = do
+unfoldable pub extra_in : Look → ℕ → Result (List ExtraSamples) TiffError
+extra_in look samples = do
   numbers ← find_or into_u16_vec look tag.ExtraSamples []
   within_samples samples (map (λ (n : ℕ). unwrap_or (kinds.extra_of n) extra.Unspecified) numbers)
 
@@ -83,11 +83,11 @@ one_format (n ∷ ns) =
 abbrev pub format_from : Option (List ℕ) → Result SampleFormat TiffError
 format_from None = Ok format.Uint
 format_from (Some numbers) = do
-  formats ← fitted tag.SampleFormat (2 ^ 16) numbers
+  formats ← fitted_numbers tag.SampleFormat (2 ^ 16) numbers
   one_format formats
 
-unfoldable pub format_of : Look → Result SampleFormat TiffError
-format_of look = do
+unfoldable pub format_in : Look → Result SampleFormat TiffError
+format_in look = do
   found ← find into_u64_vec look tag.SampleFormat
   format_from found
 
@@ -103,60 +103,60 @@ one_depth samples bits = if length bits == samples || length bits == 1 then same
 abbrev pub depth_from : ℕ → Option (List ℕ) → Result ℕ TiffError
 depth_from samples None = Ok 1
 depth_from samples (Some numbers) = do
-  bits ← fitted tag.BitsPerSample (2 ^ 8) numbers
+  bits ← fitted_numbers tag.BitsPerSample (2 ^ 8) numbers
   one_depth samples bits
 
-unfoldable pub depth_of : Look → ℕ → Result ℕ TiffError
-depth_of look samples = do
+unfoldable pub depth_in : Look → ℕ → Result ℕ TiffError
+depth_in look samples = do
   found ← find into_u64_vec look tag.BitsPerSample
   depth_from samples found
 
 abbrev pub predictor_from : Option ℕ → Result Predictor TiffError
 predictor_from None = Ok predictor.None
-predictor_from (Some n) = known (kinds.predictor_of n) (FormatError (UnknownPredictor n))
+predictor_from (Some n) = ok_or_fault (kinds.predictor_of n) (FormatError (UnknownPredictor n))
 
-unfoldable pub predictor_of : Look → Result Predictor TiffError
-predictor_of look = do
+unfoldable pub predictor_in : Look → Result Predictor TiffError
+predictor_in look = do
   number ← find into_u16 look tag.Predictor
   predictor_from number
 
 abbrev pub planar_from : Option ℕ → Result PlanarConfiguration TiffError
 planar_from None = Ok Chunky
-planar_from (Some n) = known (kinds.planar_of n) (FormatError (UnknownPlanarConfiguration n))
+planar_from (Some n) = ok_or_fault (kinds.planar_of n) (FormatError (UnknownPlanarConfiguration n))
 
-unfoldable pub planar_of : Look → Result PlanarConfiguration TiffError
-planar_of look = do
+unfoldable pub planar_in : Look → Result PlanarConfiguration TiffError
+planar_in look = do
   number ← find into_u16 look tag.PlanarConfiguration
   planar_from number
 
-abbrev pub two : List ℕ → Result (ℕ × ℕ) TiffError
-two (a ∷ b ∷ []) = Ok (a, b)
-two numbers = Err (FormatError (InvalidCountForTag tag.ChromaSubsampling (length numbers)))
+abbrev pub number_pair : List ℕ → Result (ℕ × ℕ) TiffError
+number_pair (a ∷ b ∷ []) = Ok (a, b)
+number_pair numbers = Err (FormatError (InvalidCountForTag tag.ChromaSubsampling (length numbers)))
 
 abbrev pub subsampling_from : Option (List ℕ) → Result (ℕ × ℕ) TiffError
 subsampling_from None = Ok (2, 2)
 subsampling_from (Some numbers) = do
-  sizes ← fitted tag.ChromaSubsampling (2 ^ 16) numbers
-  two sizes
+  sizes ← fitted_numbers tag.ChromaSubsampling (2 ^ 16) numbers
+  number_pair sizes
 
-unfoldable pub subsampling_of : Look → Result (ℕ × ℕ) TiffError
-subsampling_of look = do
+unfoldable pub subsampling_in : Look → Result (ℕ × ℕ) TiffError
+subsampling_in look = do
   found ← find into_u64_vec look tag.ChromaSubsampling
   subsampling_from found
 
 -- exactly the two tags of strips, or exactly the two of tiles
-abbrev pub kind : Bool → Bool → Bool → Bool → Result ChunkType TiffError
-kind true true false false = Ok Strip
-kind false false true true = Ok Tile
-kind _ _ _ _ = Err (FormatError StripTileTagConflict)
+abbrev pub chunk_kind : Bool → Bool → Bool → Bool → Result ChunkType TiffError
+chunk_kind true true false false = Ok Strip
+chunk_kind false false true true = Ok Tile
+chunk_kind _ _ _ _ = Err (FormatError StripTileTagConflict)
 
-unfoldable pub chunk_type_of : Look → Result ChunkType TiffError
-chunk_type_of look =
-    kind (look.has tag.StripOffsets) (look.has tag.StripByteCounts) (look.has tag.TileOffsets) (look.has tag.TileByteCounts)
+unfoldable pub chunk_type_in : Look → Result ChunkType TiffError
+chunk_type_in look =
+    chunk_kind (look.has tag.StripOffsets) (look.has tag.StripByteCounts) (look.has tag.TileOffsets) (look.has tag.TileByteCounts)
 
--- as many places and byte counts as there are chunks, below 2^32
-unfoldable pub counted : ℕ → ℕ → ℕ → Chunks → Result Chunks TiffError
-counted width height planes chunks =
+-- as many offsets and byte counts as there are chunks, below 2^32
+unfoldable pub chunks_counted : ℕ → ℕ → ℕ → Chunks → Result Chunks TiffError
+chunks_counted width height planes chunks =
     let count = chunk_count width height chunks.chunk_width chunks.chunk_height planes in
     if (length chunks.offsets == length chunks.byte_counts) && (length chunks.offsets == count) && nat_lt count (2 ^ 32)
     then Ok chunks
@@ -165,46 +165,46 @@ counted width height planes chunks =
 abbrev pub some_rows : ℕ → Result ℕ TiffError
 some_rows rows = if rows == 0 then Err inconsistent else Ok rows
 
-unfoldable pub strips_of : Look → ℕ → ℕ → ℕ → Result Chunks TiffError
-strips_of look width height planes = do
+unfoldable pub strips_in : Look → ℕ → ℕ → ℕ → Result Chunks TiffError
+strips_in look width height planes = do
   offsets ← require into_u64_vec look tag.StripOffsets
   byte_counts ← require into_u64_vec look tag.StripByteCounts
   rows ← find_or into_u32 look tag.RowsPerStrip height
   _ ← some_rows rows
-  counted width height planes (record { chunk_width = width; chunk_height = rows; offsets = offsets; byte_counts = byte_counts })
+  chunks_counted width height planes (record { chunk_width = width; chunk_height = rows; offsets = offsets; byte_counts = byte_counts })
 
 abbrev pub some_side : ℕ → TiffError → Result ℕ TiffError
 some_side n fault = if n == 0 then Err fault else Ok n
 
-unfoldable pub tiles_of : Look → ℕ → ℕ → ℕ → Result Chunks TiffError
-tiles_of look width height planes = do
+unfoldable pub tiles_in : Look → ℕ → ℕ → ℕ → Result Chunks TiffError
+tiles_in look width height planes = do
   tile_width ← require into_u32 look tag.TileWidth
   tile_height ← require into_u32 look tag.TileLength
   _ ← some_side tile_width (FormatError (InvalidTagValueType tag.TileWidth))
   _ ← some_side tile_height (FormatError (InvalidTagValueType tag.TileLength))
   offsets ← require into_u64_vec look tag.TileOffsets
   byte_counts ← require into_u64_vec look tag.TileByteCounts
-  counted width height planes (record { chunk_width = tile_width; chunk_height = tile_height; offsets = offsets; byte_counts = byte_counts })
+  chunks_counted width height planes (record { chunk_width = tile_width; chunk_height = tile_height; offsets = offsets; byte_counts = byte_counts })
 
-abbrev pub chunks_of : Look → ChunkType → ℕ → ℕ → ℕ → Result Chunks TiffError
-chunks_of look Strip width height planes = strips_of look width height planes
-chunks_of look Tile width height planes = tiles_of look width height planes
+abbrev pub chunks_in : Look → ChunkType → ℕ → ℕ → ℕ → Result Chunks TiffError
+chunks_in look Strip width height planes = strips_in look width height planes
+chunks_in look Tile width height planes = tiles_in look width height planes
 
 -- the page that the tags tell
 unfoldable pub page_of : Look → Result PageRecord TiffError
 page_of look = do
-  size ← size_of look
-  interpretation ← interpretation_of look
-  method ← method_of look
-  samples ← samples_of look
-  extra ← extra_of look samples
-  format ← format_of look
-  depth ← depth_of look samples
-  predictor ← predictor_of look
-  planar ← planar_of look
-  subsampling ← subsampling_of look
-  chunk_type ← chunk_type_of look
-  chunks ← chunks_of look chunk_type size.0 size.1 (planes_of planar samples)
+  size ← size_in look
+  interpretation ← interpretation_in look
+  method ← method_in look
+  samples ← samples_in look
+  extra ← extra_in look samples
+  format ← format_in look
+  depth ← depth_in look samples
+  predictor ← predictor_in look
+  planar ← planar_in look
+  subsampling ← subsampling_in look
+  chunk_type ← chunk_type_in look
+  chunks ← chunks_in look chunk_type size.0 size.1 (planes_of planar samples)
   Ok (record {
     width = size.0;
     height = size.1;

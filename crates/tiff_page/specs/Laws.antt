@@ -38,14 +38,14 @@ OneChunk = (file : List ℕ) (order : ByteOrder) (p : PageRecord) (plane x y : �
     × ((i : ℕ) → HasPixel p i plane x y → i ≡ chunk_at file order p plane x y)
 
 -- a chunk's rectangle has a pixel, and lies within the image
-pub record IsWithin (p : PageRecord) (i : ℕ) : Type 0 where
+pub record ChunkIsWithin (p : PageRecord) (i : ℕ) : Type 0 where
   pub some_column : 0 < (rect p i).width
   pub some_row : 0 < (rect p i).height
   pub columns : (rect p i).x + (rect p i).width ≤ p.width
   pub rows : (rect p i).y + (rect p i).height ≤ p.height
 
 abbrev pub ChunksWithin : Type 0
-ChunksWithin = (p : PageRecord) (i : ℕ) → HasSides p → IsWithin p i
+ChunksWithin = (p : PageRecord) (i : ℕ) → HasSides p → ChunkIsWithin p i
 
 -- a fault at a number, and none at those before it
 pub record IsFirst (fault : ℕ → Result (Unit {0}) TiffError) (n : ℕ) (e : TiffError) : Type 0 where
@@ -66,17 +66,17 @@ NoFault = (fault : ℕ → Result (Unit {0}) TiffError) (n : ℕ)
 
 -- a buffer in which a region is placed is as long as before, and has at each position the region's byte or what it had
 abbrev pub PlacedEach : Type 0
-PlacedEach = (file : List ℕ) (order : ByteOrder) (p : PageRecord) (colour : ColorType) (region : Region file order p) (stride planes : ℕ) (buf : List ℕ)
-    → (length (placed file order p colour region stride planes buf) ≡ length buf)
+PlacedEach = (file : List ℕ) (order : ByteOrder) (p : PageRecord) (color : ColorType) (region : Region file order p) (stride planes : ℕ) (buf : List ℕ)
+    → (length (placed file order p color region stride planes buf) ≡ length buf)
     × ((i : ℕ) → i < length buf
-    → slice_index (placed file order p colour region stride planes buf) i
-    ≡ unwrap_or (byte_at file order p colour region stride planes i) (slice_index buf i))
+    → slice_index (placed file order p color region stride planes buf) i
+    ≡ unwrap_or (byte_at file order p color region stride planes i) (slice_index buf i))
 
 -- reading an image is reading all its chunks in one plane, as the other calls read them
 abbrev pub first_plane : List ℕ → ByteOrder → PageRecord → Limits → Result Decoded TiffError
 first_plane file order p limits = do
   layout ← planes_layout p p.width p.height
-  samples file order p limits layout.colour (image_part file order p 1 layout.row_bytes) layout.plane_stride
+  samples file order p limits layout.color (image_part file order p 1 layout.row_bytes) layout.plane_stride
 
 abbrev pub ImageIsFirstPlane : Type 0
 ImageIsFirstPlane = (file : List ℕ) (order : ByteOrder) (p : PageRecord) (limits : Limits)
@@ -89,24 +89,24 @@ SomeBytes = (p : PageRecord) (width height : ℕ) (layout : LayoutRecord) → 0 
 
 -- a page whose samples are of whole bytes or below 8 bits, and whose chunks, where there are several across, have rows
 -- of whole bytes: other layouts are refused
-pub record HasWholeRows (p : PageRecord) (colour : ColorType) : Type 0 where
+pub record HasWholeRows (p : PageRecord) (color : ColorType) : Type 0 where
   pub depth : (p.depth < 8) ⊎ (p.depth ≡ p.depth / 8 * 8)
-  pub rows : (across p ≤ 1) ⊎ (row_bits p colour p.chunk_width ≡ row_bits p colour p.chunk_width / 8 * 8)
+  pub rows : (across p ≤ 1) ⊎ (row_bits p color p.chunk_width ≡ row_bits p color p.chunk_width / 8 * 8)
 
 -- a chunk's rows are a part of the rows of the image, from the bytes on that the columns before it take
 abbrev pub ImageOfChunks : Type 0
-ImageOfChunks = (file : List ℕ) (order : ByteOrder) (p : PageRecord) (colour : ColorType) (i row k : ℕ) → HasSides p → HasWholeRows p colour
-    → row < (rect p i).height → k < row_bytes p colour (rect p i).width
-    → region_byte file order p colour (whole_image file order p) (rect p i).plane ((rect p i).y + row) (row_bits p colour (rect p i).x / 8 + k)
-    ≡ region_byte file order p colour (chunk_region file order p i) (rect p i).plane row k
+ImageOfChunks = (file : List ℕ) (order : ByteOrder) (p : PageRecord) (color : ColorType) (i row k : ℕ) → HasSides p → HasWholeRows p color
+    → row < (rect p i).height → k < row_bytes p color (rect p i).width
+    → region_byte file order p color (whole_image file order p) (rect p i).plane ((rect p i).y + row) (row_bits p color (rect p i).x / 8 + k)
+    ≡ region_byte file order p color (chunk_region file order p i) (rect p i).plane row k
 
--- a page whose image has a layout, and whose depth and colour are read, has such rows
+-- a page whose image has a layout, and whose depth and color are read, has such rows
 abbrev pub WholeRows : Type 0
-WholeRows = (p : PageRecord) (layout : LayoutRecord) → layout_of p p.width p.height ≡ Ok layout → depth_fault p layout.colour ≡ Ok tt
-    → HasWholeRows p layout.colour
+WholeRows = (p : PageRecord) (layout : LayoutRecord) → layout_of p p.width p.height ≡ Ok layout → depth_fault p layout.color ≡ Ok tt
+    → HasWholeRows p layout.color
 
 -- a coding unit shows of each plane the chunk of that plane
 abbrev pub UnitOfChunks : Type 0
-UnitOfChunks = (file : List ℕ) (order : ByteOrder) (p : PageRecord) (colour : ColorType) (unit plane row k : ℕ) → unit < chunks_of_plane p
-    → region_byte file order p colour (chunk_region file order p unit) plane row k
-    ≡ region_byte file order p colour (chunk_region file order p (plane * chunks_of_plane p + unit)) plane row k
+UnitOfChunks = (file : List ℕ) (order : ByteOrder) (p : PageRecord) (color : ColorType) (unit plane row k : ℕ) → unit < chunks_of_plane p
+    → region_byte file order p color (chunk_region file order p unit) plane row k
+    ≡ region_byte file order p color (chunk_region file order p (plane * chunks_of_plane p + unit)) plane row k

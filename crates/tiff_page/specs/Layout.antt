@@ -1,4 +1,4 @@
--- Colours, sample types and layouts.
+-- Colors, sample types and layouts.
 use Rattle.std.specs.Prelude.{ℕ, ◌+◌, ◌-◌, ◌*◌, ◌/◌, ◌%◌, ◌^◌, Bool, true, false, List, [], ◌∷◌, length, replicate, Result, Ok, Err, if◌then◌else◌, ◌==◌, ◌&&◌, nat_lt, nat_le, not}
 use Rattle.tiff_base.specs.declared.error.TiffError.{TiffError}
 use Rattle.tiff_base.specs.declared.error.TiffError.TheVariants.{UnsupportedError, LimitsExceeded}
@@ -22,15 +22,15 @@ use Rattle.tiff_base.specs.Answers.{◌>>=◌}
 use Rattle.tiff_page.specs.Counts.{parts}
 use Rattle.tiff_page.specs.Page.{PageRecord}
 
--- ---- the colour
+-- ---- the color
 
 abbrev pub first_is_alpha : List ExtraSamples → Bool
 first_is_alpha (AssociatedAlpha ∷ _) = true
 first_is_alpha (UnassociatedAlpha ∷ _) = true
 first_is_alpha _ = false
 
-unfoldable pub no_colour : PageRecord → Result ColorType TiffError
-no_colour p = Err (UnsupportedError (InterpretationWithBits p.interpretation (replicate p.samples p.depth)))
+unfoldable pub no_color : PageRecord → Result ColorType TiffError
+no_color p = Err (UnsupportedError (InterpretationWithBits p.interpretation (replicate p.samples p.depth)))
 
 abbrev pub photometric : PageRecord → ℕ
 photometric p = p.samples - length p.extra
@@ -38,35 +38,35 @@ photometric p = p.samples - length p.extra
 abbrev pub rgb : PageRecord → Result ColorType TiffError
 rgb p =
     if photometric p == 3 then Ok (if first_is_alpha p.extra then RGBA p.depth else RGB p.depth)
-    else if photometric p == 4 then Ok (RGBA p.depth) else no_colour p
+    else if photometric p == 4 then Ok (RGBA p.depth) else no_color p
 
 abbrev pub cmyk : PageRecord → Result ColorType TiffError
 cmyk p =
     if photometric p == 4 then Ok (if first_is_alpha p.extra then CMYKA p.depth else CMYK p.depth)
-    else if photometric p == 5 then Ok (CMYKA p.depth) else no_colour p
+    else if photometric p == 5 then Ok (CMYKA p.depth) else no_color p
 
 abbrev pub ycbcr : PageRecord → Result ColorType TiffError
-ycbcr p = if photometric p == 3 then Ok (YCbCr p.depth) else no_colour p
+ycbcr p = if photometric p == 3 then Ok (YCbCr p.depth) else no_color p
 
 -- extra samples count here
 abbrev pub gray : PageRecord → Result ColorType TiffError
 gray p = if p.samples == 1 then Ok (Gray p.depth) else Ok (Multiband p.depth p.samples)
 
 abbrev pub lab : SampleFormat → PageRecord → Result ColorType TiffError
-lab Uint p = if photometric p == 3 then Ok (Lab p.depth) else no_colour p
-lab _ p = no_colour p
+lab Uint p = if photometric p == 3 then Ok (Lab p.depth) else no_color p
+lab _ p = no_color p
 
-abbrev pub colour_from : PhotometricInterpretation → PageRecord → Result ColorType TiffError
-colour_from meaning.RGB p = rgb p
-colour_from meaning.CMYK p = cmyk p
-colour_from meaning.YCbCr p = ycbcr p
-colour_from meaning.BlackIsZero p = gray p
-colour_from meaning.WhiteIsZero p = gray p
-colour_from meaning.IccLab p = lab p.format p
-colour_from _ p = no_colour p
+abbrev pub color_from : PhotometricInterpretation → PageRecord → Result ColorType TiffError
+color_from meaning.RGB p = rgb p
+color_from meaning.CMYK p = cmyk p
+color_from meaning.YCbCr p = ycbcr p
+color_from meaning.BlackIsZero p = gray p
+color_from meaning.WhiteIsZero p = gray p
+color_from meaning.IccLab p = lab p.format p
+color_from _ p = no_color p
 
-unfoldable pub colour_of : PageRecord → Result ColorType TiffError
-colour_of p = colour_from p.interpretation p
+unfoldable pub color_of : PageRecord → Result ColorType TiffError
+color_of p = color_from p.interpretation p
 
 -- ---- the sample type
 
@@ -104,24 +104,24 @@ size_of F64 = 8
 -- ---- a layout
 
 pub record LayoutRecord : Type 0 where
-  pub colour : ColorType
+  pub color : ColorType
   pub row_bytes : ℕ
   pub plane_stride : ℕ
 
--- samples of a colour that a chunk shows, and planes that show the rest
+-- samples of a color that a chunk shows, and planes that show the rest
 abbrev pub shown : PlanarConfiguration → ColorType → ℕ
-shown Chunky colour = num_samples colour
-shown Planar colour = 1
+shown Chunky color = num_samples color
+shown Planar color = 1
 
 abbrev pub planes : PlanarConfiguration → ColorType → ℕ
-planes Chunky colour = 1
-planes Planar colour = num_samples colour
+planes Chunky color = 1
+planes Planar color = num_samples color
 
 unfoldable pub row_bits : PageRecord → ColorType → ℕ → ℕ
-row_bits p colour width = width * p.depth * shown p.planar colour
+row_bits p color width = width * p.depth * shown p.planar color
 
 abbrev pub row_bytes : PageRecord → ColorType → ℕ → ℕ
-row_bytes p colour width = (row_bits p colour width + 7) / 8
+row_bytes p color width = (row_bits p color width + 7) / 8
 
 -- a number below 2^64
 abbrev pub wide : ℕ → Result ℕ TiffError
@@ -129,24 +129,24 @@ wide n = if nat_lt n (2 ^ 64) then Ok n else Err LimitsExceeded
 
 -- more than one chunk in a row: each of whole bytes
 abbrev pub aligned : PageRecord → ColorType → ℕ → Result ColorType TiffError
-aligned p colour width =
-    if nat_lt 1 (parts width p.chunk_width) && not (row_bits p colour p.chunk_width % 8 == 0)
+aligned p color width =
+    if nat_lt 1 (parts width p.chunk_width) && not (row_bits p color p.chunk_width % 8 == 0)
     then Err (UnsupportedError MisalignedTileBoundaries)
-    else Ok colour
+    else Ok color
 
 abbrev pub jpeg_alone : CompressionMethod → ColorType → Result ColorType TiffError
-jpeg_alone ModernJPEG colour = Ok colour
-jpeg_alone _ colour = Err (UnsupportedError ChromaSubsampling)
+jpeg_alone ModernJPEG color = Ok color
+jpeg_alone _ color = Err (UnsupportedError ChromaSubsampling)
 
 abbrev pub whole_chroma : PageRecord → ColorType → Result ColorType TiffError
 whole_chroma p (YCbCr d) = if p.subsampling.0 == 1 && p.subsampling.1 == 1 then Ok (YCbCr d) else jpeg_alone p.method (YCbCr d)
-whole_chroma p colour = Ok colour
+whole_chroma p color = Ok color
 
 unfoldable pub layout_of : PageRecord → ℕ → ℕ → Result LayoutRecord TiffError
 layout_of p width height = do
-  colour ← colour_of p
-  _ ← wide (row_bytes p colour width * p.chunk_height)
-  plane_stride ← wide (row_bytes p colour width * height)
-  _ ← aligned p colour width
-  _ ← whole_chroma p colour
-  Ok (record { colour = colour; row_bytes = row_bytes p colour width; plane_stride = plane_stride })
+  color ← color_of p
+  _ ← wide (row_bytes p color width * p.chunk_height)
+  plane_stride ← wide (row_bytes p color width * height)
+  _ ← aligned p color width
+  _ ← whole_chroma p color
+  Ok (record { color = color; row_bytes = row_bytes p color width; plane_stride = plane_stride })

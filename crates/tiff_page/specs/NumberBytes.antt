@@ -5,7 +5,7 @@ use Rattle.std.proofs.lemmas.List.FromFn.{length-map-range_with_len}
 use Rattle.std.specs.Prelude.{◌≡◌, map, ℕ, ◌+◌, ◌-◌, ◌*◌, ◌/◌, ◌%◌, ◌^◌, ◌<◌, ◌≤◌, ◌==◌, if◌then◌else◌, List, length, slice_index}
 use Rattle.tiff_base.specs.declared.tags.ByteOrder.TheVariants.{LittleEndian}
 use Rattle.tiff_page.specs.Pixels.{each_to}
-use Rattle.tiff_page.specs.Place.{Writes}
+use Rattle.tiff_page.specs.BufferPositions.{Writes}
 use Rattle.tiff_page.specs.Row.{row_number}
 
 -- byte j of a number of so many bytes: the last is what is left
@@ -20,13 +20,13 @@ all_bytes size n = each_to size (byte_of size n)
 unfoldable pub bytes_in : ℕ → List ℕ → List ℕ
 bytes_in size numbers = each_to (length numbers * size) (λ i. byte_of size (slice_index numbers (i / size)) (i % size))
 
--- a row is put at a place, and each other byte stays
+-- a row is put at a position, and each other byte stays
 abbrev pub IsPut : ℕ → List ℕ → List ℕ → List ℕ → Type 0
 IsPut at row old new = Writes (λ i. (at ≤ i) × (i < at + length row)) (λ i. slice_index row (i - at)) old new
 
 -- so many numbers of a row are put from one on, and each other stays
-abbrev pub IsPlaced : ℕ → ℕ → List ℕ → ℕ → List ℕ → List ℕ → Type 0
-IsPlaced size first row count old new = Writes (λ i. (first ≤ i) × (i < first + count)) (λ i. row_number LittleEndian size row (i - first)) old new
+abbrev pub NumbersArePut : ℕ → ℕ → List ℕ → ℕ → List ℕ → List ℕ → Type 0
+NumbersArePut size first row count old new = Writes (λ i. (first ≤ i) × (i < first + count)) (λ i. row_number LittleEndian size row (i - first)) old new
 
 -- numbers of lists of one length have as many bytes
 pub same_bytes : {X : Type 0} (size : ℕ) (bits : X → ℕ) (xs ys : List X) → length xs ≡ length ys → length (bytes_in size (map bits xs)) ≡ length (bytes_in size (map bits ys))

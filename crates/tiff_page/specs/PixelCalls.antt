@@ -13,7 +13,7 @@ use Rattle.tiff_page.specs.Rect.{rect, chunks_of_plane}
 use Rattle.tiff_page.specs.Layout.{LayoutRecord, planes, wide, sample_type_of, size_of}
 use Rattle.tiff_page.specs.PixelFault.{unless, samples_fault, each_below, chunk_fault}
 use Rattle.tiff_page.specs.Pixels.{each_to, Region, whole_image, chunk_region, byte_at, is_short}
-use Rattle.tiff_page.specs.Image.{Decoded, decoded}
+use Rattle.tiff_page.specs.Image.{Decoded, decoded_samples}
 use Rattle.tiff_page.specs.Buffers.{planes_layout, all_planes, unit_fault}
 
 -- a slice has room for one plane
@@ -26,7 +26,7 @@ stride_fault stride row_bytes = unless (nat_lt stride row_bytes) (UsageError (In
 
 -- the planes that a slice of so many bytes takes whole
 abbrev pub planes_used : PageRecord → LayoutRecord → ℕ → ℕ
-planes_used p layout len = min (planes p.planar layout.colour) (len / layout.plane_stride)
+planes_used p layout len = min (planes p.planar layout.color) (len / layout.plane_stride)
 
 -- a file, its byte order, and a page of it
 module _ (file : List ℕ) (order : ByteOrder) (p : PageRecord) where
@@ -50,59 +50,59 @@ module _ (file : List ℕ) (order : ByteOrder) (p : PageRecord) where
 
   -- the first fault of these chunks: of the first chunk, and in it of the first plane, that has one
   abbrev pub part_fault : Limits → ColorType → Part → Result (Unit {0}) TiffError
-  part_fault limits colour part =
+  part_fault limits color part =
       each_below
-      (λ j. each_below (λ plane. chunk_fault p limits (is_short file order p colour) colour (plane * chunks_of_plane p + (part.first + j))) part.planes)
+      (λ j. each_below (λ plane. chunk_fault p limits (is_short file order p color) color (plane * chunks_of_plane p + (part.first + j))) part.planes)
       part.count
 
   -- the bytes of a buffer after a region is placed in it, in so many planes of rows a stride apart: what isn't of a row
   -- stays
   unfoldable pub placed : ColorType → Region file order p → ℕ → ℕ → List ℕ → List ℕ
-  placed colour region stride planes buf =
-      each_to (length buf) (λ i. unwrap_or (byte_at file order p colour region stride planes i) (slice_index buf i))
+  placed color region stride planes buf =
+      each_to (length buf) (λ i. unwrap_or (byte_at file order p color region stride planes i) (slice_index buf i))
 
   -- what a call gives of a buffer: the first fault, or its bytes
   unfoldable pub filled : Limits → ColorType → Part → List ℕ → Result (List ℕ) TiffError
-  filled limits colour part buf = do
-    _ ← part_fault limits colour part
-    Ok (placed colour part.region part.stride part.planes buf)
+  filled limits color part buf = do
+    _ ← part_fault limits color part
+    Ok (placed color part.region part.stride part.planes buf)
 
   -- the samples of so many bytes, which are zeros at first: the number type's fault, the limit's, those of the chunks
   unfoldable pub samples : Limits → ColorType → Part → ℕ → Result Decoded TiffError
-  samples limits colour part len = do
+  samples limits color part len = do
     type ← sample_type_of p
     _ ← samples_fault limits (size_of type) len
-    bytes ← filled limits colour part (replicate len 0)
-    Ok (decoded type bytes)
+    bytes ← filled limits color part (replicate len 0)
+    Ok (decoded_samples type bytes)
 
 -- a slice after an image is read into it: as many planes as it takes whole
 unfoldable pub read_image_bytes : List ℕ → ByteOrder → PageRecord → Limits → List ℕ → Result (List ℕ) TiffError
 read_image_bytes file order p limits buf = do
   layout ← planes_layout p p.width p.height
   _ ← room_fault (length buf) layout.plane_stride
-  filled file order p limits layout.colour (image_part file order p (planes_used p layout (length buf)) layout.row_bytes) buf
+  filled file order p limits layout.color (image_part file order p (planes_used p layout (length buf)) layout.row_bytes) buf
 
 -- all planes of an image, or the first one where all aren't within the limit; the layout names all
 unfoldable pub read_image_to_buffer : List ℕ → ByteOrder → PageRecord → Limits → Result (BufferLayoutPreference × Decoded) TiffError
 read_image_to_buffer file order p limits = do
   layout ← planes_layout p p.width p.height
-  let all = planes p.planar layout.colour
+  let all = planes p.planar layout.color
   let used = if nat_le (layout.plane_stride * all) limits.decoding_buffer_size then all else 1
-  numbers ← samples file order p limits layout.colour (image_part file order p used layout.row_bytes) (layout.plane_stride * used)
+  numbers ← samples file order p limits layout.color (image_part file order p used layout.row_bytes) (layout.plane_stride * used)
   Ok (all_planes p layout, numbers)
 
 -- the samples of a chunk
 unfoldable pub read_chunk : List ℕ → ByteOrder → PageRecord → Limits → ℕ → Result Decoded TiffError
 read_chunk file order p limits i = do
   layout ← planes_layout p (rect p i).width (rect p i).height
-  samples file order p limits layout.colour (chunk_part file order p i 1 layout.row_bytes) layout.plane_stride
+  samples file order p limits layout.color (chunk_part file order p i 1 layout.row_bytes) layout.plane_stride
 
 -- a slice after a chunk is read into it: one plane
 unfoldable pub read_chunk_bytes : List ℕ → ByteOrder → PageRecord → Limits → ℕ → List ℕ → Result (List ℕ) TiffError
 read_chunk_bytes file order p limits i buf = do
   layout ← planes_layout p (rect p i).width (rect p i).height
   _ ← room_fault (length buf) layout.plane_stride
-  filled file order p limits layout.colour (chunk_part file order p i 1 layout.row_bytes) buf
+  filled file order p limits layout.color (chunk_part file order p i 1 layout.row_bytes) buf
 
 -- the samples of a chunk in rows so many bytes apart, with zeros between them
 unfoldable pub read_chunk_to_buffer : List ℕ → ByteOrder → PageRecord → Limits → ℕ → ℕ → Result Decoded TiffError
@@ -110,7 +110,7 @@ read_chunk_to_buffer file order p limits i stride = do
   layout ← planes_layout p (rect p i).width (rect p i).height
   _ ← stride_fault stride layout.row_bytes
   _ ← wide (stride * p.chunk_height)
-  samples file order p limits layout.colour (chunk_part file order p i 1 stride) (stride * (rect p i).height)
+  samples file order p limits layout.color (chunk_part file order p i 1 stride) (stride * (rect p i).height)
 
 -- a slice after a coding unit is read into it: of as many planes as it takes whole the chunk
 unfoldable pub read_coding_unit_bytes : List ℕ → ByteOrder → PageRecord → Limits → ℕ → List ℕ → Result (List ℕ) TiffError
@@ -118,4 +118,4 @@ read_coding_unit_bytes file order p limits unit buf = do
   layout ← planes_layout p (rect p unit).width (rect p unit).height
   _ ← unit_fault p unit
   _ ← room_fault (length buf) layout.plane_stride
-  filled file order p limits layout.colour (chunk_part file order p unit (planes_used p layout (length buf)) layout.row_bytes) buf
+  filled file order p limits layout.color (chunk_part file order p unit (planes_used p layout (length buf)) layout.row_bytes) buf

@@ -40,15 +40,15 @@ is_gray (Multiband d n) = true
 is_gray _ = false
 
 abbrev pub unpredicted : Predictor → ColorType → Result (Unit {0}) TiffError
-unpredicted predictor.None colour = Ok tt
-unpredicted predictor.Horizontal colour = Err (UnsupportedError (HorizontalPredictor colour))
-unpredicted predictor.FloatingPoint colour = Err (UnsupportedError (FloatingPointPredictor colour))
+unpredicted predictor.None color = Ok tt
+unpredicted predictor.Horizontal color = Err (UnsupportedError (HorizontalPredictor color))
+unpredicted predictor.FloatingPoint color = Err (UnsupportedError (FloatingPointPredictor color))
 
 unfoldable pub depth_fault : PageRecord → ColorType → Result (Unit {0}) TiffError
-depth_fault p colour =
-    if is_whole p.depth && is_plain colour then Ok tt
-    else if nat_lt p.depth 8 && is_gray colour then unpredicted p.predictor colour
-    else Err (UnsupportedError (UnsupportedColorType colour))
+depth_fault p color =
+    if is_whole p.depth && is_plain color then Ok tt
+    else if nat_lt p.depth 8 && is_gray color then unpredicted p.predictor color
+    else Err (UnsupportedError (UnsupportedColorType color))
 
 abbrev pub is_number : SampleFormat → Bool
 is_number format.Uint = true
@@ -60,13 +60,13 @@ abbrev pub is_float : SampleFormat → Bool
 is_float format.IEEEFP = true
 is_float _ = false
 
-abbrev pub predictor_from : Predictor → PageRecord → ColorType → Result (Unit {0}) TiffError
-predictor_from predictor.None p colour = Ok tt
-predictor_from predictor.Horizontal p colour = unless (not (is_number p.format)) (UnsupportedError (HorizontalPredictor colour))
-predictor_from predictor.FloatingPoint p colour = unless (not (is_float p.format) || p.depth == 8) (UnsupportedError (FloatingPointPredictor colour))
+abbrev pub fault_of_predictor : Predictor → PageRecord → ColorType → Result (Unit {0}) TiffError
+fault_of_predictor predictor.None p color = Ok tt
+fault_of_predictor predictor.Horizontal p color = unless (not (is_number p.format)) (UnsupportedError (HorizontalPredictor color))
+fault_of_predictor predictor.FloatingPoint p color = unless (not (is_float p.format) || p.depth == 8) (UnsupportedError (FloatingPointPredictor color))
 
 unfoldable pub predictor_fault : PageRecord → ColorType → Result (Unit {0}) TiffError
-predictor_fault p colour = predictor_from p.predictor p colour
+predictor_fault p color = fault_of_predictor p.predictor p color
 
 abbrev pub method_fault : CompressionMethod → Result (Unit {0}) TiffError
 method_fault method.None = Ok tt
@@ -78,27 +78,27 @@ can_invert format.Uint (Gray d) = is_whole d || d == 1 || d == 2 || d == 4
 can_invert _ _ = false
 
 abbrev pub white_from : PhotometricInterpretation → PageRecord → ColorType → Result (Unit {0}) TiffError
-white_from meaning.WhiteIsZero p colour = unless (not (can_invert p.format colour)) (UnsupportedError UnknownInterpretation)
-white_from _ p colour = Ok tt
+white_from meaning.WhiteIsZero p color = unless (not (can_invert p.format color)) (UnsupportedError UnknownInterpretation)
+white_from _ p color = Ok tt
 
 unfoldable pub white_fault : PageRecord → ColorType → Result (Unit {0}) TiffError
-white_fault p colour = white_from p.interpretation p colour
+white_fault p color = white_from p.interpretation p color
 
 -- a chunk's faults but that of too few data: an index past the list, the depth, the predictor, the limit of the file's
 -- bytes, the method, an image that can't be inverted
 unfoldable pub form_fault : PageRecord → Limits → ColorType → ℕ → Result (Unit {0}) TiffError
-form_fault p limits colour i = do
+form_fault p limits color i = do
   _ ← unless (nat_le (length p.offsets) i) (FormatError InconsistentSizesEncountered)
-  _ ← depth_fault p colour
-  _ ← predictor_fault p colour
+  _ ← depth_fault p color
+  _ ← predictor_fault p color
   _ ← unless (nat_lt limits.intermediate_buffer_size (slice_index p.byte_counts i)) LimitsExceeded
   _ ← method_fault p.method
-  white_fault p colour
+  white_fault p color
 
 -- a chunk's faults, where `short` says whether its data are too few
 abbrev pub chunk_fault : PageRecord → Limits → (ℕ → Bool) → ColorType → ℕ → Result (Unit {0}) TiffError
-chunk_fault p limits short colour i = do
-  _ ← form_fault p limits colour i
+chunk_fault p limits short color i = do
+  _ ← form_fault p limits color i
   unless (short i) (IoError UnexpectedEof)
 
 -- the first fault of those below n

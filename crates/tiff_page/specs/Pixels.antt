@@ -45,15 +45,15 @@ is_byte_plane _ = false
 
 -- whether the shown samples are read from whole rows: with the byte-plane predictor, or where samples are dropped
 abbrev pub needs_whole_rows : PageRecord → ColorType → Bool
-needs_whole_rows p colour = is_byte_plane p.predictor || nat_lt (shown p.planar colour) (stored_samples p)
+needs_whole_rows p color = is_byte_plane p.predictor || nat_lt (shown p.planar color) (stored_samples p)
 
 -- a file, its byte order, and a page of it
 module _ (file : List ℕ) (order : ByteOrder) (p : PageRecord) where
-  -- the data at a place: the file from there on, or what the bytes unpack to; other methods are not unpacked
+  -- the data at an offset: the file from there on, or what the bytes unpack to; other methods are not unpacked
   abbrev pub data_by : CompressionMethod → ℕ → ℕ → List ℕ
-  data_by method.None place count = drop place file
-  data_by method.PackBits place count = (runs (nat_lt (length file - place) count) (take count (drop place file))).out
-  data_by _ place count = []
+  data_by method.None offset count = drop offset file
+  data_by method.PackBits offset count = (runs (nat_lt (length file - offset) count) (take count (drop offset file))).out
+  data_by _ offset count = []
 
   -- the data of a chunk
   abbrev pub chunk_data : ℕ → List ℕ
@@ -66,15 +66,15 @@ module _ (file : List ℕ) (order : ByteOrder) (p : PageRecord) where
   -- the bytes that are needed of a chunk: all rows of its part of the image, of the last one the shown bytes or the whole
   -- row
   abbrev pub needed_of_last : ColorType → ℕ → ℕ
-  needed_of_last colour i =
-      if needs_whole_rows p colour then stored_row_bytes p else row_bytes p colour (rect p i).width
+  needed_of_last color i =
+      if needs_whole_rows p color then stored_row_bytes p else row_bytes p color (rect p i).width
 
   abbrev pub needed : ColorType → ℕ → ℕ
-  needed colour i = ((rect p i).height - 1) * stored_row_bytes p + needed_of_last colour i
+  needed color i = ((rect p i).height - 1) * stored_row_bytes p + needed_of_last color i
 
   -- too few data
   abbrev pub is_short : ColorType → ℕ → Bool
-  is_short colour i = nat_lt (length (chunk_data i)) (needed colour i)
+  is_short color i = nat_lt (length (chunk_data i)) (needed color i)
 
   -- the bytes of a number
   abbrev pub number_size : ℕ
@@ -140,36 +140,36 @@ module _ (file : List ℕ) (order : ByteOrder) (p : PageRecord) where
 
   -- byte k of a row of a region with depths below 8: such bytes are handed out as they stand
   abbrev pub packed_byte : ColorType → Region → ℕ → ℕ → ℕ → ℕ
-  packed_byte colour r plane row k =
-      let c = row_bytes p colour p.chunk_width in
+  packed_byte color r plane row k =
+      let c = row_bytes p color p.chunk_width in
       let here = plane * chunks_of_plane p + unwrap_or r.chunk ((r.y + row) / p.chunk_height * across p + (r.x / p.chunk_width + k / c)) in
       inverted p.interpretation 256 (stored_byte here ((r.y + row) % p.chunk_height) (k % c))
 
   -- byte k of a row of a region at depths of whole bytes: of a number's bytes the least comes first
   abbrev pub number_byte : ColorType → Region → ℕ → ℕ → ℕ → ℕ
-  number_byte colour r plane row k =
+  number_byte color r plane row k =
       let n = k / number_size in
-      let s = shown p.planar colour in
+      let s = shown p.planar color in
       shown_sample (r.x + n / s) (r.y + row) (planar_or p.planar plane (n % s)) / 256 ^ (k % number_size) % 256
 
   abbrev pub region_byte : ColorType → Region → ℕ → ℕ → ℕ → ℕ
-  region_byte colour r plane row k =
-      if nat_lt p.depth 8 then packed_byte colour r plane row k else number_byte colour r plane row k
+  region_byte color r plane row k =
+      if nat_lt p.depth 8 then packed_byte color r plane row k else number_byte color r plane row k
 
   -- the byte at a position of a buffer that holds so many planes of a region, of rows a stride apart; none in a gap
   unfoldable pub byte_at : ColorType → Region → ℕ → ℕ → ℕ → Option ℕ
-  byte_at colour r stride planes i =
+  byte_at color r stride planes i =
       let plane = i / (stride * r.height) in
       let k = i % stride in
-      if nat_lt plane planes && nat_lt k (row_bytes p colour r.width)
-      then Some (region_byte colour r (r.plane + plane) (i % (stride * r.height) / stride) k)
+      if nat_lt plane planes && nat_lt k (row_bytes p color r.width)
+      then Some (region_byte color r (r.plane + plane) (i % (stride * r.height) / stride) k)
       else None
 
   -- the bytes of the first plane of an image
   unfoldable pub image_bytes : ColorType → List ℕ
-  image_bytes colour =
-      let stride = row_bytes p colour p.width in
-      each_to (stride * p.height) (λ i. unwrap_or (byte_at colour whole_image stride 1 i) 0)
+  image_bytes color =
+      let stride = row_bytes p color p.width in
+      each_to (stride * p.height) (λ i. unwrap_or (byte_at color whole_image stride 1 i) 0)
 
 -- the little-endian numbers of so many bytes each that a list of bytes holds, the last filled up by zeros
 unfoldable pub numbers_in : ℕ → List ℕ → List ℕ

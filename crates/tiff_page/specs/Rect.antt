@@ -1,4 +1,4 @@
--- A chunk's place in the image.
+-- A chunk's position in the image.
 use Rattle.std.specs.Prelude.{ℕ, ◌+◌, ◌-◌, ◌*◌, ◌/◌, ◌%◌, min}
 use Rattle.tiff_page.specs.Counts.{parts}
 use Rattle.tiff_page.specs.Page.{PageRecord}

@@ -5,7 +5,7 @@ use Rattle.tiff_base.specs.declared.tags.ByteOrder.{ByteOrder}
 use Rattle.tiff_base.specs.declared.tags.ByteOrder.TheVariants.{LittleEndian, BigEndian}
 use Rattle.tiff_base.specs.Number.{number}
 use Rattle.tiff_base.specs.declared.tags.Predictor.TheVariants as predictor
-use Rattle.tiff_base.specs.Told.{AreOctets}
+use Rattle.tiff_base.specs.SourceAndSink.{AreOctets}
 use Rattle.tiff_page.specs.Page.{PageRecord}
 use Rattle.tiff_page.specs.Pixels.{each_to, width_of, stored_samples, stored_byte, number_size, in_row, raw_number, number_by}
 
@@ -37,13 +37,13 @@ pub record Became (size : ℕ) (value : ℕ → ℕ) (old new : List ℕ) : Type
   pub numbers : (k : ℕ) → (k + 1) * size ≤ length old → row_number LittleEndian size new k ≡ value k
   pub behind : (i : ℕ) → length old / size * size ≤ i → slice_index new i ≡ slice_index old i
 
--- The number at one place was added to that at another, and no other byte was changed.
+-- The number at one position was added to that at another, and no other byte was changed.
 pub record AddsNumber (size : ℕ) (old : List ℕ) (from to : ℕ) (new : List ℕ) : Type 0 where
   pub sum : row_number LittleEndian size new to ≡ (row_number LittleEndian size old from + row_number LittleEndian size old to) % 256 ^ size
   pub below : (i : ℕ) → i < to * size → slice_index new i ≡ slice_index old i
   pub above : (i : ℕ) → to * size + size ≤ i → slice_index new i ≡ slice_index old i
 
--- The big-endian number at one place became little-endian, and no other byte was changed.
+-- The big-endian number at one position became little-endian, and no other byte was changed.
 pub record TurnsNumber (size : ℕ) (old : List ℕ) (at : ℕ) (new : List ℕ) : Type 0 where
   pub turned : row_number LittleEndian size new at ≡ row_number BigEndian size old at
   pub below : (i : ℕ) → i < at * size → slice_index new i ≡ slice_index old i

@@ -9,7 +9,7 @@ use Rattle.tiff_page.specs.declared.samples.Portion.TheVariants.{Image, Chunk}
 use Rattle.tiff_page.specs.declared.samples.Samples.{Samples}
 use Rattle.tiff_page.specs.declared.samples.Samples.TheVariants as samples
 use Rattle.tiff_page.specs.Image.{Decoded}
-use Rattle.tiff_page.specs.Layout.{colour_of, layout_of, row_bytes}
+use Rattle.tiff_page.specs.Layout.{color_of, layout_of, row_bytes}
 use Rattle.tiff_page.specs.Page.{PageRecord}
 use Rattle.tiff_page.specs.PixelCalls.{Part, image_part, chunk_part}
 use Rattle.tiff_page.specs.Rect.{rect}
@@ -28,27 +28,27 @@ samples_as (samples.I16 v) = record { sample_type = type.I16; numbers = map (cas
 samples_as (samples.I32 v) = record { sample_type = type.I32; numbers = map (cast_unsigned w32) v.items }
 samples_as (samples.I64 v) = record { sample_type = type.I64; numbers = map (cast_unsigned w64) v.items }
 
-abbrev pub colour_in : Portion → ColorType
-colour_in (Image layout planes) = layout.colour
-colour_in (Chunk colour i stride) = colour
+abbrev pub color_in : Portion → ColorType
+color_in (Image layout planes) = layout.color
+color_in (Chunk color i stride) = color
 
 -- its first chunk
 abbrev pub first_in : Portion → ℕ
 first_in (Image layout planes) = 0
-first_in (Chunk colour i stride) = i
+first_in (Chunk color i stride) = i
 
 -- what is read as the part of a page that it is
 abbrev pub part_of : (file : List ℕ) (order : ByteOrder) (p : PageRecord) → Portion → Part file order p
 part_of file order p (Image layout planes) = image_part file order p planes layout.row_bytes
-part_of file order p (Chunk colour i stride) = chunk_part file order p i 1 stride
+part_of file order p (Chunk color i stride) = chunk_part file order p i 1 stride
 
 -- its layout is the page's
 abbrev pub IsLaid : PageRecord → Portion → Type 0
 IsLaid p (Image layout planes) =
-    (layout_of p p.width p.height ≡ Ok (record { colour = layout.colour; row_bytes = layout.row_bytes; plane_stride = layout.plane_stride })) × (0 < planes)
-IsLaid p (Chunk colour i stride) = (colour_of p ≡ Ok colour) × (row_bytes p colour (rect p i).width ≤ stride)
+    (layout_of p p.width p.height ≡ Ok (record { color = layout.color; row_bytes = layout.row_bytes; plane_stride = layout.plane_stride })) × (0 < planes)
+IsLaid p (Chunk color i stride) = (color_of p ≡ Ok color) × (row_bytes p color (rect p i).width ≤ stride)
 
 -- the bytes that it takes
 abbrev pub room_of : PageRecord → Portion → ℕ
 room_of p (Image layout planes) = planes * layout.plane_stride
-room_of p (Chunk colour i stride) = (rect p i).height * stride
+room_of p (Chunk color i stride) = (rect p i).height * stride

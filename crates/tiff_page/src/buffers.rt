@@ -1,11 +1,11 @@
 //! Buffers for an image and its parts.
 
 ghost use Rattle.std.specs.Prelude.{◌≡◌, ◌<◌, ◌*◌, ◌^◌, IfOk, IfSome, Ok};
-ghost use Rattle.tiff_base.specs.Answers.{AnswersHere, Gives};
+ghost use Rattle.tiff_base.specs.Answers.{AnswersWithoutSource, Gives};
 ghost use Rattle.tiff_page.specs.Buffers as spec;
 ghost use Rattle.tiff_page.specs.Layout as layouts;
-ghost use Rattle.tiff_page.specs.Rect as place;
-ghost use Rattle.tiff_page.specs.View as view;
+ghost use Rattle.tiff_page.specs.Rect as rects;
+ghost use Rattle.tiff_page.specs.PageView as view;
 
 use crate::layout::{
     BufferLayoutPreference, PlaneLayout, TiffCodingUnit, chunk_data_dimensions, chunks_of_plane,
@@ -20,25 +20,31 @@ use tiff_base::tags::PlanarConfiguration;
 /// faults.
 #[tactic(auto, unfolding(crate::specs::Buffers::planes_layout))]
 pub fn planes_layout(page: &Page, alloc: Global, width: u32, height: u32) -> TiffResult<PlaneLayout>
-    ensures answer { AnswersHere (λ l. record { colour = l.colour; row_bytes = l.row_bytes; plane_stride = l.plane_stride }) result (spec.planes_layout (view.page page.now) width height) }
+    ensures answer { AnswersWithoutSource (λ l. record {
+      color = l.color;
+      row_bytes = l.row_bytes;
+      plane_stride = l.plane_stride;
+    }) result (spec.planes_layout (view.page page.now) width height) }
     ensures rows { 0 < width → IfOk result (λ l. 0 < l.row_bytes) }
     ensures plane { 0 < width → 0 < height → IfOk result (λ l. 0 < l.plane_stride) }
-    ensures fits { IfOk result (λ l. l.plane_stride * layouts.planes page.now.planar l.colour < 2 ^ 64) }
-    ensures laid { IfOk result (λ l. layouts.layout_of (view.page page.now) width height ≡ Ok (record { colour = l.colour; row_bytes = l.row_bytes; plane_stride = l.plane_stride })) }
-    ensures some { IfOk result (λ l. 0 < layouts.planes page.now.planar l.colour) }
+    ensures fits { IfOk result (λ l. l.plane_stride * layouts.planes page.now.planar l.color < 2 ^ 64) }
+    ensures laid { IfOk result (λ l. layouts.layout_of (view.page page.now) width height ≡ Ok
+        (record { color = l.color; row_bytes = l.row_bytes; plane_stride = l.plane_stride })) }
+    ensures some { IfOk result (λ l. 0 < layouts.planes page.now.planar l.color) }
 {
     let layout = layout_of(page, alloc, width, height)?;
-    let planes = usize::from(planes(page, layout.colour));
+    let planes = usize::from(planes(page, layout.color));
     wide_product(layout.plane_stride, planes)?;
     Ok(layout)
 }
 
 // A buffer for all planes of a layout.
 pub(crate) fn all_planes(page: &Page, layout: PlaneLayout) -> BufferLayoutPreference
-    requires { layout.plane_stride * layouts.planes page.now.planar layout.colour < 2 ^ 64 }
-    ensures { result ≡ spec.all_planes (view.page page.now) (record { colour = layout.colour; row_bytes = layout.row_bytes; plane_stride = layout.plane_stride }) }
+    requires { layout.plane_stride * layouts.planes page.now.planar layout.color < 2 ^ 64 }
+    ensures { result ≡ spec.all_planes (view.page page.now) (record
+        { color = layout.color; row_bytes = layout.row_bytes; plane_stride = layout.plane_stride }) }
 {
-    let planes = usize::from(planes(page, layout.colour));
+    let planes = usize::from(planes(page, layout.color));
     BufferLayoutPreference {
         len: layout.plane_stride,
         sample_format: page.format,
@@ -50,13 +56,13 @@ pub(crate) fn all_planes(page: &Page, layout: PlaneLayout) -> BufferLayoutPrefer
     }
 }
 
-/// A buffer for the image, its planes one behind the other. The first fault: of the colour, `InterpretationWithBits`; a
+/// A buffer for the image, its planes one behind the other. The first fault: of the color, `InterpretationWithBits`; a
 /// plane, or its rows up to the stored height of a chunk, of 2^64 bytes or more: `LimitsExceeded`; chunks beside each other
 /// whose rows aren't of whole bytes: `MisalignedTileBoundaries`; YCbCr with fewer chroma samples: `ChromaSubsampling`; all
 /// planes of 2^64 bytes or more: `LimitsExceeded`. A page whose samples are of no number type has no `sample_type`.
 #[tactic(auto, unfolding(crate::specs::Buffers::image_buffer_layout))]
 pub fn image_buffer_layout(page: &Page, alloc: Global) -> TiffResult<BufferLayoutPreference>
-    ensures answer { AnswersHere (λ l. l) result (spec.image_buffer_layout (view.page page.now)) }
+    ensures answer { AnswersWithoutSource (λ l. l) result (spec.image_buffer_layout (view.page page.now)) }
     ensures rows { IfOk result (λ l. IfSome l.row_stride (λ n. 0 < n)) }
     ensures plane { IfOk result (λ l. IfSome l.plane_stride (λ n. 0 < n)) }
 {
@@ -67,7 +73,7 @@ pub fn image_buffer_layout(page: &Page, alloc: Global) -> TiffResult<BufferLayou
 // So many bytes in whole samples, below 2^63.
 fn rounded(bytes: usize, size: usize) -> TiffResult<usize>
     requires { 0 < size }
-    ensures { Gives (λ n. n) result (spec.rounded bytes size) }
+    ensures { Gives (λ n. n) result (spec.rounded_size bytes size) }
 {
     let Some(len) = bytes.div_ceil(size).checked_mul(size) else {
         return Err(TiffError::LimitsExceeded);
@@ -87,7 +93,7 @@ pub fn image_chunk_buffer_layout(
     alloc: Global,
     index: u32,
 ) -> TiffResult<BufferLayoutPreference>
-    ensures answer { AnswersHere (λ l. l) result (spec.image_chunk_buffer_layout (view.page page.now) index) }
+    ensures answer { AnswersWithoutSource (λ l. l) result (spec.image_chunk_buffer_layout (view.page page.now) index) }
     ensures rows { IfOk result (λ l. IfSome l.row_stride (λ n. 0 < n)) }
     ensures plane { IfOk result (λ l. IfSome l.plane_stride (λ n. 0 < n)) }
 {
@@ -109,7 +115,7 @@ pub fn image_chunk_buffer_layout(
 // A coding unit is one of the chunks of a plane.
 pub(crate) fn unit_fault(page: &Page, unit: u32) -> TiffResult<()>
     ensures answer { Gives (λ _. tt) result (spec.unit_fault (view.page page.now) unit) }
-    ensures below { IfOk result (λ _. unit < place.chunks_of_plane (view.page page.now)) }
+    ensures below { IfOk result (λ _. unit < rects.chunks_of_plane (view.page page.now)) }
 {
     let chunks = chunks_of_plane(page);
     if unit >= chunks {
@@ -126,7 +132,7 @@ pub fn image_coding_unit_layout(
     alloc: Global,
     unit: TiffCodingUnit,
 ) -> TiffResult<BufferLayoutPreference>
-    ensures answer { AnswersHere (λ l. l) result (spec.image_coding_unit_layout (view.page page.now) unit.0) }
+    ensures answer { AnswersWithoutSource (λ l. l) result (spec.image_coding_unit_layout (view.page page.now) unit.0) }
     ensures rows { IfOk result (λ l. IfSome l.row_stride (λ n. 0 < n)) }
     ensures plane { IfOk result (λ l. IfSome l.plane_stride (λ n. 0 < n)) }
 {

@@ -3,7 +3,7 @@
 ghost use Rattle.std.specs.Prelude.{◌≡◌};
 ghost use Rattle.tiff_base.specs.Answers.{Gives};
 ghost use Rattle.tiff_page.specs.Counts as counts;
-ghost use Rattle.tiff_page.specs.View as view;
+ghost use Rattle.tiff_page.specs.PageView as view;
 
 use crate::page::Page;
 use tiff_base::color::ChunkType;

@@ -4,8 +4,8 @@ ghost use Rattle.std.specs.Prelude.{◌≡◌, ◌<◌, length, OnOk};
 ghost use Rattle.tiff_base.specs.Answers.{Gives};
 ghost use Rattle.tiff_base.specs.declared.error.TiffError.TheVariants as tiff;
 ghost use Rattle.tiff_base.specs.declared.io.IoKind.TheVariants as io;
-ghost use Rattle.tiff_page.specs.View as view;
-ghost use Rattle.tiff_page.specs.Rect as place;
+ghost use Rattle.tiff_page.specs.PageView as view;
+ghost use Rattle.tiff_page.specs.Rect as rects;
 ghost use Rattle.tiff_page.specs.PixelFault as spec;
 
 use crate::page::Page;
@@ -21,49 +21,49 @@ fn is_whole(depth: u8) -> bool
     depth == 8 || depth == 16 || depth == 32 || depth == 64
 }
 
-fn is_plain(colour: ColorType) -> bool
-    ensures { result ≡ spec.is_plain colour }
+fn is_plain(color: ColorType) -> bool
+    ensures { result ≡ spec.is_plain color }
 {
     !matches!(
-        colour,
+        color,
         ColorType::Palette(_) | ColorType::GrayA(_) | ColorType::Lab(_)
     )
 }
 
-fn is_gray(colour: ColorType) -> bool
-    ensures { result ≡ spec.is_gray colour }
+fn is_gray(color: ColorType) -> bool
+    ensures { result ≡ spec.is_gray color }
 {
-    matches!(colour, ColorType::Gray(_) | ColorType::Multiband { .. })
+    matches!(color, ColorType::Gray(_) | ColorType::Multiband { .. })
 }
 
 #[tactic(auto, unfolding(crate::specs::PixelFault::depth_fault))]
-fn depth_fault(page: &Page, colour: ColorType) -> TiffResult<()>
-    ensures { Gives (λ _. tt) result (spec.depth_fault (view.page page.now) colour) }
+fn depth_fault(page: &Page, color: ColorType) -> TiffResult<()>
+    ensures { Gives (λ _. tt) result (spec.depth_fault (view.page page.now) color) }
 {
-    if is_whole(page.depth) && is_plain(colour) {
+    if is_whole(page.depth) && is_plain(color) {
         return Ok(());
     }
-    if page.depth < 8 && is_gray(colour) {
+    if page.depth < 8 && is_gray(color) {
         return match page.predictor {
             Predictor::None => Ok(()),
-            Predictor::Horizontal => Err(TiffUnsupportedError::HorizontalPredictor(colour).into()),
-            _ => Err(TiffUnsupportedError::FloatingPointPredictor(colour).into()),
+            Predictor::Horizontal => Err(TiffUnsupportedError::HorizontalPredictor(color).into()),
+            _ => Err(TiffUnsupportedError::FloatingPointPredictor(color).into()),
         };
     }
-    Err(TiffUnsupportedError::UnsupportedColorType(colour).into())
+    Err(TiffUnsupportedError::UnsupportedColorType(color).into())
 }
 
 #[tactic(auto, unfolding(crate::specs::PixelFault::predictor_fault))]
-fn predictor_fault(page: &Page, colour: ColorType) -> TiffResult<()>
-    ensures { Gives (λ _. tt) result (spec.predictor_fault (view.page page.now) colour) }
+fn predictor_fault(page: &Page, color: ColorType) -> TiffResult<()>
+    ensures { Gives (λ _. tt) result (spec.predictor_fault (view.page page.now) color) }
 {
     match (page.predictor, page.format) {
         (Predictor::None, _) => Ok(()),
         (Predictor::Horizontal, SampleFormat::Uint | SampleFormat::Int | SampleFormat::IEEEFP) =>
             Ok(()),
-        (Predictor::Horizontal, _) => Err(TiffUnsupportedError::HorizontalPredictor(colour).into()),
+        (Predictor::Horizontal, _) => Err(TiffUnsupportedError::HorizontalPredictor(color).into()),
         (Predictor::FloatingPoint, SampleFormat::IEEEFP) if page.depth != 8 => Ok(()),
-        _ => Err(TiffUnsupportedError::FloatingPointPredictor(colour).into()),
+        _ => Err(TiffUnsupportedError::FloatingPointPredictor(color).into()),
     }
 }
 
@@ -76,21 +76,21 @@ fn method_fault(method: CompressionMethod) -> TiffResult<()>
     }
 }
 
-fn can_invert(format: SampleFormat, colour: ColorType) -> bool
-    ensures { result ≡ spec.can_invert format colour }
+fn can_invert(format: SampleFormat, color: ColorType) -> bool
+    ensures { result ≡ spec.can_invert format color }
 {
-    match (format, colour) {
+    match (format, color) {
         (SampleFormat::Uint, ColorType::Gray(d)) => is_whole(d) || d == 1 || d == 2 || d == 4,
         _ => false,
     }
 }
 
 #[tactic(auto, unfolding(crate::specs::PixelFault::white_fault))]
-fn white_fault(page: &Page, colour: ColorType) -> TiffResult<()>
-    ensures { Gives (λ _. tt) result (spec.white_fault (view.page page.now) colour) }
+fn white_fault(page: &Page, color: ColorType) -> TiffResult<()>
+    ensures { Gives (λ _. tt) result (spec.white_fault (view.page page.now) color) }
 {
     match page.interpretation {
-        PhotometricInterpretation::WhiteIsZero if !can_invert(page.format, colour) => {
+        PhotometricInterpretation::WhiteIsZero if !can_invert(page.format, color) => {
             Err(TiffUnsupportedError::UnknownInterpretation.into())
         }
         _ => Ok(()),
@@ -101,21 +101,21 @@ fn white_fault(page: &Page, colour: ColorType) -> TiffResult<()>
 /// a predictor, a method or an inversion that isn't supported: its `UnsupportedError`; more bytes in the file than
 /// `intermediate_buffer_size`: `LimitsExceeded`.
 #[tactic(auto, unfolding(crate::specs::PixelFault::form_fault))]
-pub fn form_fault(page: &Page, limits: &Limits, colour: ColorType, index: usize) -> TiffResult<()>
-    ensures answer { Gives (λ _. tt) result (spec.form_fault (view.page page.now) limits.now colour index) }
+pub fn form_fault(page: &Page, limits: &Limits, color: ColorType, index: usize) -> TiffResult<()>
+    ensures answer { Gives (λ _. tt) result (spec.form_fault (view.page page.now) limits.now color index) }
     ensures within { OnOk result (index < length page.now.offsets) }
 {
     let byte_counts = page.byte_counts.as_slice();
     if index >= byte_counts.len() {
         return Err(TiffFormatError::InconsistentSizesEncountered.into());
     }
-    depth_fault(page, colour)?;
-    predictor_fault(page, colour)?;
+    depth_fault(page, color)?;
+    predictor_fault(page, color)?;
     if byte_counts[index] > limits.intermediate_buffer_size as u64 {
         return Err(TiffError::LimitsExceeded);
     }
     method_fault(page.method)?;
-    white_fault(page, colour)
+    white_fault(page, color)
 }
 
 /// More samples than `decoding_buffer_size` bytes hold: `LimitsExceeded`.

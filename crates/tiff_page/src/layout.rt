@@ -1,12 +1,12 @@
-//! The colour of a page, the number type of its samples, where its chunks lie, and how planes are laid out.
+//! The color of a page, the number type of its samples, where its chunks lie, and how planes are laid out.
 
 ghost use Rattle.std.specs.Prelude.{◌≡◌, ◌+◌, ◌-◌, ◌*◌, ◌/◌, ◌%◌, ◌<◌, ◌≤◌, ◌^◌, replicate, IfOk, None};
-ghost use Rattle.tiff_base.specs.Answers.{AnswersHere, Gives};
+ghost use Rattle.tiff_base.specs.Answers.{AnswersWithoutSource, Gives};
 ghost use Rattle.tiff_base.specs.declared.error.TiffError.TheVariants as tiff;
 ghost use Rattle.tiff_base.specs.declared.error.TiffUnsupportedError.TheVariants as unsupported;
-ghost use Rattle.tiff_page.specs.View as view;
+ghost use Rattle.tiff_page.specs.PageView as view;
 ghost use Rattle.tiff_base.specs.declared.color.ColorType.{ColorType};
-ghost use Rattle.tiff_page.specs.Rect as place;
+ghost use Rattle.tiff_page.specs.Rect as rects;
 ghost use Rattle.tiff_page.specs.Layout as spec;
 ghost use Rattle.tiff_page.specs.Buffers.{type_known};
 
@@ -58,7 +58,7 @@ pub struct BufferLayoutPreference {
     pub complete_len: usize,
 }
 
-/// A chunk's place and size in the image.
+/// A chunk's position and size in the image.
 #[derive(Clone, Copy, Debug, PartialEq, Eq)]
 pub struct ChunkRect {
     pub plane: u64,
@@ -70,7 +70,7 @@ pub struct ChunkRect {
 
 /// Chunks beside each other.
 fn chunks_across(page: &Page) -> u64
-    ensures { result ≡ place.across (view.page page.now) }
+    ensures { result ≡ rects.across (view.page page.now) }
 {
     (u64::from(page.width) + u64::from(page.chunk_width) - 1) / u64::from(page.chunk_width)
 }
@@ -78,7 +78,7 @@ fn chunks_across(page: &Page) -> u64
 /// Chunks of a plane.
 #[tactic(auto, using(crate::proofs::Sizes::plane_some, crate::proofs::Sizes::plane_few))]
 pub fn chunks_of_plane(page: &Page) -> u32
-    ensures count { result ≡ place.chunks_of_plane (view.page page.now) }
+    ensures count { result ≡ rects.chunks_of_plane (view.page page.now) }
     ensures some { 0 < result }
 {
     let down = (u64::from(page.height) + u64::from(page.chunk_height) - 1)
@@ -91,7 +91,8 @@ pub fn chunks_of_plane(page: &Page) -> u32
 pub fn rect(page: &Page, index: u32) -> ChunkRect
     ensures wide { 0 < result.width }
     ensures high { 0 < result.height }
-    ensures place { record { plane = result.plane; x = result.x; y = result.y; width = result.width; height = result.height } ≡ place.rect (view.page page.now) index }
+    ensures position { record { plane = result.plane; x = result.x; y = result.y; width = result.width; height = result.height }
+        ≡ rects.rect (view.page page.now) index }
 {
     let chunk_width = page.chunk_width;
     let chunk_height = page.chunk_height;
@@ -115,18 +116,18 @@ pub fn rect(page: &Page, index: u32) -> ChunkRect
 pub fn chunk_data_dimensions(page: &Page, index: u32) -> (u32, u32)
     ensures wide { 0 < result.0 }
     ensures high { 0 < result.1 }
-    ensures size { result ≡ ((place.rect (view.page page.now) index).width, (place.rect (view.page page.now) index).height) }
+    ensures size { result ≡ ((rects.rect (view.page page.now) index).width, (rects.rect (view.page page.now) index).height) }
 {
     let rect = rect(page, index);
     (rect.width, rect.height)
 }
 
-// ---- the colour
+// ---- the color
 
-#[tactic(auto, unfolding(crate::specs::Layout::no_colour))]
-fn no_colour(page: &Page, alloc: Global) -> TiffResult<ColorType>
-    ensures answer { AnswersHere (λ c. c) result (spec.no_colour (view.page page.now)) }
-    ensures colour { (c : ColorType) → spec.no_colour (view.page page.now) ≡ Ok c → result ≡ Ok c }
+#[tactic(auto, unfolding(crate::specs::Layout::no_color))]
+fn no_color(page: &Page, alloc: Global) -> TiffResult<ColorType>
+    ensures answer { AnswersWithoutSource (λ c. c) result (spec.no_color (view.page page.now)) }
+    ensures color { (c : ColorType) → spec.no_color (view.page page.now) ≡ Ok c → result ≡ Ok c }
 {
     let bits = vec![in alloc; page.depth; usize::from(page.samples)]?;
     Err(TiffUnsupportedError::InterpretationWithBits(
@@ -144,12 +145,12 @@ fn first_is_alpha(extra: &[ExtraSamples]) -> bool
     )
 }
 
-/// The colour of a page.
-#[tactic(auto, unfolding(crate::specs::Layout::colour_of))]
-pub fn colour_of(page: &Page, alloc: Global) -> TiffResult<ColorType>
-    ensures answer { AnswersHere (λ c. c) result (spec.colour_of (view.page page.now)) }
-    // No memory is taken where there is a colour.
-    ensures colour { (c : ColorType) → spec.colour_of (view.page page.now) ≡ Ok c → result ≡ Ok c }
+/// The color of a page.
+#[tactic(auto, unfolding(crate::specs::Layout::color_of))]
+pub fn color_of(page: &Page, alloc: Global) -> TiffResult<ColorType>
+    ensures answer { AnswersWithoutSource (λ c. c) result (spec.color_of (view.page page.now)) }
+    // No memory is taken where there is a color.
+    ensures color { (c : ColorType) → spec.color_of (view.page page.now) ≡ Ok c → result ≡ Ok c }
 {
     let depth = page.depth;
     let alpha = first_is_alpha(page.extra.as_slice());
@@ -162,7 +163,7 @@ pub fn colour_of(page: &Page, alloc: Global) -> TiffResult<ColorType>
                 ColorType::RGB(depth)
             }),
             4 => Ok(ColorType::RGBA(depth)),
-            _ => no_colour(page, alloc),
+            _ => no_color(page, alloc),
         },
         PhotometricInterpretation::CMYK => match photometric {
             4 => Ok(if alpha {
@@ -171,11 +172,11 @@ pub fn colour_of(page: &Page, alloc: Global) -> TiffResult<ColorType>
                 ColorType::CMYK(depth)
             }),
             5 => Ok(ColorType::CMYKA(depth)),
-            _ => no_colour(page, alloc),
+            _ => no_color(page, alloc),
         },
         PhotometricInterpretation::YCbCr => match photometric {
             3 => Ok(ColorType::YCbCr(depth)),
-            _ => no_colour(page, alloc),
+            _ => no_color(page, alloc),
         },
         PhotometricInterpretation::BlackIsZero | PhotometricInterpretation::WhiteIsZero =>
             match page.samples {
@@ -188,11 +189,11 @@ pub fn colour_of(page: &Page, alloc: Global) -> TiffResult<ColorType>
         PhotometricInterpretation::IccLab => match page.format {
             SampleFormat::Uint => match photometric {
                 3 => Ok(ColorType::Lab(depth)),
-                _ => no_colour(page, alloc),
+                _ => no_color(page, alloc),
             },
-            _ => no_colour(page, alloc),
+            _ => no_color(page, alloc),
         },
-        _ => no_colour(page, alloc),
+        _ => no_color(page, alloc),
     }
 }
 
@@ -233,7 +234,7 @@ pub fn known_sample_type(page: &Page) -> Option<DecodingSampleType>
 #[tactic(auto, unfolding(crate::specs::Layout::sample_type_of))]
 fn no_sample_type(page: &Page, alloc: Global) -> TiffResult<DecodingSampleType>
     requires { type_known (spec.sample_type_of (view.page page.now)) ≡ None }
-    ensures { AnswersHere (λ t. t) result (spec.sample_type_of (view.page page.now)) }
+    ensures { AnswersWithoutSource (λ t. t) result (spec.sample_type_of (view.page page.now)) }
 {
     match page.format {
         SampleFormat::Uint | SampleFormat::Int | SampleFormat::IEEEFP => Err(
@@ -249,7 +250,7 @@ fn no_sample_type(page: &Page, alloc: Global) -> TiffResult<DecodingSampleType>
 /// The number type of the samples of a page. Of a depth for which its format has none: `UnsupportedSampleDepth`; of a format
 /// that isn't one of numbers: `UnsupportedSampleFormat`.
 pub fn sample_type_of(page: &Page, alloc: Global) -> TiffResult<DecodingSampleType>
-    ensures { AnswersHere (λ t. t) result (spec.sample_type_of (view.page page.now)) }
+    ensures { AnswersWithoutSource (λ t. t) result (spec.sample_type_of (view.page page.now)) }
 {
     match known_sample_type(page) {
         Some(sample_type) => Ok(sample_type),
@@ -276,26 +277,26 @@ pub fn size_of(sample: DecodingSampleType) -> usize
 /// How the bytes of a plane are laid out.
 #[derive(Clone, Copy, Debug)]
 pub struct PlaneLayout {
-    pub colour: ColorType,
+    pub color: ColorType,
     pub row_bytes: usize,
     pub plane_stride: usize,
 }
 
-pub(crate) fn shown(page: &Page, colour: ColorType) -> u16
-    ensures { result ≡ spec.shown page.now.planar colour }
+pub(crate) fn shown(page: &Page, color: ColorType) -> u16
+    ensures { result ≡ spec.shown page.now.planar color }
 {
     match page.planar {
-        PlanarConfiguration::Chunky => colour.num_samples(),
+        PlanarConfiguration::Chunky => color.num_samples(),
         _ => 1,
     }
 }
 
-pub fn planes(page: &Page, colour: ColorType) -> u16
-    ensures { result ≡ spec.planes page.now.planar colour }
+pub fn planes(page: &Page, color: ColorType) -> u16
+    ensures { result ≡ spec.planes page.now.planar color }
 {
     match page.planar {
         PlanarConfiguration::Chunky => 1,
-        _ => colour.num_samples(),
+        _ => color.num_samples(),
     }
 }
 
@@ -308,17 +309,17 @@ pub(crate) fn bits(width: u32, depth: u8, samples: u16) -> usize
 }
 
 #[tactic(auto, unfolding(crate::specs::Layout::row_bits))]
-pub(crate) fn row_bits(page: &Page, colour: ColorType, width: u32) -> usize
-    ensures value { result ≡ spec.row_bits (view.page page.now) colour width }
+pub(crate) fn row_bits(page: &Page, color: ColorType, width: u32) -> usize
+    ensures value { result ≡ spec.row_bits (view.page page.now) color width }
     ensures few { result < 2 ^ 56 }
 {
-    bits(width, page.depth, shown(page, colour))
+    bits(width, page.depth, shown(page, color))
 }
 
-fn is_whole_chroma(page: &Page, colour: ColorType) -> TiffResult<()>
-    ensures { Gives (λ _. colour) result (spec.whole_chroma (view.page page.now) colour) }
+fn is_whole_chroma(page: &Page, color: ColorType) -> TiffResult<()>
+    ensures { Gives (λ _. color) result (spec.whole_chroma (view.page page.now) color) }
 {
-    match colour {
+    match color {
         ColorType::YCbCr(_) if page.subsampling != (1, 1) => match page.method {
             CompressionMethod::ModernJPEG => Ok(()),
             _ => Err(TiffUnsupportedError::ChromaSubsampling.into()),
@@ -327,11 +328,11 @@ fn is_whole_chroma(page: &Page, colour: ColorType) -> TiffResult<()>
     }
 }
 
-fn is_aligned(page: &Page, colour: ColorType, width: u32) -> TiffResult<()>
-    ensures { Gives (λ _. colour) result (spec.aligned (view.page page.now) colour width) }
+fn is_aligned(page: &Page, color: ColorType, width: u32) -> TiffResult<()>
+    ensures { Gives (λ _. color) result (spec.aligned (view.page page.now) color width) }
 {
     let across = (u64::from(width) + u64::from(page.chunk_width) - 1) / u64::from(page.chunk_width);
-    if across > 1 && row_bits(page, colour, page.chunk_width) % 8 != 0 {
+    if across > 1 && row_bits(page, color, page.chunk_width) % 8 != 0 {
         return Err(TiffUnsupportedError::MisalignedTileBoundaries.into());
     }
     Ok(())
@@ -348,16 +349,20 @@ pub fn wide_product(a: usize, b: usize) -> TiffResult<usize>
 pub fn layout_of(page: &Page, alloc: Global, width: u32, height: u32) -> TiffResult<PlaneLayout>
     ensures rows { 0 < width → IfOk result (λ l. 0 < l.row_bytes) }
     ensures plane { 0 < width → 0 < height → IfOk result (λ l. 0 < l.plane_stride) }
-    ensures answer { AnswersHere (λ l. record { colour = l.colour; row_bytes = l.row_bytes; plane_stride = l.plane_stride }) result (spec.layout_of (view.page page.now) width height) }
+    ensures answer { AnswersWithoutSource (λ l. record {
+      color = l.color;
+      row_bytes = l.row_bytes;
+      plane_stride = l.plane_stride;
+    }) result (spec.layout_of (view.page page.now) width height) }
 {
-    let colour = colour_of(page, alloc)?;
-    let row_bytes = (row_bits(page, colour, width) + 7) / 8;
+    let color = color_of(page, alloc)?;
+    let row_bytes = (row_bits(page, color, width) + 7) / 8;
     wide_product(row_bytes, page.chunk_height as usize)?;
     let plane_stride = wide_product(row_bytes, height as usize)?;
-    is_aligned(page, colour, width)?;
-    is_whole_chroma(page, colour)?;
+    is_aligned(page, color, width)?;
+    is_whole_chroma(page, color)?;
     Ok(PlaneLayout {
-        colour,
+        color,
         row_bytes,
         plane_stride,
     })

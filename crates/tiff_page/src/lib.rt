@@ -1,23 +1,23 @@
 //! What the tags of a page say, how its samples are laid out, and its pixels.
 #![tactic(auto)]
 
+mod adjacent_rows;
 pub mod buffers;
-pub mod checks;
-pub mod chunk;
+pub mod chunk_data;
+pub mod chunk_rows;
 pub mod counts;
-pub mod early;
+pub mod early_faults;
 pub mod faults;
-pub mod fill;
-pub mod handed;
 pub mod laws;
 pub mod layout;
 pub mod lists;
 pub mod numbers;
+pub mod output_row;
 pub mod page;
 pub mod pixels;
-pub mod place;
+pub mod position;
+pub mod predictors;
+pub mod read_chunks;
+pub mod read_page;
 pub mod samples;
-pub mod stored;
-mod together;
-pub mod undo;
 pub mod writer;

@@ -5,7 +5,7 @@ ghost use Rattle.std.specs.Prelude.{◌≡◌, length};
 use std::marker::Model;
 use tiff_base::tags::ExtraSamples;
 
-/// What the samples beyond those of the colour are.
+/// What the samples beyond those of the color are.
 #[derive(Debug, Drop)]
 pub struct ExtraSampleList {
     items: Vec<ExtraSamples>,

@@ -5,7 +5,7 @@ ghost use Rattle.std.specs.Int.{w8, w16, w32, w64, cast_unsigned};
 ghost use Rattle.std.specs.Prelude.{◌≡◌, ℕ, ◌+◌, ◌*◌, ◌/◌, ◌^◌, ◌≤◌, ◌<◌, length, map, replicate, ◌∷◌, [], IfOk};
 ghost use Rattle.tiff_base.specs.Number.{number};
 ghost use Rattle.tiff_base.specs.declared.tags.ByteOrder.TheVariants.{LittleEndian};
-ghost use Rattle.tiff_page.specs.NumberBytes.{all_bytes, bytes_in, IsPut, IsPlaced};
+ghost use Rattle.tiff_page.specs.NumberBytes.{all_bytes, bytes_in, IsPut, NumbersArePut};
 ghost use Rattle.tiff_page.specs.Pixels.{width_of};
 ghost use Rattle.tiff_page.specs.Row.{IsSize};
 
@@ -291,7 +291,7 @@ impl Number<8> for i64 {
 fn put_numbers<T: Number<N>, const N: usize>(numbers: &mut [T], first: usize, row: &[u8])
     requires some { 0 < N }
     requires room { first + length row.now / N ≤ length numbers.old }
-    ensures { IsPlaced N first row.now (length row.now / N) (map T.bits numbers.old) (map T.bits numbers.new) }
+    ensures { NumbersArePut N first row.now (length row.now / N) (map T.bits numbers.old) (map T.bits numbers.new) }
 {
     let (pieces, _) = row.as_chunks::<N>();
     for k in 0..pieces.len() {
@@ -299,7 +299,7 @@ fn put_numbers<T: Number<N>, const N: usize>(numbers: &mut [T], first: usize, ro
     }
 }
 
-// Puts a byte at a place of the bytes of numbers.
+// Puts a byte at a position of the bytes of numbers.
 #[tactic(auto, using(crate::proofs::NumberBytes::number_there, crate::proofs::NumberBytes::byte_put))]
 fn put_byte<T: Number<N>, const N: usize>(numbers: &mut [T], at: usize, byte: u8)
     requires some { 0 < N }
@@ -324,7 +324,7 @@ fn put_bytes<T: Number<N>, const N: usize>(numbers: &mut [T], at: usize, row: &[
     }
 }
 
-/// Puts a row at a place of the bytes of numbers, whole numbers at once.
+/// Puts a row at a position of the bytes of numbers, whole numbers at once.
 #[tactic(auto, using(crate::proofs::NumberBytes::row_put_whole, crate::proofs::NumberBytes::numbers_fit))]
 pub(crate) fn put_row<T: Number<N>, const N: usize>(numbers: &mut [T], at: usize, row: &[u8])
     requires some { 0 < N }

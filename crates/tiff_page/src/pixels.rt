@@ -9,29 +9,29 @@
 
 ghost use Rattle.std.specs.Int.{div_ceil};
 ghost use Rattle.std.specs.Prelude.{◌≡◌, ◌*◌, ◌<◌, ◌≤◌, ◌^◌, Ok, IfOk, length, map, replicate, if◌then◌else◌, nat_le};
-ghost use Rattle.tiff_base.specs.Answers.{Answers, AnswersHere, Gives, IsKept};
+ghost use Rattle.tiff_base.specs.Answers.{Answers, AnswersWithoutSource, Gives, IsKept};
 ghost use Rattle.tiff_base.specs.Sparing.{AnswersSparingly};
 ghost use Rattle.tiff_page.specs.Buffers as buffers;
-ghost use Rattle.tiff_page.specs.Early.{early_fault};
+ghost use Rattle.tiff_page.specs.EarlyFaults.{early_fault};
 ghost use Rattle.tiff_page.specs.Image.{image_of};
 ghost use Rattle.tiff_page.specs.Layout as layouts;
 ghost use Rattle.tiff_page.specs.PixelCalls as calls;
 ghost use Rattle.tiff_page.specs.PixelCalls.{filled};
-ghost use Rattle.tiff_page.specs.Rect as place;
-ghost use Rattle.tiff_page.specs.Samples.{samples_as, colour_in, first_in, part_of, IsLaid, room_of};
-ghost use Rattle.tiff_page.specs.View as view;
+ghost use Rattle.tiff_page.specs.Rect as rects;
+ghost use Rattle.tiff_page.specs.Samples.{samples_as, color_in, first_in, part_of, IsLaid, room_of};
+ghost use Rattle.tiff_page.specs.PageView as view;
 ghost use Rattle.tiff_page.specs.declared.layout.DecodingSampleType.TheVariants as type;
 
 use crate::buffers::{all_planes, planes_layout, unit_fault};
-use crate::early::early_fault;
+use crate::early_faults::early_fault;
 use crate::faults::samples_fault;
-use crate::fill::{fill_image, fill_unit};
 use crate::layout::{
     BufferLayoutPreference, DecodingSampleType, PlaneLayout, chunk_data_dimensions, planes,
     sample_type_of, size_of, wide_product,
 };
 use crate::numbers::Number;
 use crate::page::Page;
+use crate::read_chunks::{fill_image, fill_unit};
 use crate::samples::{Portion, Samples};
 use crate::writer::{InPlace, NumberRoom, RowWriter};
 use std::alloc::Global;
@@ -71,25 +71,32 @@ fn stride_fault(stride: usize, row_bytes: usize) -> TiffResult<()>
 #[tactic(auto, using(crate::proofs::PixelSteps::whole_planes, crate::proofs::PixelSteps::one_plane))]
 fn planes_used(page: &Page, layout: PlaneLayout, len: usize) -> u16
     requires plane { 0 < layout.plane_stride }
-    requires some { 0 < layouts.planes page.now.planar layout.colour }
+    requires some { 0 < layouts.planes page.now.planar layout.color }
     requires room { layout.plane_stride ≤ len }
-    ensures value { result ≡ calls.planes_used (view.page page.now) (record { colour = layout.colour; row_bytes = layout.row_bytes; plane_stride = layout.plane_stride }) len }
+    ensures value { result ≡ calls.planes_used (view.page page.now)
+        (record { color = layout.color; row_bytes = layout.row_bytes; plane_stride = layout.plane_stride }) len }
     ensures some { 0 < result }
     ensures room { result * layout.plane_stride ≤ len }
 {
-    let all = usize::from(planes(page, layout.colour));
+    let all = usize::from(planes(page, layout.color));
     all.min(len / layout.plane_stride) as u16
 }
 
 // The layout of a chunk as a part of its page.
-#[tactic(auto, using(crate::proofs::PixelSteps::coloured, crate::proofs::PixelSteps::columns, crate::proofs::PixelSteps::stride))]
+#[tactic(auto, using(crate::proofs::PixelSteps::colored, crate::proofs::PixelSteps::columns, crate::proofs::PixelSteps::stride))]
 fn chunk_layout(page: &Page, alloc: Global, index: u32) -> TiffResult<PlaneLayout>
-    ensures answer { AnswersHere (λ l. record { colour = l.colour; row_bytes = l.row_bytes; plane_stride = l.plane_stride }) result (buffers.planes_layout (view.page page.now) (place.rect (view.page page.now) index).width (place.rect (view.page page.now) index).height) }
-    ensures coloured { IfOk result (λ l. layouts.colour_of (view.page page.now) ≡ Ok l.colour) }
-    ensures columns { IfOk result (λ l. layouts.row_bytes (view.page page.now) l.colour (place.rect (view.page page.now) index).width ≤ l.row_bytes) }
-    ensures stride { IfOk result (λ l. (place.rect (view.page page.now) index).height * l.row_bytes ≡ l.plane_stride) }
+    ensures answer { AnswersWithoutSource (λ l. record {
+      color = l.color;
+      row_bytes = l.row_bytes;
+      plane_stride = l.plane_stride;
+    }) result (buffers.planes_layout (view.page page.now) (rects.rect (view.page page.now) index).width
+        (rects.rect (view.page page.now) index).height) }
+    ensures colored { IfOk result (λ l. layouts.color_of (view.page page.now) ≡ Ok l.color) }
+    ensures columns { IfOk result (λ l. layouts.row_bytes (view.page page.now) l.color
+        (rects.rect (view.page page.now) index).width ≤ l.row_bytes) }
+    ensures stride { IfOk result (λ l. (rects.rect (view.page page.now) index).height * l.row_bytes ≡ l.plane_stride) }
     ensures plane { IfOk result (λ l. 0 < l.plane_stride) }
-    ensures some { IfOk result (λ l. 0 < layouts.planes page.now.planar l.colour) }
+    ensures some { IfOk result (λ l. 0 < layouts.planes page.now.planar l.color) }
 {
     let (width, height) = chunk_data_dimensions(page, index);
     planes_layout(page, alloc, width, height)
@@ -99,8 +106,8 @@ fn chunk_layout(page: &Page, alloc: Global, index: u32) -> TiffResult<PlaneLayou
 #[tactic(auto, using(crate::proofs::PixelSteps::height_within, crate::proofs::PixelSteps::rows_fit))]
 fn rows_len(page: &Page, index: u32, stride: usize) -> usize
     requires wide { stride * page.now.chunk_height < 2 ^ 64 }
-    ensures value { result ≡ stride * (place.rect (view.page page.now) index).height }
-    ensures room { (place.rect (view.page page.now) index).height * stride ≤ result }
+    ensures value { result ≡ stride * (rects.rect (view.page page.now) index).height }
+    ensures room { (rects.rect (view.page page.now) index).height * stride ≤ result }
 {
     let (_, height) = chunk_data_dimensions(page, index);
     stride * height as usize
@@ -108,13 +115,14 @@ fn rows_len(page: &Page, index: u32, stride: usize) -> usize
 
 // All planes of an image where their bytes are within the limit, else one.
 fn planes_within(page: &Page, limits: &Limits, layout: PlaneLayout) -> u16
-    requires some { 0 < layouts.planes page.now.planar layout.colour }
-    requires fits { layout.plane_stride * layouts.planes page.now.planar layout.colour < 2 ^ 64 }
-    ensures value { result ≡ (let all = layouts.planes page.now.planar layout.colour in if nat_le (layout.plane_stride * all) limits.now.decoding_buffer_size then all else 1) }
+    requires some { 0 < layouts.planes page.now.planar layout.color }
+    requires fits { layout.plane_stride * layouts.planes page.now.planar layout.color < 2 ^ 64 }
+    ensures value { result ≡ (let all = layouts.planes page.now.planar layout.color in if nat_le (layout.plane_stride * all)
+        limits.now.decoding_buffer_size then all else 1) }
     ensures some { 0 < result }
     ensures fits { layout.plane_stride * result < 2 ^ 64 }
 {
-    let all = planes(page, layout.colour);
+    let all = planes(page, layout.color);
     if layout.plane_stride * usize::from(all) <= limits.decoding_buffer_size {
         return all;
     }
@@ -128,29 +136,30 @@ fn zeros<R: Source, T: Number<N>, const N: usize>(
     source: &mut R,
     page: &Page,
     limits: &Limits,
-    colour: ColorType,
+    color: ColorType,
     sample_type: DecodingSampleType,
     first: u32,
     len: usize,
 ) -> TiffResult<Vec<T>>
     requires { 0 < N }
     ensures kept { IsKept R.bytes R.failures result source.old source.new }
-    ensures answer { AnswersSparingly (λ _. tt) result (early_fault (R.bytes source.old) (view.page page.now) limits.now colour sample_type first len) (R.failures source.old) (R.failures source.new) }
+    ensures answer { AnswersSparingly (λ _. tt) result (early_fault (R.bytes source.old) (view.page page.now) limits.now color
+        sample_type first len) (R.failures source.old) (R.failures source.new) }
     ensures zeros { IfOk result (λ v. map T.bits v.items ≡ replicate (div_ceil len N) 0) }
 {
     samples_fault(limits, size_of(sample_type), len)?;
-    early_fault(source, page, limits, colour, first)?;
+    early_fault(source, page, limits, color, first)?;
     Ok(T::zeros(alloc, len.div_ceil(N))?)
 }
 
 impl Portion {
-    // Its colour.
-    fn colour(self) -> ColorType
-        ensures { result ≡ colour_in self }
+    // Its color.
+    fn color(self) -> ColorType
+        ensures { result ≡ color_in self }
     {
         match self {
-            Portion::Image(layout, _) => layout.colour,
-            Portion::Chunk(colour, _, _) => colour,
+            Portion::Image(layout, _) => layout.color,
+            Portion::Chunk(color, _, _) => color,
         }
     }
 
@@ -180,14 +189,16 @@ fn fill<R: Source, T, W: RowWriter<T>>(
     requires room { room_of (view.page page.now) portion ≤ length (W.bytes out.old) }
     requires few { room_of (view.page page.now) portion < 2 ^ 64 }
     ensures kept { IsKept R.bytes R.failures result source.old source.new }
-    ensures answer { Answers (λ _. W.bytes out.new) result (filled (R.bytes source.old) order (view.page page.now) limits.now (colour_in portion) (part_of (R.bytes source.old) order (view.page page.now) portion) (W.bytes out.old)) (R.failures source.old) (R.failures source.new) }
+    ensures answer { Answers (λ _. W.bytes out.new) result (filled (R.bytes source.old) order (view.page page.now) limits.now
+        (color_in portion) (part_of (R.bytes source.old) order (view.page page.now) portion) (W.bytes out.old))
+        (R.failures source.old) (R.failures source.new) }
 {
     match portion {
         Portion::Image(layout, planes) => fill_image(
             alloc, source, order, page, limits, layout, planes, writer, out,
         ),
-        Portion::Chunk(colour, index, stride) => fill_unit(
-            alloc, source, order, page, limits, colour, index, 1, stride, writer, out,
+        Portion::Chunk(color, index, stride) => fill_unit(
+            alloc, source, order, page, limits, color, index, 1, stride, writer, out,
         ),
     }
 }
@@ -206,16 +217,18 @@ fn bytes_of<R: Source>(
     requires room { room_of (view.page page.now) portion ≤ len }
     requires typed { layouts.sample_type_of (view.page page.now) ≡ Ok type.U8 }
     ensures kept { IsKept R.bytes R.failures result source.old source.new }
-    ensures answer { Answers (λ v. record { sample_type = type.U8; numbers = v.items }) result (calls.samples (R.bytes source.old) order (view.page page.now) limits.now (colour_in portion) (part_of (R.bytes source.old) order (view.page page.now) portion) len) (R.failures source.old) (R.failures source.new) }
+    ensures answer { Answers (λ v. record { sample_type = type.U8; numbers = v.items }) result
+        (calls.samples (R.bytes source.old) order (view.page page.now) limits.now (color_in portion)
+        (part_of (R.bytes source.old) order (view.page page.now) portion) len) (R.failures source.old) (R.failures source.new) }
 {
-    let (colour, first) = (portion.colour(), portion.first());
+    let (color, first) = (portion.color(), portion.first());
     let sample_type = DecodingSampleType::U8;
     let mut bytes: Vec<u8> = match zeros(
         alloc,
         source,
         page,
         limits,
-        colour,
+        color,
         sample_type,
         first,
         len,
@@ -256,15 +269,17 @@ fn numbers_of<R: Source, T: Number<N>, const N: usize>(
     requires typed { layouts.sample_type_of (view.page page.now) ≡ Ok sample_type }
     requires size { layouts.size_of sample_type ≡ N }
     ensures kept { IsKept R.bytes R.failures result source.old source.new }
-    ensures answer { Answers (λ v. record { sample_type = sample_type; numbers = map T.bits v.items }) result (calls.samples (R.bytes source.old) order (view.page page.now) limits.now (colour_in portion) (part_of (R.bytes source.old) order (view.page page.now) portion) len) (R.failures source.old) (R.failures source.new) }
+    ensures answer { Answers (λ v. record { sample_type = sample_type; numbers = map T.bits v.items }) result
+        (calls.samples (R.bytes source.old) order (view.page page.now) limits.now (color_in portion)
+        (part_of (R.bytes source.old) order (view.page page.now) portion) len) (R.failures source.old) (R.failures source.new) }
 {
-    let (colour, first) = (portion.colour(), portion.first());
+    let (color, first) = (portion.color(), portion.first());
     let mut numbers: Vec<T> = match zeros(
         alloc,
         source,
         page,
         limits,
-        colour,
+        color,
         sample_type,
         first,
         len,
@@ -302,7 +317,9 @@ fn samples_of<R: Source>(
     requires laid { IsLaid (view.page page.now) portion }
     requires room { room_of (view.page page.now) portion ≤ len }
     ensures kept { IsKept R.bytes R.failures result source.old source.new }
-    ensures answer { Answers samples_as result (calls.samples (R.bytes source.old) order (view.page page.now) limits.now (colour_in portion) (part_of (R.bytes source.old) order (view.page page.now) portion) len) (R.failures source.old) (R.failures source.new) }
+    ensures answer { Answers samples_as result (calls.samples (R.bytes source.old) order (view.page page.now) limits.now
+        (color_in portion) (part_of (R.bytes source.old) order (view.page page.now) portion) len) (R.failures source.old)
+        (R.failures source.new) }
 {
     let sample_type = sample_type_of(page, alloc)?;
     match sample_type {
@@ -432,7 +449,8 @@ pub fn read_image<R: Source>(
     limits: &Limits,
 ) -> TiffResult<Samples>
     ensures kept { IsKept R.bytes R.failures result source.old source.new }
-    ensures answer { Answers samples_as result (image_of (R.bytes source.old) order (view.page page.now) limits.now) (R.failures source.old) (R.failures source.new) }
+    ensures answer { Answers samples_as result (image_of (R.bytes source.old) order (view.page page.now) limits.now)
+        (R.failures source.old) (R.failures source.new) }
 {
     let layout = planes_layout(page, alloc, page.width, page.height)?;
     let portion = Portion::Image(layout, 1);
@@ -458,7 +476,9 @@ pub fn read_image_to_buffer<R: Source>(
     limits: &Limits,
 ) -> TiffResult<(BufferLayoutPreference, Samples)>
     ensures kept { IsKept R.bytes R.failures result source.old source.new }
-    ensures answer { Answers (λ r. (r.0, samples_as r.1)) result (calls.read_image_to_buffer (R.bytes source.old) order (view.page page.now) limits.now) (R.failures source.old) (R.failures source.new) }
+    ensures answer { Answers (λ r. (r.0, samples_as r.1)) result
+        (calls.read_image_to_buffer (R.bytes source.old) order (view.page page.now) limits.now) (R.failures source.old)
+        (R.failures source.new) }
 {
     let layout = planes_layout(page, alloc, page.width, page.height)?;
     let preference = all_planes(page, layout);
@@ -483,7 +503,8 @@ pub fn read_image_bytes<R: Source>(
     buf: &mut [u8],
 ) -> TiffResult<()>
     ensures kept { IsKept R.bytes R.failures result source.old source.new }
-    ensures answer { Answers (λ _. buf.new) result (calls.read_image_bytes (R.bytes source.old) order (view.page page.now) limits.now buf.old) (R.failures source.old) (R.failures source.new) }
+    ensures answer { Answers (λ _. buf.new) result (calls.read_image_bytes (R.bytes source.old) order (view.page page.now)
+        limits.now buf.old) (R.failures source.old) (R.failures source.new) }
 {
     let layout = planes_layout(page, alloc, page.width, page.height)?;
     room_fault(buf.len(), layout.plane_stride)?;
@@ -513,10 +534,11 @@ pub fn read_chunk<R: Source>(
     index: u32,
 ) -> TiffResult<Samples>
     ensures kept { IsKept R.bytes R.failures result source.old source.new }
-    ensures answer { Answers samples_as result (calls.read_chunk (R.bytes source.old) order (view.page page.now) limits.now index) (R.failures source.old) (R.failures source.new) }
+    ensures answer { Answers samples_as result (calls.read_chunk (R.bytes source.old) order (view.page page.now) limits.now
+        index) (R.failures source.old) (R.failures source.new) }
 {
     let layout = chunk_layout(page, alloc, index)?;
-    let portion = Portion::Chunk(layout.colour, index, layout.row_bytes);
+    let portion = Portion::Chunk(layout.color, index, layout.row_bytes);
     samples_of(
         alloc,
         source,
@@ -541,7 +563,8 @@ pub fn read_chunk_bytes<R: Source>(
     buf: &mut [u8],
 ) -> TiffResult<()>
     ensures kept { IsKept R.bytes R.failures result source.old source.new }
-    ensures answer { Answers (λ _. buf.new) result (calls.read_chunk_bytes (R.bytes source.old) order (view.page page.now) limits.now index buf.old) (R.failures source.old) (R.failures source.new) }
+    ensures answer { Answers (λ _. buf.new) result (calls.read_chunk_bytes (R.bytes source.old) order (view.page page.now)
+        limits.now index buf.old) (R.failures source.old) (R.failures source.new) }
 {
     let layout = chunk_layout(page, alloc, index)?;
     room_fault(buf.len(), layout.plane_stride)?;
@@ -551,7 +574,7 @@ pub fn read_chunk_bytes<R: Source>(
         order,
         page,
         limits,
-        layout.colour,
+        layout.color,
         index,
         1,
         layout.row_bytes,
@@ -574,13 +597,14 @@ pub fn read_chunk_to_buffer<R: Source>(
     stride: usize,
 ) -> TiffResult<Samples>
     ensures kept { IsKept R.bytes R.failures result source.old source.new }
-    ensures answer { Answers samples_as result (calls.read_chunk_to_buffer (R.bytes source.old) order (view.page page.now) limits.now index stride) (R.failures source.old) (R.failures source.new) }
+    ensures answer { Answers samples_as result (calls.read_chunk_to_buffer (R.bytes source.old) order (view.page page.now)
+        limits.now index stride) (R.failures source.old) (R.failures source.new) }
 {
     let layout = chunk_layout(page, alloc, index)?;
     stride_fault(stride, layout.row_bytes)?;
     wide_product(stride, page.chunk_height as usize)?;
     let len = rows_len(page, index, stride);
-    let portion = Portion::Chunk(layout.colour, index, stride);
+    let portion = Portion::Chunk(layout.color, index, stride);
     samples_of(alloc, source, order, page, limits, portion, len)
 }
 
@@ -598,7 +622,8 @@ pub fn read_coding_unit_bytes<R: Source>(
     buf: &mut [u8],
 ) -> TiffResult<()>
     ensures kept { IsKept R.bytes R.failures result source.old source.new }
-    ensures answer { Answers (λ _. buf.new) result (calls.read_coding_unit_bytes (R.bytes source.old) order (view.page page.now) limits.now unit buf.old) (R.failures source.old) (R.failures source.new) }
+    ensures answer { Answers (λ _. buf.new) result (calls.read_coding_unit_bytes (R.bytes source.old) order (view.page page.now)
+        limits.now unit buf.old) (R.failures source.old) (R.failures source.new) }
 {
     let layout = chunk_layout(page, alloc, unit)?;
     unit_fault(page, unit)?;
@@ -610,7 +635,7 @@ pub fn read_coding_unit_bytes<R: Source>(
         order,
         page,
         limits,
-        layout.colour,
+        layout.color,
         unit,
         planes,
         layout.row_bytes,

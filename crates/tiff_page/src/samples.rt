@@ -25,6 +25,6 @@ pub enum Samples {
 pub enum Portion {
     /// An image of a layout, in so many planes.
     Image(PlaneLayout, u16),
-    /// A chunk in a colour, by its index, its rows so many bytes apart.
+    /// A chunk in a color, by its index, its rows so many bytes apart.
     Chunk(ColorType, u32, usize),
 }

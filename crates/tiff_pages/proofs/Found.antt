@@ -13,7 +13,7 @@ use Rattle.tiff_pages.specs.Listing.{finds}
 use Rattle.tiff_pages.specs.Replied.{IsFound}
 use Rattle.tiff_pages.proofs.Lines.{next_and_rest}
 use Rattle.tiff_pages.proofs.Replied.{found_step}
-use Rattle.tiff_pages.proofs.Turns.{steps_length}
+use Rattle.tiff_pages.proofs.CallsMade.{steps_length}
 
 -- The same decoder, of which no more than the count of failed reads changed.
 pub record Keeps (old new : Decoding) : Type 0 where

@@ -3,5 +3,5 @@ mod Found
 mod GrayJob
 mod Lines
 mod Replied
-mod Turns
+mod CallsMade
 mod Visits

@@ -11,16 +11,16 @@ use Rattle.tiff_decode.specs.declared.result.DecodingResult.{DecodingResult}
 use Rattle.tiff_decode.specs.declared.script.Call.TheVariants as call
 use Rattle.tiff_decode.specs.declared.script.Reply.{Reply}
 use Rattle.tiff_decode.specs.declared.script.Reply.TheVariants as reply
-use Rattle.tiff_decode.specs.After.{IsNamedFault}
+use Rattle.tiff_decode.specs.NextState.{IsNamedFault}
 use Rattle.tiff_decode.specs.Failures.{fault_of, device_count}
 use Rattle.tiff_decode.specs.Machine.{State, Decoding, Outcome, Follows}
 use Rattle.tiff_decode.specs.Outcome as outcome
 use Rattle.tiff_decode.specs.Result.{decoded_as}
 use Rattle.tiff_decode.specs.Step.{Step}
 use Rattle.tiff_decode.specs.Steps.{Steps}
-use Rattle.tiff_decode.proofs.After.{IsTold, told}
+use Rattle.tiff_decode.proofs.NextState.{IsTold, told}
 use Rattle.tiff.specs.Answers.{Answers, IsCause, ◌>>=◌}
-use Rattle.tiff_pages.specs.AtPage.{VisitsPage, at_page, sought}
+use Rattle.tiff_pages.specs.AtPage.{VisitsPage, at_page, page_decoder}
 use Rattle.tiff_pages.specs.Listing.{listing, listing_at, page_pointer}
 use Rattle.tiff_pages.specs.Samples.{page_image}
 
@@ -102,9 +102,9 @@ file_along old mid new e f =
 given_there : {Y : Type 0} (given : Decoding → Result Y TiffError) (old mid : Decoding) (k : ℕ)
     → ((d : Decoding) (n : ℕ) → given (record d { failures = n }) ≡ given d)
     → mid ≡ record old { failures = mid.failures; state = mid.state } → mid.state ≡ (outcome.seek_to_image old k).next
-    → given mid ≡ given (sought old k)
+    → given mid ≡ given (page_decoder old k)
 given_there given old mid k same file at =
-    ap given (file ∙ ap (λ (s : State). record old { failures = mid.failures; state = s }) at) ∙ same (sought old k) mid.failures
+    ap given (file ∙ ap (λ (s : State). record old { failures = mid.failures; state = s }) at) ∙ same (page_decoder old k) mid.failures
 
 -- A seek, and a call that stays at the page.
 pub visit : {X Y : Type 0} (view : X → Y) (given : Decoding → Result Y TiffError) (old mid new : Decoding) (k : ℕ) (x : Result (Unit {0}) TiffError) (y : Result X TiffError)
@@ -113,7 +113,7 @@ pub visit : {X Y : Type 0} (view : X → Y) (given : Decoding → Result Y TiffE
     → VisitsPage view given (result_and x y) k old new
 visit view given old mid new k (Ok u) y same f m =
     let t : IsTold (λ u. u) (outcome.seek_to_image old k) (Ok u) old mid = told (Unit {0}) (λ u. u) (outcome.seek_to_image old k) (Ok u) old mid f in
-    let there : given mid ≡ at_page given old k = given_there given old mid k same t.file (t.next tt).1 ∙ ap (λ (a : Result (Unit {0}) TiffError). a >>= λ _. given (sought old k)) (t.next tt).0 in
+    let there : given mid ≡ at_page given old k = given_there given old mid k same t.file (t.next tt).1 ∙ ap (λ (a : Result (Unit {0}) TiffError). a >>= λ _. given (page_decoder old k)) (t.next tt).0 in
     record {
       answer = answers_along view y (given mid) (at_page given old k) old.failures mid.failures new.failures there (omega (arith, t.failed)) m.answer;
       file = file_along old mid new t.file m.kept;
@@ -123,7 +123,7 @@ visit view given old mid new k (Ok u) y same f m =
 visit view given old mid new k (Err e) y same f m =
     let t : IsTold (λ u. u) (outcome.seek_to_image old k) (Err e) old mid = told (Unit {0}) (λ u. u) (outcome.seek_to_image old k) (Err e) old mid f in
     record {
-      answer = fault_cause e old.failures new.failures (λ n. ap (λ (a : Result (Unit {0}) TiffError). a >>= λ _. given (sought old k)) (sym (t.next n).0)) (omega (arith, t.failed, m.failures));
+      answer = fault_cause e old.failures new.failures (λ n. ap (λ (a : Result (Unit {0}) TiffError). a >>= λ _. given (page_decoder old k)) (sym (t.next n).0)) (omega (arith, t.failed, m.failures));
       file = file_along old mid new t.file m.kept;
       failures = omega (arith, t.failed, m.failures);
       stands = λ n. ap (λ (d : Decoding). d.state) m.kept ∙ (t.next n).1;
@@ -162,13 +162,13 @@ pointer_visit old new k a b x p s e f =
 
 -- a seek that is answered
 answered : {Y : Type 0} (given : Decoding → Result Y TiffError) (old : Decoding) (k : ℕ) (y : Y) (a : Result (Unit {0}) TiffError)
-    → (a >>= λ _. given (sought old k)) ≡ Ok y → given (sought old k) ≡ Ok y
+    → (a >>= λ _. given (page_decoder old k)) ≡ Ok y → given (page_decoder old k) ≡ Ok y
 answered given old k y (Ok u) e = e
 answered given old k y (Err f) e = cc
 
 -- where it is answered, the whole follows it
 answered_on : {Y Z : Type 0} (given : Decoding → Result Y TiffError) (whole : Decoding → Result Z TiffError) (old : Decoding) (k : ℕ) (y : Y) (a : Result (Unit {0}) TiffError)
-    → (a >>= λ _. given (sought old k)) ≡ Ok y → whole (sought old k) ≡ (a >>= λ _. whole (sought old k))
+    → (a >>= λ _. given (page_decoder old k)) ≡ Ok y → whole (page_decoder old k) ≡ (a >>= λ _. whole (page_decoder old k))
 answered_on given whole old k y (Ok u) e = refl
 answered_on given whole old k y (Err f) e = cc
 

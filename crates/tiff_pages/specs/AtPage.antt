@@ -1,21 +1,21 @@
 -- What is given at a page, which is sought first.
 use Rattle.std.specs.Prelude.{◌≡◌, ℕ, ◌≤◌, List, Result}
 use Rattle.tiff_base.specs.declared.error.TiffError.{TiffError}
-use Rattle.tiff_decode.specs.After.{IsNamedFault}
+use Rattle.tiff_decode.specs.NextState.{IsNamedFault}
 use Rattle.tiff_decode.specs.Failures.{fault_of}
 use Rattle.tiff.specs.Answers.{Answers, AnswersBut, ◌>>=◌}
 use Rattle.tiff.specs.Machine.{Decoding}
-use Rattle.tiff.specs.Outcome.{begun, seek_to_image}
+use Rattle.tiff.specs.Outcome.{decoder_of, seek_to_image}
 
 -- the decoder at the page of a number
-abbrev pub sought : Decoding → ℕ → Decoding
-sought d page = record d { state = (seek_to_image d page).next }
+abbrev pub page_decoder : Decoding → ℕ → Decoding
+page_decoder d page = record d { state = (seek_to_image d page).next }
 
 -- what the decoder gives at the page of a number, or the fault of the seek to it
 abbrev pub at_page : {Y : Type 0} → (Decoding → Result Y TiffError) → Decoding → ℕ → Result Y TiffError
 at_page given d page = do
   _ ← (seek_to_image d page).answer
-  given (sought d page)
+  given (page_decoder d page)
 
 -- The answer, seen by view, is what is given at the page, but for want of memory and a fault of the device. But for these
 -- the decoder stands where the seek leaves it, and its file is always the same.
@@ -27,7 +27,7 @@ pub record VisitsPage {X Y : Type 0} (view : X → Y) (given : Decoding → Resu
 
 -- what is given at the page of a number of a file, or the first fault
 abbrev pub in_file : {Y : Type 0} → (Decoding → Result Y TiffError) → List ℕ → ℕ → Result Y TiffError
-in_file given file page = begun file 0 >>= λ d. at_page given d page
+in_file given file page = decoder_of file 0 >>= λ d. at_page given d page
 
 -- The answer, seen by view, is what is given there, but for want of memory and a fault of the device.
 abbrev pub AnswersIn : {X Y : Type 0} → (X → Y) → (Decoding → Result Y TiffError) → Result X TiffError → List ℕ → ℕ → Type 0

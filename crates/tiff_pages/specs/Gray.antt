@@ -17,7 +17,7 @@ EndsWith samples _ = ⊥
 
 -- an image of gray samples of 8 bits, which are all written at its end
 pub record IsGrayImage (width height : ℕ) (samples : List ℕ) (j : ImageJob) : Type 0 where
-  pub colour : j.colour ≡ Gray8
+  pub color : j.color ≡ Gray8
   pub wide : j.width ≡ width
   pub high : j.height ≡ height
   pub steps : j.steps.items ≡ []

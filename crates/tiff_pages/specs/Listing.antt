@@ -9,7 +9,7 @@ use Rattle.tiff_decode.specs.declared.script.Call.TheVariants as call
 use Rattle.tiff.specs.Answers.{◌>>=◌}
 use Rattle.tiff.specs.Field.{Field}
 use Rattle.tiff.specs.Tags.{tag_of, type_number}
-use Rattle.tiff.specs.Ask.{buffer_of}
+use Rattle.tiff.specs.TagQueries.{buffer_of}
 use Rattle.tiff.specs.Machine.{Decoding}
 use Rattle.tiff.specs.Outcome.{find_entry, ifd_pointer, read_directory}
 
@@ -28,15 +28,15 @@ line tag f bytes =
     decimal tag ++ codes " " ++ decimal (type_number f.field_type) ++ codes " " ++ decimal f.count ++ codes " " ++ shown_bytes bytes ++ codes "\n"
 
 -- a field's line, where there is one, or the fault of its bytes
-abbrev pub line_of : Decoding → ℕ → Option Field → Result (List ℕ) TiffError
-line_of d tag None = Ok []
-line_of d tag (Some f) = do
+abbrev pub found_line : Decoding → ℕ → Option Field → Result (List ℕ) TiffError
+found_line d tag None = Ok []
+found_line d tag (Some f) = do
   found ← buffer_of d.kind d.order d.bytes d.state.limits f
   Ok (line tag f found.bytes)
 
 -- the line of the field of a tag number
 abbrev pub field_line : Decoding → ℕ → Result (List ℕ) TiffError
-field_line d tag = line_of d tag (find_entry d (tag_of tag))
+field_line d tag = found_line d tag (find_entry d (tag_of tag))
 
 -- a text, and what follows it
 abbrev pub after : List ℕ → Result (List ℕ) TiffError → Result (List ℕ) TiffError

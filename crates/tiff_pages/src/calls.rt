@@ -53,13 +53,14 @@ fn both<T: Drop>(items: Vec<T>) -> (T, T)
 
 /// Makes calls of a decoder one after another, and answers what each is answered. Want of memory for the replies:
 /// `OutOfMemory`, and nothing is called.
-#[tactic(auto, using(crate::proofs::Turns::steps_made))]
+#[tactic(auto, using(crate::proofs::CallsMade::steps_made))]
 pub fn replies_to_calls<R: Source>(
     alloc: Global,
     decoder: &mut Decoder<R>,
     calls: &[Call],
 ) -> TiffResult<Vec<Reply>>
-    ensures { MatchResult result (λ replies. Steps decoder.old calls.now replies.items decoder.new) (λ e. (e ≡ TiffError.OutOfMemory) × (decoder.new ≡ decoder.old)) }
+    ensures { MatchResult result (λ replies. Steps decoder.old calls.now replies.items decoder.new)
+        (λ e. (e ≡ TiffError.OutOfMemory) × (decoder.new ≡ decoder.old)) }
 {
     let mut replies = Vec::new(alloc);
     match run_calls(decoder, calls, &mut replies) {
@@ -72,13 +73,14 @@ pub fn replies_to_calls<R: Source>(
 }
 
 /// Makes one call, and answers its reply.
-#[tactic(auto, using(crate::proofs::Turns::steps_length))]
+#[tactic(auto, using(crate::proofs::CallsMade::steps_length))]
 pub fn reply_to_one<R: Source>(
     alloc: Global,
     decoder: &mut Decoder<R>,
     call: Call,
 ) -> TiffResult<Reply>
-    ensures { MatchResult result (λ reply. Steps decoder.old (call ∷ []) (reply ∷ []) decoder.new) (λ e. (e ≡ TiffError.OutOfMemory) × (decoder.new ≡ decoder.old)) }
+    ensures { MatchResult result (λ reply. Steps decoder.old (call ∷ []) (reply ∷ []) decoder.new)
+        (λ e. (e ≡ TiffError.OutOfMemory) × (decoder.new ≡ decoder.old)) }
 {
     let calls = [call];
     match replies_to_calls(alloc, decoder, &calls) {
@@ -88,14 +90,15 @@ pub fn reply_to_one<R: Source>(
 }
 
 /// Makes two calls, and answers both replies.
-#[tactic(auto, using(crate::proofs::Turns::steps_length))]
+#[tactic(auto, using(crate::proofs::CallsMade::steps_length))]
 pub fn replies_to_both<R: Source>(
     alloc: Global,
     decoder: &mut Decoder<R>,
     first: Call,
     second: Call,
 ) -> TiffResult<(Reply, Reply)>
-    ensures { MatchResult result (λ r. Steps decoder.old (first ∷ second ∷ []) (r.0 ∷ r.1 ∷ []) decoder.new) (λ e. (e ≡ TiffError.OutOfMemory) × (decoder.new ≡ decoder.old)) }
+    ensures { MatchResult result (λ r. Steps decoder.old (first ∷ second ∷ []) (r.0 ∷ r.1 ∷ []) decoder.new)
+        (λ e. (e ≡ TiffError.OutOfMemory) × (decoder.new ≡ decoder.old)) }
 {
     let calls = [first, second];
     match replies_to_calls(alloc, decoder, &calls) {

@@ -29,7 +29,7 @@ fn gray_job(alloc: Global, width: u32, height: u32, samples: &[u8]) -> Result<Jo
 {
     let end = ImageEnd::WriteData(numbers(alloc, samples)?);
     Ok(Job::Image(ImageJob {
-        colour: ColorTypeName::Gray8,
+        color: ColorTypeName::Gray8,
         width,
         height,
         steps: Vec::new(alloc),

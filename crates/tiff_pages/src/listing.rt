@@ -96,7 +96,8 @@ fn find_all<R: Source>(
     decoder: &mut Decoder<R>,
     numbers: &[u16],
 ) -> TiffResult<Vec<Reply>>
-    ensures { MatchResult result (λ replies. Steps decoder.old (finds numbers.now) replies.items decoder.new) (λ e. (e ≡ TiffError.OutOfMemory) × (decoder.new ≡ decoder.old)) }
+    ensures { MatchResult result (λ replies. Steps decoder.old (finds numbers.now) replies.items decoder.new)
+        (λ e. (e ≡ TiffError.OutOfMemory) × (decoder.new ≡ decoder.old)) }
 {
     match calls_to_find(alloc, numbers) {
         Ok(calls) => replies_to_calls(alloc, decoder, &calls),

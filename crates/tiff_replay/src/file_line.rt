@@ -34,13 +34,14 @@ fn bytes_named(
 }
 
 impl File {
-    // Writes bytes over those from a place on, as far as there are any.
-    fn put(&mut self, place: &str, digits: &str) -> Result<bool, AllocError> {
-        let (Ok(place), Some(over)) = (place.parse::<usize>(), bytes_of(self.alloc, digits)?) else {
+    // Writes bytes over those from an offset on, as far as there are any.
+    fn put(&mut self, offset: &str, digits: &str) -> Result<bool, AllocError> {
+        let (Ok(offset), Some(over)) = (offset.parse::<usize>(), bytes_of(self.alloc, digits)?)
+        else {
             return Ok(false);
         };
-        if place < self.bytes.len() {
-            let under = &mut self.bytes[place..];
+        if offset < self.bytes.len() {
+            let under = &mut self.bytes[offset..];
             let len = under.len().min(over.len());
             under[..len].copy_from_slice(&over[..len]);
         }
@@ -92,7 +93,7 @@ impl File {
             ["fails", read, ..] => (self.fail(read), 2),
             ["cut", len, ..] => (self.cut(len), 2),
             ["add", digits, ..] => (self.add(digits)?, 2),
-            ["at", place, digits, ..] => (self.put(place, digits)?, 3),
+            ["at", offset, digits, ..] => (self.put(offset, digits)?, 3),
             _ => (false, 0),
         };
         Ok(known.then_some(taken))

@@ -29,7 +29,7 @@ impl Source for ScriptedSource {
 
     ghost failures = { λ s. failed s.failure };
 
-    ghost places = { λ s. s.inner.places };
+    ghost offsets = { λ s. s.inner.offsets };
 
     ghost octets = { λ s. s.inner.octets };
 

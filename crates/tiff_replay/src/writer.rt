@@ -54,11 +54,11 @@ fn run_kind(
     }
 }
 
-// Adds each byte that isn't that of another list, with its place.
+// Adds each byte that isn't that of another list, with its offset.
 fn push_changes(text: &mut String, old: &[u8], new: &[u8]) -> Result<(), AllocError> {
-    for (place, (old, new)) in old.iter().zip(new).enumerate() {
+    for (offset, (old, new)) in old.iter().zip(new).enumerate() {
         if old != new {
-            write!(text, " {place}:{new:02x}")?;
+            write!(text, " {offset}:{new:02x}")?;
         }
     }
     Ok(())
@@ -125,7 +125,7 @@ impl Writer {
         Ok(reply)
     }
 
-    /// The digits of what was written last, or of so many bytes from a place on.
+    /// The digits of what was written last, or of so many bytes from an offset on.
     pub fn written(&self, words: &str) -> Result<String, AllocError> {
         if words.is_empty() {
             return digits_text(self.alloc, &self.last);
@@ -136,15 +136,15 @@ impl Writer {
         }
     }
 
-    // So many bytes from a place on.
+    // So many bytes from an offset on.
     fn part(&self, words: &str) -> Option<&[u8]> {
-        let (place, len) = words.strip_prefix(" ")?.split_once(' ')?;
-        let place = place.parse::<usize>().ok()?;
-        let end = place.checked_add(len.parse::<usize>().ok()?)?;
-        self.last.get(place..end)
+        let (offset, len) = words.strip_prefix(" ")?.split_once(' ')?;
+        let offset = offset.parse::<usize>().ok()?;
+        let end = offset.checked_add(len.parse::<usize>().ok()?)?;
+        self.last.get(offset..end)
     }
 
-    /// How many bytes were written last, and those that differ from what was written at the list's end, each with its place.
+    /// How many bytes were written last, and those that differ from what was written at the list's end, each with its offset.
     pub fn changed(&self) -> Result<String, AllocError> {
         let len = self.last.len();
         let mut text = format!(in self.alloc; "{len} bytes")?;

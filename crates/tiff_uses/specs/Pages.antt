@@ -5,7 +5,7 @@ use Rattle.tiff_base.specs.Answers.{◌>>=◌, AnswersBut}
 use Rattle.tiff_base.specs.Directory.{directory_at}
 use Rattle.tiff.specs.Image.{Decoded}
 use Rattle.tiff.specs.Machine.{Decoding}
-use Rattle.tiff.specs.Outcome.{begun, chain_of, page_in, read_chunk, read_image, seek_to_image}
+use Rattle.tiff.specs.Outcome.{decoder_of, chain_of, page_in, read_chunk, read_image, seek_to_image}
 
 -- the answer of a call that opens a file, seen by view, is the one that is given, but for want of memory and a fault of the
 -- device
@@ -15,25 +15,25 @@ FileAnswers view result given = AnswersBut (Unit {0}) (Unit {0}) view result giv
 -- the samples of the first page
 abbrev pub first_image : List ℕ → Result Decoded TiffError
 first_image file = do
-  d ← begun file 0
+  d ← decoder_of file 0
   (read_image d).answer
 
 -- the samples of a chunk of the page of this number
 abbrev pub page_chunk : List ℕ → ℕ → ℕ → Result Decoded TiffError
 page_chunk file page chunk = do
-  d ← begun file 0
+  d ← decoder_of file 0
   _ ← (seek_to_image d page).answer
   (read_chunk (record d { state = (seek_to_image d page).next }) chunk).answer
 
--- the width and the height of the page at a place of the chain
+-- the width and the height of the page at an offset of the chain
 abbrev pub sides_at : Decoding → ℕ → Result (ℕ × ℕ) TiffError
-sides_at d place = do
-  directory ← directory_at d.kind d.order d.bytes place
+sides_at d offset = do
+  directory ← directory_at d.kind d.order d.bytes offset
   page ← page_in d.kind d.order d.bytes d.state.limits directory
   Ok (page.width, page.height)
 
--- These are the sides of the pages of a file, one for each place of its chain.
+-- These are the sides of the pages of a file, one for each offset of its chain.
 pub record AreSides (file : List ℕ) (sides : List (ℕ × ℕ)) : Type 0 where
   pub opened : Decoding
-  pub opens : begun file 0 ≡ Ok opened
-  pub each : map (λ s. Ok s) sides ≡ map (sides_at opened) (chain_of opened).places
+  pub opens : decoder_of file 0 ≡ Ok opened
+  pub each : map (λ s. Ok s) sides ≡ map (sides_at opened) (chain_of opened).offsets

@@ -4,7 +4,7 @@
 ghost use Rattle.std.specs.Prelude.{◌≡◌, ◌≤◌, IfOk, Ok, OnOk};
 ghost use Rattle.tiff.specs.Answers.{Answers};
 ghost use Rattle.tiff.specs.Machine.{Follows};
-ghost use Rattle.tiff.specs.Outcome.{begun, read_image_bytes};
+ghost use Rattle.tiff.specs.Outcome.{decoder_of, read_image_bytes};
 ghost use Rattle.tiff.specs.Result.{decoded_as};
 ghost use Rattle.tiff.specs.Shows.{ShowsGray};
 ghost use Rattle.tiff_uses.specs.Chunks.{IsImageOfChunks};
@@ -44,7 +44,7 @@ pub fn page_chunk(
 // The width and the height of each page, from a decoder at its file's first page on.
 fn sides_along(alloc: Global, decoder: &mut Decoder<MemorySource>) -> TiffResult<Vec<(u32, u32)>>
     // It was opened on its file, and no call moved it since.
-    requires { begun decoder.old.bytes 0 ≡ Ok (record decoder.old { failures = 0 }) }
+    requires { decoder_of decoder.old.bytes 0 ≡ Ok (record decoder.old { failures = 0 }) }
     ensures { IfOk result (λ sides. AreSides decoder.old.bytes sides.items) }
 {
     let mut sides = Vec::new(alloc);

@@ -13,7 +13,7 @@ use Rattle.tiff_base.specs.declared.tags.Predictor.{Predictor}
 use Rattle.tiff_base.specs.declared.tags.Predictor.TheVariants.{Horizontal}
 use Rattle.tiff_base.specs.declared.tags.Predictor.TheVariants as predictor
 use Rattle.tiff_value.specs.ColorType.{sample_number}
-use Rattle.tiff_value.specs.Differences.{kept, differences, predicted_row}
+use Rattle.tiff_value.specs.Differences.{stored_difference, differences, predicted_row}
 use Rattle.tiff_value.proofs.Differences.{predicted}
 use Rattle.tiff_value.proofs.Lowest.{spelled_by}
 use Rattle.tiff_value.proofs.Predicted as p
@@ -81,7 +81,7 @@ module _ {A : Type 0} (size : ℕ) (b : A → ℕ) (spelled : A → List ℕ) (b
         → b next ≡ (b x + m - b before) % m → b x < m → b before < m
         → given ≡ old ++ bytes_made i → new ≡ given ++ spelled next → new ≡ old ++ bytes_made (i + 1)
     bytes_continue i x before next old given new first within is_x is_before is_next hx hb was e =
-        let F = kept Horizontal m (length (map num row)) s (map num row) in
+        let F = stored_difference Horizontal m (length (map num row)) s (map num row) in
         let step : F i ≡ num next = p.next_made num m s row i x before next first within is_x is_before (less x before next is_next hx hb) in
         e ∙ ap (λ (ys : List ℕ). ys ++ spelled next) was
         ∙ ap (λ (ys : List ℕ). (old ++ bytes_made i) ++ ys) (spell next)
@@ -137,10 +137,10 @@ row_seen num at row xs =
 module _ (m l s : ℕ) (numbers : List ℕ) where
   -- what is written in place of the first so many numbers of rows
   abbrev pub rows_made : ℕ → List ℕ
-  rows_made n = map (kept Horizontal m l s numbers) (range_with_len 0 n)
+  rows_made n = map (stored_difference Horizontal m l s numbers) (range_with_len 0 n)
 
   -- number k of a row stands for number at + k of all
-  kept_in_row : (at k : ℕ) → s ≤ l → k < l → at % l ≡ 0 → kept Horizontal m l s (take l (drop at numbers)) k ≡ kept Horizontal m l s numbers (at + k)
+  kept_in_row : (at k : ℕ) → s ≤ l → k < l → at % l ≡ 0 → stored_difference Horizontal m l s (take l (drop at numbers)) k ≡ stored_difference Horizontal m l s numbers (at + k)
   kept_in_row at k whole h e =
       let line : List ℕ = take l (drop at numbers) in
       let here : (j : ℕ) → j < l → get_or line j 0 ≡ get_or numbers (at + j) 0 = λ j i. get_or-take l (drop at numbers) j 0 i ∙ get_or-drop at numbers j 0 in
@@ -157,23 +157,23 @@ module _ (m l s : ℕ) (numbers : List ℕ) where
 
   -- a row's differences
   row_made : (at : ℕ) → 0 < s → s ≤ l → at + l ≤ length numbers → at % l ≡ 0
-      → predicted_row m s (take l (drop at numbers)) ≡ map (λ j. kept Horizontal m l s numbers (at + j)) (range_with_len 0 l)
+      → predicted_row m s (take l (drop at numbers)) ≡ map (λ j. stored_difference Horizontal m l s numbers (at + j)) (range_with_len 0 l)
   unfolding differences
   row_made at some whole fits e =
       let line : List ℕ = take l (drop at numbers) in
       let long : length line ≡ l = length-take-le l (drop at numbers) (omega (arith, length-drop at numbers, fits)) in
       predicted m s line some (omega (arith, long, whole))
       ∙ ap (λ (n : ℕ). differences Horizontal m n s line) long
-      ∙ fill_by_all (λ j. kept Horizontal m l s numbers (at + j)) (differences Horizontal m l s line) l 0
-      (length-map-range_with_len (kept Horizontal m l s line) 0 (length line) ∙ long)
-      (λ k h. get_or-map-range_with_len (kept Horizontal m l s line) 0 (length line) k k 0 (omega (arith, long, h)) (omega arith) ∙ kept_in_row at k whole h e)
+      ∙ fill_by_all (λ j. stored_difference Horizontal m l s numbers (at + j)) (differences Horizontal m l s line) l 0
+      (length-map-range_with_len (stored_difference Horizontal m l s line) 0 (length line) ∙ long)
+      (λ k h. get_or-map-range_with_len (stored_difference Horizontal m l s line) 0 (length line) k k 0 (omega (arith, long, h)) (omega arith) ∙ kept_in_row at k whole h e)
 
   -- those of the rows before it, and its own
   pub rows_next : (size at : ℕ) (old given new : List ℕ) → 0 < s → s ≤ l → at + l ≤ length numbers → at % l ≡ 0
       → given ≡ old ++ flat_map (le size) (rows_made at) → new ≡ given ++ flat_map (le size) (predicted_row m s (take l (drop at numbers)))
       → new ≡ old ++ flat_map (le size) (rows_made (at + l))
   rows_next size at old given new some whole fits e was is =
-      let F = kept Horizontal m l s numbers in
+      let F = stored_difference Horizontal m l s numbers in
       let behind : List ℕ = map (λ j. F (at + j)) (range_with_len 0 l) in
       is ∙ ap (λ (ns : List ℕ). given ++ flat_map (le size) ns) (row_made at some whole fits e)
       ∙ ap (λ (ys : List ℕ). ys ++ flat_map (le size) behind) was

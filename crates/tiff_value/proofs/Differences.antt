@@ -9,7 +9,7 @@ use Rattle.std.proofs.lemmas.List.Sums.{sum_by_push}
 use Rattle.std.proofs.lemmas.Nat.{div-add-mod'}
 use Rattle.std.proofs.Math.Nat.{mod-eq_of_lt, mul-le-mul_right, mod-add-mod, add-mod-mod, add-mod_right, mod-lt}
 use Rattle.tiff_base.specs.declared.tags.Predictor.TheVariants.{Horizontal}
-use Rattle.tiff_value.specs.Differences.{kept, differences, predicted_row, restored, IsUndone}
+use Rattle.tiff_value.specs.Differences.{stored_difference, differences, predicted_row, restored_number, IsUndone}
 
 range_more : (a n : ℕ) → range_with_len a (suc n) ≡ range_with_len a n ++ (a + n) ∷ []
 range_more a zero = let e : a ≡ a + 0 = omega arith in ap (λ (k : ℕ). k ∷ []) e
@@ -38,16 +38,16 @@ undone x d m last b z e (suc c) h =
     let w : x c + (x (suc c) + m - x c) ≡ x (suc c) + m = omega (arith, b c) in
     rw (total_more d (suc c), ← mod-add-mod, ih, e c (omega arith), add-mod-mod, w, add-mod_right) (mod-eq_of_lt (b (suc c)))
 
-pub first_kept : (m l s : ℕ) (row : List ℕ) (i : ℕ) → i < l → i < s → kept Horizontal m l s row i ≡ get_or row i 0
+pub first_kept : (m l s : ℕ) (row : List ℕ) (i : ℕ) → i < l → i < s → stored_difference Horizontal m l s row i ≡ get_or row i 0
 first_kept m l s row i a b = rw (mod-eq_of_lt a, lt-ltb i s b) refl
 
-pub later_kept : (m l s : ℕ) (row : List ℕ) (i : ℕ) → i < l → s ≤ i → kept Horizontal m l s row i ≡ (get_or row i 0 + m - get_or row (i - s) 0) % m
+pub later_kept : (m l s : ℕ) (row : List ℕ) (i : ℕ) → i < l → s ≤ i → stored_difference Horizontal m l s row i ≡ (get_or row i 0 + m - get_or row (i - s) 0) % m
 later_kept m l s row i a b = rw (mod-eq_of_lt a, le-ltb i s b) refl
 
 -- a number of a row of differences
-pub difference_at : (m s : ℕ) (row : List ℕ) (i : ℕ) → i < length row → get_or (differences Horizontal m (length row) s row) i 0 ≡ kept Horizontal m (length row) s row i
+pub difference_at : (m s : ℕ) (row : List ℕ) (i : ℕ) → i < length row → get_or (differences Horizontal m (length row) s row) i 0 ≡ stored_difference Horizontal m (length row) s row i
 unfolding differences
-difference_at m s row i h = get_or-map-range_with_len (kept Horizontal m (length row) s row) 0 (length row) i i 0 h (omega arith)
+difference_at m s row i h = get_or-map-range_with_len (stored_difference Horizontal m (length row) s row) 0 (length row) i i 0 h (omega arith)
 
 pub predicted : (m s : ℕ) (row : List ℕ) → 0 < s → s ≤ length row → predicted_row m s row ≡ differences Horizontal m (length row) s row
 predicted m s row some whole =
@@ -73,7 +73,7 @@ is_undone m s row some whole b k h =
     ∙ later_kept m l s row (k % s + suc c * s) (within (suc c) (omega (arith, i))) (omega arith)
     ∙ ap (λ (j : ℕ). (x (suc c) + m - get_or row j 0) % m) back in
     let there : k % s + k / s * s ≡ k = omega (arith, whole_k) in
-    ap (λ (r : List ℕ). restored m s r k) (predicted m s row some whole)
+    ap (λ (r : List ℕ). restored_number m s r k) (predicted m s row some whole)
     ∙ ap (λ (n : ℕ). total d n % m) (add-one (k / s))
     ∙ undone x d m (k / s) (λ c. b (k % s + c * s)) z e (k / s) (omega arith)
     ∙ ap (λ (j : ℕ). get_or row j 0) there

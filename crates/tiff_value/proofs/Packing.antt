@@ -7,7 +7,7 @@ use Rattle.std.proofs.lemmas.List.Concat.{flat_map-append}
 use Rattle.std.proofs.lemmas.List.Folds.{list_all-append}
 use Rattle.std.proofs.Math.Seq.{take-add}
 use Rattle.tiff_base.specs.Runs.{Plain, runs}
-use Rattle.tiff_base.specs.Blocks.{Block, Literal, Repeated, Empty, AreBlocks, packed, plain}
+use Rattle.tiff_base.specs.Blocks.{Block, Literal, Repeated, Empty, AreBlocks, packed_block, plain_block}
 use Rattle.tiff_base.proofs.Blocks.{one_unpacked}
 use Rattle.tiff_value.specs.Packed.{begins_with_two, holds_three, is_sparing, may_be_written, Packs, IsPacked}
 use Rattle.tiff_value.specs.Packing.{IsRun, IsVaried, IsVariedFront, BeginsWithThree, owed, PacksAtEnd}
@@ -58,8 +58,8 @@ packs_append w v xs ys p q = record {
   blocks = p.blocks ++ q.blocks;
   are_blocks = are_appended p.blocks q.blocks p.are_blocks q.are_blocks;
   written = list_all-append may_be_written p.blocks q.blocks ∙ rw (p.written, q.written) refl;
-  is_list = (λ i. p.is_list i ++ q.is_list i) ∙ sym (flat_map-append packed p.blocks q.blocks);
-  stands = (λ i. p.stands i ++ q.stands i) ∙ sym (flat_map-append plain p.blocks q.blocks);
+  is_list = (λ i. p.is_list i ++ q.is_list i) ∙ sym (flat_map-append packed_block p.blocks q.blocks);
+  stands = (λ i. p.stands i ++ q.stands i) ∙ sym (flat_map-append plain_block p.blocks q.blocks);
 }
 
 packs_literal : (xs : List ℕ) (h : ℕ) → length xs ≡ h + 1 → h < 128 → IsVaried xs → Packs (h ∷ xs) xs
@@ -89,8 +89,8 @@ unpacks bytes list p = one_unpacked list false bytes Plain (record {
   are_blocks = p.packs.are_blocks;
   rest = Empty;
   is_rest = tt;
-  list = p.packs.is_list ∙ sym (append-nil (flat_map packed p.packs.blocks));
-  gives = p.packs.stands ∙ sym (append-nil (flat_map plain p.packs.blocks));
+  list = p.packs.is_list ∙ sym (append-nil (flat_map packed_block p.packs.blocks));
+  gives = p.packs.stands ∙ sym (append-nil (flat_map plain_block p.packs.blocks));
   ends = refl;
 })
 
@@ -161,20 +161,20 @@ block_literal old bytes new n v d e =
     }
 
 -- these are blocks for the first n bytes, short enough in all
-pub record HasPacked (bytes : List ℕ) (n : ℕ) (packed : List ℕ) : Type 0 where
+pub record HasPacked (bytes : List ℕ) (n : ℕ) (packed_block : List ℕ) : Type 0 where
   pub within : n ≤ length bytes
-  pub packs : Packs packed (take n bytes)
-  pub short : 128 * length packed ≤ 129 * n + owed (drop n bytes)
+  pub packs : Packs packed_block (take n bytes)
+  pub short : 128 * length packed_block ≤ 129 * n + owed (drop n bytes)
 
 pub none_packed : (bytes new : List ℕ) → new ≡ [] → HasPacked bytes 0 new
 none_packed bytes new e = subst (λ (xs : List ℕ). HasPacked bytes 0 xs) (sym e) (record { within = omega arith; packs = packs_nil; short = omega arith })
 
-grown : (bytes mid packed : List ℕ) (i n : ℕ) → HasPacked bytes i mid → n ≤ length (drop i bytes) → Packs packed (take n (drop i bytes))
-    → 128 * length packed + owed (drop i bytes) ≤ 129 * n + owed (drop n (drop i bytes)) → HasPacked bytes (i + n) (mid ++ packed)
-grown bytes mid packed i n h w p s = record {
+grown : (bytes mid packed_block : List ℕ) (i n : ℕ) → HasPacked bytes i mid → n ≤ length (drop i bytes) → Packs packed_block (take n (drop i bytes))
+    → 128 * length packed_block + owed (drop i bytes) ≤ 129 * n + owed (drop n (drop i bytes)) → HasPacked bytes (i + n) (mid ++ packed_block)
+grown bytes mid packed_block i n h w p s = record {
   within = omega (arith, h.within, w, length-drop i bytes);
-  packs = rw take-add (packs_append mid packed (take i bytes) (take n (drop i bytes)) h.packs p);
-  short = let e : owed (drop n (drop i bytes)) ≡ owed (drop (i + n) bytes) = ap owed (drop-drop n i bytes) in omega (arith, h.short, s, e, length-append mid packed);
+  packs = rw take-add (packs_append mid packed_block (take i bytes) (take n (drop i bytes)) h.packs p);
+  short = let e : owed (drop n (drop i bytes)) ≡ owed (drop (i + n) bytes) = ap owed (drop-drop n i bytes) in omega (arith, h.short, s, e, length-append mid packed_block);
 }
 
 pub block_next : (bytes mid new : List ℕ) (i n : ℕ) → HasPacked bytes i mid → PacksAtEnd mid (drop i bytes) n new → HasPacked bytes (i + n) new

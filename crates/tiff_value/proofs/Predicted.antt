@@ -4,7 +4,7 @@ use Rattle.std.specs.List.{range_with_len}
 use Rattle.std.proofs.lemmas.List.{get_or-map, get_or-take, take-map, map-append, length-map, length-take-le}
 use Rattle.std.proofs.lemmas.List.FromFn.{fill_by_all, map-range_with_len_more}
 use Rattle.tiff_base.specs.declared.tags.Predictor.TheVariants.{Horizontal}
-use Rattle.tiff_value.specs.Differences.{kept, differences, predicted_row}
+use Rattle.tiff_value.specs.Differences.{stored_difference, differences, predicted_row}
 use Rattle.tiff_value.specs.Predicted.{IsAppended}
 use Rattle.tiff_value.proofs.Differences.{first_kept, later_kept, predicted}
 use Rattle.std.specs.Int.{Width, cast_unsigned, cast_signed, int_wrapping_sub}
@@ -36,7 +36,7 @@ signed_below w x f = (laws.of_z_fits w x f).fits
 module _ {A : Type 0} (b : A → ℕ) (m s : ℕ) (row : List A) where
   -- the first so many differences of a row
   abbrev pub made : ℕ → List ℕ
-  made n = map (kept Horizontal m (length (map b row)) s (map b row)) (range_with_len 0 n)
+  made n = map (stored_difference Horizontal m (length (map b row)) s (map b row)) (range_with_len 0 n)
 
   -- those of its first pixel
   pub begun : s ≤ length row → map b (take s row) ≡ made s
@@ -45,7 +45,7 @@ module _ {A : Type 0} (b : A → ℕ) (m s : ℕ) (row : List A) where
       let l : length xs ≡ length row = length-map row b in
       let long : length (map b (take s row)) ≡ s = length-map (take s row) b ∙ length-take-le s row whole in
       let cut : map b (take s row) ≡ take s xs = sym (take-map b s row) in
-      fill_by_all (kept Horizontal m (length xs) s xs) (map b (take s row)) s 0 long (λ k h.
+      fill_by_all (stored_difference Horizontal m (length xs) s xs) (map b (take s row)) s 0 long (λ k h.
       ap (λ (ys : List ℕ). get_or ys k 0) cut ∙ get_or-take s xs k 0 h ∙ sym (first_kept m (length xs) s xs k (omega (arith, l, h, whole)) h))
 
   pub begins : (old given new : List A) → s ≤ length row → given ≡ old → new ≡ given ++ take s row → IsAppended b (made s) old new
@@ -54,7 +54,7 @@ module _ {A : Type 0} (b : A → ℕ) (m s : ℕ) (row : List A) where
 
   -- the next of them
   pub next_made : (i : ℕ) (x before next : A) → s ≤ i → i < length row → x ≡ get_or row i x → before ≡ get_or row (i - s) before
-      → b next ≡ (b x + m - b before) % m → kept Horizontal m (length (map b row)) s (map b row) i ≡ b next
+      → b next ≡ (b x + m - b before) % m → stored_difference Horizontal m (length (map b row)) s (map b row) i ≡ b next
   next_made i x before next first within is_x is_before is_next =
       let xs : List ℕ = map b row in
       let l : length xs ≡ length row = length-map row b in
@@ -69,7 +69,7 @@ module _ {A : Type 0} (b : A → ℕ) (m s : ℕ) (row : List A) where
       → x ≡ get_or row i x → before ≡ get_or row (i - s) before → b next ≡ (b x + m - b before) % m
       → IsAppended b (made i) old given → new ≡ given ++ next ∷ [] → IsAppended b (made (i + 1)) old new
   continues i x before next old given new first within is_x is_before is_next was e =
-      let F = kept Horizontal m (length (map b row)) s (map b row) in
+      let F = stored_difference Horizontal m (length (map b row)) s (map b row) in
       let step : F i ≡ b next = next_made i x before next first within is_x is_before is_next in
       let same : map b (was.added ++ next ∷ []) ≡ made (i + 1) =
       map-append b was.added (next ∷ [])

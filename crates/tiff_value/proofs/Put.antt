@@ -3,9 +3,9 @@ use Rattle.std.proofs.Common.{◌≡◌, ℕ, ◌+◌, ◌<◌, ◌≤◌, List,
 use Rattle.std.proofs.lemmas.List.{take_all, drop_all, drop-take, take-take, length-take-le, take-append-drop, take-replicate}
 use Rattle.std.proofs.lemmas.List.Edits.{paste_all, paste-paste}
 use lib.Seq.{paste}
-use Rattle.tiff_base.specs.Told.{put}
+use Rattle.tiff_base.specs.SourceAndSink.{put}
 use Rattle.tiff_base.specs.declared.error.TiffError.{TiffError}
-use Rattle.tiff_value.specs.Written.{Written, moved, Fails, IsCut}
+use Rattle.tiff_value.specs.Written.{Written, writer_after, SinkFails, IsCut}
 
 -- a second piece right behind the first
 pub put-put : (file : List ℕ) (at : ℕ) (xs ys : List ℕ) → at ≤ length file → put (put file at xs) (at + length xs) ys ≡ put file at (xs ++ ys)
@@ -29,18 +29,18 @@ take_split xs d n =
     ∙ ap (λ p. p ++ drop d (take (d + n) xs)) (sym (take-take d (d + n) xs (omega arith)))
     ∙ take-append-drop d (take (d + n) xs)
 
-pub moved-moved : (w : Written) (xs ys : List ℕ) → w.at ≤ length w.bytes → moved (moved w xs) ys ≡ moved w (xs ++ ys)
+pub moved-moved : (w : Written) (xs ys : List ℕ) → w.at ≤ length w.bytes → writer_after (writer_after w xs) ys ≡ writer_after w (xs ++ ys)
 moved-moved w xs ys h =
     let e1 : put (put w.bytes w.at xs) (w.at + length xs) ys ≡ put w.bytes w.at (xs ++ ys) = put-put w.bytes w.at xs ys h in
     let e2 : w.at + length xs + length ys ≡ w.at + length (xs ++ ys) = omega (arith, length-append xs ys) in
     λ i. record w { bytes = e1 i; at = e2 i }
 
 -- what was written so far, and n more of the rest
-pub moved_more : (w : Written) (xs : List ℕ) (d n : ℕ) → w.at ≤ length w.bytes → moved (moved w (take d xs)) (take n (drop d xs)) ≡ moved w (take (d + n) xs)
-moved_more w xs d n h = moved-moved w (take d xs) (take n (drop d xs)) h ∙ ap (moved w) (take_split xs d n)
+pub moved_more : (w : Written) (xs : List ℕ) (d n : ℕ) → w.at ≤ length w.bytes → writer_after (writer_after w (take d xs)) (take n (drop d xs)) ≡ writer_after w (take (d + n) xs)
+moved_more w xs d n h = moved-moved w (take d xs) (take n (drop d xs)) h ∙ ap (writer_after w) (take_split xs d n)
 
 -- a fault of the sink after a beginning of the bytes
-pub cut_from : (w v new : Written) (xs : List ℕ) (d : ℕ) (e : TiffError) → w.fault ≡ None → d < length xs → v ≡ moved w (take d xs) → Fails e v new → IsCut xs e w new
+pub cut_from : (w v new : Written) (xs : List ℕ) (d : ℕ) (e : TiffError) → w.fault ≡ None → d < length xs → v ≡ writer_after w (take d xs) → SinkFails e v new → IsCut xs e w new
 cut_from w v new xs d e a h s f = record {
   fresh = a;
   fault = f.fault;

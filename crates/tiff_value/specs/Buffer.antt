@@ -6,7 +6,7 @@ use Rattle.tiff_base.specs.declared.tags.ByteOrder.{ByteOrder}
 use Rattle.tiff_base.specs.declared.tags.ByteOrder.TheVariants.{LittleEndian}
 use Rattle.tiff_base.specs.declared.tags.«Type».{«Type»}
 use Rattle.tiff_base.specs.Types.{type_size}
-use Rattle.tiff_base.specs.Turned.{convert}
+use Rattle.tiff_base.specs.ByteOrders.{convert}
 use Rattle.tiff_value.specs.Data.{FieldData}
 
 -- a byte order, the type of the values, and their bytes
@@ -33,9 +33,9 @@ buffer_given (Ok d) = Ok (buffer_from d)
 buffer_given (Err e) = Err e
 
 -- the same values in this order
-abbrev pub ordered : BufferRecord → ByteOrder → BufferRecord
-ordered b order = record { order = order; data_type = b.data_type; bytes = convert b.data_type b.order b.bytes order }
+abbrev pub in_byte_order : BufferRecord → ByteOrder → BufferRecord
+in_byte_order b order = record { order = order; data_type = b.data_type; bytes = convert b.data_type b.order b.bytes order }
 
 -- the same order and type with the bytes that were written; as many as there were
-abbrev pub rewritten : BufferRecord → List ℕ → BufferRecord
-rewritten b bytes = record { order = b.order; data_type = b.data_type; bytes = refill (length b.bytes) b.bytes bytes }
+abbrev pub with_bytes : BufferRecord → List ℕ → BufferRecord
+with_bytes b bytes = record { order = b.order; data_type = b.data_type; bytes = refill (length b.bytes) b.bytes bytes }

@@ -1,4 +1,4 @@
--- What colour types say of their samples.
+-- What color types say of their samples.
 use Rattle.std.specs.Prelude.{◌≡◌, ℕ, ◌*◌, ◌%◌, ◌^◌, ◌<◌, Bool, true, false, ◌&&◌, ◌==◌, List, [], ◌∷◌, length, All}
 use Rattle.tiff_base.specs.declared.tags.PhotometricInterpretation.{PhotometricInterpretation}
 use Rattle.tiff_base.specs.declared.tags.PhotometricInterpretation.TheVariants.{BlackIsZero}
@@ -15,7 +15,7 @@ pub record ColorTypeRecord : Type 0 where
 abbrev pub sample_number : {A : Type 0} → ℕ → (A → ℕ) → A → ℕ
 sample_number size bits x = bits x % 256 ^ size
 
--- What every colour type says of samples that have so many bytes in memory: there are some, no more than a count of two
+-- What every color type says of samples that have so many bytes in memory: there are some, no more than a count of two
 -- bytes can tell; as many formats as bits; each sample has all the bits of its bytes; and all are of one format.
 pub record IsColorType (size : ℕ) (c : ColorTypeRecord) : Type 0 where
   pub some : 0 < length c.bits
@@ -48,5 +48,5 @@ is_one_uint (f ∷ []) = is_uint f
 is_one_uint (f ∷ g ∷ fs) = false
 
 -- whether this is Gray8's: one sample of 8 bits, a whole number from 0 on, where 0 is black
-abbrev pub is_gray : ColorTypeRecord → Bool
-is_gray c = is_black_zero c.interpretation && (is_one_byte c.bits && is_one_uint c.formats)
+abbrev pub is_gray_8 : ColorTypeRecord → Bool
+is_gray_8 c = is_black_zero c.interpretation && (is_one_byte c.bits && is_one_uint c.formats)

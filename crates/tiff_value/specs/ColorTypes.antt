@@ -1,4 +1,4 @@
--- What each colour type says of its samples (TIFF 6.0 sections 4 to 6, 16, 19, 21; their names as in the Rust crate).
+-- What each color type says of its samples (TIFF 6.0 sections 4 to 6, 16, 19, 21; their names as in the Rust crate).
 use Rattle.std.specs.Prelude.{ℕ, replicate}
 use Rattle.tiff_base.specs.declared.tags.PhotometricInterpretation.{PhotometricInterpretation}
 use Rattle.tiff_base.specs.declared.tags.PhotometricInterpretation.TheVariants.{BlackIsZero, RGB, CMYK, YCbCr}
@@ -16,38 +16,38 @@ abbrev pub samples_of : PhotometricInterpretation → ℕ → ℕ → SampleForm
 samples_of interpretation samples bits format =
     record { interpretation = interpretation; bits = replicate samples bits; formats = replicate samples format }
 
--- the interpretation, the bits and the formats of each colour type
-unfoldable pub colour_type : ColorTypeName → ColorTypeRecord
-colour_type n.Gray8 = samples_of BlackIsZero 1 8 Uint
-colour_type n.Gray16 = samples_of BlackIsZero 1 16 Uint
-colour_type n.Gray32 = samples_of BlackIsZero 1 32 Uint
-colour_type n.Gray64 = samples_of BlackIsZero 1 64 Uint
-colour_type n.GrayI8 = samples_of BlackIsZero 1 8 Int
-colour_type n.GrayI16 = samples_of BlackIsZero 1 16 Int
-colour_type n.GrayI32 = samples_of BlackIsZero 1 32 Int
-colour_type n.GrayI64 = samples_of BlackIsZero 1 64 Int
-colour_type n.Gray32Float = samples_of BlackIsZero 1 32 IEEEFP
-colour_type n.Gray64Float = samples_of BlackIsZero 1 64 IEEEFP
-colour_type n.RGB8 = samples_of RGB 3 8 Uint
-colour_type n.RGB16 = samples_of RGB 3 16 Uint
-colour_type n.RGB32 = samples_of RGB 3 32 Uint
-colour_type n.RGB64 = samples_of RGB 3 64 Uint
-colour_type n.RGB32Float = samples_of RGB 3 32 IEEEFP
-colour_type n.RGB64Float = samples_of RGB 3 64 IEEEFP
-colour_type n.RGBA8 = samples_of RGB 4 8 Uint
-colour_type n.RGBA16 = samples_of RGB 4 16 Uint
-colour_type n.RGBA32 = samples_of RGB 4 32 Uint
-colour_type n.RGBA64 = samples_of RGB 4 64 Uint
-colour_type n.RGBA32Float = samples_of RGB 4 32 IEEEFP
-colour_type n.RGBA64Float = samples_of RGB 4 64 IEEEFP
-colour_type n.CMYK8 = samples_of CMYK 4 8 Uint
-colour_type n.CMYK16 = samples_of CMYK 4 16 Uint
-colour_type n.CMYK32 = samples_of CMYK 4 32 Uint
-colour_type n.CMYK64 = samples_of CMYK 4 64 Uint
-colour_type n.CMYK32Float = samples_of CMYK 4 32 IEEEFP
-colour_type n.CMYK64Float = samples_of CMYK 4 64 IEEEFP
-colour_type n.YCbCr8 = samples_of YCbCr 3 8 Uint
-colour_type n.CMYKA8 = samples_of CMYK 5 8 Uint
+-- the interpretation, the bits and the formats of each color type
+unfoldable pub color_type : ColorTypeName → ColorTypeRecord
+color_type n.Gray8 = samples_of BlackIsZero 1 8 Uint
+color_type n.Gray16 = samples_of BlackIsZero 1 16 Uint
+color_type n.Gray32 = samples_of BlackIsZero 1 32 Uint
+color_type n.Gray64 = samples_of BlackIsZero 1 64 Uint
+color_type n.GrayI8 = samples_of BlackIsZero 1 8 Int
+color_type n.GrayI16 = samples_of BlackIsZero 1 16 Int
+color_type n.GrayI32 = samples_of BlackIsZero 1 32 Int
+color_type n.GrayI64 = samples_of BlackIsZero 1 64 Int
+color_type n.Gray32Float = samples_of BlackIsZero 1 32 IEEEFP
+color_type n.Gray64Float = samples_of BlackIsZero 1 64 IEEEFP
+color_type n.RGB8 = samples_of RGB 3 8 Uint
+color_type n.RGB16 = samples_of RGB 3 16 Uint
+color_type n.RGB32 = samples_of RGB 3 32 Uint
+color_type n.RGB64 = samples_of RGB 3 64 Uint
+color_type n.RGB32Float = samples_of RGB 3 32 IEEEFP
+color_type n.RGB64Float = samples_of RGB 3 64 IEEEFP
+color_type n.RGBA8 = samples_of RGB 4 8 Uint
+color_type n.RGBA16 = samples_of RGB 4 16 Uint
+color_type n.RGBA32 = samples_of RGB 4 32 Uint
+color_type n.RGBA64 = samples_of RGB 4 64 Uint
+color_type n.RGBA32Float = samples_of RGB 4 32 IEEEFP
+color_type n.RGBA64Float = samples_of RGB 4 64 IEEEFP
+color_type n.CMYK8 = samples_of CMYK 4 8 Uint
+color_type n.CMYK16 = samples_of CMYK 4 16 Uint
+color_type n.CMYK32 = samples_of CMYK 4 32 Uint
+color_type n.CMYK64 = samples_of CMYK 4 64 Uint
+color_type n.CMYK32Float = samples_of CMYK 4 32 IEEEFP
+color_type n.CMYK64Float = samples_of CMYK 4 64 IEEEFP
+color_type n.YCbCr8 = samples_of YCbCr 3 8 Uint
+color_type n.CMYKA8 = samples_of CMYK 5 8 Uint
 
 -- the field type of its numbers in memory; floating ones are their bits
 unfoldable pub inner_type : ColorTypeName → «Type»
@@ -88,6 +88,6 @@ inner_size name = type_size (inner_type name)
 
 -- ---- its law
 
--- Each name is that of a colour type.
+-- Each name is that of a color type.
 abbrev pub AreColorTypes : Type 0
-AreColorTypes = (name : ColorTypeName) → IsColorType (inner_size name) (colour_type name)
+AreColorTypes = (name : ColorTypeName) → IsColorType (inner_size name) (color_type name)

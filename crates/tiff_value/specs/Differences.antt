@@ -8,14 +8,14 @@ use Rattle.tiff_base.specs.declared.tags.«Type».TheVariants.{FLOAT, DOUBLE}
 
 -- what is written in place of number k of rows of l numbers below m, a pixel having s: those of a row's first pixel as
 -- they are, each other less the one s before it, modulo m; without the horizontal predictor each as it is
-abbrev pub kept : Predictor → ℕ → ℕ → ℕ → List ℕ → ℕ → ℕ
-kept Horizontal m l s numbers k =
+abbrev pub stored_difference : Predictor → ℕ → ℕ → ℕ → List ℕ → ℕ → ℕ
+stored_difference Horizontal m l s numbers k =
     if nat_lt (k % l) s then get_or numbers k 0 else (get_or numbers k 0 + m - get_or numbers (k - s) 0) % m
-kept predictor m l s numbers k = get_or numbers k 0
+stored_difference predictor m l s numbers k = get_or numbers k 0
 
 -- the same of all numbers of some rows
 unfoldable pub differences : Predictor → ℕ → ℕ → ℕ → List ℕ → List ℕ
-differences predictor m l s numbers = map (kept predictor m l s numbers) (range_with_len 0 (length numbers))
+differences predictor m l s numbers = map (stored_difference predictor m l s numbers) (range_with_len 0 (length numbers))
 
 -- a row as differences; nothing where a pixel has no numbers, or where the row is shorter than a pixel
 abbrev pub predicted_row : ℕ → ℕ → List ℕ → List ℕ
@@ -30,10 +30,10 @@ is_floating type = false
 -- ---- its law
 
 -- number k of a row of differences, undone: the sum of it and of those a multiple of the stride before it
-abbrev pub restored : ℕ → ℕ → List ℕ → ℕ → ℕ
-restored m stride row k = sum_by (λ j. get_or row (k % stride + j * stride) 0) (range_with_len 0 (k / stride + 1)) % m
+abbrev pub restored_number : ℕ → ℕ → List ℕ → ℕ → ℕ
+restored_number m stride row k = sum_by (λ j. get_or row (k % stride + j * stride) 0) (range_with_len 0 (k / stride + 1)) % m
 
 -- Undoing gives each number of the row back.
 abbrev pub IsUndone : Type 0
 IsUndone = (m stride : ℕ) (row : List ℕ) → 0 < stride → stride ≤ length row → ((k : ℕ) → get_or row k 0 < m)
-    → (k : ℕ) → k < length row → restored m stride (predicted_row m stride row) k ≡ get_or row k 0
+    → (k : ℕ) → k < length row → restored_number m stride (predicted_row m stride row) k ≡ get_or row k 0

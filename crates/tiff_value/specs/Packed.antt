@@ -6,7 +6,7 @@ use Rattle.tiff_base.specs.declared.error.TiffError.TheVariants.{IoError}
 use Rattle.tiff_base.specs.declared.io.IoKind.TheVariants.{WriteZero}
 use Rattle.tiff_base.specs.declared.tags.CompressionMethod.{CompressionMethod}
 use Rattle.tiff_base.specs.declared.tags.CompressionMethod.TheVariants as method
-use Rattle.tiff_base.specs.Blocks.{Block, Nothing, Literal, Repeated, AreBlocks, packed, plain}
+use Rattle.tiff_base.specs.Blocks.{Block, Nothing, Literal, Repeated, AreBlocks, packed_block, plain_block}
 
 abbrev pub begins_with_two : List ℕ → Bool
 begins_with_two [] = false
@@ -36,8 +36,8 @@ pub record Packs (list bytes : List ℕ) : Type 0 where
   pub blocks : List Block
   pub are_blocks : AreBlocks blocks
   pub written : list_all may_be_written blocks ≡ true
-  pub is_list : list ≡ flat_map packed blocks
-  pub stands : bytes ≡ flat_map plain blocks
+  pub is_list : list ≡ flat_map packed_block blocks
+  pub stands : bytes ≡ flat_map plain_block blocks
 
 -- A packed list is one that may be written for these bytes: such blocks, and not longer than it has to be.
 pub record IsPacked (bytes list : List ℕ) : Type 0 where

@@ -5,20 +5,20 @@ use Rattle.tiff_base.specs.declared.error.TiffError.TheVariants.{OutOfMemory}
 use Rattle.tiff_base.specs.declared.tags.CompressionMethod.{CompressionMethod}
 use Rattle.tiff_base.specs.declared.tags.CompressionMethod.TheVariants as method
 use Rattle.tiff_value.specs.Packed.{IsStored, store_fault}
-use Rattle.tiff_value.specs.Written.{Written, written, IsStopped, IsCut}
+use Rattle.tiff_value.specs.Written.{Written, writer_after_counted, IsStopped, IsCut}
 
 -- whether memory is taken to store bytes by a method
 abbrev pub takes_memory : CompressionMethod → Bool
 takes_memory method.PackBits = true
 takes_memory method = false
 
--- What stands for the bytes went out at the writer's place.
+-- What stands for the bytes went out at the writer's offset.
 pub record StoresAll (method : CompressionMethod) (bytes : List ℕ) (old new : Written) : Type 0 where
   pub fresh : old.fault ≡ None
   pub storable : store_fault method bytes ≡ None
   pub stored : List ℕ
   pub stands : IsStored method stored bytes
-  pub state : new ≡ written old stored
+  pub state : new ≡ writer_after_counted old stored
 
 -- The bytes can't be stored: nothing is done.
 pub record StoresNone (method : CompressionMethod) (bytes : List ℕ) (e : TiffError) (old new : Written) : Type 0 where

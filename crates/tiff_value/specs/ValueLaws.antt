@@ -38,9 +38,9 @@ module _ {A : Type 0} (type : «Type») (f : A → List ℕ) (values : List A �
       subst (λ (d : FieldData). IsValue type (length xs) (Ok d)) (sym (listed xs)) v
 
 -- values that are seen as numbers are written as these
-pub mapped : {A B : Type 0} (type : «Type») (number_of : A → B) (f : B → List ℕ) (xs : List A)
+pub mapped_values : {A B : Type 0} (type : «Type») (number_of : A → B) (f : B → List ℕ) (xs : List A)
     → data_by type f (map number_of xs) ≡ data_by type (λ x. f (number_of x)) xs
-mapped type number_of f xs =
+mapped_values type number_of f xs =
     ap (λ (n : ℕ). values_in type n (flat_map f (map number_of xs))) (length-map xs number_of)
     ∙ ap (λ (bs : List ℕ). values_in type (length xs) bs) (flat_map-map f number_of xs)
 

@@ -6,7 +6,7 @@ use Rattle.tiff_base.specs.declared.error.TiffFormatError.TheVariants.{InvalidTa
 use Rattle.tiff_base.specs.declared.tags.«Type».{«Type»}
 use Rattle.tiff_base.specs.Types.{type_size}
 use Rattle.tiff_value.specs.Data.{FieldData, IsWhole}
-use Rattle.tiff_value.specs.Written.{Written, written, IsStopped, IsCut}
+use Rattle.tiff_value.specs.Written.{Written, writer_after_counted, IsStopped, IsCut}
 
 -- so many values of a type, by their bytes
 abbrev pub values_in : «Type» → ℕ → List ℕ → FieldData
@@ -33,7 +33,7 @@ pub record IsWanting (e : TiffError) (old new : Written) : Type 0 where
   pub same : new ≡ old
 
 -- The field can't be given the value, for this fault: nothing is done.
-pub record IsRefused (given e : TiffError) (old new : Written) : Type 0 where
+pub record ValueIsRefused (given e : TiffError) (old new : Written) : Type 0 where
   pub fresh : old.fault ≡ None
   pub answer : e ≡ given
   pub same : new ≡ old
@@ -44,6 +44,6 @@ module _ {A : Type 0} where
   abbrev pub WritesValue : Result FieldData TiffError → Written → Written → Result A TiffError → Type 0
   WritesValue (Ok d) old new r =
       MatchResult r
-      (λ _. (old.fault ≡ None) × (new ≡ written old d.bytes))
+      (λ _. (old.fault ≡ None) × (new ≡ writer_after_counted old d.bytes))
       (λ e. IsStopped e old new ⊎ (IsWanting e old new ⊎ IsCut d.bytes e old new))
-  WritesValue (Err given) old new r = MatchResult r (λ _. ⊥) (λ e. IsStopped e old new ⊎ IsRefused given e old new)
+  WritesValue (Err given) old new r = MatchResult r (λ _. ⊥) (λ e. IsStopped e old new ⊎ ValueIsRefused given e old new)

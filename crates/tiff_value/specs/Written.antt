@@ -1,6 +1,6 @@
 -- What a writer has written, and what each write does to it.
 use Rattle.std.specs.Prelude.{◌≡◌, ℕ, ◌+◌, ◌<◌, ◌⊎◌, List, length, take, Option, Some, None, IsSome, Result, MatchResult}
-use Rattle.tiff_base.specs.Told.{put, sink_error}
+use Rattle.tiff_base.specs.SourceAndSink.{put, sink_error}
 use Rattle.tiff_base.specs.declared.error.TiffError.{TiffError}
 use Rattle.tiff_base.specs.declared.error.TiffError.TheVariants.{UsageError}
 use Rattle.tiff_base.specs.declared.error.UsageError.TheVariants.{WriterFailed}
@@ -8,7 +8,7 @@ use Rattle.tiff_base.specs.declared.io.SinkFault.{SinkFault}
 use Rattle.tiff_base.specs.declared.tags.CompressionMethod.{CompressionMethod}
 use Rattle.tiff_base.specs.declared.tags.CompressionMethod.TheVariants as method
 
--- a writer: the bytes of its sink, the place that is written next, the fault of the sink that ended all writing, how many
+-- a writer: the bytes of its sink, the offset that is written next, the fault of the sink that ended all writing, how many
 -- writes of its sink failed, the byte count of the last write, and the method that bytes are packed by
 pub record Written : Type 0 where
   pub bytes : List ℕ
@@ -23,16 +23,16 @@ abbrev pub new_writer : List ℕ → ℕ → Written
 new_writer told failures =
     record { bytes = told; at = length told; fault = None; failures = failures; last = 0; method = method.None }
 
--- the writer after bytes went out at its place
-abbrev pub moved : Written → List ℕ → Written
-moved w xs = record w { bytes = put w.bytes w.at xs; at = w.at + length xs }
+-- the writer after bytes went out at its offset
+abbrev pub writer_after : Written → List ℕ → Written
+writer_after w xs = record w { bytes = put w.bytes w.at xs; at = w.at + length xs }
 
 -- the same, with their count kept for `last_written`
-abbrev pub written : Written → List ℕ → Written
-written w xs = record w { bytes = put w.bytes w.at xs; at = w.at + length xs; last = length xs }
+abbrev pub writer_after_counted : Written → List ℕ → Written
+writer_after_counted w xs = record w { bytes = put w.bytes w.at xs; at = w.at + length xs; last = length xs }
 
 -- One call of the sink failed: its bytes stay, and its fault ends all writing.
-pub record Fails (e : TiffError) (old new : Written) : Type 0 where
+pub record SinkFails (e : TiffError) (old new : Written) : Type 0 where
   pub fault : SinkFault
   pub answer : e ≡ sink_error fault
   pub state : new ≡ record old { fault = Some fault; failures = old.failures + 1 }
@@ -61,9 +61,9 @@ module _ {A : Type 0} where
   -- the bytes went out, or a beginning of them as the sink failed, or nothing since an earlier write failed
   abbrev pub WritesRaw : List ℕ → Written → Written → Result A TiffError → Type 0
   WritesRaw xs old new r =
-      MatchResult r (λ _. (old.fault ≡ None) × (new ≡ moved old xs)) (λ e. IsStopped e old new ⊎ IsCut xs e old new)
+      MatchResult r (λ _. (old.fault ≡ None) × (new ≡ writer_after old xs)) (λ e. IsStopped e old new ⊎ IsCut xs e old new)
 
   -- the same, with the count kept for `last_written`
   abbrev pub Writes : List ℕ → Written → Written → Result A TiffError → Type 0
   Writes xs old new r =
-      MatchResult r (λ _. (old.fault ≡ None) × (new ≡ written old xs)) (λ e. IsStopped e old new ⊎ IsCut xs e old new)
+      MatchResult r (λ _. (old.fault ≡ None) × (new ≡ writer_after_counted old xs)) (λ e. IsStopped e old new ⊎ IsCut xs e old new)

@@ -2,7 +2,7 @@
 
 ghost use Rattle.std.specs.Prelude.{◌≡◌};
 ghost use Rattle.tiff_base.specs.Answers.{AnswersBut};
-ghost use Rattle.tiff_value.specs.Buffer.{buffer_count, buffer_given, empty_buffer, ordered};
+ghost use Rattle.tiff_value.specs.Buffer.{buffer_count, buffer_given, empty_buffer, in_byte_order};
 ghost use Rattle.tiff_value.specs.Values.{IsWritable};
 
 use crate::encoder::tiff_value::TiffValue;
@@ -104,7 +104,7 @@ impl ValueBuffer {
 
     /// Turns the bytes of the numbers into an order.
     pub fn set_byte_order(&mut self, order: ByteOrder)
-        ensures { self.new ≡ ordered self.old order }
+        ensures { self.new ≡ in_byte_order self.old order }
     {
         self.order
             .convert(self.data_type, self.bytes.as_mut_slice(), order);

@@ -1,11 +1,12 @@
 //! What files are written by.
 
 pub mod chunk;
+mod colors;
 pub mod colortype;
-mod colours;
 pub mod compression;
 pub mod differences;
 mod fractions;
+mod grays;
 mod names;
 mod numbers;
 mod octets;

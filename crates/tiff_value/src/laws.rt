@@ -4,7 +4,7 @@ ghost use Rattle.std.specs.Prelude.{◌≡◌, ◌^◌, ◌<◌, [], ◌∷◌};
 ghost use Rattle.tiff_base.specs.Number.{le};
 ghost use Rattle.tiff_base.specs.Types.{type_size};
 ghost use Rattle.tiff_value.specs.ColorType.{IsColorType, sample_number};
-ghost use Rattle.tiff_value.specs.ColorTypes.{colour_type, inner_type, AreColorTypes};
+ghost use Rattle.tiff_value.specs.ColorTypes.{color_type, inner_type, AreColorTypes};
 ghost use Rattle.tiff_value.specs.Data.{DataIsWhole, TextIsWhole, data_of};
 ghost use Rattle.tiff_value.specs.Differences.{IsUndone};
 ghost use Rattle.tiff_value.specs.Values.{IsValue};
@@ -34,19 +34,19 @@ pub fn scalar_is_single<T: TiffScalar>()
     ensures data { (x : T) → T.field_data x ≡ Ok (data_of (T.scalars (x ∷ []))) }
 {}
 
-/// What the name of each colour type says is what a page can say of its samples.
-pub fn are_colour_types()
+/// What the name of each color type says is what a page can say of its samples.
+pub fn are_color_types()
     ensures { AreColorTypes }
 {}
 
-/// So is what any colour type says, with a name or without.
-pub fn colour_type_is_lawful<C: ColorType>()
+/// So is what any color type says, with a name or without.
+pub fn color_type_is_lawful<C: ColorType>()
     ensures { IsColorType (type_size C.Inner.value_type) C.described }
 {}
 
-/// A colour type with a name is what its name says.
+/// A color type with a name is what its name says.
 pub fn named_is_known<C: NamedColorType>()
-    ensures described { C.described ≡ colour_type C.name }
+    ensures described { C.described ≡ color_type C.name }
     ensures in_memory { C.Inner.value_type ≡ inner_type C.name }
 {}
 

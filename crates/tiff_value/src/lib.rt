@@ -1,4 +1,4 @@
-//! Colour types, values as bytes, and the writer of numbers and bytes that files are written by.
+//! Color types, values as bytes, and the writer of numbers and bytes that files are written by.
 #![tactic(auto)]
 
 pub mod buffer;

@@ -1,4 +1,4 @@
-//! The links of a chain of directories, and the numbers at a place.
+//! The links of a chain of directories, and the numbers at an offset.
 
 use crate::expect::{copy_of, expect_text};
 use std::alloc::Global;
@@ -8,7 +8,7 @@ use tiff_base::tags::{ByteOrder, IfdPointer};
 use tiff_ifd::cycles::IfdCycles;
 use tiff_ifd::stream::EndianReader;
 
-// Links from one place to another, and what adding each answers.
+// Links from one offset to another, and what adding each answers.
 const LINKS: [(u64, Option<u64>, &str); 8] = [
     (8, Some(20), "Ok(true)"),
     (8, Some(20), "Ok(false)"),

@@ -1,4 +1,4 @@
-//! What no list of jobs says of directories: texts with a zero, parents that no job wrote, and places that no kind has.
+//! What no list of jobs says of directories: texts with a zero, parents that no job wrote, and offsets that no kind has.
 
 use crate::expect::{empty_sink, expect_text};
 use std::alloc::Global;
@@ -64,14 +64,14 @@ fn parents_are_written_before(rt: HostRuntime) {
     expect_text(&rt, 1, parent_lost::<TiffKindBig>(rt.alloc()), wanted);
 }
 
-// What the place of a directory without entries answers.
-fn place_told<K: TiffKind>(alloc: Global, place: u64) -> TiffResult<String> {
-    let answer = DirectoryOffset::<K>::new(IfdPointer(place), &Directory::empty(alloc));
+// What the offset of a directory without entries answers.
+fn offset_told<K: TiffKind>(alloc: Global, offset: u64) -> TiffResult<String> {
+    let answer = DirectoryOffset::<K>::new(IfdPointer(offset), &Directory::empty(alloc));
     Ok(format!(in alloc; "{:?}", answer.map(|o| o.pointer))?)
 }
 
-// Places of directories, and what they answer in each kind.
-const PLACES: [(u64, &str, &str); 4] = [
+// Offsets of directories, and what they answer in each kind.
+const OFFSETS: [(u64, &str, &str); 4] = [
     (
         0,
         "Err(UsageError(ZeroIfdPointer))",
@@ -95,11 +95,11 @@ const PLACES: [(u64, &str, &str); 4] = [
 ];
 
 #[test]
-fn places_of_directories_fit_the_kind(rt: HostRuntime) {
-    for (place, classic, big) in PLACES {
-        let told = place_told::<TiffKindStandard>(rt.alloc(), place);
-        expect_text(&rt, place, told, classic);
-        let told = place_told::<TiffKindBig>(rt.alloc(), place);
-        expect_text(&rt, place, told, big);
+fn offsets_of_directories_fit_the_kind(rt: HostRuntime) {
+    for (offset, classic, big) in OFFSETS {
+        let told = offset_told::<TiffKindStandard>(rt.alloc(), offset);
+        expect_text(&rt, offset, told, classic);
+        let told = offset_told::<TiffKindBig>(rt.alloc(), offset);
+        expect_text(&rt, offset, told, big);
     }
 }

@@ -69,7 +69,7 @@ impl Source for FailingSource {
 
     ghost failures = { λ s. s.failed };
 
-    ghost places = { λ s. s.inner.places };
+    ghost offsets = { λ s. s.inner.offsets };
 
     ghost octets = { λ s. s.inner.octets };
 

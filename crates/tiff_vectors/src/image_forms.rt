@@ -1,4 +1,4 @@
-//! Images of every colour type, cut, packed and predicted in every way, are read back.
+//! Images of every color type, cut, packed and predicted in every way, are read back.
 
 use crate::expect::{empty_sink, expect_text};
 use std::alloc::Global;
@@ -92,30 +92,30 @@ impl Made for Bits64 {
 }
 
 // The number of a sample: three samples in a row have the same, and all its bytes vary.
-fn number(place: u64) -> u64 {
-    (place / 3).wrapping_mul(0x9e37_79b9_7f4a_7c15)
+fn number(index: u64) -> u64 {
+    (index / 3).wrapping_mul(0x9e37_79b9_7f4a_7c15)
 }
 
 // So many samples.
 fn samples_made<T: Made>(alloc: Global, count: u64) -> TiffResult<Vec<T>> {
     let mut samples = Vec::new(alloc);
-    for place in 0..count {
-        samples.push(T::made(number(place)))?;
+    for index in 0..count {
+        samples.push(T::made(number(index)))?;
     }
     Ok(samples)
 }
 
-// The place of a sample among all samples of an image, by its place among those of its planes.
-fn place_in_planes(place: u64, pixels: u64, samples: u64) -> u64 {
-    let (pixel, plane) = (place % pixels.max(1), place / pixels.max(1));
+// The index of a sample among all samples of an image, by its index among those of its planes.
+fn index_in_planes(index: u64, pixels: u64, samples: u64) -> u64 {
+    let (pixel, plane) = (index % pixels.max(1), index / pixels.max(1));
     pixel.saturating_mul(samples).saturating_add(plane)
 }
 
 // The bytes of the samples of an image, of so many bytes each, the lowest first: pixel by pixel.
 fn bytes_of_pixels(alloc: Global, count: u64, size: usize) -> TiffResult<Vec<u8>> {
     let mut bytes = Vec::new(alloc);
-    for place in 0..count {
-        let sample = number(place).to_le_bytes();
+    for index in 0..count {
+        let sample = number(index).to_le_bytes();
         bytes.extend_from_slice(sample.get(..size).unwrap_or(&[]))?;
     }
     Ok(bytes)
@@ -124,8 +124,8 @@ fn bytes_of_pixels(alloc: Global, count: u64, size: usize) -> TiffResult<Vec<u8>
 // The same, plane by plane.
 fn bytes_of_planes(alloc: Global, pixels: u64, samples: u64, size: usize) -> TiffResult<Vec<u8>> {
     let mut bytes = Vec::new(alloc);
-    for place in 0..pixels.saturating_mul(samples) {
-        let sample = number(place_in_planes(place, pixels, samples)).to_le_bytes();
+    for index in 0..pixels.saturating_mul(samples) {
+        let sample = number(index_in_planes(index, pixels, samples)).to_le_bytes();
         bytes.extend_from_slice(sample.get(..size).unwrap_or(&[]))?;
     }
     Ok(bytes)
@@ -275,15 +275,15 @@ fn planes(alloc: Global, decoder: &mut Decoder<MemorySource>) -> TiffResult<Vec<
     Ok(bytes)
 }
 
-// The colour of a page, and whether its samples are the ones that are wanted.
+// The color of a page, and whether its samples are the ones that are wanted.
 fn compared(
     alloc: Global,
     decoder: &mut Decoder<MemorySource>,
     wanted: &[u8],
 ) -> TiffResult<String> {
-    let colour = decoder.colortype()?;
+    let color = decoder.colortype()?;
     let read = planes(alloc, decoder)?;
-    Ok(format!(in alloc; "{colour:?} {}", read.as_slice() == wanted)?)
+    Ok(format!(in alloc; "{color:?} {}", read.as_slice() == wanted)?)
 }
 
 // The same of the page of an image of made samples.
@@ -296,7 +296,7 @@ where
     compared(alloc, &mut decoder, &wanted)
 }
 
-// The same of a colour type by its name.
+// The same of a color type by its name.
 fn named_kept<K: TiffKind>(alloc: Global, name: ColorTypeName, shape: Shape) -> TiffResult<String> {
     match name {
         ColorTypeName::Gray8 => kept::<Gray8, K>(alloc, shape),
@@ -347,7 +347,7 @@ fn print_kept<K: TiffKind>(alloc: Global, name: ColorTypeName, shape: Shape) -> 
     }
 }
 
-// Colour types of whole numbers, and what is read of them.
+// Color types of whole numbers, and what is read of them.
 const WHOLE: [(ColorTypeName, &str); 22] = [
     (ColorTypeName::Gray8, "Gray(8) true"),
     (ColorTypeName::Gray16, "Gray(16) true"),
@@ -385,7 +385,7 @@ const FLOATING: [(ColorTypeName, &str); 8] = [
     (ColorTypeName::CMYK64Float, "CMYK(64) true"),
 ];
 
-// Expects what is read of a colour type in so many shapes.
+// Expects what is read of a color type in so many shapes.
 fn expect_kept<K: TiffKind>(
     rt: &impl Abort,
     alloc: Global,

@@ -1,7 +1,7 @@
 //! Rows of a chunk are undone.
 
 use tiff_base::tags::ByteOrder;
-use tiff_page::undo::{invert, to_little, undo_byte_plane, undo_horizontal};
+use tiff_page::predictors::{invert, to_little, undo_byte_plane, undo_horizontal};
 
 #[test]
 fn numbers_are_turned_to_little_endian(rt: HostRuntime) {

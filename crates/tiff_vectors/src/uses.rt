@@ -7,7 +7,7 @@ use tiff::decoder::{Decoder, DecodingResult};
 use tiff::io::MemorySource;
 use tiff_uses::{first_image, geo_key, gray_file, image_of_chunks, page_chunk, page_sides};
 
-// A file of one page, 1 by 1, of 8 bits and gray: its one strip is the last byte. Its directory of keys, at place 98, holds two: 1024
+// A file of one page, 1 by 1, of 8 bits and gray: its one strip is the last byte. Its directory of keys, at offset 98, holds two: 1024
 // (GTModelType) is 2, and 2048 (GeographicType) is 4326.
 const WITH_KEYS: &[u8] = b"II\x2a\0\x08\0\0\0\
 \x07\0\

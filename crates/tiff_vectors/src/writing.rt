@@ -43,9 +43,9 @@ fn write_numbers(writer: &mut TiffWriter<FailingSink>) -> TiffResult<()> {
 
 // How much was written last, where the writer is, and what going past the end answers.
 fn told_of_writer(alloc: Global, writer: &mut TiffWriter<FailingSink>) -> TiffResult<String> {
-    let (last, place) = (writer.last_written(), writer.offset());
+    let (last, offset) = (writer.last_written(), writer.offset());
     let past = writer.goto_offset(15);
-    Ok(format!(in alloc; "{last} {place} {past:?}")?)
+    Ok(format!(in alloc; "{last} {offset} {past:?}")?)
 }
 
 // Writes the numbers, and then over the front, and tells of the writer between.

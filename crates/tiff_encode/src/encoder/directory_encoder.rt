@@ -111,14 +111,15 @@ fn fits_short(buffer: &ValueBuffer)
 }
 
 impl<'a, W: Sink, K: TiffKind, D: State> DirectoryEncoder<'a, W, K, D> {
-    /// Writes a value's bytes, and answers the entry that holds them or their place; the directory stays. The first cause
+    /// Writes a value's bytes, and answers the entry that holds them or their offset; the directory stays. The first cause
     /// that holds: an earlier fault of the sink: `UsageError(WriterFailed)`; a text that can't be written:
-    /// `FormatError(InvalidTag)`; a count, or the place of a value that doesn't fit into the entry, past 4 bytes in a
+    /// `FormatError(InvalidTag)`; a count, or the offset of a value that doesn't fit into the entry, past 4 bytes in a
     /// classic file: `IntSizeError`. Then `OutOfMemory`, or the sink's fault: `IoError(Device)` or `OutOfMemory`.
     pub fn write_entry<T: TiffValue + Drop>(&mut self, value: T) -> TiffResult<Entry>
         ensures same_reference { self.new.encoder.ghost_name ≡ self.old.encoder.ghost_name }
         ensures stays { self.new.state ≡ self.old.state }
-        ensures answer { Ends (λ entry. entry) (calls.write_entry (T.field_data value) self.old.encoder.now) result self.old.encoder.now self.new.encoder.now }
+        ensures answer { Ends (λ entry. entry) (calls.write_entry (T.field_data value) self.old.encoder.now) result
+            self.old.encoder.now self.new.encoder.now }
 
         // What stood in the file stands.
         ensures leaves { (m : Model) → Stands self.old.encoder.now.kind self.old.encoder.now.bytes m
@@ -138,7 +139,8 @@ impl<'a, W: Sink, K: TiffKind, D: State> DirectoryEncoder<'a, W, K, D> {
     pub fn write_entry_buf(&mut self, buffer: &ValueBuffer) -> TiffResult<Entry>
         ensures same_reference { self.new.encoder.ghost_name ≡ self.old.encoder.ghost_name }
         ensures stays { self.new.state ≡ self.old.state }
-        ensures answer { Ends (λ entry. entry) (calls.write_entry_buf buffer.now self.old.encoder.now) result self.old.encoder.now self.new.encoder.now }
+        ensures answer { Ends (λ entry. entry) (calls.write_entry_buf buffer.now self.old.encoder.now) result
+            self.old.encoder.now self.new.encoder.now }
 
         // What stood in the file stands.
         ensures leaves { (m : Model) → Stands self.old.encoder.now.kind self.old.encoder.now.bytes m
@@ -159,13 +161,14 @@ impl<'a, W: Sink, K: TiffKind, D: State> DirectoryEncoder<'a, W, K, D> {
     pub fn write_entry_bytes(&mut self, field_type: Type, bytes: &[u8]) -> TiffResult<Entry>
         ensures same_reference { self.new.encoder.ghost_name ≡ self.old.encoder.ghost_name }
         ensures stays { self.new.state ≡ self.old.state }
-        ensures answer { Ends (λ entry. entry) (calls.write_entry_bytes field_type bytes.now self.old.encoder.now) result self.old.encoder.now self.new.encoder.now }
+        ensures answer { Ends (λ entry. entry) (calls.write_entry_bytes field_type bytes.now self.old.encoder.now) result
+            self.old.encoder.now self.new.encoder.now }
 
         // What stood in the file stands.
         ensures leaves { (m : Model) → Stands self.old.encoder.now.kind self.old.encoder.now.bytes m
             → Leaves (calls.write_entry_bytes field_type bytes.now self.old.encoder.now) result self.old.encoder.now self.new.encoder.now m }
     {
-        match self.encoder.place_bytes(field_type, bytes) {
+        match self.encoder.place_entry_bytes(field_type, bytes) {
             Ok(entry) => {
                 self.encoder.fits();
                 return Ok(entry);
@@ -180,7 +183,9 @@ impl<'a, W: Sink, K: TiffKind, D: State> DirectoryEncoder<'a, W, K, D> {
         ensures same_reference { self.new.encoder.ghost_name ≡ self.old.encoder.ghost_name }
         ensures stays { OnErr result (self.new.state ≡ self.old.state) }
         ensures rest { self.new.state ≡ D.with_directory self.old.state (D.open_directory self.new.state) }
-        ensures answer { Ends (λ _. D.open_directory self.new.state) (calls.write_tag (D.open_directory self.old.state) tag (T.field_data value) self.old.encoder.now) result self.old.encoder.now self.new.encoder.now }
+        ensures answer { Ends (λ _. D.open_directory self.new.state)
+            (calls.write_tag (D.open_directory self.old.state) tag (T.field_data value) self.old.encoder.now) result
+            self.old.encoder.now self.new.encoder.now }
 
         // What stood in the file stands.
         ensures leaves { (m : Model) → Stands self.old.encoder.now.kind self.old.encoder.now.bytes m
@@ -203,7 +208,9 @@ impl<'a, W: Sink, K: TiffKind, D: State> DirectoryEncoder<'a, W, K, D> {
         ensures same_reference { self.new.encoder.ghost_name ≡ self.old.encoder.ghost_name }
         ensures stays { OnErr result (self.new.state ≡ self.old.state) }
         ensures rest { self.new.state ≡ D.with_directory self.old.state (D.open_directory self.new.state) }
-        ensures answer { Ends (λ _. D.open_directory self.new.state) (calls.write_tag_buf (D.open_directory self.old.state) tag buffer.now self.old.encoder.now) result self.old.encoder.now self.new.encoder.now }
+        ensures answer { Ends (λ _. D.open_directory self.new.state)
+            (calls.write_tag_buf (D.open_directory self.old.state) tag buffer.now self.old.encoder.now) result
+            self.old.encoder.now self.new.encoder.now }
 
         // What stood in the file stands.
         ensures leaves { (m : Model) → Stands self.old.encoder.now.kind self.old.encoder.now.bytes m
@@ -221,20 +228,21 @@ impl<'a, W: Sink, K: TiffKind, D: State> DirectoryEncoder<'a, W, K, D> {
         }
     }
 
-    /// Writes the bytes of a buffer, a ragged end too, and answers their place, in bytes from the file's start. In place of a
+    /// Writes the bytes of a buffer, a ragged end too, and answers their offset, in bytes from the file's start. In place of a
     /// text, a buffer of the other byte order is refused: `UsageError(ByteOrderMismatch)`; else errors are those of
     /// `write_data`.
     pub fn write_data_buf(&mut self, buffer: &ValueBuffer) -> TiffResult<u64>
         ensures same_reference { self.new.encoder.ghost_name ≡ self.old.encoder.ghost_name }
         ensures stays { self.new.state ≡ self.old.state }
-        ensures answer { Ends (λ place. place) (calls.write_data_buf buffer.now self.old.encoder.now) result self.old.encoder.now self.new.encoder.now }
+        ensures answer { Ends (λ offset. offset) (calls.write_data_buf buffer.now self.old.encoder.now) result
+            self.old.encoder.now self.new.encoder.now }
 
         // What stood in the file stands.
         ensures leaves { (m : Model) → Stands self.old.encoder.now.kind self.old.encoder.now.bytes m
             → Leaves (calls.write_data_buf buffer.now self.old.encoder.now) result self.old.encoder.now self.new.encoder.now m }
     {
         match self.encoder.append_buffer(buffer) {
-            Ok(place) => return Ok(place),
+            Ok(offset) => return Ok(offset),
             Err(fault) => return Err(fault),
         }
     }
@@ -244,7 +252,8 @@ impl<'a, W: Sink, K: TiffKind, D: State> DirectoryEncoder<'a, W, K, D> {
     pub fn extend_from(&mut self, directory: &Directory) -> TiffResult<()>
         ensures same_reference { self.new.encoder.ghost_name ≡ self.old.encoder.ghost_name }
         ensures stays { self.new.encoder.now ≡ self.old.encoder.now }
-        ensures state { Extends (map.entries directory.now.entries) (D.open_directory self.old.state) (D.open_directory self.new.state) result }
+        ensures state { Extends (map.entries directory.now.entries) (D.open_directory self.old.state)
+            (D.open_directory self.new.state) result }
         ensures rest { self.new.state ≡ D.with_directory self.old.state (D.open_directory self.new.state) }
     {
         match self.state.extend_from(directory) {
@@ -255,20 +264,21 @@ impl<'a, W: Sink, K: TiffKind, D: State> DirectoryEncoder<'a, W, K, D> {
 }
 
 impl<'a, W: Sink, K: TiffKind> DirectoryEncoder<'a, W, K, Fields> {
-    /// Writes a value's bytes and answers their place, in bytes from the file's start. The first cause that holds: an earlier
+    /// Writes a value's bytes and answers their offset, in bytes from the file's start. The first cause that holds: an earlier
     /// fault of the sink: `UsageError(WriterFailed)`; a text that can't be written: `FormatError(InvalidTag)`. Then
     /// `OutOfMemory`, or the sink's fault: `IoError(Device)` or `OutOfMemory`.
     pub fn write_data<T: TiffValue + Drop>(&mut self, value: T) -> TiffResult<u64>
         ensures same_reference { self.new.encoder.ghost_name ≡ self.old.encoder.ghost_name }
         ensures stays { self.new.state ≡ self.old.state }
-        ensures answer { Ends (λ place. place) (calls.write_data (T.field_data value) self.old.encoder.now) result self.old.encoder.now self.new.encoder.now }
+        ensures answer { Ends (λ offset. offset) (calls.write_data (T.field_data value) self.old.encoder.now) result
+            self.old.encoder.now self.new.encoder.now }
 
         // What stood in the file stands.
         ensures leaves { (m : Model) → Stands self.old.encoder.now.kind self.old.encoder.now.bytes m
             → Leaves (calls.write_data (T.field_data value) self.old.encoder.now) result self.old.encoder.now self.new.encoder.now m }
     {
         match self.encoder.append_value(&value) {
-            Ok(place) => return Ok(place),
+            Ok(offset) => return Ok(offset),
             Err(fault) => return Err(fault),
         }
     }
@@ -284,7 +294,7 @@ impl<'a, W: Sink, K: TiffKind> DirectoryEncoder<'a, W, K, Fields> {
     }
 
     /// Ends the directory: it is appended, its link 0, and then its parent's link is pointed to it. The first cause that holds: an
-    /// earlier fault of the sink: `UsageError(WriterFailed)`; more entries, a field of more values, or a place past what the
+    /// earlier fault of the sink: `UsageError(WriterFailed)`; more entries, a field of more values, or an offset past what the
     /// kind can count: `IntSizeError`; a parent's link that isn't within the file: `UsageError(ParentNotWritten)`. Then
     /// `OutOfMemory`, or the sink's fault: `IoError(Device)` or `OutOfMemory`.
     pub fn finish(self) -> TiffResult<()>
@@ -292,7 +302,7 @@ impl<'a, W: Sink, K: TiffKind> DirectoryEncoder<'a, W, K, Fields> {
 
         // What stood in the file stands, but for the parent's link, where that broke off.
         ensures leaves { (m : Model) → Stands self.entry.encoder.now.kind self.entry.encoder.now.bytes m
-            → ((place : ℕ) → self.entry.state.parent ≡ Some place → IsLink self.entry.encoder.now.kind m place)
+            → ((offset : ℕ) → self.entry.state.parent ≡ Some offset → IsLink self.entry.encoder.now.kind m offset)
             → LeavesLinked (calls.finish self.entry.state self.entry.encoder.now) result self.entry.encoder.now self.exit.0.now m }
     {
         let DirectoryEncoder { encoder, state } = self;
@@ -306,11 +316,12 @@ impl<'a, W: Sink, K: TiffKind> DirectoryEncoder<'a, W, K, Fields> {
 
     /// Ends the directory as `finish` does, and answers where it and its link stand. Errors are those of `finish`.
     pub fn finish_with_offsets(self) -> TiffResult<DirectoryOffset<K>>
-        ensures answer { Ends (λ offsets. offsets) (calls.finish self.entry.state self.entry.encoder.now) result self.entry.encoder.now self.exit.0.now }
+        ensures answer { Ends (λ offsets. offsets) (calls.finish self.entry.state self.entry.encoder.now) result
+            self.entry.encoder.now self.exit.0.now }
 
         // What stood in the file stands, but for the parent's link, where that broke off.
         ensures leaves { (m : Model) → Stands self.entry.encoder.now.kind self.entry.encoder.now.bytes m
-            → ((place : ℕ) → self.entry.state.parent ≡ Some place → IsLink self.entry.encoder.now.kind m place)
+            → ((offset : ℕ) → self.entry.state.parent ≡ Some offset → IsLink self.entry.encoder.now.kind m offset)
             → LeavesLinked (calls.finish self.entry.state self.entry.encoder.now) result self.entry.encoder.now self.exit.0.now m }
     {
         let DirectoryEncoder { encoder, state } = self;
@@ -326,7 +337,7 @@ impl<'a, W: Sink, K: TiffKind> DirectoryEncoder<'a, W, K, Fields> {
 
         // What stood in the file stands, but for the parent's link, where that broke off.
         ensures leaves { (m : Model) → Stands self.entry.encoder.now.kind self.entry.encoder.now.bytes m
-            → ((place : ℕ) → self.entry.state.parent ≡ Some place → IsLink self.entry.encoder.now.kind m place)
+            → ((offset : ℕ) → self.entry.state.parent ≡ Some offset → IsLink self.entry.encoder.now.kind m offset)
             → LeavesLinked (calls.finish self.entry.state self.entry.encoder.now) result self.entry.encoder.now self.exit.0.now m }
     {
         let DirectoryEncoder {
@@ -343,19 +354,20 @@ impl<'a, W: Sink, K: TiffKind> DirectoryEncoder<'a, W, K, Fields> {
 }
 
 impl<'a, W: Sink, K: TiffKind, C: ColorType> DirectoryEncoder<'a, W, K, Drawing<C>> {
-    /// Writes a value's bytes and answers their place, as `write_data` of a directory does; the image's own `write_data`
+    /// Writes a value's bytes and answers their offset, as `write_data` of a directory does; the image's own `write_data`
     /// writes samples. Errors are those of that.
     pub fn append_data<T: TiffValue + Drop>(&mut self, value: T) -> TiffResult<u64>
         ensures same_reference { self.new.encoder.ghost_name ≡ self.old.encoder.ghost_name }
         ensures stays { self.new.state ≡ self.old.state }
-        ensures answer { Ends (λ place. place) (calls.write_data (T.field_data value) self.old.encoder.now) result self.old.encoder.now self.new.encoder.now }
+        ensures answer { Ends (λ offset. offset) (calls.write_data (T.field_data value) self.old.encoder.now) result
+            self.old.encoder.now self.new.encoder.now }
 
         // What stood in the file stands.
         ensures leaves { (m : Model) → Stands self.old.encoder.now.kind self.old.encoder.now.bytes m
             → Leaves (calls.write_data (T.field_data value) self.old.encoder.now) result self.old.encoder.now self.new.encoder.now m }
     {
         match self.encoder.append_value(&value) {
-            Ok(place) => return Ok(place),
+            Ok(offset) => return Ok(offset),
             Err(fault) => return Err(fault),
         }
     }

@@ -28,10 +28,10 @@ pub struct Form {
     pub planar: PlanarConfiguration,
 }
 
-/// A chunk that was written: its place, and how many bytes stand there.
+/// A chunk that was written: its offset, and how many bytes stand there.
 #[derive(Clone, Copy, Drop)]
 pub struct Chunk {
-    pub place: u64,
+    pub offset: u64,
     pub stored: u64,
 }
 
@@ -47,7 +47,7 @@ pub struct Drawing<C: ColorType> {
     pub(crate) compression: Compression,
     pub(crate) form: Form,
     pub(crate) chunks: Vec<Chunk>,
-    pub(crate) colour: PhantomData<C>,
+    pub(crate) color: PhantomData<C>,
 }
 
 impl<C: ColorType> Model for Drawing<C> {
@@ -56,7 +56,7 @@ impl<C: ColorType> Model for Drawing<C> {
     ghost use Rattle.std.specs.Prelude.{length};
     ghost use Rattle.tiff_base.specs.Types.{type_size};
     ghost use Rattle.tiff_encode.specs.Drawn.{IsDrawn};
-    ghost use Rattle.tiff_encode.specs.Machine.{OpenImage, method_of};
+    ghost use Rattle.tiff_encode.specs.Machine.{OpenImage, compression_method};
 
     ghost Value = { OpenImage };
 
@@ -66,11 +66,11 @@ impl<C: ColorType> Model for Drawing<C> {
       directory = i.directory;
       width = i.width;
       height = i.height;
-      colour = C.described;
+      color = C.described;
       size = type_size C.Inner.value_type;
       extra = i.extra.items;
       predictor = i.predictor;
-      method = method_of i.compression;
+      method = compression_method i.compression;
       form = i.form;
       chunks = i.chunks.items;
     } };
@@ -113,7 +113,7 @@ impl<C: ColorType> Drawing<C> {
         self.directory.fits();
     }
 
-    /// Its samples have as many bytes as its colour type's.
+    /// Its samples have as many bytes as its color type's.
     pub(crate) fn is_of_type(&self)
         ensures { self.now.size ≡ type_size C.Inner.value_type }
     {

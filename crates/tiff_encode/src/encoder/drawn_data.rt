@@ -12,7 +12,7 @@ ghost use Rattle.tiff_encode.specs.Chunks.{image_page, is_in_order, is_left, nex
 ghost use Rattle.tiff_encode.specs.Chunks as chunks;
 ghost use Rattle.tiff_encode.specs.ImageData.{WritesChunks, WritesImage, WritesImageData};
 ghost use Rattle.tiff_encode.specs.Parts.{next_part, next_slice, pixel_sample, rect_of, row_sample, IsPatch, WritesPart};
-ghost use Rattle.tiff_encode.specs.Stored.{chunk_bytes};
+ghost use Rattle.tiff_encode.specs.Stored.{unpacked_chunk};
 
 use crate::encoder::TiffEncoder;
 use crate::encoder::drawing::{Drawing, parts_of};
@@ -26,7 +26,8 @@ use tiff_value::encoder::differences::Sample;
 
 // Appends samples of zeros.
 fn push_zeros<T: Sample>(count: u64, out: &mut Vec<T>) -> TiffResult<()>
-    ensures { MatchResult result (λ _. map (sample_number (type_size T.value_type) T.bits) out.new.items ≡ map (sample_number (type_size T.value_type) T.bits) out.old.items ++ each_to count (λ _. 0)) (λ e. e ≡ TiffError.OutOfMemory) }
+    ensures { MatchResult result (λ _. map (sample_number (type_size T.value_type) T.bits) out.new.items ≡ map
+        (sample_number (type_size T.value_type) T.bits) out.old.items ++ each_to count (λ _. 0)) (λ e. e ≡ TiffError.OutOfMemory) }
 {
     for _ in 0..count {
         out.push(T::zero())?;
@@ -44,7 +45,10 @@ fn push_plane<T: Sample>(
 ) -> TiffResult<()>
     requires one { plane < samples }
     requires whole { count * samples ≤ length pixels.now }
-    ensures { MatchResult result (λ _. map (sample_number (type_size T.value_type) T.bits) out.new.items ≡ map (sample_number (type_size T.value_type) T.bits) out.old.items ++ each_to count (λ column. slice_index (map (sample_number (type_size T.value_type) T.bits) pixels.now) (column * samples + plane))) (λ e. e ≡ TiffError.OutOfMemory) }
+    ensures { MatchResult result (λ _. map (sample_number (type_size T.value_type) T.bits) out.new.items ≡ map
+        (sample_number (type_size T.value_type) T.bits) out.old.items ++ each_to count
+        (λ column. slice_index (map (sample_number (type_size T.value_type) T.bits) pixels.now) (column * samples + plane)))
+        (λ e. e ≡ TiffError.OutOfMemory) }
 {
     for column in 0..count {
         out.push(pixels[column * samples + plane])?;
@@ -189,7 +193,7 @@ impl<C: ColorType> Drawing<C> {
         requires whole { image_samples self.now ≤ length samples.now }
         ensures { MatchResult result
             (λ v. (length (next_part self.now (map (sample_number (type_size C.Inner.value_type) C.Inner.bits) samples.now) written) ≡ next_chunk_sample_count self.now)
-            × IsStored self.now.method v.items (chunk_bytes self.now (next_part self.now (map (sample_number (type_size C.Inner.value_type) C.Inner.bits) samples.now) written)))
+            × IsStored self.now.method v.items (unpacked_chunk self.now (next_part self.now (map (sample_number (type_size C.Inner.value_type) C.Inner.bits) samples.now) written)))
             (λ e. e ≡ TiffError.OutOfMemory) }
     {
         if self.is_in_order() {
@@ -215,7 +219,8 @@ impl<W: Sink, K: TiffKind> TiffEncoder<W, K> {
         requires known { written ≤ length image.old.chunks }
         requires fits { image_samples image.old < 2 ^ 64 }
         requires whole { image_samples image.old ≤ length samples.now }
-        ensures { WritesPart image.old (next_part image.old (map (sample_number (type_size C.Inner.value_type) C.Inner.bits) samples.now) written) result self.old self.new image.new }
+        ensures { WritesPart image.old (next_part image.old (map (sample_number (type_size C.Inner.value_type) C.Inner.bits)
+            samples.now) written) result self.old self.new image.new }
     {
         let stored = match image.stored_part(self.alloc, samples, written) {
             Ok(stored) => stored,
@@ -235,7 +240,8 @@ impl<W: Sink, K: TiffKind> TiffEncoder<W, K> {
         samples: &[C::Inner],
     ) -> TiffResult<()>
         requires { write_image_data_cause self.old image.old (length samples.now) ≡ None }
-        ensures { WritesChunks image.old (parts_left image.old (map (sample_number (type_size C.Inner.value_type) C.Inner.bits) samples.now)) result self.old self.new image.new }
+        ensures { WritesChunks image.old (parts_left image.old
+            (map (sample_number (type_size C.Inner.value_type) C.Inner.bits) samples.now)) result self.old self.new image.new }
     {
         for written in 0..image.chunks_left() {
             match self.write_part(image, samples, written) {
@@ -278,7 +284,8 @@ impl<W: Sink, K: TiffKind> TiffEncoder<W, K> {
         image: &mut Drawing<C>,
         samples: &[C::Inner],
     ) -> TiffResult<()>
-        ensures { WritesImageData image.old (map (sample_number (type_size C.Inner.value_type) C.Inner.bits) samples.now) result self.old self.new }
+        ensures { WritesImageData image.old (map (sample_number (type_size C.Inner.value_type) C.Inner.bits) samples.now) result
+            self.old self.new }
     {
         match self.check_data(image, samples.len()) {
             Ok(()) => {}
@@ -301,7 +308,8 @@ impl<W: Sink, K: TiffKind> TiffEncoder<W, K> {
         height: u32,
         samples: &[C::Inner],
     ) -> TiffResult<()>
-        ensures { WritesImage C.described (type_size C.Inner.value_type) width height (map (sample_number (type_size C.Inner.value_type) C.Inner.bits) samples.now) result self.old self.new }
+        ensures { WritesImage C.described (type_size C.Inner.value_type) width height
+            (map (sample_number (type_size C.Inner.value_type) C.Inner.bits) samples.now) result self.old self.new }
     {
         let mut image = match self.begin_image::<C>(width, height) {
             Ok(image) => image,

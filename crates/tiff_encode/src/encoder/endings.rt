@@ -6,15 +6,15 @@ ghost use Rattle.tiff_base.specs.Number.{le};
 ghost use Rattle.tiff_value.specs.Data.{data_of};
 ghost use Rattle.tiff_encode.specs.Calls as calls;
 ghost use Rattle.tiff_encode.specs.Ends.{Ends};
-ghost use Rattle.tiff_encode.specs.LastTags.{bits_tags, list_tags, list_tags_of, more_of, part_of, samples_tags};
+ghost use Rattle.tiff_encode.specs.LastTags.{bits_tags, list_tags, list_tags_of, more_of, number_of_part, samples_tags};
 ghost use Rattle.tiff_encode.specs.Tagging.{fields_of, write_fields};
-ghost use Rattle.tiff_encode.specs.Value.{places};
-ghost use Rattle.tiff_encode.specs.Written.{place_len};
+ghost use Rattle.tiff_encode.specs.Value.{offset_values};
+ghost use Rattle.tiff_encode.specs.FileBytes.{offset_len};
 
 use crate::encoder::TiffEncoder;
 use crate::encoder::drawing::{Chunk, Drawing};
 use crate::encoder::kind::{DirectoryOffset, TiffKind};
-use crate::encoder::limits::place_bytes;
+use crate::encoder::limits::offset_size;
 use crate::encoder::open::Fields;
 use std::alloc::Global;
 use std::marker::{Model, PhantomData};
@@ -29,7 +29,8 @@ use tiff_value::encoder::tiff_value::{TiffScalar, TiffValue};
 
 // Appends the bytes of an item so many times.
 fn push_copies<T: TiffScalar>(item: &T, count: usize, out: &mut Vec<u8>) -> TiffResult<()>
-    ensures { MatchResult result (λ _. out.new.items ≡ out.old.items ++ flat_map T.spelled (replicate count item.now)) (λ e. e ≡ TiffError.OutOfMemory) }
+    ensures { MatchResult result (λ _. out.new.items ≡ out.old.items ++ flat_map T.spelled (replicate count item.now))
+        (λ e. e ≡ TiffError.OutOfMemory) }
 {
     for _ in 0..count {
         item.push_to(out)?;
@@ -39,7 +40,8 @@ fn push_copies<T: TiffScalar>(item: &T, count: usize, out: &mut Vec<u8>) -> Tiff
 
 // The same of the first item of a list, if it has one.
 fn push_first<T: TiffScalar>(items: &[T], count: usize, out: &mut Vec<u8>) -> TiffResult<()>
-    ensures { MatchResult result (λ _. out.new.items ≡ out.old.items ++ flat_map T.spelled (more_of items.now count)) (λ e. e ≡ TiffError.OutOfMemory) }
+    ensures { MatchResult result (λ _. out.new.items ≡ out.old.items ++ flat_map T.spelled (more_of items.now count))
+        (λ e. e ≡ TiffError.OutOfMemory) }
 {
     match items {
         [] => Ok(()),
@@ -56,11 +58,11 @@ pub(crate) struct Repeated<'a, T> {
 
 impl<'a, T> Model for Repeated<'a, T> {
     ghost use Rattle.std.specs.Prelude.{List, ◌+◌, ◌^◌, ◌<◌, length};
-    ghost use Rattle.tiff_encode.specs.Calls.{repeated};
+    ghost use Rattle.tiff_encode.specs.Calls.{extended_by_first};
 
     ghost Value = { List T };
 
-    ghost view = { λ r. repeated r.items.now r.more };
+    ghost view = { λ r. extended_by_first r.items.now r.more };
 
     ghost invariant = { λ r. length r.items.now + r.more < 2 ^ 64 };
 }
@@ -69,7 +71,7 @@ impl<'a, T> Repeated<'a, T> {
     // A list, and its first so many times more.
     fn of(items: &'a [T], more: usize) -> Self
         requires { length items.now + more < 2 ^ 64 }
-        ensures { result ≡ calls.repeated items.now more }
+        ensures { result ≡ calls.extended_by_first items.now more }
     {
         Repeated { items, more }
     }
@@ -115,47 +117,47 @@ impl<'a, T: TiffScalar> TiffValue for Repeated<'a, T> {
 
 // ---- the lists of chunks
 
-/// A number of a chunk: its place, or how many bytes stand there.
+/// A number of a chunk: its offset, or how many bytes stand there.
 #[derive(Clone, Copy, Drop)]
 pub enum Part {
-    Place,
+    Offset,
     Stored,
 }
 
 impl Part {
     // That number.
     fn of(self, chunk: &Chunk) -> u64
-        ensures { result ≡ part_of self chunk.now }
+        ensures { result ≡ number_of_part self chunk.now }
     {
         match self {
-            Part::Place => chunk.place,
+            Part::Offset => chunk.offset,
             Part::Stored => chunk.stored,
         }
     }
 }
 
-/// A number of each chunk, as a file of a kind has places.
+/// A number of each chunk, as a file of a kind has offsets.
 #[derive(Drop)]
-pub(crate) struct Places<'a, K: TiffKind> {
+pub(crate) struct ChunkNumbers<'a, K: TiffKind> {
     chunks: &'a [Chunk],
     part: Part,
     kind: PhantomData<K>,
 }
 
-impl<'a, K: TiffKind> TiffValue for Places<'a, K> {
+impl<'a, K: TiffKind> TiffValue for ChunkNumbers<'a, K> {
     ghost use Rattle.std.specs.Prelude.{length, map, Ok};
     ghost use Rattle.tiff_value.specs.Data.{data_of};
-    ghost use Rattle.tiff_encode.specs.LastTags.{part_of, place_type, places_value};
-    ghost use Rattle.tiff_encode.specs.Value.{places};
+    ghost use Rattle.tiff_encode.specs.LastTags.{number_of_part, offset_type, offsets_value};
+    ghost use Rattle.tiff_encode.specs.Value.{offset_values};
 
-    ghost value_type = { place_type K.kind };
+    ghost value_type = { offset_type K.kind };
 
-    ghost value_count = { λ p. length (map (part_of p.part) p.chunks.now) };
+    ghost value_count = { λ p. length (map (number_of_part p.part) p.chunks.now) };
 
-    ghost field_data = { λ p. Ok (data_of (places K.kind (map (part_of p.part) p.chunks.now))) };
+    ghost field_data = { λ p. Ok (data_of (offset_values K.kind (map (number_of_part p.part) p.chunks.now))) };
 
     fn field_type() -> Type
-        ensures { result ≡ place_type K.kind }
+        ensures { result ≡ offset_type K.kind }
     {
         match K::file_kind() {
             FileKind::Classic => Type::LONG,
@@ -173,28 +175,29 @@ impl<'a, K: TiffKind> TiffValue for Places<'a, K> {
 
     fn data(&self, alloc: Global) -> TiffResult<Vec<u8>> {
         let kind = K::file_kind();
-        let size = place_bytes(kind) as usize;
+        let size = offset_size(kind) as usize;
         let mut out = Vec::with_capacity(alloc, self.chunks.len().saturating_mul(size))?;
-        push_places(kind, self.chunks, self.part, &mut out)?;
+        push_offsets(kind, self.chunks, self.part, &mut out)?;
         Ok(out)
     }
 
-    ghost sized = { λ p. places_value K.kind (map (part_of p.part) p.chunks.now) };
+    ghost sized = { λ p. offsets_value K.kind (map (number_of_part p.part) p.chunks.now) };
 }
 
-// Appends a number of each chunk, as a file of a kind has places.
-fn push_places(kind: FileKind, chunks: &[Chunk], part: Part, out: &mut Vec<u8>) -> TiffResult<()>
-    ensures { MatchResult result (λ _. out.new.items ≡ out.old.items ++ flat_map (le (place_len kind)) (map (part_of part) chunks.now)) (λ e. e ≡ TiffError.OutOfMemory) }
+// Appends a number of each chunk, as a file of a kind has offsets.
+fn push_offsets(kind: FileKind, chunks: &[Chunk], part: Part, out: &mut Vec<u8>) -> TiffResult<()>
+    ensures { MatchResult result (λ _. out.new.items ≡ out.old.items ++ flat_map (le (offset_len kind))
+        (map (number_of_part part) chunks.now)) (λ e. e ≡ TiffError.OutOfMemory) }
 {
     for chunk in chunks {
-        push_place(kind, part.of(chunk), out)?;
+        push_offset(kind, part.of(chunk), out)?;
     }
     Ok(())
 }
 
-// Appends a number, as a file of a kind has places.
-fn push_place(kind: FileKind, n: u64, out: &mut Vec<u8>) -> TiffResult<()>
-    ensures { MatchResult result (λ _. out.new.items ≡ out.old.items ++ le (place_len kind) n) (λ e. e ≡ TiffError.OutOfMemory) }
+// Appends a number, as a file of a kind has offsets.
+fn push_offset(kind: FileKind, n: u64, out: &mut Vec<u8>) -> TiffResult<()>
+    ensures { MatchResult result (λ _. out.new.items ≡ out.old.items ++ le (offset_len kind) n) (λ e. e ≡ TiffError.OutOfMemory) }
 {
     let bytes = n.to_le_bytes();
     match kind {
@@ -210,7 +213,8 @@ impl<W: Sink, K: TiffKind> TiffEncoder<W, K> {
     // The bits of each sample, and how many samples there are, where some are extra.
     fn set_bits(&mut self, fields: &mut Fields, bits: &[u16], extra: usize) -> TiffResult<()>
         requires { length bits.now + extra < 2 ^ 16 }
-        ensures { Ends (λ _. fields.new) (write_fields fields.old (fields_of (bits_tags bits.now extra)) self.old) result self.old self.new }
+        ensures { Ends (λ _. fields.new) (write_fields fields.old (fields_of (bits_tags bits.now extra)) self.old) result
+            self.old self.new }
     {
         match self.set_tag(fields, Tag::BitsPerSample, &Repeated::of(bits, extra)) {
             Ok(()) => {}
@@ -236,7 +240,8 @@ impl<W: Sink, K: TiffKind> TiffEncoder<W, K> {
     ) -> TiffResult<()>
         requires few { length bits.now + extra < 2 ^ 16 }
         requires as_many { length formats.now ≡ length bits.now }
-        ensures { Ends (λ _. fields.new) (write_fields fields.old (fields_of (samples_tags bits.now formats.now extra)) self.old) result self.old self.new }
+        ensures { Ends (λ _. fields.new) (write_fields fields.old (fields_of (samples_tags bits.now formats.now extra)) self.old)
+            result self.old self.new }
     {
         match self.set_bits(fields, bits, extra) {
             Ok(()) => {}
@@ -249,21 +254,22 @@ impl<W: Sink, K: TiffKind> TiffEncoder<W, K> {
     }
 
     // A number of each chunk.
-    fn set_places(
+    fn set_offsets(
         &mut self,
         fields: &mut Fields,
         tag: Tag,
         chunks: &[Chunk],
         part: Part,
     ) -> TiffResult<()>
-        ensures { Ends (λ _. fields.new) (calls.write_tag fields.old tag (Ok (data_of (places K.kind (map (part_of part) chunks.now)))) self.old) result self.old self.new }
+        ensures { Ends (λ _. fields.new) (calls.write_tag fields.old tag
+            (Ok (data_of (offset_values K.kind (map (number_of_part part) chunks.now)))) self.old) result self.old self.new }
     {
-        let places = Places::<K> {
+        let offsets = ChunkNumbers::<K> {
             chunks,
             part,
             kind: PhantomData,
         };
-        match self.set_tag(fields, tag, &places) {
+        match self.set_tag(fields, tag, &offsets) {
             Ok(()) => return Ok(()),
             Err(fault) => return Err(fault),
         }
@@ -276,14 +282,15 @@ impl<W: Sink, K: TiffKind> TiffEncoder<W, K> {
         chunk_type: ChunkType,
         chunks: &[Chunk],
     ) -> TiffResult<()>
-        ensures { Ends (λ _. fields.new) (write_fields fields.old (fields_of (list_tags K.kind chunk_type chunks.now)) self.old) result self.old self.new }
+        ensures { Ends (λ _. fields.new) (write_fields fields.old (fields_of (list_tags K.kind chunk_type chunks.now)) self.old)
+            result self.old self.new }
     {
         let (offsets, byte_counts) = tags_of(chunk_type);
-        match self.set_places(fields, offsets, chunks, Part::Place) {
+        match self.set_offsets(fields, offsets, chunks, Part::Offset) {
             Ok(()) => {}
             Err(fault) => return Err(fault),
         }
-        match self.set_places(fields, byte_counts, chunks, Part::Stored) {
+        match self.set_offsets(fields, byte_counts, chunks, Part::Stored) {
             Ok(()) => return Ok(()),
             Err(fault) => return Err(fault),
         }
@@ -291,7 +298,8 @@ impl<W: Sink, K: TiffKind> TiffEncoder<W, K> {
 
     // The tags that the end of an image writes. After an error the image isn't to be used.
     fn set_last<C: ColorType>(&mut self, image: &mut Drawing<C>) -> TiffResult<()>
-        ensures { Ends (λ _. image.new.directory) (write_fields image.old.directory (fields_of (calls.last_tags self.old.kind image.old)) self.old) result self.old self.new }
+        ensures { Ends (λ _. image.new.directory) (write_fields image.old.directory
+            (fields_of (calls.last_tags self.old.kind image.old)) self.old) result self.old self.new }
     {
         self.is_of_kind();
         let extra = image.extra.len();

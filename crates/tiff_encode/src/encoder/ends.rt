@@ -2,16 +2,16 @@
 
 ghost use Rattle.std.specs.Prelude.{◌≡◌, ℕ, ◌+◌, ◌^◌, ◌<◌, ◌≤◌, length, IfOk, MatchResult, if◌then◌else◌, None, Some, false};
 ghost use Rattle.std.specs.FinMap as map;
-ghost use Rattle.tiff_base.specs.Directory.{link_place};
+ghost use Rattle.tiff_base.specs.Directory.{link_offset};
 ghost use Rattle.tiff_encode.specs.Calls as calls;
 ghost use Rattle.tiff_encode.specs.Causes.{end_of, finish_cause, is_past};
 ghost use Rattle.tiff_encode.specs.Ends.{Ends};
 ghost use Rattle.tiff_encode.specs.Placing.{Lists, LinksFrom};
-ghost use Rattle.tiff_encode.specs.Written.{place_len};
+ghost use Rattle.tiff_encode.specs.FileBytes.{offset_len};
 
 use crate::encoder::TiffEncoder;
 use crate::encoder::kind::{DirectoryOffset, TiffKind};
-use crate::encoder::limits::place_bytes;
+use crate::encoder::limits::offset_size;
 use crate::encoder::listing::{check_end, list_directory};
 use crate::encoder::open::Fields;
 use tiff_base::error::{TiffError, TiffResult};
@@ -22,7 +22,7 @@ impl<W: Sink, K: TiffKind> TiffEncoder<W, K> {
     fn append_listed(&mut self, fields: &Fields) -> TiffResult<u64>
         requires { self.old.fault ≡ None }
         ensures listed { Lists fields.now self.old self.new result }
-        ensures last { IfOk result (λ link. link + place_len K.kind ≤ end_of self.new) }
+        ensures last { IfOk result (λ link. link + offset_len K.kind ≤ end_of self.new) }
     {
         fields.directory.entries_fit();
         let kind = K::file_kind();
@@ -30,7 +30,7 @@ impl<W: Sink, K: TiffKind> TiffEncoder<W, K> {
             return Err(TiffError::OutOfMemory);
         };
         match self.append(&bytes) {
-            Ok(()) => return Ok(self.writer.offset() - place_bytes(kind)),
+            Ok(()) => return Ok(self.writer.offset() - offset_size(kind)),
             Err(fault) => return Err(fault),
         }
     }
@@ -38,14 +38,14 @@ impl<W: Sink, K: TiffKind> TiffEncoder<W, K> {
     // The parent's link, where there is one, is pointed to a directory.
     fn link_from(&mut self, parent: Option<u64>, directory: u64) -> TiffResult<()>
         requires fresh { self.old.fault ≡ None }
-        requires within { (place : ℕ) → parent ≡ Some place → place + place_len K.kind ≤ length self.old.bytes }
+        requires within { (offset : ℕ) → parent ≡ Some offset → offset + offset_len K.kind ≤ length self.old.bytes }
         requires near { is_past K.kind directory ≡ false }
         ensures { LinksFrom parent directory self.old self.new result }
     {
-        let Some(place) = parent else {
+        let Some(offset) = parent else {
             return Ok(());
         };
-        match self.link(place, directory) {
+        match self.link(offset, directory) {
             Ok(()) => return Ok(()),
             Err(fault) => return Err(fault),
         }
@@ -59,7 +59,7 @@ impl<W: Sink, K: TiffKind> TiffEncoder<W, K> {
     }
 
     // Where a directory can end, at the file's end; else the cause.
-    fn end_place(&self, fields: &Fields) -> TiffResult<u64>
+    fn end_offset(&self, fields: &Fields) -> TiffResult<u64>
         ensures { MatchResult result
             (λ end. (self.now.fault ≡ None) × (end ≡ end_of self.now) × (finish_cause self.now fields.now ≡ None))
             (λ e. finish_cause self.now fields.now ≡ Some e) }
@@ -77,7 +77,7 @@ impl<W: Sink, K: TiffKind> TiffEncoder<W, K> {
 
     // The chain goes on with a directory that is chained.
     fn chain_with(&mut self, chained: bool, link: u64)
-        requires { link + place_len K.kind ≤ length self.old.bytes }
+        requires { link + offset_len K.kind ≤ length self.old.bytes }
         ensures { self.new ≡ (if chained then record self.old { chain = link } else self.old) }
     {
         if chained {
@@ -90,7 +90,7 @@ impl<W: Sink, K: TiffKind> TiffEncoder<W, K> {
         ensures { Ends (λ d. d) (calls.finish fields.now self.old) result self.old self.new }
     {
         self.is_of_kind();
-        let end = match self.end_place(fields) {
+        let end = match self.end_offset(fields) {
             Ok(end) => end,
             Err(fault) => return Err(fault),
         };

@@ -31,20 +31,22 @@ impl<W: Sink, K: TiffKind> TiffEncoder<W, K> {
     ghost use Rattle.std.specs.Borrow.{sem};
     ghost use Rattle.tiff_encode.specs.Lending.{new_image_rests};
 
-    /// Begins an image of a colour type, of so many columns and rows: padding to a multiple of 4, and its first tags, with a
+    /// Begins an image of a color type, of so many columns and rows: padding to a multiple of 4, and its first tags, with a
     /// resolution of 1/1. Its chunks are strips of as many rows as make a million bytes, or of one row where they are packed. The
     /// first cause that holds: an earlier fault of the sink: `UsageError(WriterFailed)`; a side of 0:
     /// `FormatError(InvalidDimensions)`; differences of floating numbers: `UsageError(PredictorIncompatible)`;
-    /// `Predictor::FloatingPoint`: `UsageError(PredictorUnavailable)`; a resolution's place past 4 bytes in a classic file:
+    /// `Predictor::FloatingPoint`: `UsageError(PredictorUnavailable)`; a resolution's offset past 4 bytes in a classic file:
     /// `IntSizeError`. Then `OutOfMemory`, or the sink's fault: `IoError(Device)` or `OutOfMemory`.
     pub fn new_image<C: ColorType>(
         &mut self,
         width: u32,
         height: u32,
     ) -> TiffResult<ImageEncoder<'_, W, C, K>>
-        ensures* rests { sem 𝓛 (new_image_rests W.row K.row K.OffsetType.row W.Sink K.TiffKind C.described (type_size C.Inner.value_type) width height self.entry result) }
+        ensures* rests { sem 𝓛 (new_image_rests W.row K.row K.OffsetType.row W.Sink K.TiffKind C.described
+            (type_size C.Inner.value_type) width height self.entry result) }
         ensures same_reference { IfOk result (λ i. i.encoder.ghost_name ≡ self.entry.ghost_name) }
-        ensures begun { IfOk result (λ i. IsTold (calls.new_image C.described (type_size C.Inner.value_type) width height self.entry.now) (Ok i.state) i.encoder.now) }
+        ensures begun { IfOk result (λ i. IsTold (calls.new_image C.described (type_size C.Inner.value_type) width height
+            self.entry.now) (Ok i.state) i.encoder.now) }
 
         // What stood in the file stands; where the call fails, `rests` says so.
         ensures leaves { (m : Model) → Stands self.entry.now.kind self.entry.now.bytes m
@@ -62,7 +64,7 @@ impl<W: Sink, K: TiffKind> TiffEncoder<W, K> {
         }
     }
 
-    /// Writes an image of a colour type whole: `new_image`, then `write_data` of its samples, row by row and pixel by pixel, which
+    /// Writes an image of a color type whole: `new_image`, then `write_data` of its samples, row by row and pixel by pixel, which
     /// ends it. Those behind the last of the image are left out. Errors are those of `new_image`, then those of `write_data`; after
     /// one what was appended stays, unused, and the next image can begin.
     pub fn write_image<C: ColorType>(
@@ -71,7 +73,8 @@ impl<W: Sink, K: TiffKind> TiffEncoder<W, K> {
         height: u32,
         samples: &[C::Inner],
     ) -> TiffResult<()>
-        ensures answer { WritesImage C.described (type_size C.Inner.value_type) width height (map (sample_number (type_size C.Inner.value_type) C.Inner.bits) samples.now) result self.old self.new }
+        ensures answer { WritesImage C.described (type_size C.Inner.value_type) width height
+            (map (sample_number (type_size C.Inner.value_type) C.Inner.bits) samples.now) result self.old self.new }
 
         // What stood in the file stands, and the page shows its samples; where the chain's link broke off, all but that link.
         ensures leaves { (m : Model) → Stands self.old.kind self.old.bytes m → IsLink self.old.kind m self.old.chain
@@ -111,12 +114,14 @@ impl<'a, W: Sink, K: TiffKind, C: ColorType> DirectoryEncoder<'a, W, K, Drawing<
     /// Writes the next strip or tile, in the order of their numbers, plane after plane: its samples row by row and pixel by
     /// pixel, the padding of a tile too, which is written as it is. The first cause that holds: an earlier fault of the sink:
     /// `UsageError(WriterFailed)`; more chunks in all than 4 bytes can count: `IntSizeError`; another number of samples than
-    /// `next_chunk_sample_count`, or no chunk left: `IoError(InvalidData)`; a place or a length past 4 bytes in a classic file:
+    /// `next_chunk_sample_count`, or no chunk left: `IoError(InvalidData)`; an offset or a length past 4 bytes in a classic file:
     /// `IntSizeError`. Then `OutOfMemory`, or the sink's fault: `IoError(Device)` or `OutOfMemory`. After an error the chunk is
     /// still the next.
     pub fn write_chunk(&mut self, samples: &[C::Inner]) -> TiffResult<()>
         ensures same_reference { self.new.encoder.ghost_name ≡ self.old.encoder.ghost_name }
-        ensures answer { WritesChunk calls.write_chunk (write_chunk_cause self.old.encoder.now self.old.state (length samples.now) 0) self.old.state (map (sample_number (type_size C.Inner.value_type) C.Inner.bits) samples.now) result self.old.encoder.now self.new.encoder.now self.new.state }
+        ensures answer { WritesChunk calls.write_chunk (write_chunk_cause self.old.encoder.now self.old.state
+            (length samples.now) 0) self.old.state (map (sample_number (type_size C.Inner.value_type) C.Inner.bits) samples.now)
+            result self.old.encoder.now self.new.encoder.now self.new.state }
 
         // What stood in the file stands.
         ensures leaves { (m : Model) → Stands self.old.encoder.now.kind self.old.encoder.now.bytes m
@@ -139,7 +144,9 @@ impl<'a, W: Sink, K: TiffKind, C: ColorType> DirectoryEncoder<'a, W, K, Drawing<
     /// tiles: `UsageError(InvalidChunkType(Strip, Tile))`.
     pub fn write_strip(&mut self, samples: &[C::Inner]) -> TiffResult<()>
         ensures same_reference { self.new.encoder.ghost_name ≡ self.old.encoder.ghost_name }
-        ensures answer { WritesChunk calls.write_strip (write_strip_cause self.old.encoder.now self.old.state (length samples.now) 0) self.old.state (map (sample_number (type_size C.Inner.value_type) C.Inner.bits) samples.now) result self.old.encoder.now self.new.encoder.now self.new.state }
+        ensures answer { WritesChunk calls.write_strip (write_strip_cause self.old.encoder.now self.old.state
+            (length samples.now) 0) self.old.state (map (sample_number (type_size C.Inner.value_type) C.Inner.bits) samples.now)
+            result self.old.encoder.now self.new.encoder.now self.new.state }
 
         // What stood in the file stands.
         ensures leaves { (m : Model) → Stands self.old.encoder.now.kind self.old.encoder.now.bytes m
@@ -160,20 +167,21 @@ impl<'a, W: Sink, K: TiffKind, C: ColorType> DirectoryEncoder<'a, W, K, Drawing<
 
     /// Ends the image: the bits and the formats of its samples, and where its chunks stand, those that were written; then its
     /// directory. The first cause that holds: an earlier fault of the sink: `UsageError(WriterFailed)`; of these tags one by one,
-    /// and then of the directory: a count or a place past what the kind can hold: `IntSizeError`; a parent's link that isn't within
+    /// and then of the directory: a count or an offset past what the kind can hold: `IntSizeError`; a parent's link that isn't within
     /// the file: `UsageError(ParentNotWritten)`. Then `OutOfMemory`, or the sink's fault: `IoError(Device)` or `OutOfMemory`. After
     /// an error the image has no directory, and the next one can begin.
     pub fn finish(self) -> TiffResult<()>
-        ensures answer { EndsSilently (calls.finish_image self.entry.state self.entry.encoder.now) result self.entry.encoder.now self.exit.0.now }
+        ensures answer { EndsSilently (calls.finish_image self.entry.state self.entry.encoder.now) result self.entry.encoder.now
+            self.exit.0.now }
 
         // What stood in the file stands, but for the parent's link, where that broke off.
         ensures leaves { (m : Model) → Stands self.entry.encoder.now.kind self.entry.encoder.now.bytes m
-            → ((place : ℕ) → self.entry.state.directory.parent ≡ Some place → IsLink self.entry.encoder.now.kind m place)
+            → ((offset : ℕ) → self.entry.state.directory.parent ≡ Some offset → IsLink self.entry.encoder.now.kind m offset)
             → LeavesLinked (calls.finish_image self.entry.state self.entry.encoder.now) result self.entry.encoder.now self.exit.0.now m }
 
         // An image whose chunks were all written is shown.
         ensures shows { (m : Model) (samples : List (List ℕ)) → Stands self.entry.encoder.now.kind self.entry.encoder.now.bytes m
-            → ((place : ℕ) → self.entry.state.directory.parent ≡ Some place → IsLink self.entry.encoder.now.kind m place)
+            → ((offset : ℕ) → self.entry.state.directory.parent ≡ Some offset → IsLink self.entry.encoder.now.kind m offset)
             → HoldsOpen self.entry.encoder.now.kind m self.entry.state samples → chunks.is_left self.entry.state ≡ false
             → ShowsFinished self.entry.state samples result self.entry.encoder.now self.exit.0.now }
 
@@ -198,16 +206,17 @@ impl<'a, W: Sink, K: TiffKind, C: ColorType> DirectoryEncoder<'a, W, K, Drawing<
     /// Ends the image as `finish` does, with the chunks that were written, as the Rust crate writes one that is let go. Errors are
     /// those of `finish`.
     pub fn discard(self) -> TiffResult<()>
-        ensures answer { EndsSilently (calls.finish_image self.entry.state self.entry.encoder.now) result self.entry.encoder.now self.exit.0.now }
+        ensures answer { EndsSilently (calls.finish_image self.entry.state self.entry.encoder.now) result self.entry.encoder.now
+            self.exit.0.now }
 
         // What stood in the file stands, but for the parent's link, where that broke off.
         ensures leaves { (m : Model) → Stands self.entry.encoder.now.kind self.entry.encoder.now.bytes m
-            → ((place : ℕ) → self.entry.state.directory.parent ≡ Some place → IsLink self.entry.encoder.now.kind m place)
+            → ((offset : ℕ) → self.entry.state.directory.parent ≡ Some offset → IsLink self.entry.encoder.now.kind m offset)
             → LeavesLinked (calls.finish_image self.entry.state self.entry.encoder.now) result self.entry.encoder.now self.exit.0.now m }
 
         // An image whose chunks were all written is shown.
         ensures shows { (m : Model) (samples : List (List ℕ)) → Stands self.entry.encoder.now.kind self.entry.encoder.now.bytes m
-            → ((place : ℕ) → self.entry.state.directory.parent ≡ Some place → IsLink self.entry.encoder.now.kind m place)
+            → ((offset : ℕ) → self.entry.state.directory.parent ≡ Some offset → IsLink self.entry.encoder.now.kind m offset)
             → HoldsOpen self.entry.encoder.now.kind m self.entry.state samples → chunks.is_left self.entry.state ≡ false
             → ShowsFinished self.entry.state samples result self.entry.encoder.now self.exit.0.now }
 
@@ -237,11 +246,12 @@ impl<'a, W: Sink, K: TiffKind, C: ColorType> DirectoryEncoder<'a, W, K, Drawing<
     /// `IntSizeError`. Then, chunk by chunk, those of `write_chunk`, and those of `finish`. After an error the image has no
     /// directory, what was appended stays, unused, and the next one can begin.
     pub fn write_data(self, samples: &[C::Inner]) -> TiffResult<()>
-        ensures answer { WritesImageData self.entry.state (map (sample_number (type_size C.Inner.value_type) C.Inner.bits) samples.now) result self.entry.encoder.now self.exit.0.now }
+        ensures answer { WritesImageData self.entry.state (map (sample_number (type_size C.Inner.value_type) C.Inner.bits)
+            samples.now) result self.entry.encoder.now self.exit.0.now }
 
         // What stood in the file stands, and the page shows its samples; but for the parent's link, where that broke off.
         ensures leaves { (m : Model) → Stands self.entry.encoder.now.kind self.entry.encoder.now.bytes m
-            → ((place : ℕ) → self.entry.state.directory.parent ≡ Some place → IsLink self.entry.encoder.now.kind m place)
+            → ((offset : ℕ) → self.entry.state.directory.parent ≡ Some offset → IsLink self.entry.encoder.now.kind m offset)
             → LeavesData self.entry.state (map (sample_number (type_size C.Inner.value_type) C.Inner.bits) samples.now) result self.entry.encoder.now self.exit.0.now m }
 
         // The file is as short as each is.

@@ -74,7 +74,8 @@ impl<'a, W: Sink, K: TiffKind, C: ColorType> DirectoryEncoder<'a, W, K, Drawing<
     // `resolution`, of which the first tags may stand after a fault.
     fn resolution_step(&mut self, unit: ResolutionUnit, value: Rational) -> TiffResult<StepReply>
         ensures same_reference { self.new.encoder.ghost_name ≡ self.old.encoder.ghost_name }
-        ensures draws { ResolutionDraws self.old.state unit (value.n, value.d) result self.old.encoder.now self.new.encoder.now self.new.state }
+        ensures draws { ResolutionDraws self.old.state unit (value.n, value.d) result self.old.encoder.now self.new.encoder.now
+            self.new.state }
     {
         self.state.fits();
         let answer = self.resolution(unit, value);

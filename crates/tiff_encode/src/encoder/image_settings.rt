@@ -395,15 +395,16 @@ fn resolution_values(unit: ResolutionUnit, value: Rational) -> [TagValue; 3]
 // ---- of an open image
 
 impl<'a, W: Sink, K: TiffKind, C: ColorType> DirectoryEncoder<'a, W, K, Drawing<C>> {
-    /// Sets what the samples of a pixel mean that follow those of the colour type, one for each, in place of those that were
+    /// Sets what the samples of a pixel mean that follow those of the color type, one for each, in place of those that were
     /// set before. Each pixel that is written from then on has them too. The first cause that holds: an
     /// earlier fault of the sink: `UsageError(WriterFailed)`; a chunk was written: `UsageError(ReconfiguredAfterImageWrite)`;
-    /// more than 65535 samples in all, or the list's place past 4 bytes in a classic file: `IntSizeError`. Then `OutOfMemory`,
+    /// more than 65535 samples in all, or the list's offset past 4 bytes in a classic file: `IntSizeError`. Then `OutOfMemory`,
     /// or the sink's fault: `IoError(Device)` or `OutOfMemory`.
     pub fn extra_samples(&mut self, extra: &[ExtraSamples]) -> TiffResult<()>
         ensures same_reference { self.new.encoder.ghost_name ≡ self.old.encoder.ghost_name }
         ensures stays { OnErr result (self.new.state ≡ self.old.state) }
-        ensures answer { Ends (λ _. self.new.state) (calls.extra_samples self.old.state extra.now self.old.encoder.now) result self.old.encoder.now self.new.encoder.now }
+        ensures answer { Ends (λ _. self.new.state) (calls.extra_samples self.old.state extra.now self.old.encoder.now) result
+            self.old.encoder.now self.new.encoder.now }
 
         // What stood in the file stands.
         ensures leaves { (m : Model) → Stands self.old.encoder.now.kind self.old.encoder.now.bytes m
@@ -421,7 +422,8 @@ impl<'a, W: Sink, K: TiffKind, C: ColorType> DirectoryEncoder<'a, W, K, Drawing<
     pub fn rows_per_strip(&mut self, value: u32) -> TiffResult<()>
         ensures same_reference { self.new.encoder.ghost_name ≡ self.old.encoder.ghost_name }
         ensures stays { OnErr result (self.new.state ≡ self.old.state) }
-        ensures answer { Ends (λ _. self.new.state) (calls.set_rows_per_strip self.old.state value self.old.encoder.now) result self.old.encoder.now self.new.encoder.now }
+        ensures answer { Ends (λ _. self.new.state) (calls.set_rows_per_strip self.old.state value self.old.encoder.now) result
+            self.old.encoder.now self.new.encoder.now }
 
         // What stood in the file stands.
         ensures leaves { (m : Model) → Stands self.old.encoder.now.kind self.old.encoder.now.bytes m
@@ -439,7 +441,8 @@ impl<'a, W: Sink, K: TiffKind, C: ColorType> DirectoryEncoder<'a, W, K, Drawing<
     pub fn tiles(&mut self, width: u32, length: u32) -> TiffResult<()>
         ensures same_reference { self.new.encoder.ghost_name ≡ self.old.encoder.ghost_name }
         ensures stays { OnErr result (self.new.state ≡ self.old.state) }
-        ensures answer { Ends (λ _. self.new.state) (calls.tiles self.old.state width length self.old.encoder.now) result self.old.encoder.now self.new.encoder.now }
+        ensures answer { Ends (λ _. self.new.state) (calls.tiles self.old.state width length self.old.encoder.now) result
+            self.old.encoder.now self.new.encoder.now }
 
         // What stood in the file stands.
         ensures leaves { (m : Model) → Stands self.old.encoder.now.kind self.old.encoder.now.bytes m
@@ -457,7 +460,8 @@ impl<'a, W: Sink, K: TiffKind, C: ColorType> DirectoryEncoder<'a, W, K, Drawing<
     pub fn planar(&mut self) -> TiffResult<()>
         ensures same_reference { self.new.encoder.ghost_name ≡ self.old.encoder.ghost_name }
         ensures stays { OnErr result (self.new.state ≡ self.old.state) }
-        ensures answer { Ends (λ _. self.new.state) (calls.planar self.old.state self.old.encoder.now) result self.old.encoder.now self.new.encoder.now }
+        ensures answer { Ends (λ _. self.new.state) (calls.planar self.old.state self.old.encoder.now) result
+            self.old.encoder.now self.new.encoder.now }
 
         // What stood in the file stands.
         ensures leaves { (m : Model) → Stands self.old.encoder.now.kind self.old.encoder.now.bytes m
@@ -470,13 +474,15 @@ impl<'a, W: Sink, K: TiffKind, C: ColorType> DirectoryEncoder<'a, W, K, Drawing<
     }
 
     /// Sets how many pixels there are to a unit, across and down, and the unit. The first cause that holds: an earlier fault of
-    /// the sink: `UsageError(WriterFailed)`; a place past 4 bytes in a classic file: `IntSizeError`. Then `OutOfMemory`, or the
+    /// the sink: `UsageError(WriterFailed)`; an offset past 4 bytes in a classic file: `IntSizeError`. Then `OutOfMemory`, or the
     /// sink's fault: `IoError(Device)` or `OutOfMemory`; after one of these the first ones of the three tags may be set, in the
     /// order of the unit, across, down.
     pub fn resolution(&mut self, unit: ResolutionUnit, value: Rational) -> TiffResult<()>
         ensures same_reference { self.new.encoder.ghost_name ≡ self.old.encoder.ghost_name }
-        ensures part { IfErr result (λ e. StopsResolving self.old.state unit (value.n, value.d) e self.old.encoder.now self.new.encoder.now self.new.state) }
-        ensures answer { Ends (λ _. self.new.state) (calls.resolution self.old.state unit (value.n, value.d) self.old.encoder.now) result self.old.encoder.now self.new.encoder.now }
+        ensures part { IfErr result (λ e. StopsResolving self.old.state unit (value.n, value.d) e self.old.encoder.now
+            self.new.encoder.now self.new.state) }
+        ensures answer { Ends (λ _. self.new.state) (calls.resolution self.old.state unit (value.n, value.d)
+            self.old.encoder.now) result self.old.encoder.now self.new.encoder.now }
 
         // What stood in the file stands.
         ensures leaves { (m : Model) → Stands self.old.encoder.now.kind self.old.encoder.now.bytes m
@@ -489,12 +495,13 @@ impl<'a, W: Sink, K: TiffKind, C: ColorType> DirectoryEncoder<'a, W, K, Drawing<
     }
 
     /// Sets how many pixels there are to a unit, across. The first cause that holds: an earlier fault of the sink:
-    /// `UsageError(WriterFailed)`; a place past 4 bytes in a classic file: `IntSizeError`. Then `OutOfMemory`, or the sink's
+    /// `UsageError(WriterFailed)`; an offset past 4 bytes in a classic file: `IntSizeError`. Then `OutOfMemory`, or the sink's
     /// fault: `IoError(Device)` or `OutOfMemory`.
     pub fn x_resolution(&mut self, value: Rational) -> TiffResult<()>
         ensures same_reference { self.new.encoder.ghost_name ≡ self.old.encoder.ghost_name }
         ensures stays { OnErr result (self.new.state ≡ self.old.state) }
-        ensures answer { Ends (λ _. self.new.state) (calls.x_resolution self.old.state (value.n, value.d) self.old.encoder.now) result self.old.encoder.now self.new.encoder.now }
+        ensures answer { Ends (λ _. self.new.state) (calls.x_resolution self.old.state (value.n, value.d) self.old.encoder.now)
+            result self.old.encoder.now self.new.encoder.now }
 
         // What stood in the file stands.
         ensures leaves { (m : Model) → Stands self.old.encoder.now.kind self.old.encoder.now.bytes m
@@ -507,12 +514,13 @@ impl<'a, W: Sink, K: TiffKind, C: ColorType> DirectoryEncoder<'a, W, K, Drawing<
     }
 
     /// Sets how many pixels there are to a unit, down. The first cause that holds: an earlier fault of the sink:
-    /// `UsageError(WriterFailed)`; a place past 4 bytes in a classic file: `IntSizeError`. Then `OutOfMemory`, or the sink's
+    /// `UsageError(WriterFailed)`; an offset past 4 bytes in a classic file: `IntSizeError`. Then `OutOfMemory`, or the sink's
     /// fault: `IoError(Device)` or `OutOfMemory`.
     pub fn y_resolution(&mut self, value: Rational) -> TiffResult<()>
         ensures same_reference { self.new.encoder.ghost_name ≡ self.old.encoder.ghost_name }
         ensures stays { OnErr result (self.new.state ≡ self.old.state) }
-        ensures answer { Ends (λ _. self.new.state) (calls.y_resolution self.old.state (value.n, value.d) self.old.encoder.now) result self.old.encoder.now self.new.encoder.now }
+        ensures answer { Ends (λ _. self.new.state) (calls.y_resolution self.old.state (value.n, value.d) self.old.encoder.now)
+            result self.old.encoder.now self.new.encoder.now }
 
         // What stood in the file stands.
         ensures leaves { (m : Model) → Stands self.old.encoder.now.kind self.old.encoder.now.bytes m
@@ -528,7 +536,8 @@ impl<'a, W: Sink, K: TiffKind, C: ColorType> DirectoryEncoder<'a, W, K, Drawing<
     pub fn resolution_unit(&mut self, unit: ResolutionUnit) -> TiffResult<()>
         ensures same_reference { self.new.encoder.ghost_name ≡ self.old.encoder.ghost_name }
         ensures stays { OnErr result (self.new.state ≡ self.old.state) }
-        ensures answer { Ends (λ _. self.new.state) (calls.resolution_unit self.old.state unit self.old.encoder.now) result self.old.encoder.now self.new.encoder.now }
+        ensures answer { Ends (λ _. self.new.state) (calls.resolution_unit self.old.state unit self.old.encoder.now) result
+            self.old.encoder.now self.new.encoder.now }
 
         // What stood in the file stands.
         ensures leaves { (m : Model) → Stands self.old.encoder.now.kind self.old.encoder.now.bytes m

@@ -3,14 +3,14 @@
 ghost use Rattle.std.specs.Prelude.{◌≡◌, ℕ, ◌+◌, ◌*◌, ◌^◌, ◌<◌, [], ◌∷◌, length, IfOk, MatchOption, MatchResult, None, Some, true};
 ghost use Rattle.tiff_base.specs.Types.{type_size};
 ghost use Rattle.tiff_encode.specs.Calls as calls;
-ghost use Rattle.tiff_encode.specs.Calls.{default_rows, image_in, opened};
+ghost use Rattle.tiff_encode.specs.Calls.{default_rows, image_in, new_directory};
 ghost use Rattle.tiff_encode.specs.Causes as causes;
 ghost use Rattle.tiff_encode.specs.Causes.{end_of, image_cause, is_past, new_image_cause};
 ghost use Rattle.tiff_encode.specs.Ends.{Ends};
-ghost use Rattle.tiff_encode.specs.Machine.{method_of};
+ghost use Rattle.tiff_encode.specs.Machine.{compression_method};
 ghost use Rattle.tiff_encode.specs.Placing.{Checks};
 ghost use Rattle.tiff_encode.specs.Tagging.{fields_of};
-ghost use Rattle.tiff_encode.specs.Written.{resolutions_place};
+ghost use Rattle.tiff_encode.specs.FileBytes.{resolutions_offset};
 
 use crate::encoder::TiffEncoder;
 use crate::encoder::drawing::{Drawing, Form};
@@ -39,9 +39,9 @@ fn is_not_whole(formats: &[SampleFormat]) -> bool
 }
 
 // Whether the second resolution would stand past what the kind can hold.
-#[tactic(auto, using(crate::proofs::Places::resolutions_of))]
+#[tactic(auto, using(crate::proofs::Offsets::resolutions_of))]
 fn is_past_resolutions(kind: FileKind, end: u64) -> bool
-    ensures { result ≡ is_past kind (resolutions_place end + 8) }
+    ensures { result ≡ is_past kind (resolutions_offset end + 8) }
 {
     let limit = u64::from(u32::MAX);
     match kind {
@@ -81,7 +81,7 @@ fn check_image(
 
 // The method of a packing.
 fn method(compression: Compression) -> CompressionMethod
-    ensures { result ≡ method_of compression }
+    ensures { result ≡ compression_method compression }
 {
     match compression {
         Compression::Uncompressed => CompressionMethod::None,
@@ -92,7 +92,7 @@ fn method(compression: Compression) -> CompressionMethod
 // The rows of a strip by default, of rows of so many bytes.
 fn rows_of_strip(compression: Compression, row_bytes: u64) -> u32
     requires { 0 < row_bytes }
-    ensures rows { result ≡ default_rows (method_of compression) row_bytes }
+    ensures rows { result ≡ default_rows (compression_method compression) row_bytes }
     ensures some { 0 < result }
 {
     match compression {
@@ -128,7 +128,8 @@ impl<W: Sink, K: TiffKind> TiffEncoder<W, K> {
     // An image without chunks, in a directory of the chain without fields.
     fn blank<C: ColorType>(&self, width: u32, height: u32) -> Drawing<C>
         requires sides { (0 < width) × (0 < height) }
-        ensures { result ≡ image_in self.now (opened (Some self.now.chain) true) C.described (type_size C.Inner.value_type) width height }
+        ensures { result ≡ image_in self.now (new_directory (Some self.now.chain) true) C.described
+            (type_size C.Inner.value_type) width height }
     {
         let pixel = C::bits_per_sample().len() as u64 * u64::from(C::Inner::byte_len());
         let rows = rows_of_strip(self.compression, u64::from(width) * pixel);
@@ -150,7 +151,7 @@ impl<W: Sink, K: TiffKind> TiffEncoder<W, K> {
                 planar: PlanarConfiguration::Chunky,
             },
             chunks: Vec::new(self.alloc),
-            colour: PhantomData,
+            color: PhantomData,
         }
     }
 }
@@ -172,8 +173,8 @@ fn meaning_values<C: ColorType>(image: &Drawing<C>) -> [TagValue; 5]
 // Samples of YCbCr are not subsampled, which is said.
 fn chroma_value<C: ColorType>(image: &Drawing<C>) -> Option<TagValue>
     ensures { MatchOption result
-        (fields_of (calls.chroma_tags image.now.colour.interpretation) ≡ [])
-        (λ v. fields_of (calls.chroma_tags image.now.colour.interpretation) ≡ v ∷ []) }
+        (fields_of (calls.chroma_tags image.now.color.interpretation) ≡ [])
+        (λ v. fields_of (calls.chroma_tags image.now.color.interpretation) ≡ v ∷ []) }
 {
     let _form = &image.form;
     match C::TIFF_VALUE {
@@ -203,7 +204,8 @@ impl<W: Sink, K: TiffKind> TiffEncoder<W, K> {
         width: u32,
         height: u32,
     ) -> TiffResult<Drawing<C>>
-        ensures { Ends (λ i. i) (calls.new_image C.described (type_size C.Inner.value_type) width height self.old) result self.old self.new }
+        ensures { Ends (λ i. i) (calls.new_image C.described (type_size C.Inner.value_type) width height self.old) result
+            self.old self.new }
     {
         match self.check_new_image::<C>(width, height) {
             Ok(()) => {}

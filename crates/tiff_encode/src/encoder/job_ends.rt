@@ -23,7 +23,8 @@ use tiff_value::encoder::tiff_value::TiffScalar;
 impl<'a, W: Sink, K: TiffKind> DirectoryEncoder<'a, W, K, Fields> {
     // `finish_with_offsets`
     fn end_with_offsets(self) -> TiffResult<EndReply>
-        ensures { EndMoves (λ s t place. FinishesWith (calls.finish self.entry.state s.file) result s t place) self.entry.state.parent self.entry.encoder.now self.exit.0.now (λ s t place. Unit {0}) }
+        ensures { EndMoves (λ s t offset. FinishesWith (calls.finish self.entry.state s.file) result s t offset)
+            self.entry.state.parent self.entry.encoder.now self.exit.0.now (λ s t offset. Unit {0}) }
     {
         self.encoder.fits();
         self.state.fits();
@@ -40,7 +41,8 @@ impl<'a, W: Sink, K: TiffKind> DirectoryEncoder<'a, W, K, Fields> {
 
     // `discard`
     fn end_silently(self) -> TiffResult<EndReply>
-        ensures { EndMoves (λ s t place. FinishesSilently (calls.finish self.entry.state s.file) result s t place) self.entry.state.parent self.entry.encoder.now self.exit.0.now (λ s t place. Unit {0}) }
+        ensures { EndMoves (λ s t offset. FinishesSilently (calls.finish self.entry.state s.file) result s t offset)
+            self.entry.state.parent self.entry.encoder.now self.exit.0.now (λ s t offset. Unit {0}) }
     {
         self.encoder.fits();
         self.state.fits();
@@ -52,7 +54,8 @@ impl<'a, W: Sink, K: TiffKind> DirectoryEncoder<'a, W, K, Fields> {
 
     /// Ends a directory.
     pub(crate) fn end(self, end: DirectoryEnd) -> TiffResult<EndReply>
-        ensures { EndMoves (λ s t place. DirectoryEnds s self.entry.state end result t place) self.entry.state.parent self.entry.encoder.now self.exit.0.now (λ s t place. Unit {0}) }
+        ensures { EndMoves (λ s t offset. DirectoryEnds s self.entry.state end result t offset) self.entry.state.parent
+            self.entry.encoder.now self.exit.0.now (λ s t offset. Unit {0}) }
     {
         match end {
             DirectoryEnd::Finish => return self.end_with_offsets(),
@@ -74,7 +77,10 @@ impl<'a, W: Sink, K: TiffKind, C: ColorType> DirectoryEncoder<'a, W, K, Drawing<
 
     // `write_data`
     fn write_samples(self, samples: &[C::Inner]) -> TiffResult<EndReply>
-        ensures { EndMoves (λ s t place. WritesData self.entry.state (map (sample_number (type_size C.Inner.value_type) C.Inner.bits) samples.now) result s t place) self.entry.state.directory.parent self.entry.encoder.now self.exit.0.now (DataHeld self.entry.state (map (sample_number (type_size C.Inner.value_type) C.Inner.bits) samples.now)) }
+        ensures { EndMoves (λ s t offset. WritesData self.entry.state
+            (map (sample_number (type_size C.Inner.value_type) C.Inner.bits) samples.now) result s t offset)
+            self.entry.state.directory.parent self.entry.encoder.now self.exit.0.now
+            (DataHeld self.entry.state (map (sample_number (type_size C.Inner.value_type) C.Inner.bits) samples.now)) }
     {
         self.state.fits();
         self.state.is_of_type();
@@ -86,7 +92,9 @@ impl<'a, W: Sink, K: TiffKind, C: ColorType> DirectoryEncoder<'a, W, K, Drawing<
 
     // The same of samples that are cut, where there is memory for them.
     fn write_numbers(self, numbers: &[u64]) -> TiffResult<EndReply>
-        ensures { EndMoves (λ s t place. WritesDataIfFound self.entry.state (cut_to self.entry.state.size numbers.now) result s t place) self.entry.state.directory.parent self.entry.encoder.now self.exit.0.now (DataHeld self.entry.state (cut_to self.entry.state.size numbers.now)) }
+        ensures { EndMoves (λ s t offset. WritesDataIfFound self.entry.state (cut_to self.entry.state.size numbers.now) result s
+            t offset) self.entry.state.directory.parent self.entry.encoder.now self.exit.0.now
+            (DataHeld self.entry.state (cut_to self.entry.state.size numbers.now)) }
     {
         self.state.is_of_type();
         let samples = match cut_samples::<C::Inner>(self.encoder.alloc(), numbers) {
@@ -101,7 +109,8 @@ impl<'a, W: Sink, K: TiffKind, C: ColorType> DirectoryEncoder<'a, W, K, Drawing<
 
     // `finish`
     fn finish_drawn(self) -> TiffResult<EndReply>
-        ensures { EndMoves (λ s t place. ImageEnds s self.entry.state ImageEnd.Finish result t place) self.entry.state.directory.parent self.entry.encoder.now self.exit.0.now (ImageHeld self.entry.state ImageEnd.Finish) }
+        ensures { EndMoves (λ s t offset. ImageEnds s self.entry.state ImageEnd.Finish result t offset)
+            self.entry.state.directory.parent self.entry.encoder.now self.exit.0.now (ImageHeld self.entry.state ImageEnd.Finish) }
     {
         self.state.fits();
         match self.finish() {
@@ -112,7 +121,9 @@ impl<'a, W: Sink, K: TiffKind, C: ColorType> DirectoryEncoder<'a, W, K, Drawing<
 
     // `discard`
     fn discard_drawn(self) -> TiffResult<EndReply>
-        ensures { EndMoves (λ s t place. ImageEnds s self.entry.state ImageEnd.Discard result t place) self.entry.state.directory.parent self.entry.encoder.now self.exit.0.now (ImageHeld self.entry.state ImageEnd.Discard) }
+        ensures { EndMoves (λ s t offset. ImageEnds s self.entry.state ImageEnd.Discard result t offset)
+            self.entry.state.directory.parent self.entry.encoder.now self.exit.0.now
+            (ImageHeld self.entry.state ImageEnd.Discard) }
     {
         self.state.fits();
         match self.discard() {
@@ -123,7 +134,8 @@ impl<'a, W: Sink, K: TiffKind, C: ColorType> DirectoryEncoder<'a, W, K, Drawing<
 
     /// Ends an image. Where there is no memory for its samples, it has no directory.
     pub(crate) fn end_image(self, end: &ImageEnd) -> TiffResult<EndReply>
-        ensures { EndMoves (λ s t place. ImageEnds s self.entry.state end.now result t place) self.entry.state.directory.parent self.entry.encoder.now self.exit.0.now (ImageHeld self.entry.state end.now) }
+        ensures { EndMoves (λ s t offset. ImageEnds s self.entry.state end.now result t offset) self.entry.state.directory.parent
+            self.entry.encoder.now self.exit.0.now (ImageHeld self.entry.state end.now) }
     {
         match end {
             ImageEnd::WriteData(numbers) => return self.write_numbers(numbers),

@@ -35,7 +35,9 @@ impl<'a, W: Sink, K: TiffKind, D: State> DirectoryEncoder<'a, W, K, D> {
         ensures same_reference { self.new.encoder.ghost_name ≡ self.old.encoder.ghost_name }
         ensures stays { OnErr result (self.new.state ≡ self.old.state) }
         ensures rest { self.new.state ≡ D.with_directory self.old.state (D.open_directory self.new.state) }
-        ensures answer { Ends (λ _. D.open_directory self.new.state) (calls.write_tag (D.open_directory self.old.state) tag (value_data value.now) self.old.encoder.now) result self.old.encoder.now self.new.encoder.now }
+        ensures answer { Ends (λ _. D.open_directory self.new.state)
+            (calls.write_tag (D.open_directory self.old.state) tag (value_data value.now) self.old.encoder.now) result
+            self.old.encoder.now self.new.encoder.now }
         ensures leaves { (m : Model) → Stands self.old.encoder.now.kind self.old.encoder.now.bytes m
             → Leaves (calls.write_tag (D.open_directory self.old.state) tag (value_data value.now) self.old.encoder.now) result self.old.encoder.now self.new.encoder.now m }
     {
@@ -54,7 +56,9 @@ impl<'a, W: Sink, K: TiffKind, D: State> DirectoryEncoder<'a, W, K, D> {
         ensures same_reference { self.new.encoder.ghost_name ≡ self.old.encoder.ghost_name }
         ensures stays { OnErr result (self.new.state ≡ self.old.state) }
         ensures rest { self.new.state ≡ D.with_directory self.old.state (D.open_directory self.new.state) }
-        ensures answer { Ends (λ _. D.open_directory self.new.state) (calls.write_tag_buf (D.open_directory self.old.state) tag (buffer_in buffer.now) self.old.encoder.now) result self.old.encoder.now self.new.encoder.now }
+        ensures answer { Ends (λ _. D.open_directory self.new.state)
+            (calls.write_tag_buf (D.open_directory self.old.state) tag (buffer_in buffer.now) self.old.encoder.now) result
+            self.old.encoder.now self.new.encoder.now }
         ensures leaves { (m : Model) → Stands self.old.encoder.now.kind self.old.encoder.now.bytes m
             → Leaves (calls.write_tag_buf (D.open_directory self.old.state) tag (buffer_in buffer.now) self.old.encoder.now) result self.old.encoder.now self.new.encoder.now m }
     {
@@ -72,7 +76,8 @@ impl<'a, W: Sink, K: TiffKind, D: State> DirectoryEncoder<'a, W, K, D> {
     pub(crate) fn step(&mut self, step: &DirectoryStep) -> TiffResult<StepReply>
         ensures same_reference { self.new.encoder.ghost_name ≡ self.old.encoder.ghost_name }
         ensures rest { self.new.state ≡ D.with_directory self.old.state (D.open_directory self.new.state) }
-        ensures moves { Moves (λ s t. DirectoryStepped s (D.open_directory self.old.state) step.now result t (D.open_directory self.new.state)) self.old.encoder.now self.new.encoder.now }
+        ensures moves { Moves (λ s t. DirectoryStepped s (D.open_directory self.old.state) step.now result t
+            (D.open_directory self.new.state)) self.old.encoder.now self.new.encoder.now }
     {
         match step {
             DirectoryStep::WriteTag(tag, value) => match self.write_job_tag(*tag, value) {
@@ -84,11 +89,11 @@ impl<'a, W: Sink, K: TiffKind, D: State> DirectoryEncoder<'a, W, K, D> {
                 Err(fault) => Err(fault),
             },
             DirectoryStep::WriteData(value) => match self.encoder.append_job_value(value) {
-                Ok(place) => Ok(StepReply::Number(place)),
+                Ok(offset) => Ok(StepReply::Number(offset)),
                 Err(fault) => Err(fault),
             },
             DirectoryStep::WriteDataBuf(buffer) => match self.encoder.append_job_buffer(buffer) {
-                Ok(place) => Ok(StepReply::Number(place)),
+                Ok(offset) => Ok(StepReply::Number(offset)),
                 Err(fault) => Err(fault),
             },
             DirectoryStep::WriteEntry(value) => match self.encoder.place_job_value(value) {
@@ -123,7 +128,8 @@ impl<'a, W: Sink, K: TiffKind> DirectoryEncoder<'a, W, K, Fields> {
         requires room { length steps.now ≤ vec_capacity replies.old }
         requires none { replies.old.items ≡ [] }
         ensures same_reference { self.new.encoder.ghost_name ≡ self.old.encoder.ghost_name }
-        ensures moves { Moves (λ s t. AllStepped DirectoryStepped s self.old.state steps.now replies.new.items t self.new.state) self.old.encoder.now self.new.encoder.now }
+        ensures moves { Moves (λ s t. AllStepped DirectoryStepped s self.old.state steps.now replies.new.items t self.new.state)
+            self.old.encoder.now self.new.encoder.now }
     {
         for step in steps {
             let reply = self.step(step);

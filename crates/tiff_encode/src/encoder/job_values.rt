@@ -152,7 +152,7 @@ impl<W: Sink, K: TiffKind> TiffEncoder<W, K> {
             → Leaves (calls.write_data (T.field_data value.now) self.old) result self.old self.new m }
     {
         match self.append_value(value) {
-            Ok(place) => return Ok(place),
+            Ok(offset) => return Ok(offset),
             Err(fault) => return Err(fault),
         }
     }
@@ -197,7 +197,7 @@ impl<W: Sink, K: TiffKind> TiffEncoder<W, K> {
             → Leaves (calls.write_data_buf (buffer_in buffer.now) self.old) result self.old self.new m }
     {
         match self.append_ordered(buffer.order, &buffer.bytes) {
-            Ok(place) => return Ok(place),
+            Ok(offset) => return Ok(offset),
             Err(fault) => return Err(fault),
         }
     }

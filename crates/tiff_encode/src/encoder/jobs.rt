@@ -4,8 +4,8 @@ ghost use Rattle.std.specs.Prelude.{◌≡◌, ◌⊎◌, length, true, false};
 ghost use Rattle.tiff_base.specs.declared.tags.CompressionMethod.TheVariants as method;
 ghost use Rattle.tiff_encode.specs.Calls as calls;
 ghost use Rattle.tiff_encode.specs.Jobs.{offsets_in};
-ghost use Rattle.tiff_encode.specs.Running.{DirectoryGoesOn, DirectoryRunsOn, HasRoom, ImageGoesOn, ImageRunsOn, NamesLink, link_in, linked_from, step_count};
-ghost use Rattle.tiff_encode.specs.Stepping.{JobMoves, answered};
+ghost use Rattle.tiff_encode.specs.Running.{DirectoryGoesOn, DirectoryRunsOn, IsEmptyWithRoom, ImageGoesOn, ImageRunsOn, NamesLink, link_in, linked_from, step_count};
+ghost use Rattle.tiff_encode.specs.Stepping.{JobMoves, offsets_answered};
 
 use crate::encoder::TiffEncoder;
 use crate::encoder::directory_encoder::DirectoryEncoder;
@@ -70,7 +70,7 @@ fn lead_directory<W: Sink, K: TiffKind>(
     job: &DirectoryJob,
     mut steps: Vec<TiffResult<StepReply>>,
 ) -> JobReply
-    requires { HasRoom (length job.now.steps.items) steps }
+    requires { IsEmptyWithRoom (length job.now.steps.items) steps }
     ensures { DirectoryGoesOn state job.now result encoder.old encoder.new }
 {
     let mut directory = DirectoryEncoder { encoder, state };
@@ -87,7 +87,7 @@ fn run_chained<W: Sink, K: TiffKind>(
     steps: Vec<TiffResult<StepReply>>,
 ) -> JobReply
     requires chained { job.now.chained ≡ true }
-    requires room { HasRoom (length job.now.steps.items) steps }
+    requires room { IsEmptyWithRoom (length job.now.steps.items) steps }
     ensures { DirectoryRunsOn parent job.now result encoder.old encoder.new }
 {
     match encoder.image_directory() {
@@ -113,7 +113,7 @@ fn run_extra<W: Sink, K: TiffKind>(
     steps: Vec<TiffResult<StepReply>>,
 ) -> JobReply
     requires chained { job.now.chained ≡ false }
-    requires room { HasRoom (length job.now.steps.items) steps }
+    requires room { IsEmptyWithRoom (length job.now.steps.items) steps }
     ensures { DirectoryRunsOn parent job.now result encoder.old encoder.new }
 {
     match encoder.extra_directory() {
@@ -143,7 +143,7 @@ fn link_of(reply: &JobReply) -> Option<u64>
 
 // The link of a parent, if one is named: that of the directory of an earlier job.
 fn named_link(earlier: &[JobReply], parent: Option<usize>) -> TiffResult<Option<u64>>
-    ensures { NamesLink (answered earlier.now) parent result }
+    ensures { NamesLink (offsets_answered earlier.now) parent result }
 {
     let Some(job) = parent else {
         return Ok(None);
@@ -164,7 +164,7 @@ fn run_directory<W: Sink, K: TiffKind>(
     parent: Option<u64>,
     steps: Vec<TiffResult<StepReply>>,
 ) -> JobReply
-    requires { HasRoom (length job.now.steps.items) steps }
+    requires { IsEmptyWithRoom (length job.now.steps.items) steps }
     ensures { DirectoryRunsOn parent job.now result encoder.old encoder.new }
 {
     if job.chained {
@@ -182,7 +182,7 @@ fn lead_image<W: Sink, K: TiffKind, C: ColorType>(
     job: &ImageJob,
     mut steps: Vec<TiffResult<StepReply>>,
 ) -> JobReply
-    requires { HasRoom (length job.now.steps.items) steps }
+    requires { IsEmptyWithRoom (length job.now.steps.items) steps }
     ensures { ImageGoesOn state job.now result encoder.old encoder.new }
 {
     let mut image = DirectoryEncoder { encoder, state };
@@ -191,14 +191,14 @@ fn lead_image<W: Sink, K: TiffKind, C: ColorType>(
     JobReply { steps, last }
 }
 
-// An image of the colour type that it names.
+// An image of the color type that it names.
 fn run_image<W: Sink, K: TiffKind, C: NamedColorType>(
     encoder: &mut TiffEncoder<W, K>,
     job: &ImageJob,
     steps: Vec<TiffResult<StepReply>>,
 ) -> JobReply
-    requires named { job.now.colour ≡ C.name }
-    requires room { HasRoom (length job.now.steps.items) steps }
+    requires named { job.now.color ≡ C.name }
+    requires room { IsEmptyWithRoom (length job.now.steps.items) steps }
     ensures { ImageRunsOn job.now result encoder.old encoder.new }
 {
     encoder.packs();
@@ -217,16 +217,16 @@ fn run_image<W: Sink, K: TiffKind, C: NamedColorType>(
     }
 }
 
-// An image, by the name of its colour type.
+// An image, by the name of its color type.
 fn run_named<W: Sink, K: TiffKind>(
     encoder: &mut TiffEncoder<W, K>,
     job: &ImageJob,
     steps: Vec<TiffResult<StepReply>>,
 ) -> JobReply
-    requires { HasRoom (length job.now.steps.items) steps }
+    requires { IsEmptyWithRoom (length job.now.steps.items) steps }
     ensures { ImageRunsOn job.now result encoder.old encoder.new }
 {
-    match job.colour {
+    match job.color {
         ColorTypeName::Gray8 => return run_image::<W, K, Gray8>(encoder, job, steps),
         ColorTypeName::Gray16 => return run_image::<W, K, Gray16>(encoder, job, steps),
         ColorTypeName::Gray32 => return run_image::<W, K, Gray32>(encoder, job, steps),
@@ -269,7 +269,7 @@ fn run_by_kind<W: Sink, K: TiffKind>(
     earlier: &[JobReply],
     steps: Vec<TiffResult<StepReply>>,
 ) -> JobReply
-    requires { HasRoom (step_count job.now) steps }
+    requires { IsEmptyWithRoom (step_count job.now) steps }
     ensures { encoder.new.kind ≡ encoder.old.kind → JobMoves job.now earlier.now result encoder.old encoder.new }
 {
     match job {
@@ -307,7 +307,7 @@ pub(crate) fn run_job<W: Sink, K: TiffKind>(
     earlier: &[JobReply],
     steps: Vec<TiffResult<StepReply>>,
 ) -> JobReply
-    requires { HasRoom (step_count job.now) steps }
+    requires { IsEmptyWithRoom (step_count job.now) steps }
     ensures { JobMoves job.now earlier.now result encoder.old encoder.new }
 {
     encoder.is_of_kind();

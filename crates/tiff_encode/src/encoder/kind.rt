@@ -3,13 +3,13 @@
 ghost use Rattle.std.specs.Prelude.{◌≡◌, false, ℕ, ◌^◌, if◌then◌else◌, nat_le, None, Some, Ok, Err};
 ghost use Rattle.std.specs.FinMap as map;
 ghost use Rattle.tiff_base.specs.Answers.{Gives};
-ghost use Rattle.tiff_base.specs.Directory.{link_place};
+ghost use Rattle.tiff_base.specs.Directory.{link_offset};
 ghost use Rattle.tiff_base.specs.Number.{le};
 ghost use Rattle.tiff_base.specs.declared.tags.FileKind as kinds;
 ghost use Rattle.tiff_base.specs.declared.error.TiffError.TheVariants.{IntSizeError};
 ghost use Rattle.tiff_encode.specs.Calls.{new_offset};
 ghost use Rattle.tiff_encode.specs.Causes.{is_past, is_past_count};
-ghost use Rattle.tiff_encode.specs.Written.{count_len, place_len};
+ghost use Rattle.tiff_encode.specs.FileBytes.{count_len, offset_len};
 ghost use Rattle.tiff_encode.specs.Kind.{WritesHeader, WritesWithin};
 
 use std::marker::{Model, PhantomData};
@@ -19,32 +19,32 @@ use tiff_base::io::Sink;
 use tiff_base::tags::{FileKind, IfdPointer};
 use tiff_value::encoder::writer::{TiffWriter, write_bigtiff_header, write_tiff_header};
 
-/// A kind of file, by the numbers of its places.
+/// A kind of file, by the numbers of its offsets.
 pub trait TiffKind {
-    /// A place in a file of this kind.
+    /// An offset in a file of this kind.
     type OffsetType: Copy;
 
     ghost kind: { kinds.FileKind };
 
-    // The place that a value is.
-    ghost place: { Self.OffsetType → ℕ };
+    // The offset that a value is.
+    ghost offset_number: { Self.OffsetType → ℕ };
 
     /// The kind (this project's).
     fn file_kind() -> FileKind
         ensures { result ≡ kind };
 
-    /// A place as this kind has it. A place past its bytes: `IntSizeError`.
+    /// An offset as this kind has it. An offset past its bytes: `IntSizeError`.
     fn convert_offset(offset: u64) -> TiffResult<Self::OffsetType>
-        ensures { Gives place result (if is_past kind offset then Err IntSizeError else Ok offset) };
+        ensures { Gives offset_number result (if is_past kind offset then Err IntSizeError else Ok offset) };
 
-    /// A place as this kind has it, where it isn't past its bytes (this project's); else the greatest that it has.
+    /// An offset as this kind has it, where it isn't past its bytes (this project's); else the greatest that it has.
     fn offset_at(offset: u64) -> Self::OffsetType
-        ensures { is_past kind offset ≡ false → place result ≡ offset };
+        ensures { is_past kind offset ≡ false → offset_number result ≡ offset };
 
-    /// Writes a place. A place past its bytes: `IntSizeError`, and nothing is done; else the errors of
+    /// Writes an offset. An offset past its bytes: `IntSizeError`, and nothing is done; else the errors of
     /// `TiffWriter::write_plain`.
     fn write_offset<W: Sink>(writer: &mut TiffWriter<W>, offset: u64) -> TiffResult<()>
-        ensures { WritesWithin (is_past kind offset) (le (place_len kind) offset) writer.old writer.new result };
+        ensures { WritesWithin (is_past kind offset) (le (offset_len kind) offset) writer.old writer.new result };
 
     /// Writes the count of a directory's entries. A count past its bytes: `IntSizeError`, and nothing is done; else the errors
     /// of `TiffWriter::write_plain`.
@@ -56,7 +56,7 @@ pub trait TiffKind {
         ensures { WritesHeader kind writer.old writer.new result };
 }
 
-/// TIFF 6.0: places of 4 bytes.
+/// TIFF 6.0: offsets of 4 bytes.
 #[derive(Clone, Copy, Debug, PartialEq, Eq, Hash)]
 pub struct TiffKindStandard;
 
@@ -67,7 +67,7 @@ impl TiffKind for TiffKindStandard {
 
     ghost kind = { Classic };
 
-    ghost place = { λ offset. offset };
+    ghost offset_number = { λ offset. offset };
 
     fn file_kind() -> FileKind {
         FileKind::Classic
@@ -113,7 +113,7 @@ impl TiffKind for TiffKindStandard {
     }
 }
 
-/// BigTIFF: places of 8 bytes.
+/// BigTIFF: offsets of 8 bytes.
 #[derive(Clone, Copy, Debug, PartialEq, Eq, Hash)]
 pub struct TiffKindBig;
 
@@ -124,7 +124,7 @@ impl TiffKind for TiffKindBig {
 
     ghost kind = { Big };
 
-    ghost place = { λ offset. offset };
+    ghost offset_number = { λ offset. offset };
 
     fn file_kind() -> FileKind {
         FileKind::Big
@@ -176,53 +176,53 @@ impl<K: TiffKind> Model for DirectoryOffset<K> {
 
     ghost view = { λ d. record { pointer = d.pointer.0; link = d.link } };
 
-    // The kind has such places.
+    // The kind has such offsets.
     ghost invariant = { λ d. is_past K.kind d.pointer.0 ≡ false };
 
     ghost inverse = { λ o. record { pointer = record { 0 = o.pointer }; link = o.link; kind = record {} } };
 }
 
-// The place of the link of a directory of so many entries that stands at a place, if it is below 2^64.
-fn link_of(kind: FileKind, place: u64, count: usize) -> Option<u64>
-    ensures { result ≡ (if nat_le (2 ^ 64) (link_place kind place count) then None else Some (link_place kind place count)) }
+// The offset of the link of a directory of so many entries that stands at an offset, if it is below 2^64.
+fn link_of(kind: FileKind, offset: u64, count: usize) -> Option<u64>
+    ensures { result ≡ (if nat_le (2 ^ 64) (link_offset kind offset count) then None else Some (link_offset kind offset count)) }
 {
     let (head, entry) = match kind {
         FileKind::Classic => (2, 12),
         FileKind::Big => (8, 20),
     };
     let entries = (count as u64).checked_mul(entry)?;
-    place.checked_add(head)?.checked_add(entries)
+    offset.checked_add(head)?.checked_add(entries)
 }
 
 impl<K: TiffKind> DirectoryOffset<K> {
-    // A directory's place, and that of its link.
-    pub(crate) fn at(place: u64, link: u64) -> Self
-        requires { is_past K.kind place ≡ false }
-        ensures { result ≡ record { pointer = place; link = link } }
+    // A directory's offset, and that of its link.
+    pub(crate) fn at(offset: u64, link: u64) -> Self
+        requires { is_past K.kind offset ≡ false }
+        ensures { result ≡ record { pointer = offset; link = link } }
     {
         DirectoryOffset {
-            pointer: IfdPointer(place),
+            pointer: IfdPointer(offset),
             link,
             kind: PhantomData,
         }
     }
 
-    /// The directory's place as the kind has it: in place of the Rust crate's field.
+    /// The directory's offset as the kind has it: in place of the Rust crate's field.
     pub fn offset(&self) -> K::OffsetType
-        ensures { K.place result ≡ self.now.pointer }
+        ensures { K.offset_number result ≡ self.now.pointer }
     {
         K::offset_at(self.pointer.0)
     }
 
-    // The place of its link.
+    // The offset of its link.
     pub(crate) fn link(&self) -> u64
         ensures { result ≡ self.now.link }
     {
         self.link
     }
 
-    /// Where a directory stands that was finished at a place with the entries of `directory`. The first cause that holds: a place past
-    /// the kind's bytes: `IntSizeError`; the place 0, or a link at 2^64 or behind: `UsageError(ZeroIfdPointer)`.
+    /// Where a directory stands that was finished at an offset with the entries of `directory`. The first cause that holds: an offset past
+    /// the kind's bytes: `IntSizeError`; the offset 0, or a link at 2^64 or behind: `UsageError(ZeroIfdPointer)`.
     #[tactic(auto, unfolding(crate::specs::Calls::new_offset, crate::specs::Causes::offset_cause))]
     pub fn new(pointer: IfdPointer, directory: &Directory) -> TiffResult<Self>
         ensures { Gives (λ o. o) result (new_offset K.kind pointer.0 (map.len directory.now.entries)) }

@@ -1,7 +1,7 @@
 //! The laws by which what stands in a file is kept and grows, each the contract of a function with no work.
 
 ghost use Rattle.tiff_encode.specs.Held.{ChunksShow, ImagesShow, PageTold};
-ghost use Rattle.tiff_encode.specs.Laws.{HeaderStands, KeptByAppending, KeptByPatching, KeptByTearing, GrownByRegion, GrownByInline, GrownByPlaced, GrownByListing, Finished, DeedsStand, DeedsGrow, DeedsBegun, DeedsTorn, DeedsJoin, DeedsAppend, FirstTold, ModelsAgree};
+ghost use Rattle.tiff_encode.specs.Laws.{HeaderStands, KeptByAppending, KeptByPatching, KeptByTearing, GrownByRegion, GrownByInline, GrownByPlaced, GrownByListing, FinishStep, DeedsStand, DeedsGrow, DeedsBegun, DeedsTorn, DeedsJoin, DeedsAppend, FirstTold, ModelsAgree};
 ghost use Rattle.tiff_encode.specs.RunLaws.{OffsetsAgree, OneStep, OneStored};
 ghost use Rattle.tiff_encode.specs.CallLaws.{PlacedFits, FinishFits};
 
@@ -47,7 +47,7 @@ pub fn grown_by_listing()
 
 /// A directory that is appended and linked to stands.
 pub fn finished()
-    ensures { Finished }
+    ensures { FinishStep }
 {}
 
 /// What is done to a file in which a model stands leaves one in which the model after it stands.

@@ -3,15 +3,15 @@
 ghost use Rattle.std.specs.Prelude.{◌≡◌, ℕ, ◌++◌, ◌≤◌, length, replicate, take};
 ghost use Rattle.tiff_encode.specs.Causes.{is_past, is_past_count};
 ghost use Rattle.tiff_encode.specs.Placing.{field_test, Checks};
-ghost use Rattle.tiff_encode.specs.Value.{filled};
-ghost use Rattle.tiff_encode.specs.Written.{place_len};
+ghost use Rattle.tiff_encode.specs.Value.{filled_field};
+ghost use Rattle.tiff_encode.specs.FileBytes.{offset_len};
 
 use tiff_base::error::{TiffError, TiffResult};
 use tiff_base::tags::FileKind;
 
-/// How many bytes a place has, and a value field.
-pub fn place_bytes(kind: FileKind) -> u64
-    ensures { result ≡ place_len kind }
+/// How many bytes an offset has, and a value field.
+pub fn offset_size(kind: FileKind) -> u64
+    ensures { result ≡ offset_len kind }
 {
     match kind {
         FileKind::Classic => 4,
@@ -19,8 +19,8 @@ pub fn place_bytes(kind: FileKind) -> u64
     }
 }
 
-/// Whether a number is past the places, the counts and the lengths of a kind.
-pub fn is_past_place(kind: FileKind, n: u64) -> bool
+/// Whether a number is past the offsets, the counts and the lengths of a kind.
+pub fn is_past_offset(kind: FileKind, n: u64) -> bool
     ensures { result ≡ is_past kind n }
 {
     match kind {
@@ -34,10 +34,10 @@ pub fn is_past_place(kind: FileKind, n: u64) -> bool
 pub fn check_field(kind: FileKind, end: u64, count: u64, len: usize) -> TiffResult<()>
     ensures { Checks (field_test kind end count len) result }
 {
-    if is_past_place(kind, count) {
+    if is_past_offset(kind, count) {
         return Err(TiffError::IntSizeError);
     }
-    if len as u64 > place_bytes(kind) && is_past_place(kind, end) {
+    if len as u64 > offset_size(kind) && is_past_offset(kind, end) {
         return Err(TiffError::IntSizeError);
     }
     Ok(())
@@ -47,7 +47,7 @@ pub fn check_field(kind: FileKind, end: u64, count: u64, len: usize) -> TiffResu
 #[tactic(auto, using(crate::proofs::Listing::filled_whole))]
 pub fn fill(bytes: &[u8]) -> [u8; 8]
     requires { length bytes.now ≤ 8 }
-    ensures { result ≡ filled bytes.now }
+    ensures { result ≡ filled_field bytes.now }
 {
     let mut wide = [0u8; 8];
     wide[..bytes.len()].copy_from_slice(bytes);

@@ -6,9 +6,9 @@ ghost use Rattle.std.specs.List.{list_any};
 ghost use Rattle.tiff_base.specs.Number.{le};
 ghost use Rattle.tiff_encode.specs.Causes.{is_past, is_past_count};
 ghost use Rattle.tiff_encode.specs.Placing.{end_test, Checks};
-ghost use Rattle.tiff_encode.specs.Written.{count_len, directory_bytes, entry_bytes, place_len};
+ghost use Rattle.tiff_encode.specs.FileBytes.{count_len, directory_bytes, entry_bytes, offset_len};
 
-use crate::encoder::limits::{is_past_place, place_bytes};
+use crate::encoder::limits::{is_past_offset, offset_size};
 use crate::encoder::open::Fields;
 use std::alloc::{AllocError, Global};
 use tiff_base::directory::{Directory, Entry};
@@ -26,11 +26,11 @@ fn count_bytes(kind: FileKind) -> usize
 }
 
 // Adds the bytes of an entry.
-#[tactic(auto, using(crate::proofs::Listing::le_place))]
+#[tactic(auto, using(crate::proofs::Listing::le_offset))]
 fn push_entry(out: &mut Vec<u8>, kind: FileKind, tag: u16, entry: &Entry) -> Result<(), AllocError>
     ensures { OnOk result (out.new.items ≡ out.old.items ++ entry_bytes kind (tag, entry.now)) }
 {
-    let width = place_bytes(kind) as usize;
+    let width = offset_size(kind) as usize;
     out.extend_from_slice(&tag.to_le_bytes())?;
     out.extend_from_slice(&entry.field_type().to_u16().to_le_bytes())?;
     out.extend_from_slice(&entry.count().to_le_bytes()[..width])?;
@@ -39,7 +39,7 @@ fn push_entry(out: &mut Vec<u8>, kind: FileKind, tag: u16, entry: &Entry) -> Res
 }
 
 /// The bytes of a directory whose link is 0, in a file of a kind: count, entries in ascending tag number, link.
-#[tactic(auto, unfolding(crate::specs::Written::directory_bytes), using(crate::proofs::Listing::le_count, crate::proofs::Listing::le_zero))]
+#[tactic(auto, unfolding(crate::specs::FileBytes::directory_bytes), using(crate::proofs::Listing::le_count, crate::proofs::Listing::le_zero))]
 pub fn list_directory(
     alloc: Global,
     kind: FileKind,
@@ -53,7 +53,7 @@ pub fn list_directory(
     for (tag, entry) in directory.iter() {
         push_entry(&mut out, kind, tag, entry)?;
     }
-    out.extend_from_slice(&0u64.to_le_bytes()[..place_bytes(kind) as usize])?;
+    out.extend_from_slice(&0u64.to_le_bytes()[..offset_size(kind) as usize])?;
     Ok(out)
 }
 
@@ -62,7 +62,7 @@ fn has_far_count(kind: FileKind, directory: &Directory) -> bool
     ensures { result ≡ list_any (λ entry. is_past kind entry.1.count) (map.entries directory.now.entries) }
 {
     for (_, entry) in directory.iter() {
-        if is_past_place(kind, entry.count()) {
+        if is_past_offset(kind, entry.count()) {
             return true;
         }
     }
@@ -80,7 +80,7 @@ fn is_past_entries(kind: FileKind, count: usize) -> bool
 }
 
 /// Whether a directory can end here. The first cause that holds: more entries or values than the kind can count, or a
-/// place past its bytes: `IntSizeError`; a parent's link that isn't within the file: `UsageError(ParentNotWritten)`.
+/// offset past its bytes: `IntSizeError`; a parent's link that isn't within the file: `UsageError(ParentNotWritten)`.
 #[tactic(auto, unfolding(crate::specs::Placing::end_test))]
 pub fn check_end(kind: FileKind, end: u64, fields: &Fields) -> TiffResult<()>
     ensures { Checks (end_test kind end fields.now) result }
@@ -88,11 +88,11 @@ pub fn check_end(kind: FileKind, end: u64, fields: &Fields) -> TiffResult<()>
     if is_past_entries(kind, fields.directory.len()) || has_far_count(kind, &fields.directory) {
         return Err(TiffError::IntSizeError);
     }
-    if is_past_place(kind, end) {
+    if is_past_offset(kind, end) {
         return Err(TiffError::IntSizeError);
     }
     match fields.parent {
-        Some(parent) if end.saturating_sub(parent) < place_bytes(kind) => {
+        Some(parent) if end.saturating_sub(parent) < offset_size(kind) => {
             Err(TiffError::UsageError(UsageError::ParentNotWritten))
         }
         _ => Ok(()),

@@ -69,7 +69,7 @@ pub enum DirectoryStep {
     ExtendFrom(Directory),
 }
 
-/// A call of an image that is open. Samples are cut to the width of the colour type's numbers.
+/// A call of an image that is open. Samples are cut to the width of the color type's numbers.
 #[derive(Drop)]
 pub enum ImageStep {
     /// A call of its directory.
@@ -115,7 +115,7 @@ pub struct DirectoryJob {
 /// An image.
 #[derive(Drop)]
 pub struct ImageJob {
-    pub colour: ColorTypeName,
+    pub color: ColorTypeName,
     pub width: u32,
     pub height: u32,
     pub steps: Vec<ImageStep>,
@@ -131,7 +131,7 @@ pub enum Job {
     Image(ImageJob),
 }
 
-/// What a step answers: a number is a place or a count of samples.
+/// What a step answers: a number is an offset or a count of samples.
 #[derive(Drop)]
 pub enum StepReply {
     Nothing,

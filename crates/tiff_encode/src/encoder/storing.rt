@@ -7,7 +7,7 @@ ghost use Rattle.tiff_value.specs.Packed.{IsStored};
 ghost use Rattle.tiff_encode.specs.Calls as calls;
 ghost use Rattle.tiff_encode.specs.Causes.{end_of, write_chunk_cause, write_strip_cause};
 ghost use Rattle.tiff_encode.specs.Chunks.{next_chunk_sample_count};
-ghost use Rattle.tiff_encode.specs.Machine.{method_of};
+ghost use Rattle.tiff_encode.specs.Machine.{compression_method};
 ghost use Rattle.tiff_encode.specs.Placing.{Checks};
 ghost use Rattle.tiff_encode.specs.Storing.{chunk_test, AppendsChunk, WritesChunk};
 ghost use Rattle.tiff_encode.specs.Stored as stored;
@@ -15,7 +15,7 @@ ghost use Rattle.tiff_encode.specs.Stored as stored;
 use crate::encoder::TiffEncoder;
 use crate::encoder::drawing::{Chunk, Drawing};
 use crate::encoder::kind::TiffKind;
-use crate::encoder::limits::is_past_place;
+use crate::encoder::limits::is_past_offset;
 use crate::encoder::settings::Compression;
 use std::alloc::Global;
 use tiff_base::color::ChunkType;
@@ -28,7 +28,7 @@ use tiff_value::encoder::compression::pack_bits;
 
 // The bytes that stand for others by a packing.
 fn pack(alloc: Global, compression: Compression, bytes: Vec<u8>) -> TiffResult<Vec<u8>>
-    ensures { MatchResult result (λ v. IsStored (method_of compression) v.items bytes.items) (λ e. e ≡ TiffError.OutOfMemory) }
+    ensures { MatchResult result (λ v. IsStored (compression_method compression) v.items bytes.items) (λ e. e ≡ TiffError.OutOfMemory) }
 {
     match compression {
         Compression::Uncompressed => Ok(bytes),
@@ -38,12 +38,12 @@ fn pack(alloc: Global, compression: Compression, bytes: Vec<u8>) -> TiffResult<V
 
 impl<C: ColorType> Drawing<C> {
     // The bytes of the next chunk before it is packed.
-    #[tactic(auto, unfolding(crate::specs::Stored::chunk_bytes))]
+    #[tactic(auto, unfolding(crate::specs::Stored::unpacked_chunk))]
     fn chunk_bytes(&self, alloc: Global, samples: &[C::Inner]) -> TiffResult<Vec<u8>>
         requires next { length samples.now ≡ next_chunk_sample_count self.now }
         requires fits { length samples.now < 2 ^ 64 - 1 }
         ensures { MatchResult result
-            (λ v. v.items ≡ stored.chunk_bytes self.now (map (sample_number (type_size C.Inner.value_type) C.Inner.bits) samples.now))
+            (λ v. v.items ≡ stored.unpacked_chunk self.now (map (sample_number (type_size C.Inner.value_type) C.Inner.bits) samples.now))
             (λ e. e ≡ TiffError.OutOfMemory) }
     {
         let stride = self.stored_samples() as usize;
@@ -58,7 +58,7 @@ impl<C: ColorType> Drawing<C> {
     pub(crate) fn stored_bytes(&self, alloc: Global, samples: &[C::Inner]) -> TiffResult<Vec<u8>>
         requires { length samples.now ≡ next_chunk_sample_count self.now }
         ensures { MatchResult result
-            (λ v. IsStored self.now.method v.items (stored.chunk_bytes self.now (map (sample_number (type_size C.Inner.value_type) C.Inner.bits) samples.now)))
+            (λ v. IsStored self.now.method v.items (stored.unpacked_chunk self.now (map (sample_number (type_size C.Inner.value_type) C.Inner.bits) samples.now)))
             (λ e. e ≡ TiffError.OutOfMemory) }
     {
         if samples.len() == usize::MAX {
@@ -78,7 +78,7 @@ impl<C: ColorType> Drawing<C> {
         if !self.is_left() || count as u64 != self.next_samples() {
             return Err(TiffError::IoError(IoKind::InvalidData));
         }
-        if is_past_place(kind, end) {
+        if is_past_offset(kind, end) {
             return Err(TiffError::IntSizeError);
         }
         Ok(())
@@ -89,7 +89,7 @@ impl<W: Sink, K: TiffKind> TiffEncoder<W, K> {
     // Whether a chunk of so many samples, stored as so many bytes, may be written at the end, which is answered: else the
     // first cause of `write_chunk`.
     #[tactic(auto, unfolding(crate::specs::Causes::write_chunk_cause))]
-    fn chunk_place<C: ColorType>(
+    fn chunk_offset<C: ColorType>(
         &self,
         image: &Drawing<C>,
         count: usize,
@@ -107,7 +107,7 @@ impl<W: Sink, K: TiffKind> TiffEncoder<W, K> {
             Ok(()) => {}
             Err(fault) => return Err(fault),
         }
-        if is_past_place(self.file_kind(), stored as u64) {
+        if is_past_offset(self.file_kind(), stored as u64) {
             return Err(TiffError::IntSizeError);
         }
         Ok(end)
@@ -122,8 +122,8 @@ impl<W: Sink, K: TiffKind> TiffEncoder<W, K> {
     ) -> TiffResult<()>
         ensures { AppendsChunk (calls.write_chunk image.old count stored.now self.old) image.old result self.old self.new image.new }
     {
-        let place = match self.chunk_place(image, count, stored.len()) {
-            Ok(place) => place,
+        let offset = match self.chunk_offset(image, count, stored.len()) {
+            Ok(offset) => offset,
             Err(fault) => return Err(fault),
         };
         let Ok(()) = image.chunks.reserve(1) else {
@@ -134,7 +134,7 @@ impl<W: Sink, K: TiffKind> TiffEncoder<W, K> {
             Err(fault) => return Err(fault),
         }
         image.chunks.push_reserved(Chunk {
-            place,
+            offset,
             stored: stored.len() as u64,
         });
         Ok(())
@@ -146,9 +146,10 @@ impl<W: Sink, K: TiffKind> TiffEncoder<W, K> {
         image: &mut Drawing<C>,
         samples: &[C::Inner],
     ) -> TiffResult<()>
-        ensures { WritesChunk calls.write_chunk (write_chunk_cause self.old image.old (length samples.now) 0) image.old (map (sample_number (type_size C.Inner.value_type) C.Inner.bits) samples.now) result self.old self.new image.new }
+        ensures { WritesChunk calls.write_chunk (write_chunk_cause self.old image.old (length samples.now) 0) image.old
+            (map (sample_number (type_size C.Inner.value_type) C.Inner.bits) samples.now) result self.old self.new image.new }
     {
-        match self.chunk_place(image, samples.len(), 0) {
+        match self.chunk_offset(image, samples.len(), 0) {
             Ok(_) => {}
             Err(fault) => return Err(fault),
         }
@@ -168,7 +169,8 @@ impl<W: Sink, K: TiffKind> TiffEncoder<W, K> {
         image: &mut Drawing<C>,
         samples: &[C::Inner],
     ) -> TiffResult<()>
-        ensures { WritesChunk calls.write_strip (write_strip_cause self.old image.old (length samples.now) 0) image.old (map (sample_number (type_size C.Inner.value_type) C.Inner.bits) samples.now) result self.old self.new image.new }
+        ensures { WritesChunk calls.write_strip (write_strip_cause self.old image.old (length samples.now) 0) image.old
+            (map (sample_number (type_size C.Inner.value_type) C.Inner.bits) samples.now) result self.old self.new image.new }
     {
         match self.end() {
             Ok(_) => {}

@@ -51,16 +51,16 @@ impl Model for TagValue {
     ghost use Rattle.tiff_base.specs.declared.tags.Tag.{Tag};
     ghost use Rattle.tiff_base.specs.Types.{type_size};
     ghost use Rattle.tiff_value.specs.Data.{FieldData};
-    ghost use Rattle.tiff_encode.specs.Value.{filled};
+    ghost use Rattle.tiff_encode.specs.Value.{filled_field};
 
     ghost Value = { Tag × FieldData };
 
     ghost view = { λ v. (v.tag, record { field_type = v.field_type; count = v.len / type_size v.field_type; bytes = take v.len v.bytes }) };
 
     // The bytes behind the value are zeros.
-    ghost invariant = { λ v. (v.len ≤ 8) × (v.len % type_size v.field_type ≡ 0) × (length (take v.len v.bytes) ≡ v.len) × (filled (take v.len v.bytes) ≡ v.bytes) };
+    ghost invariant = { λ v. (v.len ≤ 8) × (v.len % type_size v.field_type ≡ 0) × (length (take v.len v.bytes) ≡ v.len) × (filled_field (take v.len v.bytes) ≡ v.bytes) };
 
-    ghost inverse = { λ d. record { tag = d.0; field_type = d.1.field_type; len = length d.1.bytes; bytes = filled d.1.bytes } };
+    ghost inverse = { λ d. record { tag = d.0; field_type = d.1.field_type; len = length d.1.bytes; bytes = filled_field d.1.bytes } };
 
     ghost inverse_ok = { λ a h i. record { tag = a.tag; field_type = a.field_type; len = h.2 i; bytes = h.3 i } };
 }
@@ -126,7 +126,8 @@ impl<W: Sink, K: TiffKind> TiffEncoder<W, K> {
         value: &T,
     ) -> TiffResult<()>
         ensures stays { OnErr result (fields.new ≡ fields.old) }
-        ensures answer { Ends (λ _. fields.new) (calls.write_tag fields.old tag (T.field_data value.now) self.old) result self.old self.new }
+        ensures answer { Ends (λ _. fields.new) (calls.write_tag fields.old tag (T.field_data value.now) self.old) result
+            self.old self.new }
     {
         let entry = match self.place_value(value) {
             Ok(entry) => entry,
@@ -141,9 +142,10 @@ impl<W: Sink, K: TiffKind> TiffEncoder<W, K> {
     // The same, of a value that takes no memory (but for the directory's).
     fn set_value(&mut self, fields: &mut Fields, value: &TagValue) -> TiffResult<()>
         ensures stays { OnErr result (fields.new ≡ fields.old) }
-        ensures answer { Ends (λ _. fields.new) (calls.write_tag fields.old value.now.0 (Ok value.now.1) self.old) result self.old self.new }
+        ensures answer { Ends (λ _. fields.new) (calls.write_tag fields.old value.now.0 (Ok value.now.1) self.old) result
+            self.old self.new }
     {
-        let entry = match self.place_bytes(value.field_type, &value.bytes[..value.len]) {
+        let entry = match self.place_entry_bytes(value.field_type, &value.bytes[..value.len]) {
             Ok(entry) => entry,
             Err(fault) => return Err(fault),
         };

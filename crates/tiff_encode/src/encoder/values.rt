@@ -11,7 +11,7 @@ ghost use Rattle.tiff_encode.specs.Value.{data_in};
 
 use crate::encoder::TiffEncoder;
 use crate::encoder::kind::TiffKind;
-use crate::encoder::limits::{check_field, fill, place_bytes};
+use crate::encoder::limits::{check_field, fill, offset_size};
 use tiff_base::directory::Entry;
 use tiff_base::error::{TiffError, TiffResult, UsageError};
 use tiff_base::io::Sink;
@@ -51,16 +51,16 @@ impl<W: Sink, K: TiffKind> TiffEncoder<W, K> {
     }
 
     // A value is handed in for a field: its bytes are appended, where they don't fit into the entry.
-    fn place(&mut self, field_type: Type, count: u64, bytes: &[u8]) -> TiffResult<Entry>
+    fn place_entry(&mut self, field_type: Type, count: u64, bytes: &[u8]) -> TiffResult<Entry>
         requires { self.old.fault ≡ None }
         ensures { Places (record { field_type = field_type; count = count; bytes = bytes.now }) self.old self.new result }
     {
-        if bytes.len() as u64 <= place_bytes(self.file_kind()) {
+        if bytes.len() as u64 <= offset_size(self.file_kind()) {
             return Ok(Entry::new_u64(field_type, count, fill(bytes)));
         }
-        let place = self.writer.offset();
+        let offset = self.writer.offset();
         match self.append(bytes) {
-            Ok(()) => return Ok(Entry::new_u64(field_type, count, place.to_le_bytes())),
+            Ok(()) => return Ok(Entry::new_u64(field_type, count, offset.to_le_bytes())),
             Err(fault) => return Err(fault),
         }
     }
@@ -86,7 +86,7 @@ impl<W: Sink, K: TiffKind> TiffEncoder<W, K> {
             Ok(data) => data,
             Err(fault) => return Err(fault),
         };
-        match self.place(T::field_type(), count, &data) {
+        match self.place_entry(T::field_type(), count, &data) {
             Ok(entry) => return Ok(entry),
             Err(fault) => return Err(fault),
         }
@@ -96,7 +96,8 @@ impl<W: Sink, K: TiffKind> TiffEncoder<W, K> {
     fn place_data(&mut self, end: u64, field_type: Type, bytes: &[u8]) -> TiffResult<Entry>
         requires fresh { self.old.fault ≡ None }
         requires at_end { end ≡ end_of self.old }
-        ensures { Ends (λ e. e) (by_cause (field_cause self.old (data_in field_type bytes.now)) (calls.placed (data_in field_type bytes.now)) self.old) result self.old self.new }
+        ensures { Ends (λ e. e) (by_cause (field_cause self.old (data_in field_type bytes.now))
+            (calls.placed_field (data_in field_type bytes.now)) self.old) result self.old self.new }
     {
         let size = usize::from(field_type.byte_len());
         let count = bytes.len() / size;
@@ -105,7 +106,7 @@ impl<W: Sink, K: TiffKind> TiffEncoder<W, K> {
             Ok(()) => {}
             Err(fault) => return Err(fault),
         }
-        match self.place(field_type, count as u64, whole) {
+        match self.place_entry(field_type, count as u64, whole) {
             Ok(entry) => return Ok(entry),
             Err(fault) => return Err(fault),
         }
@@ -118,7 +119,8 @@ impl<W: Sink, K: TiffKind> TiffEncoder<W, K> {
         field_type: Type,
         bytes: &[u8],
     ) -> TiffResult<Entry>
-        ensures { Ends (λ e. e) (calls.write_entry_buf (record { order = order; data_type = field_type; bytes = bytes.now }) self.old) result self.old self.new }
+        ensures { Ends (λ e. e) (calls.write_entry_buf (record { order = order; data_type = field_type; bytes = bytes.now })
+            self.old) result self.old self.new }
     {
         let end = match self.end() {
             Ok(end) => end,
@@ -142,7 +144,7 @@ impl<W: Sink, K: TiffKind> TiffEncoder<W, K> {
     }
 
     // `write_entry_bytes`
-    pub(crate) fn place_bytes(&mut self, field_type: Type, bytes: &[u8]) -> TiffResult<Entry>
+    pub(crate) fn place_entry_bytes(&mut self, field_type: Type, bytes: &[u8]) -> TiffResult<Entry>
         ensures { Ends (λ e. e) (calls.write_entry_bytes field_type bytes.now self.old) result self.old self.new }
     {
         let end = match self.end() {
@@ -186,7 +188,8 @@ impl<W: Sink, K: TiffKind> TiffEncoder<W, K> {
 
     // `write_data_buf`, of bytes in an order: they are written as they are, whatever their type
     pub(crate) fn append_ordered(&mut self, order: ByteOrder, bytes: &[u8]) -> TiffResult<u64>
-        ensures { (data_type : «Type») → Ends (λ n. n) (calls.write_data_buf (record { order = order; data_type = data_type; bytes = bytes.now }) self.old) result self.old self.new }
+        ensures { (data_type : «Type») → Ends (λ n. n) (calls.write_data_buf
+            (record { order = order; data_type = data_type; bytes = bytes.now }) self.old) result self.old self.new }
     {
         let end = match self.end() {
             Ok(end) => end,

@@ -2,7 +2,7 @@ use Rattle.std.proofs.Common.{◌≡◌, ℕ, ◌<◌, List, length, ap, sym, su
 use Rattle.tiff.specs.Model.{IsLink, Stands, header_model}
 use Rattle.tiff.specs.Shows.{ShowsGray}
 use Rattle.tiff_base.specs.declared.tags.FileKind.TheVariants.{Classic}
-use Rattle.tiff_encode.proofs.GrayShown.{gray_bytes_shown, header_chain}
+use Rattle.tiff_encode.proofs.Shown.Gray.{gray_bytes_shown, header_chain}
 use Rattle.tiff_uses.proofs.gray_file.Goals as goal
 
 pub returns : goal.returns

@@ -7,4 +7,4 @@ abbrev pub invariant-pages : goal.invariant-pages
 invariant-pages l = Standing l.fn.decoder.bytes l.sides.items l.decoder
 
 abbrev pub decreases-pages : goal.decreases-pages
-decreases-pages l = length (chain_of l.decoder).places - length l.sides.items
+decreases-pages l = length (chain_of l.decoder).offsets - length l.sides.items

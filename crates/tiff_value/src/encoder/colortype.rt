@@ -1,14 +1,16 @@
-//! Colour types: what a page says of its samples.
+//! Color types: what a page says of its samples.
 
 ghost use Rattle.std.specs.Prelude.{◌≡◌};
 ghost use Rattle.tiff_value.specs.ColorType.{ColorTypeRecord};
 
-pub use super::colours::{
-    CMYK8, CMYK16, CMYK32, CMYK32Float, CMYK64, CMYK64Float, CMYKA8, Gray16, Gray32, Gray32Float,
-    Gray64, Gray64Float, GrayI8, GrayI16, GrayI32, GrayI64, RGB8, RGB16, RGB32, RGB32Float, RGB64,
-    RGB64Float, RGBA8, RGBA16, RGBA32, RGBA32Float, RGBA64, RGBA64Float, YCbCr8,
+pub use super::colors::{
+    CMYK8, CMYK16, CMYK32, CMYK32Float, CMYK64, CMYK64Float, CMYKA8, RGB8, RGB16, RGB32,
+    RGB32Float, RGB64, RGB64Float, RGBA8, RGBA16, RGBA32, RGBA32Float, RGBA64, RGBA64Float, YCbCr8,
 };
 use super::differences::Sample;
+pub use super::grays::{
+    Gray16, Gray32, Gray32Float, Gray64, Gray64Float, GrayI8, GrayI16, GrayI32, GrayI64,
+};
 use tiff_base::error::TiffResult;
 use tiff_base::tags::{PhotometricInterpretation, SampleFormat};
 
@@ -65,17 +67,17 @@ pub trait ColorType {
     ghost lawful: { IsColorType (type_size Self.Inner.value_type) described };
 }
 
-/// A colour type that the Rust crate has (this project's).
+/// A color type that the Rust crate has (this project's).
 pub trait NamedColorType: ColorType {
     ghost use Rattle.std.specs.Prelude.{◌≡◌};
-    ghost use Rattle.tiff_value.specs.ColorTypes.{colour_type, inner_type};
+    ghost use Rattle.tiff_value.specs.ColorTypes.{color_type, inner_type};
     ghost use Rattle.tiff_value.specs.declared.encoder.colortype.ColorTypeName.{ColorTypeName};
 
     // Its name.
     ghost name: { ColorTypeName };
 
     // It is what its name says.
-    ghost named: { Self.described ≡ colour_type name };
+    ghost named: { Self.described ≡ color_type name };
 
     ghost in_memory: { Self.Inner.value_type ≡ inner_type name };
 }
@@ -112,17 +114,17 @@ impl ColorType for Gray8 {
 
 impl NamedColorType for Gray8 {
     ghost use Rattle.std.specs.Prelude.{refl};
-    ghost use Rattle.tiff_value.specs.ColorTypes.{colour_type, inner_type};
+    ghost use Rattle.tiff_value.specs.ColorTypes.{color_type, inner_type};
     ghost use Rattle.tiff_value.specs.declared.encoder.colortype.ColorTypeName.TheVariants as name;
 
     ghost name = { name.Gray8 };
 
-    ghost named = { unfold colour_type in refl };
+    ghost named = { unfold color_type in refl };
 
     ghost in_memory = { unfold inner_type in refl };
 }
 
-/// The name of each colour type of a page that is written.
+/// The name of each color type of a page that is written.
 #[derive(Clone, Copy, Debug, PartialEq, Eq)]
 pub enum ColorTypeName {
     Gray8,

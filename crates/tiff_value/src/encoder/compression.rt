@@ -20,7 +20,7 @@ pub trait CompressionAlgorithm {
     // The method that it stores bytes by.
     ghost method: { Self → CompressionMethod };
 
-    /// Writes what stands for the bytes at the writer's place, and answers how many bytes that is. After an earlier
+    /// Writes what stands for the bytes at the writer's offset, and answers how many bytes that is. After an earlier
     /// fault: `UsageError(WriterFailed)`; no bytes that are to be packed: `IoError(WriteZero)`; no memory to pack
     /// them: `OutOfMemory`; and nothing is done. Further errors are those of `write_plain`.
     fn write_to<W: Sink>(

@@ -5,7 +5,7 @@ ghost use Rattle.std.specs.Prelude.{◌≡◌, [], ◌∷◌, ◌++◌, map, Ok,
 ghost use Rattle.tiff_base.specs.Number.{le};
 ghost use Rattle.tiff_base.specs.declared.tags.«Type».TheVariants.{RATIONAL, SRATIONAL};
 ghost use Rattle.tiff_value.specs.Data.{data_of, signed_le, rationals, srationals};
-ghost use Rattle.tiff_value.specs.ValueLaws.{mapped};
+ghost use Rattle.tiff_value.specs.ValueLaws.{mapped_values};
 
 use super::tiff_value::{Rational, SRational, TiffScalar, TiffValue};
 use std::alloc::Global;
@@ -57,7 +57,7 @@ impl TiffScalar for Rational {
 
     ghost one = { λ r. refl };
 
-    ghost listed = { λ rs. unfold data_of in mapped RATIONAL (λ r. (r.n, r.d)) (λ r. le 4 r.0 ++ le 4 r.1) rs };
+    ghost listed = { λ rs. unfold data_of in mapped_values RATIONAL (λ r. (r.n, r.d)) (λ r. le 4 r.0 ++ le 4 r.1) rs };
 }
 
 impl TiffValue for SRational {
@@ -105,5 +105,5 @@ impl TiffScalar for SRational {
 
     ghost one = { λ r. refl };
 
-    ghost listed = { λ rs. unfold data_of in mapped SRATIONAL (λ r. (r.n, r.d)) (λ r. signed_le w32 r.0 ++ signed_le w32 r.1) rs };
+    ghost listed = { λ rs. unfold data_of in mapped_values SRATIONAL (λ r. (r.n, r.d)) (λ r. signed_le w32 r.0 ++ signed_le w32 r.1) rs };
 }

@@ -1,11 +1,11 @@
-//! Numbers that are written, and places, each a number.
+//! Numbers that are written, and offsets, each a number.
 
 ghost use Rattle.std.specs.Int.{w8, w16, w32, w64};
 ghost use Rattle.std.specs.Prelude.{◌≡◌, [], ◌∷◌, map, Ok, refl};
 ghost use Rattle.tiff_base.specs.Number.{le};
 ghost use Rattle.tiff_base.specs.declared.tags.«Type».TheVariants.{BYTE, SHORT, LONG, SBYTE, SSHORT, SLONG, FLOAT, DOUBLE, IFD, LONG8, SLONG8, IFD8};
 ghost use Rattle.tiff_value.specs.Data.{data_of, signed_le, u8s, i8s, u16s, i16s, u32s, i32s, u64s, i64s, bits32s, bits64s, ifds, ifd8s};
-ghost use Rattle.tiff_value.specs.ValueLaws.{mapped};
+ghost use Rattle.tiff_value.specs.ValueLaws.{mapped_values};
 
 use super::octets::push_numbers;
 use super::tiff_value::{Ifd, Ifd8, TiffScalar, TiffValue};
@@ -444,7 +444,7 @@ impl TiffScalar for Bits32 {
 
     ghost one = { λ n. refl };
 
-    ghost listed = { λ ns. unfold data_of in mapped FLOAT (λ n. n.0) (le 4) ns };
+    ghost listed = { λ ns. unfold data_of in mapped_values FLOAT (λ n. n.0) (le 4) ns };
 }
 
 impl TiffValue for Bits64 {
@@ -492,7 +492,7 @@ impl TiffScalar for Bits64 {
 
     ghost one = { λ n. refl };
 
-    ghost listed = { λ ns. unfold data_of in mapped DOUBLE (λ n. n.0) (le 8) ns };
+    ghost listed = { λ ns. unfold data_of in mapped_values DOUBLE (λ n. n.0) (le 8) ns };
 }
 
 impl TiffValue for Ifd {
@@ -536,7 +536,7 @@ impl TiffScalar for Ifd {
 
     ghost one = { λ n. refl };
 
-    ghost listed = { λ ns. unfold data_of in mapped IFD (λ n. n.0) (le 4) ns };
+    ghost listed = { λ ns. unfold data_of in mapped_values IFD (λ n. n.0) (le 4) ns };
 }
 
 impl TiffValue for Ifd8 {
@@ -580,5 +580,5 @@ impl TiffScalar for Ifd8 {
 
     ghost one = { λ n. refl };
 
-    ghost listed = { λ ns. unfold data_of in mapped IFD8 (λ n. n.0) (le 8) ns };
+    ghost listed = { λ ns. unfold data_of in mapped_values IFD8 (λ n. n.0) (le 8) ns };
 }

@@ -63,7 +63,7 @@ pub trait TiffValue {
     fn data(&self, alloc: Global) -> TiffResult<Vec<u8>>
         ensures { AnswersBut (IsWritable (field_data self.now)) ⊥ (λ v. values_in value_type (value_count self.now) v.items) result (field_data self.now) };
 
-    /// Writes its bytes at the writer's place, as they are. After an earlier fault: `UsageError(WriterFailed)`. Further
+    /// Writes its bytes at the writer's offset, as they are. After an earlier fault: `UsageError(WriterFailed)`. Further
     /// errors are those of `data` and of `write_plain`.
     #[tactic(auto, using(crate::proofs::Values::value_written, crate::proofs::Values::value_stopped, crate::proofs::Values::value_wanting, crate::proofs::Values::value_refused))]
     final fn write<W: Sink>(&self, alloc: Global, writer: &mut TiffWriter<W>) -> TiffResult<()>
@@ -243,11 +243,11 @@ fn is_text(bytes: &[u8]) -> bool
     bytes.iter().all(|b| *b < 128 && *b != 0)
 }
 
-/// The place of a directory, of 4 bytes.
+/// The offset of a directory, of 4 bytes.
 #[derive(Clone, Drop)]
 pub struct Ifd(pub u32);
 
-/// The place of a directory, of 8 bytes.
+/// The offset of a directory, of 8 bytes.
 #[derive(Clone, Drop)]
 pub struct Ifd8(pub u64);
 

@@ -1,4 +1,4 @@
-//! Numbers and bytes are written at a place of a sink.
+//! Numbers and bytes are written at an offset of a sink.
 
 ghost use Rattle.std.specs.Int.{w8, w16, w32, w64};
 ghost use Rattle.std.specs.Prelude.{◌≡◌, ℕ, ◌+◌, ◌-◌, ◌%◌, ◌^◌, ◌<◌, ◌≤◌, List, [], ◌∷◌, length, replicate, take, is_some, IsSome, IfOk, IfErr, MatchResult, None};
@@ -7,7 +7,7 @@ ghost use Rattle.tiff_base.specs.declared.tags.CompressionMethod.TheVariants as 
 ghost use Rattle.tiff_value.specs.Compressors.{compressor_method};
 ghost use Rattle.tiff_value.specs.Data.{signed_le};
 ghost use Rattle.tiff_value.specs.Stored.{StoresBytes};
-ghost use Rattle.tiff_value.specs.Written.{moved, new_writer, Fails, Writes, WritesRaw};
+ghost use Rattle.tiff_value.specs.Written.{writer_after, new_writer, SinkFails, Writes, WritesRaw};
 
 use crate::encoder::compression::{CompressionAlgorithm, Compressor, Uncompressed};
 use std::alloc::Global;
@@ -16,7 +16,7 @@ use tiff_base::error::{TiffError, TiffResult, UsageError};
 use tiff_base::io::{IoKind, Sink, SinkFault};
 use tiff_base::tags::{Bits32, Bits64};
 
-/// Writes bytes at a place of a sink. After a fault of the sink each write answers `UsageError(WriterFailed)`.
+/// Writes bytes at an offset of a sink. After a fault of the sink each write answers `UsageError(WriterFailed)`.
 #[derive(Drop)]
 pub struct TiffWriter<W: Sink> {
     sink: W,
@@ -75,9 +75,9 @@ impl<W: Sink> TiffWriter<W> {
         self.compressor = Compressor::Uncompressed(Uncompressed);
     }
 
-    /// The place that is written next, at most the count of bytes.
+    /// The offset that is written next, at most the count of bytes.
     pub fn offset(&self) -> u64
-        ensures place { result ≡ self.now.at }
+        ensures offset { result ≡ self.now.at }
         ensures within { result ≤ length self.now.bytes }
         ensures short { length self.now.bytes < 2 ^ 64 }
     {
@@ -105,7 +105,7 @@ impl<W: Sink> TiffWriter<W> {
         self.failed
     }
 
-    /// Goes to a place, from where bytes are written over and then added. A place past the bytes:
+    /// Goes to an offset, from where bytes are written over and then added. An offset past the bytes:
     /// `IoError(InvalidInput)`, and nothing is done.
     pub fn goto_offset(&mut self, offset: u64) -> TiffResult<()>
         ensures { MatchResult result
@@ -123,8 +123,8 @@ impl<W: Sink> TiffWriter<W> {
     fn write_some(&mut self, bytes: &[u8]) -> TiffResult<usize>
         requires some { 0 < length bytes.now }
         requires fresh { self.old.fault ≡ None }
-        ensures ok { IfOk result (λ n. (0 < n) × (n ≤ length bytes.now) × (self.new ≡ moved self.old (take n bytes.now))) }
-        ensures err { IfErr result (λ e. Fails e self.old self.new) }
+        ensures ok { IfOk result (λ n. (0 < n) × (n ≤ length bytes.now) × (self.new ≡ writer_after self.old (take n bytes.now))) }
+        ensures err { IfErr result (λ e. SinkFails e self.old self.new) }
     {
         let room = self.sink.len() - self.at;
         let told = if room == 0 {
@@ -265,7 +265,7 @@ impl<W: Sink> TiffWriter<W> {
         self.write_plain(&n.0.to_le_bytes())
     }
 
-    /// Writes zeros up to the next place that is a multiple of 4; `last_written` doesn't count them. Errors are those
+    /// Writes zeros up to the next offset that is a multiple of 4; `last_written` doesn't count them. Errors are those
     /// of `write_plain`.
     pub fn pad_word_boundary(&mut self) -> TiffResult<()>
         ensures { WritesRaw (replicate ((4 - self.old.at % 4) % 4) 0) self.old self.new result }
@@ -291,7 +291,7 @@ impl<W: Sink> TiffWriter<W> {
     }
 }
 
-/// Writes the first bytes of a classic little-endian file, before the place of its first directory; `last_written` doesn't count
+/// Writes the first bytes of a classic little-endian file, before the offset of its first directory; `last_written` doesn't count
 /// them. Errors are those of `TiffWriter::write_plain`.
 pub fn write_tiff_header<W: Sink>(writer: &mut TiffWriter<W>) -> TiffResult<()>
     ensures { WritesRaw (73 ∷ 73 ∷ 42 ∷ 0 ∷ []) writer.old writer.new result }
@@ -299,7 +299,7 @@ pub fn write_tiff_header<W: Sink>(writer: &mut TiffWriter<W>) -> TiffResult<()>
     writer.write_raw(&[73, 73, 42, 0])
 }
 
-/// Writes the first bytes of a little-endian BigTIFF file, before the place of its first directory; `last_written` doesn't count
+/// Writes the first bytes of a little-endian BigTIFF file, before the offset of its first directory; `last_written` doesn't count
 /// them. Errors are those of `TiffWriter::write_plain`.
 pub fn write_bigtiff_header<W: Sink>(writer: &mut TiffWriter<W>) -> TiffResult<()>
     ensures { WritesRaw (73 ∷ 73 ∷ 43 ∷ 0 ∷ 8 ∷ 0 ∷ 0 ∷ 0 ∷ []) writer.old writer.new result }

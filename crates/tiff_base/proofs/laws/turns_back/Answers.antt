@@ -1,4 +1,4 @@
-use Rattle.tiff_base.proofs.Turned.{turns_back}
+use Rattle.tiff_base.proofs.ByteOrders.{turns_back}
 use Rattle.tiff_base.proofs.laws.turns_back.Goals as goal
 
 pub returns : goal.returns

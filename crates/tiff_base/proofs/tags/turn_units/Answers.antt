@@ -1,5 +1,5 @@
 use Rattle.std.proofs.Common.{sym, arith}
-use Rattle.tiff_base.proofs.Turned.{turned_none, next_unit, last_unit}
+use Rattle.tiff_base.proofs.ByteOrders.{turned_none, next_unit, last_unit}
 use Rattle.tiff_base.proofs.tags.turn_units.Goals as goal
 
 pub units-init : goal.units-init

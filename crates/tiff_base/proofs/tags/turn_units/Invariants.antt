@@ -1,5 +1,5 @@
 use Rattle.std.proofs.Common.{◌≡◌}
-use Rattle.tiff_base.specs.Turned.{turned_units}
+use Rattle.tiff_base.specs.ByteOrders.{turned_units}
 use Rattle.tiff_base.proofs.tags.turn_units.Given as goal
 
 abbrev pub invariant-units : goal.invariant-units

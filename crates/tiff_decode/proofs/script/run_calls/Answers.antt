@@ -1,5 +1,5 @@
 use Rattle.std.proofs.Common.{arith}
-use Rattle.tiff_decode.proofs.Turns.{all_made}
+use Rattle.tiff_decode.proofs.CallsMade.{all_made}
 use Rattle.tiff_decode.proofs.script.run_calls.Goals as goal
 
 pub returns-clause-made : goal.returns-clause-made

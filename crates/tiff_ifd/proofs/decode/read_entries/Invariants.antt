@@ -8,6 +8,6 @@ invariant-loop-i g l =
     record {
       same_bytes : g.R.Source.bytes l.source ≡ bytes;
       failures : g.R.Source.failures l.source ≡ g.R.Source.failures l.fn.source;
-      here : l.place ≡ l.first + entry_len l.kind * l.i;
+      here : l.offset ≡ l.first + entry_len l.kind * l.i;
       so_far : l.directory ≡ record { entries = last_of_each (entries_from l.kind l.order bytes l.first l.i); next = None };
     }

@@ -1,6 +1,6 @@
 use Rattle.std.proofs.Common.{◌≡◌, ℕ, ◌*◌, ◌<◌, get_or}
 use Rattle.tiff_base.specs.Number.{number}
-use Rattle.tiff_base.specs.Told.{bytes_at}
+use Rattle.tiff_base.specs.SourceAndSink.{bytes_at}
 use Rattle.tiff_base.specs.Types.{type_size}
 use Rattle.tiff_ifd.specs.Unsigned.{unsigned_width}
 use Rattle.tiff_ifd.proofs.read_numbers.fill_numbers.Given as goal

@@ -1,4 +1,4 @@
-use Rattle.tiff_page.proofs.Placing.{chunks_within}
+use Rattle.tiff_page.proofs.PositionLaws.{chunks_within}
 use Rattle.tiff_page.proofs.laws.chunks_within.Goals as goal
 
 pub returns : goal.returns

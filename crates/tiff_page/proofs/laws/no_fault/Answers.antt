@@ -1,4 +1,4 @@
-use Rattle.tiff_page.proofs.Placing.{no_fault}
+use Rattle.tiff_page.proofs.PositionLaws.{no_fault}
 use Rattle.tiff_page.proofs.laws.no_fault.Goals as goal
 
 pub returns : goal.returns

@@ -1,7 +1,7 @@
 use Rattle.std.proofs.Common.{◌+◌, ◌-◌, ◌<◌, ◌≤◌, map}
 use Rattle.std.specs.Prelude.{slice_index}
 use Rattle.tiff_page.specs.NumberBytes.{bytes_in}
-use Rattle.tiff_page.specs.Place.{Writes}
+use Rattle.tiff_page.specs.BufferPositions.{Writes}
 use Rattle.tiff_page.proofs.numbers.put_bytes.Given as goal
 
 -- the bytes so far are put

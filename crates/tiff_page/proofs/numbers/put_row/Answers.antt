@@ -1,5 +1,5 @@
 use Rattle.std.proofs.Common.{rules, ◌≡◌, ◌%◌, length, map}
-use Rattle.tiff_base.specs.Told.{AreOctets}
+use Rattle.tiff_base.specs.SourceAndSink.{AreOctets}
 use Rattle.tiff_page.proofs.NumberBytes.{row_put_whole}
 use Rattle.tiff_page.proofs.numbers.put_row.Goals as goal
 

@@ -1,6 +1,6 @@
 use Rattle.std.proofs.Common.{rules, arith, Ok, ◌≡◌, ◌∙◌, ◌++◌, take, drop, length, refl}
 use Rattle.tiff_page.specs.Laws.{HasSides}
-use Rattle.tiff_page.specs.View as view
+use Rattle.tiff_page.specs.PageView as view
 use Rattle.tiff_page.specs.declared.layout.DecodingSampleType.TheVariants as type
 use Rattle.tiff_page.specs.declared.page.Page.{Page}
 use Rattle.tiff_page.proofs.Portions.{portion_early, bytes_given, filling_cause, all_written, plain_zeros}
@@ -12,14 +12,14 @@ sides_of p = record { wide = p.wide; high = p.high; chunk_wide = p.chunk_wide; c
 pub returns-in-Err-clause-answer : goal.returns-in-Err-clause-answer
 returns-in-Err-clause-answer g c =
     let p = c.args.page.now in
-    portion_early _ _ (g.R.Source.bytes c.args.source.now) c.args.order (view.page p) c.args.limits.now c.args.portion c.colour-colour.result type.U8 c.first-first.result c.args.len c.in-Err.fault
-    (sides_of p) c.requires.laid c.requires.typed c.colour-colour.ensures c.first-first.ensures c.in-Err.ensures.answer
+    portion_early _ _ (g.R.Source.bytes c.args.source.now) c.args.order (view.page p) c.args.limits.now c.args.portion c.color-color.result type.U8 c.first-first.result c.args.len c.in-Err.fault
+    (sides_of p) c.requires.laid c.requires.typed c.color-color.ensures c.first-first.ensures c.in-Err.ensures.answer
 
 pub returns-in-Ok-fill-clause-answer : goal.returns-in-Ok-fill-clause-answer
 returns-in-Ok-fill-clause-answer g c =
     let p = c.args.page.now in
     let back : c.fill.new.out ≡ take c.in-Ok.bytes.len (c.fill.new.out ++ drop (length c.fill.new.out) c.in-Ok.bytes.items) = all_written c.fill.new.out c.in-Ok.bytes.items c.in-Ok.bytes.len (search rules) in
-    bytes_given (g.R.Source.bytes c.args.source.now) c.args.order (view.page p) c.args.limits.now c.args.portion (sides_of p) c.requires.laid c.colour-colour.result type.U8 c.first-first.result c.args.len
+    bytes_given (g.R.Source.bytes c.args.source.now) c.args.order (view.page p) c.args.limits.now c.args.portion (sides_of p) c.requires.laid c.color-color.result type.U8 c.first-first.result c.args.len
     c.deref_mut.result.now c.fill.new.out refl c.requires.typed c.in-Ok.ensures.answer
     (c.deref_mut.ensures.value ∙ plain_zeros c.in-Ok.bytes.items c.args.len c.in-Ok.ensures.zeros) (rw c.in-Ok.ensures.kept.told at c.in-Ok-fill.ensures.answer)
     ∙ (λ i. Ok (record { sample_type = type.U8; numbers = back i }))
@@ -27,5 +27,5 @@ returns-in-Ok-fill-clause-answer g c =
 pub returns-in-Err-fill-clause-answer : goal.returns-in-Err-fill-clause-answer
 returns-in-Err-fill-clause-answer g c =
     let p = c.args.page.now in
-    filling_cause (g.R.Source.bytes c.args.source.now) c.args.order (view.page p) c.args.limits.now c.args.portion (sides_of p) c.requires.laid _ _ c.colour-colour.result type.U8 c.first-first.result c.args.len
+    filling_cause (g.R.Source.bytes c.args.source.now) c.args.order (view.page p) c.args.limits.now c.args.portion (sides_of p) c.requires.laid _ _ c.color-color.result type.U8 c.first-first.result c.args.len
     c.deref_mut.result.now c.in-Err-fill.fault (λ f. omega (arith, f, c.in-Ok.ensures.kept.failures)) c.requires.typed c.in-Ok.ensures.answer (rw c.in-Ok.ensures.kept.told at c.in-Err-fill.ensures.answer)

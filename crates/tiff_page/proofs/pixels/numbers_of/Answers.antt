@@ -1,7 +1,7 @@
 use Rattle.std.proofs.Common.{rules, Ok, ◌≡◌, ◌∙◌, ◌++◌, map, take, drop, length, ap}
 use Rattle.tiff_page.specs.Laws.{HasSides}
 use Rattle.tiff_page.specs.Samples.{room_of}
-use Rattle.tiff_page.specs.View as view
+use Rattle.tiff_page.specs.PageView as view
 use Rattle.tiff_page.specs.declared.page.Page.{Page}
 use Rattle.tiff_page.proofs.Portions.{numbers_given, room_in, all_written}
 use Rattle.tiff_page.proofs.pixels.numbers_of.Goals as goal
@@ -18,7 +18,7 @@ pub returns-in-Ok-fill-clause-answer : goal.returns-in-Ok-fill-clause-answer
 returns-in-Ok-fill-clause-answer g c =
     let p = c.args.page.now in
     let back : c.fill.new.out ≡ take c.in-Ok.numbers.len (c.fill.new.out ++ drop (length c.fill.new.out) c.in-Ok.numbers.items) = all_written c.fill.new.out c.in-Ok.numbers.items c.in-Ok.numbers.len (search rules) in
-    numbers_given (g.R.Source.bytes c.args.source.now) c.args.order (view.page p) c.args.limits.now c.args.portion (sides_of p) c.requires.laid c.colour-colour.result c.args.sample_type g.row.N c.first-first.result c.args.len
+    numbers_given (g.R.Source.bytes c.args.source.now) c.args.order (view.page p) c.args.limits.now c.args.portion (sides_of p) c.requires.laid c.color-color.result c.args.sample_type g.row.N c.first-first.result c.args.len
     (map g.T.Number.bits c.deref_mut.result.now) (map g.T.Number.bits c.fill.new.out) g.met.T.Number.sized c.requires.size c.requires.typed c.in-Ok.ensures.answer c.requires.room
     (ap (map g.T.Number.bits) c.deref_mut.ensures.value ∙ c.in-Ok.ensures.zeros) (rw c.in-Ok.ensures.kept.told at c.in-Ok-fill.ensures.answer)
     ∙ (λ i. Ok (record { sample_type = c.args.sample_type; numbers = map g.T.Number.bits (back i) }))

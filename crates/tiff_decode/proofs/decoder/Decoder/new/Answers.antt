@@ -1,6 +1,6 @@
 use Rattle.std.proofs.Common.{ap, sym, ◌∙◌, arith, Ok, Some}
 use Rattle.tiff_base.specs.Header.{Header}
-use Rattle.tiff_page.specs.View as view
+use Rattle.tiff_page.specs.PageView as view
 use Rattle.tiff_decode.proofs.Opening.{begun_unread, begun_unpaged, begun_page}
 use Rattle.tiff_decode.proofs.decoder.Decoder.new.Goals as goal
 
@@ -37,7 +37,7 @@ returns-in-Ok-read_page-clause-answer g c =
         more = (sym c.links_on-more.ensures) i;
         page = view.page c.in-Ok-read_page.page;
         directory = (ap (λ t. t.directory) (sym c.in-Ok-read_page.ensures.kept.told)) i;
-        place = (sym c.header_end.ensures) i;
+        offset = (sym c.header_end.ensures) i;
         limits = (sym c.default.ensures ∙ ap (λ t. t.limits) (sym c.in-Ok-read_page.ensures.kept.told)) i;
       };
     }))

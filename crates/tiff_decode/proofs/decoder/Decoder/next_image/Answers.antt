@@ -1,43 +1,43 @@
 use Rattle.std.proofs.Common.{Some, None, Err, false, sym, ◌∙◌}
-use Rattle.tiff_page.specs.View as view
+use Rattle.tiff_page.specs.PageView as view
 use Rattle.tiff_decode.specs.Machine.{Decoding, decoding}
 use Rattle.tiff_decode.specs.Outcome.{next_image}
-use Rattle.tiff_decode.proofs.Along.{next_known, next_read, next_closed, none_of, past_end, added_at, answered, unfailed, none_found, shown_open, told_same, stands_told}
+use Rattle.tiff_decode.proofs.ChainPosition.{next_known, next_read, next_closed, none_of, past_end, added_at, answered, unfailed, none_found, shown_open, told_same, stands_told}
 use Rattle.tiff_decode.proofs.decoder.Decoder.next_image.Goals as goal
 
 pub returns-in-Some : goal.returns-in-Some
 returns-in-Some g c =
     let s = c.self.inside in
     let d : Decoding = decoding (g.R.Source.bytes s.tags.source) s.tags.kind s.tags.order s.first (g.R.Source.failures s.tags.source) s.standing.pointer s.standing.more
-    (view.page s.page) s.tags.directory s.place s.tags.limits in
-    shown_open c.enter_place.result d _ _ c.self.view_is (cc)
-    (next_known c.enter_place.result d _ s.walk s.standing.at c.following-at.result c.in-Some.place c.self.invariant (cc) c.following-at.ensures.number
-    (sym c.get-known.ensures ∙ c.in-Some.is) (c.enter_place.ensures.follows s.first s.place))
+    (view.page s.page) s.tags.directory s.offset s.tags.limits in
+    shown_open c.enter_offset.result d _ _ c.self.view_is (cc)
+    (next_known c.enter_offset.result d _ s.walk s.standing.at c.following-at.result c.in-Some.offset c.self.invariant (cc) c.following-at.ensures.number
+    (sym c.get-known.ensures ∙ c.in-Some.is) (c.enter_offset.ensures.follows s.first s.offset))
 
 pub returns-in-Ok-Some : goal.returns-in-Ok-Some
 returns-in-Ok-Some g c =
     let s = c.self.inside in
     let d : Decoding = decoding (g.R.Source.bytes s.tags.source) s.tags.kind s.tags.order s.first (g.R.Source.failures s.tags.source) s.standing.pointer s.standing.more
-    (view.page s.page) s.tags.directory s.place s.tags.limits in
+    (view.page s.page) s.tags.directory s.offset s.tags.limits in
     let mid : Decoding = record d { bytes = g.R.Source.bytes c.enter_behind.new.source; failures = g.R.Source.failures c.enter_behind.new.source } in
     let e = rw c.in-Ok-Some.field-0-is at c.in-Ok-Some.ensures.entered in
     shown_open c.enter_directory.result d _ _ c.self.view_is (cc)
-    (next_read c.enter_directory.result d mid _ s.walk c.enter_behind.new.walk s.standing.at c.following-at.result c.in-Ok-Some.place c.in-Ok-Some.directory
+    (next_read c.enter_directory.result d mid _ s.walk c.enter_behind.new.walk s.standing.at c.following-at.result c.in-Ok-Some.offset c.in-Ok-Some.directory
     c.self.invariant (cc) c.following-at.ensures.number (c.enter_behind.ensures.begins s.first c.self.invariant.begins)
-    (added_at s.walk.places c.enter_behind.new.walk.places c.following-at.result c.in-Ok-Some.place e.0 c.following-at.ensures.entered
-    (past_end s.walk.places c.following-at.result (sym c.get-known.ensures ∙ none_of c.get-known.result c.in_default.not-Some)))
-    e.1 (told_same d _ _ c.enter_behind.ensures.kept.told c.in-Ok-Some.ensures.kept.swallowed) (c.enter_directory.ensures.follows s.first s.place))
+    (added_at s.walk.offsets c.enter_behind.new.walk.offsets c.following-at.result c.in-Ok-Some.offset e.0 c.following-at.ensures.entered
+    (past_end s.walk.offsets c.following-at.result (sym c.get-known.ensures ∙ none_of c.get-known.result c.in_default.not-Some)))
+    e.1 (told_same d _ _ c.enter_behind.ensures.kept.told c.in-Ok-Some.ensures.kept.swallowed) (c.enter_directory.ensures.follows s.first s.offset))
 
 pub returns-in-Ok-None : goal.returns-in-Ok-None
 returns-in-Ok-None g c =
     let s = c.self.inside in
     let d : Decoding = decoding (g.R.Source.bytes s.tags.source) s.tags.kind s.tags.order s.first (g.R.Source.failures s.tags.source) s.standing.pointer s.standing.more
-    (view.page s.page) s.tags.directory s.place s.tags.limits in
+    (view.page s.page) s.tags.directory s.offset s.tags.limits in
     let e = rw c.in-Ok-None.field-0-is at c.in-Ok-None.ensures.end in
     shown_open (Err c.into-in-Ok-None.result) d _ _ c.self.view_is (cc)
     (none_found c.into-in-Ok-None.result (next_image d) (record d.state { more = false }) d _ c.into-in-Ok-None.ensures
     (next_closed d s.walk s.standing.at c.following-at.result None c.self.invariant (cc) c.following-at.ensures.number
-    (past_end s.walk.places c.following-at.result (sym c.get-known.ensures ∙ none_of c.get-known.result c.in_default.not-Some))
+    (past_end s.walk.offsets c.following-at.result (sym c.get-known.ensures ∙ none_of c.get-known.result c.in_default.not-Some))
     (e.1 s.first c.self.invariant.begins))
     (stands_told (record d.state { more = false }) d _ _ c.enter_behind.ensures.kept.told c.in-Ok-None.ensures.kept.swallowed))
 
@@ -45,11 +45,11 @@ pub returns-in-Err : goal.returns-in-Err
 returns-in-Err g c =
     let s = c.self.inside in
     let d : Decoding = decoding (g.R.Source.bytes s.tags.source) s.tags.kind s.tags.order s.first (g.R.Source.failures s.tags.source) s.standing.pointer s.standing.more
-    (view.page s.page) s.tags.directory s.place s.tags.limits in
+    (view.page s.page) s.tags.directory s.offset s.tags.limits in
     shown_open (Err c.in-Err.fault) d _ _ c.self.view_is (cc)
     (answered _ _ _ c.in-Err.fault (next_image d) (record d.state { more = false }) d _ (sym c.keeps_state.ensures ∙ c.if-keeps_state.false) c.in-Err.ensures.cut
     (λ ends. next_closed d s.walk s.standing.at c.following-at.result (Some c.in-Err.fault) c.self.invariant (cc) c.following-at.ensures.number
-    (past_end s.walk.places c.following-at.result (sym c.get-known.ensures ∙ none_of c.get-known.result c.in_default.not-Some))
+    (past_end s.walk.offsets c.following-at.result (sym c.get-known.ensures ∙ none_of c.get-known.result c.in_default.not-Some))
     (ends s.first c.self.invariant.begins))
     (stands_told (record d.state { more = false }) d _ _ c.enter_behind.ensures.kept.told
     (unfailed c.in-Err.fault _ _ (sym c.keeps_state.ensures ∙ c.if-keeps_state.false) c.in-Err.ensures.kept.swallowed)))

@@ -21,6 +21,6 @@ returns-in-Err-append g c =
 pub returns : goal.returns
 returns g c =
     let before = c.in-Ok-reserve.ensures.items ∙ ap (λ i. i.chunks) c.image.view_is in
-    let chunks = c.push_reserved.ensures.items ∙ (λ j. before j ++ (record { place = c.in-Ok.place; stored = length c.args.stored.now }) ∷ []) in
-    append_done c.args.self.now c.args.image.now c.args.count c.args.stored.now _ c.in-Ok.place c.append.new.self _ refl c.in-Ok.ensures.2 c.in-Ok.ensures.1
+    let chunks = c.push_reserved.ensures.items ∙ (λ j. before j ++ (record { offset = c.in-Ok.offset; stored = length c.args.stored.now }) ∷ []) in
+    append_done c.args.self.now c.args.image.now c.args.count c.args.stored.now _ c.in-Ok.offset c.append.new.self _ refl c.in-Ok.ensures.2 c.in-Ok.ensures.1
     c.in-Ok-append.ensures.1 (λ j. record (c.image.view_is j) { chunks = chunks j })

@@ -5,8 +5,8 @@ use Rattle.tiff_encode.proofs.encoder.TiffEncoder.append_given.Goals as goal
 
 pub returns-in-Ok-clause-leaves : goal.returns-in-Ok-clause-leaves
 returns-in-Ok-clause-leaves g c m s =
-    let view : ℕ → ℕ = λ place. place in
-    data_leaves view (Ok c.in-Ok.place) c.args.self.now c.append_value.new.self m (g.T.TiffValue.field_data c.args.value.now) s c.in-Ok.ensures
+    let view : ℕ → ℕ = λ offset. offset in
+    data_leaves view (Ok c.in-Ok.offset) c.args.self.now c.append_value.new.self m (g.T.TiffValue.field_data c.args.value.now) s c.in-Ok.ensures
 
 pub returns-in-Err-clause-leaves : goal.returns-in-Err-clause-leaves
 returns-in-Err-clause-leaves g c m s =

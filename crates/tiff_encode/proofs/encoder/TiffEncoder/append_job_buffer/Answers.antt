@@ -13,8 +13,8 @@ returns-in-Ok-clause-leaves g c m s =
     let b : BufferRecord = buffer_in c.args.buffer.now in
     let old = c.args.self.now in
     let new = c.append_ordered.new.self in
-    let view : ℕ → ℕ = λ place. place in
-    let r : Result ℕ TiffError = Ok c.in-Ok.place in
+    let view : ℕ → ℕ = λ offset. offset in
+    let r : Result ℕ TiffError = Ok c.in-Ok.offset in
     data_buf_leaves view r old new m b s
     (subst (λ (bytes : List ℕ). Ends view (write_data_buf (record b { bytes = bytes }) old) r old new) c.deref.ensures.value (c.in-Ok.ensures b.data_type))
 
@@ -23,7 +23,7 @@ returns-in-Err-clause-leaves g c m s =
     let b : BufferRecord = buffer_in c.args.buffer.now in
     let old = c.args.self.now in
     let new = c.append_ordered.new.self in
-    let view : ℕ → ℕ = λ place. place in
+    let view : ℕ → ℕ = λ offset. offset in
     let r : Result ℕ TiffError = Err c.in-Err.fault in
     failed_leaves _ c.in-Err.fault old new m (data_buf_plain b old)
     (subst (λ (bytes : List ℕ). Ends view (write_data_buf (record b { bytes = bytes }) old) r old new) c.deref.ensures.value (c.in-Err.ensures b.data_type)) s

@@ -3,8 +3,8 @@ use Rattle.tiff_base.specs.declared.error.TiffError.{TiffError}
 use Rattle.tiff_value.specs.Data.{FieldData}
 use Rattle.tiff_value.specs.Values.{values_in}
 use Rattle.tiff_encode.specs.Calls.{appends}
-use Rattle.tiff_encode.specs.Encoder.{IsStopped, IsCut}
-use Rattle.tiff_encode.specs.Steps.{grown}
+use Rattle.tiff_encode.specs.Encoder.{AppendIsStopped, AppendIsCut}
+use Rattle.tiff_encode.specs.FileWrites.{file_with_bytes}
 use Rattle.tiff_encode.proofs.Calling.{data_stopped, data_refused, data_uncaused, appends_done, appends_fails, writable, wants, wanting}
 use Rattle.tiff_encode.proofs.encoder.TiffEncoder.append_value.Goals as goal
 
@@ -32,7 +32,7 @@ returns-in-Ok-append g c =
     let bytes = c.in-Ok-data.data.items in
     let d = values_in g.T.TiffValue.value_type (g.T.TiffValue.value_count c.args.value.now) bytes in
     data_uncaused (λ n. n) given d (Ok c.in-Ok.end) old c.append.new.self c.in-Ok.ensures.0 c.in-Ok-data.ensures
-    (appends_done bytes c.in-Ok.end old c.append.new.self c.in-Ok.ensures.1 (c.in-Ok-append.ensures.1 ∙ ap (grown old) c.deref.ensures.value))
+    (appends_done bytes c.in-Ok.end old c.append.new.self c.in-Ok.ensures.1 (c.in-Ok-append.ensures.1 ∙ ap (file_with_bytes old) c.deref.ensures.value))
 
 pub returns-in-Err-append : goal.returns-in-Err-append
 returns-in-Err-append g c =
@@ -44,4 +44,4 @@ returns-in-Err-append g c =
     let d = values_in g.T.TiffValue.value_type (g.T.TiffValue.value_count c.args.value.now) bytes in
     data_uncaused (λ n. n) given d (Err e) old new c.in-Ok.ensures.0 c.in-Ok-data.ensures
     (appends_fails bytes e old new c.in-Ok.ensures.0
-    (subst (λ (xs : List ℕ). IsStopped e old new ⊎ IsCut xs e old new) c.deref.ensures.value c.in-Err-append.ensures))
+    (subst (λ (xs : List ℕ). AppendIsStopped e old new ⊎ AppendIsCut xs e old new) c.deref.ensures.value c.in-Err-append.ensures))

@@ -1,7 +1,7 @@
 use Rattle.std.proofs.Common.{Ok, ◌∙◌, ap, refl, subst}
 use Rattle.tiff_base.specs.Types.{type_size}
 use Rattle.tiff_encode.specs.Calls as calls
-use Rattle.tiff_encode.specs.Ends.{IsTold, Fails}
+use Rattle.tiff_encode.specs.Ends.{IsTold, CallFails}
 use Rattle.tiff_encode.specs.Tagging.{write_fields, fields_of}
 use Rattle.tiff_encode.proofs.Images.{image_refused, image_short, image_unpadded, image_untagged, image_begun}
 use Rattle.tiff_encode.proofs.encoder.TiffEncoder.begin_image.Goals as goal
@@ -32,6 +32,6 @@ returns-in-Err-set_tags g c =
     let old = c.args.self.now in
     let is = c.image.view_is ∙ c.blank-image.ensures in
     let values = c.deref.ensures.value ∙ c.in-Ok-first_values.ensures ∙ ap (λ i. fields_of (calls.first_tags i)) c.blank-image.ensures in
-    let failed = subst (λ d. Fails (write_fields d c.deref.result.now c.pad.new.self) c.in-Err-set_tags.fault c.pad.new.self c.set_tags.new.self) (ap (λ i. i.directory) is) c.in-Err-set_tags.ensures.answer in
+    let failed = subst (λ d. CallFails (write_fields d c.deref.result.now c.pad.new.self) c.in-Err-set_tags.fault c.pad.new.self c.set_tags.new.self) (ap (λ i. i.directory) is) c.in-Err-set_tags.ensures.answer in
     image_untagged g.C.ColorType.described (type_size g.C.Inner.TiffValue.value_type) c.args.width c.args.height old c.deref.result.now c.in-Err-set_tags.fault c.pad.new.self c.set_tags.new.self
     c.in-Ok.ensures.3 c.in-Ok.ensures.0 c.in-Ok-pad.ensures.1 values failed

@@ -1,6 +1,6 @@
 use Rattle.std.proofs.Common.{Ok, refl}
 use Rattle.tiff_base.specs.Types.{type_size}
-use Rattle.tiff_encode.proofs.ImageGuard.{new_left, new_left_err}
+use Rattle.tiff_encode.proofs.Image.Guard.{new_left, new_left_err}
 use Rattle.tiff_encode.proofs.encoder.TiffEncoder.new_image.Goals as goal
 
 pub returns-in-Ok : goal.returns-in-Ok

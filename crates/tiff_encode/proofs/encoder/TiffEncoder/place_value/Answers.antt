@@ -4,7 +4,7 @@ use Rattle.tiff_base.specs.declared.tags.«Type».{«Type»}
 use Rattle.tiff_base.specs.declared.error.TiffError.{TiffError}
 use Rattle.tiff_value.specs.Data.{FieldData}
 use Rattle.tiff_value.specs.Values.{values_in, IsValue}
-use Rattle.tiff_encode.specs.Calls.{placed}
+use Rattle.tiff_encode.specs.Calls.{placed_field}
 use Rattle.tiff_encode.proofs.Calling.{entry_stopped, entry_refused, entry_caused, entry_uncaused, placed_ends, writable, wants, wanting, test_is}
 use Rattle.tiff_encode.proofs.encoder.TiffEncoder.place_value.Goals as goal
 
@@ -40,7 +40,7 @@ returns-in-Err-data g c =
     let uncaused = sym (test_is old c.file_kind.result type count d.0 c.in-Ok.end c.count-count.result c.bytes.result c.file_kind.ensures is c.in-Ok.ensures.1 c.count-count.ensures c.bytes.ensures)
     ∙ c.in-Ok-check_field.ensures in
     entry_uncaused (λ f. f) given d.0 (Err e) old old c.in-Ok.ensures.0 d.1 uncaused
-    (wanting (λ f. f) (placed d.0 old) e old c.in-Ok.ensures.0 (wants given e c.in-Ok-check.ensures c.in-Err-data.ensures) tt)
+    (wanting (λ f. f) (placed_field d.0 old) e old c.in-Ok.ensures.0 (wants given e c.in-Ok-check.ensures c.in-Err-data.ensures) tt)
 
 -- the data that was made is what the field is given
 made : (given : Result FieldData TiffError) (type field_type : «Type») (count n : ℕ) (items now : List ℕ)
@@ -49,8 +49,8 @@ made : (given : Result FieldData TiffError) (type field_type : «Type») (count 
 made given type field_type count n items now h t c b =
     h ∙ sym (λ i. Ok (record { field_type = t i; count = c i; bytes = b i }))
 
-pub returns-in-Ok-place : goal.returns-in-Ok-place
-returns-in-Ok-place g c =
+pub returns-in-Ok-place_entry : goal.returns-in-Ok-place_entry
+returns-in-Ok-place_entry g c =
     let old = c.args.self.now in
     let given : Result FieldData TiffError = g.T.TiffValue.field_data c.args.value.now in
     let type = g.T.TiffValue.value_type in
@@ -61,12 +61,12 @@ returns-in-Ok-place g c =
     let is : IsValue type count (Ok v) = subst (λ v. IsValue type count v) is_v (g.met.T.TiffValue.sized c.args.value.now) in
     let uncaused = sym (test_is old c.file_kind.result type count v c.in-Ok.end c.count-count.result c.bytes.result c.file_kind.ensures is c.in-Ok.ensures.1 c.count-count.ensures c.bytes.ensures)
     ∙ c.in-Ok-check_field.ensures in
-    let r : Result Field TiffError = Ok c.in-Ok-place.entry in
-    entry_uncaused (λ f. f) given v r old c.place.new.self c.in-Ok.ensures.0 is_v uncaused
-    (placed_ends v r old c.place.new.self c.in-Ok-place.ensures)
+    let r : Result Field TiffError = Ok c.in-Ok-place_entry.entry in
+    entry_uncaused (λ f. f) given v r old c.place_entry.new.self c.in-Ok.ensures.0 is_v uncaused
+    (placed_ends v r old c.place_entry.new.self c.in-Ok-place_entry.ensures)
 
-pub returns-in-Err-place : goal.returns-in-Err-place
-returns-in-Err-place g c =
+pub returns-in-Err-place_entry : goal.returns-in-Err-place_entry
+returns-in-Err-place_entry g c =
     let old = c.args.self.now in
     let given : Result FieldData TiffError = g.T.TiffValue.field_data c.args.value.now in
     let type = g.T.TiffValue.value_type in
@@ -77,6 +77,6 @@ returns-in-Err-place g c =
     let is : IsValue type count (Ok v) = subst (λ v. IsValue type count v) is_v (g.met.T.TiffValue.sized c.args.value.now) in
     let uncaused = sym (test_is old c.file_kind.result type count v c.in-Ok.end c.count-count.result c.bytes.result c.file_kind.ensures is c.in-Ok.ensures.1 c.count-count.ensures c.bytes.ensures)
     ∙ c.in-Ok-check_field.ensures in
-    let r : Result Field TiffError = Err c.in-Err-place.fault in
-    entry_uncaused (λ f. f) given v r old c.place.new.self c.in-Ok.ensures.0 is_v uncaused
-    (placed_ends v r old c.place.new.self c.in-Err-place.ensures)
+    let r : Result Field TiffError = Err c.in-Err-place_entry.fault in
+    entry_uncaused (λ f. f) given v r old c.place_entry.new.self c.in-Ok.ensures.0 is_v uncaused
+    (placed_ends v r old c.place_entry.new.self c.in-Err-place_entry.ensures)

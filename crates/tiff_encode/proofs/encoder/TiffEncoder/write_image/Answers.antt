@@ -1,8 +1,8 @@
 use Rattle.std.proofs.Common.{map, ap, sym, arith}
 use Rattle.tiff_base.specs.Types.{type_size}
 use Rattle.tiff_value.specs.ColorType.{sample_number}
-use Rattle.tiff_encode.proofs.DataImage.{image_leaves_by}
-use Rattle.tiff_encode.proofs.PartsShow.{parts_show}
+use Rattle.tiff_encode.proofs.Data.Image.{image_leaves_by}
+use Rattle.tiff_encode.proofs.Shown.Parts.{parts_show}
 use Rattle.tiff_encode.proofs.Samples.{are_numbers, some_method}
 use Rattle.tiff_encode.proofs.encoder.TiffEncoder.write_image.Goals as goal
 

@@ -2,7 +2,7 @@ use Rattle.std.proofs.Common.{length, map, sym}
 use Rattle.std.proofs.lemmas.List.{length-map}
 use Rattle.tiff_base.specs.Types.{type_size}
 use Rattle.tiff_value.specs.ColorType.{sample_number}
-use Rattle.tiff_encode.proofs.DataWritten.{data_done, data_fails}
+use Rattle.tiff_encode.proofs.Data.Written.{data_done, data_fails}
 use Rattle.tiff_encode.proofs.encoder.TiffEncoder.write_image_data.Goals as goal
 
 pub returns-in-Ok-finish_image : goal.returns-in-Ok-finish_image

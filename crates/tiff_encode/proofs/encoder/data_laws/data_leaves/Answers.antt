@@ -1,4 +1,4 @@
-use Rattle.tiff_encode.proofs.DataShows.{data_leaves}
+use Rattle.tiff_encode.proofs.Data.Shows.{data_leaves}
 use Rattle.tiff_encode.proofs.encoder.data_laws.data_leaves.Goals as goal
 
 pub returns : goal.returns

@@ -1,4 +1,4 @@
-use Rattle.tiff_encode.proofs.GrayShown.{first_shown}
+use Rattle.tiff_encode.proofs.Shown.Gray.{first_shown}
 use Rattle.tiff_encode.proofs.encoder.data_laws.first_shown.Goals as goal
 
 pub returns : goal.returns

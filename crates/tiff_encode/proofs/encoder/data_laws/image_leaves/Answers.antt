@@ -1,5 +1,5 @@
-use Rattle.tiff_encode.proofs.PartsShow.{parts_show}
-use Rattle.tiff_encode.proofs.DataImage.{image_leaves_by}
+use Rattle.tiff_encode.proofs.Shown.Parts.{parts_show}
+use Rattle.tiff_encode.proofs.Data.Image.{image_leaves_by}
 use Rattle.tiff_encode.proofs.encoder.data_laws.image_leaves.Goals as goal
 
 pub returns : goal.returns

@@ -1,4 +1,4 @@
-use Rattle.tiff_encode.proofs.ImageFits.{new_image_fits}
+use Rattle.tiff_encode.proofs.Image.Fits.{new_image_fits}
 use Rattle.tiff_encode.proofs.encoder.fit_laws.new_image_fits.Goals as goal
 
 pub returns : goal.returns

@@ -1,4 +1,4 @@
-use Rattle.tiff_encode.proofs.ImageFits.{resolutions_fit}
+use Rattle.tiff_encode.proofs.Image.Fits.{resolutions_fit}
 use Rattle.tiff_encode.proofs.encoder.fit_laws.resolutions_fit.Goals as goal
 
 pub returns : goal.returns

@@ -1,4 +1,4 @@
-use Rattle.tiff_encode.proofs.ImageFits.{settings_fit}
+use Rattle.tiff_encode.proofs.Image.Fits.{settings_fit}
 use Rattle.tiff_encode.proofs.encoder.fit_laws.settings_fit.Goals as goal
 
 pub returns : goal.returns

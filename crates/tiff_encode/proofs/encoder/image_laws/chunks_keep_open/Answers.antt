@@ -1,4 +1,4 @@
-use Rattle.tiff_encode.proofs.OpenChunks.{chunks_keep_open}
+use Rattle.tiff_encode.proofs.Open.Chunks.{chunks_keep_open}
 use Rattle.tiff_encode.proofs.encoder.image_laws.chunks_keep_open.Goals as goal
 
 pub returns : goal.returns

@@ -1,6 +1,6 @@
-use Rattle.tiff_encode.proofs.PageTold.{page_told}
-use Rattle.tiff_encode.proofs.ImagesShow.{images_show_by}
-use Rattle.tiff_encode.proofs.OpenEnds.{ended_shown_by}
+use Rattle.tiff_encode.proofs.PageTold.Page.{page_told}
+use Rattle.tiff_encode.proofs.Shown.Images.{images_show_by}
+use Rattle.tiff_encode.proofs.Open.Ends.{ended_shown_by}
 use Rattle.tiff_encode.proofs.encoder.image_laws.ended_shown.Goals as goal
 
 pub returns : goal.returns

@@ -1,4 +1,4 @@
-use Rattle.tiff_encode.proofs.OpenEnds.{ends_held}
+use Rattle.tiff_encode.proofs.Open.Ends.{ends_held}
 use Rattle.tiff_encode.proofs.encoder.image_laws.ends_held.Goals as goal
 
 pub returns : goal.returns

@@ -1,4 +1,4 @@
-use Rattle.tiff_encode.proofs.OpenKept.{fields_keep_open}
+use Rattle.tiff_encode.proofs.Open.Kept.{fields_keep_open}
 use Rattle.tiff_encode.proofs.encoder.image_laws.fields_keep_open.Goals as goal
 
 pub returns : goal.returns

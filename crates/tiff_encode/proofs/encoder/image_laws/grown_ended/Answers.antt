@@ -1,4 +1,4 @@
-use Rattle.tiff_encode.proofs.OpenEnds.{grown_ended}
+use Rattle.tiff_encode.proofs.Open.Ends.{grown_ended}
 use Rattle.tiff_encode.proofs.encoder.image_laws.grown_ended.Goals as goal
 
 pub returns : goal.returns

@@ -1,4 +1,4 @@
-use Rattle.tiff_encode.proofs.OpenHeld.{grown_open}
+use Rattle.tiff_encode.proofs.Open.Held.{grown_open}
 use Rattle.tiff_encode.proofs.encoder.image_laws.grown_open.Goals as goal
 
 pub returns : goal.returns

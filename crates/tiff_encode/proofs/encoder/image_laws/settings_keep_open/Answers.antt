@@ -1,4 +1,4 @@
-use Rattle.tiff_encode.proofs.OpenSettings.{settings_keep_open}
+use Rattle.tiff_encode.proofs.Open.Settings.{settings_keep_open}
 use Rattle.tiff_encode.proofs.encoder.image_laws.settings_keep_open.Goals as goal
 
 pub returns : goal.returns

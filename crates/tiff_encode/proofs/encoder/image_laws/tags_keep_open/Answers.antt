@@ -1,4 +1,4 @@
-use Rattle.tiff_encode.proofs.OpenKept.{tags_keep_open}
+use Rattle.tiff_encode.proofs.Open.Kept.{tags_keep_open}
 use Rattle.tiff_encode.proofs.encoder.image_laws.tags_keep_open.Goals as goal
 
 pub returns : goal.returns

@@ -1,5 +1,5 @@
 use Rattle.std.proofs.Common.{rules}
-use Rattle.tiff_encode.proofs.Running.{directory_goes}
+use Rattle.tiff_encode.proofs.Running.Steps.{directory_goes}
 use Rattle.tiff_encode.proofs.encoder.jobs.lead_directory.Goals as goal
 
 pub returns : goal.returns

@@ -1,5 +1,5 @@
 use Rattle.std.proofs.Common.{rules}
-use Rattle.tiff_encode.proofs.Running.{image_goes}
+use Rattle.tiff_encode.proofs.Running.Steps.{image_goes}
 use Rattle.tiff_encode.proofs.encoder.jobs.lead_image.Goals as goal
 
 pub returns : goal.returns

@@ -1,6 +1,6 @@
 use Rattle.std.proofs.Common.{refl}
 use Rattle.tiff_encode.specs.declared.encoder.script.Job.TheVariants as job
-use Rattle.tiff_encode.proofs.Running.{moves_as, predictor_moves, compression_moves, directory_moves, unnamed_moves, image_moves}
+use Rattle.tiff_encode.proofs.Running.Steps.{moves_as, predictor_moves, compression_moves, directory_moves, unnamed_moves, image_moves}
 use Rattle.tiff_encode.proofs.encoder.jobs.run_by_kind.Goals as goal
 
 pub returns-in-Predictor : goal.returns-in-Predictor

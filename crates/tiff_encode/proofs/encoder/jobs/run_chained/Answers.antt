@@ -1,6 +1,6 @@
 use Rattle.std.proofs.Common.{rules, true, refl}
 use Rattle.tiff_encode.specs.Calls.{image_directory}
-use Rattle.tiff_encode.proofs.Running.{begun_chained, not_begun_chained, not_begun_as, directory_runs, directory_refused}
+use Rattle.tiff_encode.proofs.Running.Steps.{begun_chained, not_begun_chained, not_begun_as, directory_runs, directory_refused}
 use Rattle.tiff_encode.proofs.encoder.jobs.run_chained.Goals as goal
 
 pub returns-in-Ok : goal.returns-in-Ok

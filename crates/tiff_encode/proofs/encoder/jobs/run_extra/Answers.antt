@@ -1,6 +1,6 @@
 use Rattle.std.proofs.Common.{rules, false, refl}
 use Rattle.tiff_encode.specs.Calls.{extra_directory}
-use Rattle.tiff_encode.proofs.Running.{begun_chained, not_begun_chained, not_begun_as, directory_runs, directory_refused}
+use Rattle.tiff_encode.proofs.Running.Steps.{begun_chained, not_begun_chained, not_begun_as, directory_runs, directory_refused}
 use Rattle.tiff_encode.proofs.encoder.jobs.run_extra.Goals as goal
 
 pub returns-in-Ok : goal.returns-in-Ok

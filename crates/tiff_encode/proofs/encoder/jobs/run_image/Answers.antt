@@ -1,8 +1,8 @@
 use Rattle.std.proofs.Common.{rules, refl, ap, sym, ◌∙◌}
 use Rattle.tiff_base.specs.Types.{type_size}
-use Rattle.tiff_value.specs.ColorTypes.{colour_type, inner_type}
+use Rattle.tiff_value.specs.ColorTypes.{color_type, inner_type}
 use Rattle.tiff_encode.specs.Calls.{new_image}
-use Rattle.tiff_encode.proofs.Running.{begun_named, not_begun_named, not_begun_as, image_runs, image_refused}
+use Rattle.tiff_encode.proofs.Running.Steps.{begun_named, not_begun_named, not_begun_as, image_runs, image_refused}
 use Rattle.tiff_encode.proofs.encoder.jobs.run_image.Goals as goal
 
 pub returns-in-Ok : goal.returns-in-Ok
@@ -11,10 +11,10 @@ returns-in-Ok g c = λ kind known run q s.
     let old = c.args.encoder.now in
     let i = c.in-Ok.image.state in
     let mid = c.in-Ok.image.encoder.now in
-    let colour = g.C.ColorType.described in
+    let color = g.C.ColorType.described in
     let size = type_size g.C.Inner.TiffValue.value_type in
     image_runs j c.lead_image.result old mid c.lead_image.new.encoder _ i known run (search rules) (search rules) c.packs.ensures
-    (begun_named j colour size (g.met.C.NamedColorType.named ∙ ap colour_type (sym c.requires.named))
+    (begun_named j color size (g.met.C.NamedColorType.named ∙ ap color_type (sym c.requires.named))
     (ap type_size (g.met.C.NamedColorType.in_memory ∙ ap inner_type (sym c.requires.named))) old i mid
     (record { told = c.in-Ok.ensures.begun; leaves = c.in-Ok.ensures.leaves }))
     c.lead_image.ensures (search rules) kind q s
@@ -24,11 +24,11 @@ returns-in-Err g c = λ kind known run q s.
     let j = c.args.job.now in
     let old = c.args.encoder.now in
     let new = c.new_image.follows.lender-at-none in
-    let colour = g.C.ColorType.described in
+    let color = g.C.ColorType.described in
     let size = type_size g.C.Inner.TiffValue.value_type in
     image_refused j _ c.in-Err.fault old new known run
-    (not_begun_named j colour size (g.met.C.NamedColorType.named ∙ ap colour_type (sym c.requires.named))
+    (not_begun_named j color size (g.met.C.NamedColorType.named ∙ ap color_type (sym c.requires.named))
     (ap type_size (g.met.C.NamedColorType.in_memory ∙ ap inner_type (sym c.requires.named))) old c.in-Err.fault new
-    (not_begun_as (new_image colour size j.width j.height) c.new_image.result c.in-Err.fault old new c.in-Err.is
+    (not_begun_as (new_image color size j.width j.height) c.new_image.result c.in-Err.fault old new c.in-Err.is
     c.new_image.follows.holds-at-none))
     (c.requires.room.0, refl) q s

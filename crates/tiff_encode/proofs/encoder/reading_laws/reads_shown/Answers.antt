@@ -1,4 +1,4 @@
-use Rattle.tiff_encode.proofs.ReadsBack.{reads_shown}
+use Rattle.tiff_encode.proofs.ReadsBack.Entries.{reads_shown}
 use Rattle.tiff_encode.proofs.encoder.reading_laws.reads_shown.Goals as goal
 
 pub returns : goal.returns

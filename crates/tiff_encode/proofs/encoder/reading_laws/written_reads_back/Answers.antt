@@ -1,4 +1,4 @@
-use Rattle.tiff_encode.proofs.ReadsBackWritten.{written_reads_back}
+use Rattle.tiff_encode.proofs.ReadsBack.Written.{written_reads_back}
 use Rattle.tiff_encode.proofs.encoder.reading_laws.written_reads_back.Goals as goal
 
 pub returns : goal.returns

@@ -1,6 +1,6 @@
 use Rattle.std.proofs.Common.{◌≡◌, length, arith, sym, subst}
 use Rattle.tiff_encode.specs.Running.{AreRooms}
-use Rattle.tiff_encode.proofs.RunningAll.{rooms_none, rooms_more}
+use Rattle.tiff_encode.proofs.Running.All.{rooms_none, rooms_more}
 use Rattle.tiff_encode.proofs.encoder.script.rooms.Goals as goal
 
 pub loop-behind-init : goal.loop-behind-init

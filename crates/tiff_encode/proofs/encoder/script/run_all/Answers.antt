@@ -2,7 +2,7 @@ use Rattle.std.proofs.Common.{◌≡◌, ◌+◌, length, subst, arith}
 use Rattle.std.proofs.lemmas.List.{take_all}
 use Rattle.tiff_encode.specs.Stepping.{JobMoves}
 use Rattle.tiff_encode.specs.Running.{JobsMove}
-use Rattle.tiff_encode.proofs.RunningAll.{jobs_none, jobs_next, replies_from, room_taken, rooms_left}
+use Rattle.tiff_encode.proofs.Running.All.{jobs_none, jobs_next, replies_from, room_taken, rooms_left}
 use Rattle.tiff_encode.proofs.encoder.script.run_all.Goals as goal
 
 pub loop-job-init : goal.loop-job-init

@@ -1,4 +1,4 @@
-use Rattle.tiff_encode.proofs.RunningAll.{jobs_run}
+use Rattle.tiff_encode.proofs.Running.All.{jobs_run}
 use Rattle.tiff_encode.proofs.encoder.script.run_new.Goals as goal
 
 pub returns : goal.returns

@@ -57,8 +57,8 @@ returns-in-Ok-append_job_value-clause-moves g c =
     let new : FileState = c.append_job_value.new.self in
     let d : OpenDirectory = g.D.State.open_directory c.args.self.now.state in
     let call : Writing ℕ = calls.write_data (value_data c.in-WriteData.value) in
-    stepped_by d d old new (Ok (reply.Number c.in-Ok-append_job_value.place)) c.args.step.now (step.WriteData c.in-WriteData.value) c.in-WriteData.is
-    (replied d d old new reply.Number call c.in-Ok-append_job_value.place (data_adds (value_data c.in-WriteData.value) old) c.in-Ok-append_job_value.ensures.answer c.in-Ok-append_job_value.ensures.leaves refl)
+    stepped_by d d old new (Ok (reply.Number c.in-Ok-append_job_value.offset)) c.args.step.now (step.WriteData c.in-WriteData.value) c.in-WriteData.is
+    (replied d d old new reply.Number call c.in-Ok-append_job_value.offset (data_adds (value_data c.in-WriteData.value) old) c.in-Ok-append_job_value.ensures.answer c.in-Ok-append_job_value.ensures.leaves refl)
 
 pub returns-in-Err-append_job_value-clause-moves : goal.returns-in-Err-append_job_value-clause-moves
 returns-in-Err-append_job_value-clause-moves g c =
@@ -75,8 +75,8 @@ returns-in-Ok-append_job_buffer-clause-moves g c =
     let new : FileState = c.append_job_buffer.new.self in
     let d : OpenDirectory = g.D.State.open_directory c.args.self.now.state in
     let call : Writing ℕ = calls.write_data_buf (buffer_in c.in-WriteDataBuf.buffer) in
-    stepped_by d d old new (Ok (reply.Number c.in-Ok-append_job_buffer.place)) c.args.step.now (step.WriteDataBuf c.in-WriteDataBuf.buffer) c.in-WriteDataBuf.is
-    (replied d d old new reply.Number call c.in-Ok-append_job_buffer.place (data_buf_adds (buffer_in c.in-WriteDataBuf.buffer) old) c.in-Ok-append_job_buffer.ensures.answer c.in-Ok-append_job_buffer.ensures.leaves refl)
+    stepped_by d d old new (Ok (reply.Number c.in-Ok-append_job_buffer.offset)) c.args.step.now (step.WriteDataBuf c.in-WriteDataBuf.buffer) c.in-WriteDataBuf.is
+    (replied d d old new reply.Number call c.in-Ok-append_job_buffer.offset (data_buf_adds (buffer_in c.in-WriteDataBuf.buffer) old) c.in-Ok-append_job_buffer.ensures.answer c.in-Ok-append_job_buffer.ensures.leaves refl)
 
 pub returns-in-Err-append_job_buffer-clause-moves : goal.returns-in-Err-append_job_buffer-clause-moves
 returns-in-Err-append_job_buffer-clause-moves g c =

@@ -5,7 +5,7 @@ use Rattle.tiff_encode.proofs.encoder.directory_encoder.DirectoryEncoder.write_d
 
 pub returns-in-Ok-clause-leaves : goal.returns-in-Ok-clause-leaves
 returns-in-Ok-clause-leaves g c m s =
-    let view : ℕ → ℕ = λ place. place in data_buf_leaves view (Ok c.in-Ok.place) c.args.self.now.encoder.now c.append_buffer.new.self m c.args.buffer.now s c.in-Ok.ensures
+    let view : ℕ → ℕ = λ offset. offset in data_buf_leaves view (Ok c.in-Ok.offset) c.args.self.now.encoder.now c.append_buffer.new.self m c.args.buffer.now s c.in-Ok.ensures
 
 pub returns-in-Err-clause-leaves : goal.returns-in-Err-clause-leaves
 returns-in-Err-clause-leaves g c m s =

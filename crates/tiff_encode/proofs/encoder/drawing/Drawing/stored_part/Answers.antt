@@ -2,7 +2,7 @@ use Rattle.std.proofs.Common.{◌≡◌, ◌<◌, ◌-◌, ◌^◌, length, map,
 use Rattle.tiff_base.specs.Types.{type_size}
 use Rattle.tiff_value.specs.ColorType.{sample_number}
 use Rattle.tiff_encode.specs.Parts.{next_part}
-use Rattle.tiff_encode.proofs.DataPieces.{slice_part, cut_part, cut_count, part_stored}
+use Rattle.tiff_encode.proofs.Data.Pieces.{slice_part, cut_part, cut_count, part_stored}
 use Rattle.tiff_encode.proofs.encoder.drawing.Drawing.stored_part.Goals as goal
 
 pub returns-then-is_in_order : goal.returns-then-is_in_order

@@ -1,8 +1,8 @@
 use Rattle.std.proofs.Common.{Ok, Err}
-use Rattle.tiff_encode.proofs.ImageEnds.{end_left, end_shown}
-use Rattle.tiff_encode.proofs.ImagesShow.{images_show_by}
-use Rattle.tiff_encode.proofs.OpenEnds.{ends_shown_by}
-use Rattle.tiff_encode.proofs.PageTold.{page_told}
+use Rattle.tiff_encode.proofs.Image.Ends.{end_left, end_shown}
+use Rattle.tiff_encode.proofs.Shown.Images.{images_show_by}
+use Rattle.tiff_encode.proofs.Open.Ends.{ends_shown_by}
+use Rattle.tiff_encode.proofs.PageTold.Page.{page_told}
 use Rattle.tiff_encode.proofs.encoder.image_encoder.DirectoryEncoder+W+K+Drawing+C.finish.Goals as goal
 
 pub returns-in-Ok-clause-answer : goal.returns-in-Ok-clause-answer

@@ -2,7 +2,7 @@ use Rattle.std.proofs.Common.{Ok, Err, map, subst, sym}
 use Rattle.tiff_base.specs.Types.{type_size}
 use Rattle.tiff_value.specs.ColorType.{sample_number}
 use Rattle.tiff_encode.specs.ImageData.{AreNumbers}
-use Rattle.tiff_encode.proofs.DataShows.{data_leaves}
+use Rattle.tiff_encode.proofs.Data.Shows.{data_leaves}
 use Rattle.tiff_encode.proofs.Samples.{are_numbers}
 use Rattle.tiff_encode.proofs.encoder.image_encoder.DirectoryEncoder+W+K+Drawing+C.write_data.Goals as goal
 

@@ -4,7 +4,7 @@ use Rattle.tiff_base.specs.Types.{type_size}
 use Rattle.tiff_value.specs.ColorType.{sample_number}
 use Rattle.tiff_encode.specs.JobValues.{cut_to}
 use Rattle.tiff_encode.specs.ImageStepping.{ChunkDraws}
-use Rattle.tiff_encode.proofs.ImageStepsStored.{chunk_draws, chunk_unfound, cut_small, cut_few}
+use Rattle.tiff_encode.proofs.Image.StepsStored.{chunk_draws, chunk_unfound, cut_small, cut_few}
 use Rattle.tiff_encode.proofs.encoder.image_job_steps.DirectoryEncoder+W+K+Drawing+C.chunk_step.Goals as goal
 
 pub returns-in-Err-clause-draws : goal.returns-in-Err-clause-draws

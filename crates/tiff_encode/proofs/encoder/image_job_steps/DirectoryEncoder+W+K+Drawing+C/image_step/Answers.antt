@@ -10,8 +10,8 @@ use Rattle.tiff_encode.specs.Calls as calls
 use Rattle.tiff_encode.specs.ImageStepping.{ChunkDraws, ResolutionDraws, StripDraws, reply_to}
 use Rattle.tiff_encode.specs.Jobs.{ImageStepped}
 use Rattle.tiff_encode.specs.Stepping.{StepDraws}
-use Rattle.tiff_encode.proofs.ImageSteps.{CallDraws, asked, extra_draws, rows_draws, tiles_draws, planar_draws, x_draws, y_draws, unit_draws}
-use Rattle.tiff_encode.proofs.ImageStepsDirected.{directed}
+use Rattle.tiff_encode.proofs.Image.Steps.{CallDraws, asked, extra_draws, rows_draws, tiles_draws, planar_draws, x_draws, y_draws, unit_draws}
+use Rattle.tiff_encode.proofs.Image.StepsDirected.{directed}
 use Rattle.tiff_encode.proofs.encoder.image_job_steps.DirectoryEncoder+W+K+Drawing+C.image_step.Goals as goal
 
 -- the step that it is, and what it replies

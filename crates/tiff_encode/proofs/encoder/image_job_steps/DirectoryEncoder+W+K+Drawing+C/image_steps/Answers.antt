@@ -4,7 +4,7 @@ use Rattle.tiff_base.specs.declared.error.TiffError.{TiffError}
 use Rattle.tiff_encode.specs.declared.encoder.script.ImageStep.{ImageStep}
 use Rattle.tiff_encode.specs.declared.encoder.script.StepReply.{StepReply}
 use Rattle.tiff_encode.specs.Stepping.{StepsDraw}
-use Rattle.tiff_encode.proofs.ImageStepsAll.{none_drawn, next_drawn}
+use Rattle.tiff_encode.proofs.Image.StepsAll.{none_drawn, next_drawn}
 use Rattle.tiff_encode.proofs.encoder.image_job_steps.DirectoryEncoder+W+K+Drawing+C.image_steps.Goals as goal
 
 pub loop-step-init : goal.loop-step-init

@@ -1,6 +1,6 @@
 use Rattle.std.proofs.Common.{ℕ, sym, subst}
 use Rattle.tiff_encode.specs.ImageStepping.{ResolutionDraws}
-use Rattle.tiff_encode.proofs.ImageStepsResolved.{resolution_draws}
+use Rattle.tiff_encode.proofs.Image.StepsResolved.{resolution_draws}
 use Rattle.tiff_encode.proofs.encoder.image_job_steps.DirectoryEncoder+W+K+Drawing+C.resolution_step.Goals as goal
 
 pub returns-clause-draws : goal.returns-clause-draws

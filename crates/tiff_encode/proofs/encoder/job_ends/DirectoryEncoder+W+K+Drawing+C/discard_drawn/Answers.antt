@@ -1,5 +1,5 @@
-use Rattle.tiff_encode.proofs.JobEnds.{image_ending}
-use Rattle.tiff_encode.proofs.JobImages.{finish_told, finish_failed}
+use Rattle.tiff_encode.proofs.Running.Ends.{image_ending}
+use Rattle.tiff_encode.proofs.Running.Images.{finish_told, finish_failed}
 use Rattle.tiff_encode.proofs.encoder.job_ends.DirectoryEncoder+W+K+Drawing+C.discard_drawn.Goals as goal
 
 pub returns-in-Ok : goal.returns-in-Ok

@@ -2,7 +2,7 @@ use Rattle.std.proofs.Common.{List, map, ℕ, ap, sym, ◌∙◌}
 use Rattle.tiff_base.specs.Types.{type_size}
 use Rattle.tiff_value.specs.ColorType.{sample_number}
 use Rattle.tiff_encode.specs.JobValues.{cut_to}
-use Rattle.tiff_encode.proofs.JobImages.{cut_moves}
+use Rattle.tiff_encode.proofs.Running.Images.{cut_moves}
 use Rattle.tiff_encode.proofs.encoder.job_ends.DirectoryEncoder+W+K+Drawing+C.write_numbers.Goals as goal
 
 pub returns : goal.returns

@@ -3,7 +3,7 @@ use Rattle.tiff_base.specs.Types.{type_size}
 use Rattle.tiff_value.specs.ColorType.{sample_number}
 use Rattle.tiff_encode.specs.ImageData.{AreNumbers}
 use Rattle.tiff_encode.proofs.Samples.{are_numbers}
-use Rattle.tiff_encode.proofs.JobImages.{data_told, data_failed}
+use Rattle.tiff_encode.proofs.Running.Images.{data_told, data_failed}
 use Rattle.tiff_encode.proofs.encoder.job_ends.DirectoryEncoder+W+K+Drawing+C.write_samples.Goals as goal
 
 pub returns-in-Ok : goal.returns-in-Ok

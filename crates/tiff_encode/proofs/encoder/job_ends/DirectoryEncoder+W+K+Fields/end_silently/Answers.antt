@@ -1,4 +1,4 @@
-use Rattle.tiff_encode.proofs.JobEnds.{directory_ending, silently_told, silently_failed}
+use Rattle.tiff_encode.proofs.Running.Ends.{directory_ending, silently_told, silently_failed}
 use Rattle.tiff_encode.proofs.encoder.job_ends.DirectoryEncoder+W+K+Fields.end_silently.Goals as goal
 
 pub returns-in-Ok : goal.returns-in-Ok

@@ -1,5 +1,5 @@
 use Rattle.std.proofs.Common.{ap, sym}
-use Rattle.tiff_encode.proofs.JobEnds.{directory_ending, offsets_told, offsets_failed}
+use Rattle.tiff_encode.proofs.Running.Ends.{directory_ending, offsets_told, offsets_failed}
 use Rattle.tiff_encode.proofs.encoder.job_ends.DirectoryEncoder+W+K+Fields.end_with_offsets.Goals as goal
 
 pub returns-in-Ok : goal.returns-in-Ok

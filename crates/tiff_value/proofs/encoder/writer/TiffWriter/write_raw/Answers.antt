@@ -1,6 +1,6 @@
 use Rattle.std.proofs.Common.{◌≤◌, length, take, drop, inr, ap, ◌∙◌, arith, length-drop}
 use Rattle.std.proofs.lemmas.List.{take_rest}
-use Rattle.tiff_value.specs.Written.{moved}
+use Rattle.tiff_value.specs.Written.{writer_after}
 use Rattle.tiff_value.proofs.Put.{moved_more, cut_from}
 use Rattle.tiff_value.proofs.encoder.writer.TiffWriter.write_raw.Goals as goal
 
@@ -22,7 +22,7 @@ loop-done-preserved g c =
     let i = c.loop-done.invariant in
     record {
       within = let l : n ≤ length (drop done bytes) = rw rest at e.1 in omega (arith, length-drop done bytes);
-      place = i.place;
-      same = rw rest at e.2 ∙ ap (λ w. moved w (take n (drop done bytes))) i.same ∙ moved_more c.args.self.now bytes done n i.place;
+      offset = i.offset;
+      same = rw rest at e.2 ∙ ap (λ w. writer_after w (take n (drop done bytes))) i.same ∙ moved_more c.args.self.now bytes done n i.offset;
       fresh = i.fresh;
     }

@@ -1,0 +1,53 @@
+-- What a source tells, and what a sink takes.
+use Rattle.std.specs.Prelude.{◌≡◌, ℕ, ◌+◌, ◌-◌, ◌≤◌, ◌<◌, List, ◌++◌, length, take, drop, if◌then◌else◌, nat_le, slice_index, Result, Ok, Err}
+use Rattle.tiff_base.specs.declared.error.TiffError.{TiffError}
+use Rattle.tiff_base.specs.declared.error.TiffError.TheVariants.{IoError, OutOfMemory}
+use Rattle.tiff_base.specs.declared.io.IoKind.TheVariants.{UnexpectedEof, Device}
+use Rattle.tiff_base.specs.declared.io.SinkFault.{SinkFault}
+use Rattle.tiff_base.specs.declared.io.SinkFault.TheVariants as fault
+
+-- the bytes from an offset on, or fewer at the end
+abbrev pub bytes_at : List ℕ → ℕ → ℕ → List ℕ
+bytes_at bytes at len = take len (drop at bytes)
+
+-- the bytes at an offset, where there are so many; no bytes stand at every offset
+abbrev pub exactly_at : List ℕ → ℕ → ℕ → Result (List ℕ) TiffError
+exactly_at bytes at len =
+    if nat_le len (length bytes - at) then Ok (bytes_at bytes at len) else Err (IoError UnexpectedEof)
+
+-- each number of a list is that of a byte
+abbrev pub AreOctets : List ℕ → Type 0
+AreOctets bytes = (k : ℕ) → slice_index bytes k < 256
+
+-- A read at an offset gave n bytes into a buffer that held old and holds new.
+pub record Reads (bytes : List ℕ) (at : ℕ) (old : List ℕ) (n : ℕ) (new : List ℕ) : Type 0 where
+  pub in_buffer : n ≤ length old
+  pub in_bytes : n ≤ length bytes - at
+  pub some : 0 < length old → at < length bytes → 0 < n
+  pub next : new ≡ bytes_at bytes at n ++ drop n old
+
+-- So many bytes from an offset on have the one at another offset, where there is one.
+pub record HoldsByte (bytes : List ℕ) (from : ℕ) (count : ℕ) (at : ℕ) : Type 0 where
+  pub before : from ≤ at
+  pub behind : at < length bytes → at < from + count
+
+-- A write at the end took the first n bytes.
+pub record Appends (old : List ℕ) (bytes : List ℕ) (n : ℕ) (new : List ℕ) : Type 0 where
+  pub in_bytes : n ≤ length bytes
+  pub some : 0 < length bytes → 0 < n
+  pub next : new ≡ old ++ take n bytes
+
+-- the bytes with others written over those from an offset on
+abbrev pub put : List ℕ → ℕ → List ℕ → List ℕ
+put bytes at over = take at bytes ++ (over ++ drop (at + length over) bytes)
+
+-- A write at an offset took the first n bytes.
+pub record Overwrites (old : List ℕ) (at : ℕ) (bytes : List ℕ) (n : ℕ) (new : List ℕ) : Type 0 where
+  pub in_bytes : n ≤ length bytes
+  pub some : 0 < length bytes → 0 < n
+  pub next : new ≡ put old at (take n bytes)
+
+-- the error that a caller is told of a sink's fault
+abbrev pub sink_error : SinkFault → TiffError
+sink_error fault.Device = IoError Device
+sink_error fault.OutOfMemory = OutOfMemory

@@ -1,0 +1,741 @@
+//! The tags of a decoder's page, and of other directories.
+
+ghost use Rattle.std.specs.Prelude.{◌≡◌, ◌<◌, ◌≤◌, ◌^◌, None, Some, Ok, map, option_map, string_bytes};
+ghost use Rattle.tiff_base.specs.Answers.{Answers, AnswersWithoutMemory, NoneSwallowed};
+ghost use Rattle.tiff_ifd.specs.Fitted.{fitted_numbers};
+ghost use Rattle.tiff_ifd.specs.View.{datum};
+ghost use Rattle.tiff_decode.specs.Outcome as outcome;
+ghost use Rattle.tiff_decode.specs.Reader.{directory_or, reader_of, IsBorrowed, IsNumber, NumberAs, NumberIfAs, NumbersAs, NumbersIfAs, TagsRead};
+ghost use Rattle.tiff_decode.specs.Step.{bits_32, bits_64, BufferLeft};
+
+use crate::decoder::Decoder;
+use std::alloc::Global;
+use tiff_base::directory::{Directory, Entry};
+use tiff_base::error::{TiffError, TiffFormatError, TiffResult};
+use tiff_base::io::Source;
+use tiff_base::tags::{Bits32, Bits64, Tag};
+use tiff_ifd::read_bytes::{read_field_bytes, read_part};
+use tiff_ifd::read_value::find_value;
+use tiff_ifd::value::Value;
+use tiff_value::buffer::ValueBuffer;
+
+/// Reads the tags of a directory: of a decoder's page, or of another one of its file.
+pub struct IfdDecoder<'a, R: Source> {
+    alloc: Global,
+    pub(crate) decoder: &'a mut Decoder<R>,
+    pub(crate) other: Option<&'a Directory>,
+}
+
+impl<R: Source> Drop for IfdDecoder<'_, R> {
+    // The decoder stands as the last call left it.
+    fn drop(self)
+        ensures { self.exit.1.0.now ≡ self.entry.decoder.now }
+    {
+        let IfdDecoder {
+            alloc: _,
+            decoder: _,
+            other: _,
+        } = self;
+    }
+}
+
+// The other directory, or else this one.
+pub(crate) fn chosen<'x>(own: &'x Directory, other: Option<&'x Directory>) -> &'x Directory
+    ensures { result.now ≡ directory_or own.now (option_map (λ d. d.now) other.entry) }
+{
+    match other {
+        None => own,
+        Some(other) => other,
+    }
+}
+
+// A number as a type of number.
+fn as_type<T: TryFrom<u64>>(n: u64, tag: Tag) -> TiffResult<T>
+where
+    T::Error: Drop,
+    ensures { IsNumber T.try_from_gives tag n result }
+{
+    match T::try_from(n) {
+        Ok(x) => Ok(x),
+        Err(_) => Err(TiffFormatError::InvalidTagValueType(tag).into()),
+    }
+}
+
+// Numbers as a type of number.
+#[tactic(auto, using(crate::proofs::Numbers::next_number))]
+fn all_as<T: TryFrom<u64> + Drop>(alloc: Global, numbers: &[u64], tag: Tag) -> TiffResult<Vec<T>>
+where
+    T::Error: Drop,
+    ensures { NumbersAs T.try_from_gives tag numbers.now result }
+{
+    let mut all = Vec::with_capacity(alloc, numbers.len())?;
+    for n in numbers {
+        match as_type(*n, tag) {
+            Ok(x) => all.push(x)?,
+            Err(fault) => return Err(fault),
+        }
+    }
+    Ok(all)
+}
+
+// Numbers of 64 bits are below 2^64.
+fn all_fit(numbers: &[u64])
+    ensures { (tag : _) → fitted_numbers tag (2 ^ 64) numbers.now ≡ Ok numbers.now }
+{}
+
+impl<R: Source> Decoder<R> {
+    /// The tags of the page's directory.
+    pub fn image_ifd(&mut self) -> IfdDecoder<'_, R>
+        ensures same_reference { result.decoder.ghost_name ≡ self.entry.ghost_name }
+        ensures decoder { result.decoder.now ≡ self.old }
+        ensures other { result.other ≡ None }
+    {
+        let alloc = self.alloc;
+        IfdDecoder {
+            alloc,
+            decoder: self,
+            other: None,
+        }
+    }
+
+    /// The tags of another directory of the file.
+    pub fn read_directory_tags<'a>(&'a mut self, directory: &'a Directory) -> IfdDecoder<'a, R>
+        ensures same_reference { result.decoder.ghost_name ≡ self.entry.ghost_name }
+        ensures decoder { result.decoder.now ≡ self.old }
+        ensures other { option_map (λ d. d.now) result.other ≡ Some directory.now }
+    {
+        let alloc = self.alloc;
+        IfdDecoder {
+            alloc,
+            decoder: self,
+            other: Some(directory),
+        }
+    }
+
+    // The value of a tag of the page's directory, or of another one.
+    #[tactic(auto, unfolding(crate::specs::Outcome::find_tag, tiff_ifd::specs::Look::look_in))]
+    fn value_in(&mut self, other: Option<&Directory>, tag: Tag) -> TiffResult<Option<Value>>
+        ensures read { TagsRead (option_map datum) (outcome.find_tag (reader_of self.old (option_map (λ d. d.now) other.entry))
+            tag) result self.old self.new }
+        ensures none { outcome.find_entry (reader_of self.old (option_map (λ d. d.now) other.entry)) tag ≡ None → result ≡ Ok None }
+    {
+        let tags = &mut self.tags;
+        let directory = chosen(&tags.directory, other);
+        find_value(
+            self.alloc,
+            &mut tags.source,
+            tags.kind,
+            tags.order,
+            &tags.limits,
+            directory,
+            tag,
+        )
+    }
+
+    // The page's directory, or another one.
+    fn directory_of<'x>(&'x self, other: Option<&'x Directory>) -> &'x Directory
+        ensures { result.now ≡ directory_or self.now.state.directory (option_map (λ d. d.now) other.entry) }
+    {
+        chosen(&self.tags.directory, other)
+    }
+
+    // The field of a tag of the page's directory, or of another one.
+    #[tactic(auto, unfolding(crate::specs::Outcome::find_entry))]
+    pub(crate) fn entry_in(&self, other: Option<&Directory>, tag: Tag) -> Option<Entry>
+        ensures { result ≡ outcome.find_entry (reader_of self.now (option_map (λ d. d.now) other.entry)) tag }
+    {
+        match chosen(&self.tags.directory, other).get(tag) {
+            None => None,
+            Some(entry) => Some(Entry::new_u64(entry.field_type(), entry.count(), entry.value())),
+        }
+    }
+
+    // A field and its bytes, of the page's directory or of another one.
+    #[tactic(auto, unfolding(crate::specs::Outcome::find_tag_buf))]
+    pub(crate) fn buf_in(
+        &mut self,
+        other: Option<&Directory>,
+        tag: Tag,
+        buf: &mut ValueBuffer,
+    ) -> TiffResult<Option<Entry>>
+        ensures read { TagsRead (λ e. (e, buf.new)) (outcome.find_tag_buf
+            (reader_of self.old (option_map (λ d. d.now) other.entry)) tag buf.old) result self.old self.new }
+        ensures left { BufferLeft self.old.order (outcome.find_entry (reader_of self.old (option_map (λ d. d.now) other.entry))
+            tag) buf.old result buf.new }
+    {
+        let Some(entry) = self.entry_in(other, tag) else {
+            return Ok(None);
+        };
+        let alloc = self.alloc;
+        let tags = &mut self.tags;
+        match read_field_bytes(
+            alloc,
+            &mut tags.source,
+            tags.kind,
+            tags.order,
+            &tags.limits,
+            &entry,
+        ) {
+            Ok(bytes) => {
+                *buf = ValueBuffer::from_parts(tags.order, entry.field_type(), bytes);
+                return Ok(Some(entry));
+            }
+            Err(TiffError::LimitsExceeded) => return Err(TiffError::LimitsExceeded),
+            Err(fault) => {
+                *buf = ValueBuffer::from_parts(tags.order, entry.field_type(), Vec::new(alloc));
+                return Err(fault);
+            }
+        }
+    }
+
+    // The bytes of a field from one on, of the page's directory or of another one.
+    #[tactic(auto, unfolding(crate::specs::Outcome::find_tag_bytes))]
+    pub(crate) fn bytes_in(
+        &mut self,
+        other: Option<&Directory>,
+        tag: Tag,
+        buf: &mut [u8],
+        at: u64,
+    ) -> TiffResult<Option<usize>>
+        ensures answer { AnswersWithoutMemory (λ n. (n, buf.new)) result
+            (outcome.find_tag_bytes (reader_of self.old (option_map (λ d. d.now) other.entry)) tag buf.old at).answer
+            self.old.failures self.new.failures }
+        ensures state { self.new ≡ record self.old { failures = self.new.failures } }
+        ensures count { self.old.failures ≤ self.new.failures }
+        ensures swallowed { NoneSwallowed result self.old.failures self.new.failures }
+    {
+        let Some(entry) = self.entry_in(other, tag) else {
+            return Ok(None);
+        };
+        let tags = &mut self.tags;
+        match read_part(&mut tags.source, tags.kind, tags.order, &entry, at, buf) {
+            Ok(n) => return Ok(Some(n)),
+            Err(fault) => return Err(fault),
+        }
+    }
+
+    /// The value of a tag of the page, if there is the tag. A list of more values than `decoding_buffer_size / 32`, a text of
+    /// more bytes than `decoding_buffer_size`, and values of 2^64 bytes or more: `LimitsExceeded`; values past the end of the
+    /// source: `IoError(UnexpectedEof)`; a text that isn't one: `InvalidTag`. No memory is taken where there is no such tag.
+    pub fn find_tag(&mut self, tag: Tag) -> TiffResult<Option<Value>>
+        ensures read { TagsRead (option_map datum) (outcome.find_tag self.old tag) result self.old self.new }
+        ensures none { outcome.find_entry self.old tag ≡ None → result ≡ Ok None }
+    {
+        self.value_in(None, tag)
+    }
+
+    // The number of a tag of the page's directory, or of another one.
+    #[tactic(auto, unfolding(crate::specs::Outcome::find_tag, crate::specs::Outcome::find_tag_unsigned, tiff_ifd::specs::TagQueries::find_unsigned, tiff_ifd::specs::Look::find))]
+    pub(crate) fn number_in(
+        &mut self,
+        other: Option<&Directory>,
+        tag: Tag,
+    ) -> TiffResult<Option<u64>>
+        ensures { TagsRead (λ n. n) (outcome.find_tag_unsigned (reader_of self.old (option_map (λ d. d.now) other.entry)) tag)
+            result self.old self.new }
+    {
+        match self.value_in(other, tag)? {
+            None => Ok(None),
+            Some(value) => Ok(Some(value.into_u64()?)),
+        }
+    }
+
+    // The numbers of a tag of the page's directory, or of another one.
+    #[tactic(auto, unfolding(crate::specs::Outcome::find_tag, crate::specs::Outcome::find_tag_unsigned_vec, tiff_ifd::specs::TagQueries::find_unsigned_vec, tiff_ifd::specs::Look::find))]
+    pub(crate) fn numbers_in(
+        &mut self,
+        other: Option<&Directory>,
+        tag: Tag,
+    ) -> TiffResult<Option<Vec<u64>>>
+        ensures { TagsRead (λ o. option_map (λ v. v.items) o)
+            (outcome.find_tag_unsigned_vec (reader_of self.old (option_map (λ d. d.now) other.entry)) tag) result self.old
+            self.new }
+    {
+        let alloc = self.alloc;
+        match self.value_in(other, tag)? {
+            None => Ok(None),
+            Some(value) => {
+                let numbers = value.into_u64_vec(alloc)?;
+                all_fit(&numbers);
+                Ok(Some(numbers))
+            }
+        }
+    }
+
+    // The number of a required tag of the page's directory, or of another one.
+    #[tactic(auto, unfolding(crate::specs::Outcome::find_tag_unsigned, crate::specs::Outcome::get_tag_unsigned, tiff_ifd::specs::TagQueries::get_unsigned))]
+    pub(crate) fn required_in(&mut self, other: Option<&Directory>, tag: Tag) -> TiffResult<u64>
+        ensures { TagsRead (λ n. n) (outcome.get_tag_unsigned (reader_of self.old (option_map (λ d. d.now) other.entry)) tag)
+            result self.old self.new }
+    {
+        match self.number_in(other, tag)? {
+            None => Err(TiffFormatError::RequiredTagNotFound(tag).into()),
+            Some(n) => Ok(n),
+        }
+    }
+
+    /// The number of a tag of the page as a `T`, if there is the tag. The faults are those of `find_tag` and of
+    /// `Value::into_u64`; a number that is no `T`: `InvalidTagValueType`.
+    pub fn find_tag_unsigned<T: TryFrom<u64>>(&mut self, tag: Tag) -> TiffResult<Option<T>>
+    where
+        T::Error: Drop,
+        ensures answer { NumberIfAs T.try_from_gives (self.old.failures < self.new.failures) tag
+            (outcome.find_tag_unsigned self.old tag).answer result }
+        ensures state { self.new ≡ record self.old { failures = self.new.failures } }
+        ensures count { self.old.failures ≤ self.new.failures }
+        ensures swallowed { NoneSwallowed result self.old.failures self.new.failures }
+    {
+        match self.number_in(None, tag) {
+            Ok(None) => Ok(None),
+            Ok(Some(n)) => match as_type(n, tag) {
+                Ok(x) => Ok(Some(x)),
+                Err(fault) => Err(fault),
+            },
+            Err(fault) => Err(fault),
+        }
+    }
+
+    /// The numbers of a tag of the page as a list of `T`, if there is the tag. The faults are those of `find_tag` and of
+    /// `Value::into_u64_vec`; a number that is no `T`: `InvalidTagValueType`.
+    pub fn find_tag_unsigned_vec<T: TryFrom<u64> + Drop>(
+        &mut self,
+        tag: Tag,
+    ) -> TiffResult<Option<Vec<T>>>
+    where
+        T::Error: Drop,
+        ensures answer { NumbersIfAs T.try_from_gives (self.old.failures < self.new.failures) tag
+            (outcome.find_tag_unsigned_vec self.old tag).answer result }
+        ensures state { self.new ≡ record self.old { failures = self.new.failures } }
+        ensures count { self.old.failures ≤ self.new.failures }
+        ensures swallowed { NoneSwallowed result self.old.failures self.new.failures }
+    {
+        let alloc = self.alloc;
+        match self.numbers_in(None, tag) {
+            Ok(None) => Ok(None),
+            Ok(Some(numbers)) => match all_as(alloc, &numbers, tag) {
+                Ok(all) => Ok(Some(all)),
+                Err(fault) => Err(fault),
+            },
+            Err(fault) => Err(fault),
+        }
+    }
+
+    /// The number of a required tag of the page as a `T`. No such tag: `RequiredTagNotFound`; then the faults of
+    /// `find_tag_unsigned`.
+    pub fn get_tag_unsigned<T: TryFrom<u64>>(&mut self, tag: Tag) -> TiffResult<T>
+    where
+        T::Error: Drop,
+        ensures answer { NumberAs T.try_from_gives (self.old.failures < self.new.failures) tag
+            (outcome.get_tag_unsigned self.old tag).answer result }
+        ensures state { self.new ≡ record self.old { failures = self.new.failures } }
+        ensures count { self.old.failures ≤ self.new.failures }
+        ensures swallowed { NoneSwallowed result self.old.failures self.new.failures }
+    {
+        match self.required_in(None, tag) {
+            Ok(n) => as_type(n, tag),
+            Err(fault) => Err(fault),
+        }
+    }
+
+    /// The value of a required tag of the page. No such tag: `RequiredTagNotFound`; then the faults of `find_tag`.
+    #[tactic(auto, unfolding(crate::specs::Outcome::get_tag, crate::specs::Outcome::find_tag, tiff_ifd::specs::Look::require, tiff_ifd::specs::Look::find))]
+    pub fn get_tag(&mut self, tag: Tag) -> TiffResult<Value>
+        ensures { TagsRead datum (outcome.get_tag self.old tag) result self.old self.new }
+    {
+        match self.find_tag(tag)? {
+            None => Err(TiffFormatError::RequiredTagNotFound(tag).into()),
+            Some(value) => Ok(value),
+        }
+    }
+
+    /// A required tag's number, below 2^32. No such tag: `RequiredTagNotFound`; then the faults of `find_tag` and of `Value::into_u32`.
+    #[tactic(auto, using(crate::proofs::Required::unconverted, crate::proofs::Required::required_by), unfolding(crate::specs::Outcome::get_tag_u32, crate::specs::Outcome::get_tag))]
+    pub fn get_tag_u32(&mut self, tag: Tag) -> TiffResult<u32>
+        ensures { TagsRead (λ n. n) (outcome.get_tag_u32 self.old tag) result self.old self.new }
+    {
+        self.get_tag(tag)?.into_u32()
+    }
+
+    /// A required tag's number, below 2^64. No such tag: `RequiredTagNotFound`; then the faults of `find_tag` and of `Value::into_u64`.
+    #[tactic(auto, using(crate::proofs::Required::unconverted, crate::proofs::Required::required_by), unfolding(crate::specs::Outcome::get_tag_u64, crate::specs::Outcome::get_tag))]
+    pub fn get_tag_u64(&mut self, tag: Tag) -> TiffResult<u64>
+        ensures { TagsRead (λ n. n) (outcome.get_tag_u64 self.old tag) result self.old self.new }
+    {
+        self.get_tag(tag)?.into_u64()
+    }
+
+    /// The bits of a required tag's floating number of 4 bytes. No such tag: `RequiredTagNotFound`; then the faults of `find_tag` and of `Value::into_f32`.
+    #[tactic(auto, using(crate::proofs::Required::unconverted, crate::proofs::Required::required_by), unfolding(crate::specs::Outcome::get_tag_f32, crate::specs::Outcome::get_tag))]
+    pub fn get_tag_f32(&mut self, tag: Tag) -> TiffResult<Bits32>
+        ensures { TagsRead (bits_32) (outcome.get_tag_f32 self.old tag) result self.old self.new }
+    {
+        self.get_tag(tag)?.into_f32()
+    }
+
+    /// The bits of a required tag's floating number of 8 bytes. No such tag: `RequiredTagNotFound`; then the faults of `find_tag` and of `Value::into_f64`.
+    #[tactic(auto, using(crate::proofs::Required::unconverted, crate::proofs::Required::required_by), unfolding(crate::specs::Outcome::get_tag_f64, crate::specs::Outcome::get_tag))]
+    pub fn get_tag_f64(&mut self, tag: Tag) -> TiffResult<Bits64>
+        ensures { TagsRead (bits_64) (outcome.get_tag_f64 self.old tag) result self.old self.new }
+    {
+        self.get_tag(tag)?.into_f64()
+    }
+
+    /// A required tag's numbers, below 2^32. No such tag: `RequiredTagNotFound`; then the faults of `find_tag` and of `Value::into_u32_vec`.
+    #[tactic(auto, using(crate::proofs::Required::unconverted, crate::proofs::Required::required_by), unfolding(crate::specs::Outcome::get_tag_u32_vec, crate::specs::Outcome::get_tag))]
+    pub fn get_tag_u32_vec(&mut self, tag: Tag) -> TiffResult<Vec<u32>>
+        ensures { TagsRead (λ v. v.items) (outcome.get_tag_u32_vec self.old tag) result self.old self.new }
+    {
+        let alloc = self.alloc;
+        self.get_tag(tag)?.into_u32_vec(alloc)
+    }
+
+    /// A required tag's numbers, below 2^16. No such tag: `RequiredTagNotFound`; then the faults of `find_tag` and of `Value::into_u16_vec`.
+    #[tactic(auto, using(crate::proofs::Required::unconverted, crate::proofs::Required::required_by), unfolding(crate::specs::Outcome::get_tag_u16_vec, crate::specs::Outcome::get_tag))]
+    pub fn get_tag_u16_vec(&mut self, tag: Tag) -> TiffResult<Vec<u16>>
+        ensures { TagsRead (λ v. v.items) (outcome.get_tag_u16_vec self.old tag) result self.old self.new }
+    {
+        let alloc = self.alloc;
+        self.get_tag(tag)?.into_u16_vec(alloc)
+    }
+
+    /// A required tag's numbers, below 2^64. No such tag: `RequiredTagNotFound`; then the faults of `find_tag` and of `Value::into_u64_vec`.
+    #[tactic(auto, using(crate::proofs::Required::unconverted, crate::proofs::Required::required_by), unfolding(crate::specs::Outcome::get_tag_u64_vec, crate::specs::Outcome::get_tag))]
+    pub fn get_tag_u64_vec(&mut self, tag: Tag) -> TiffResult<Vec<u64>>
+        ensures { TagsRead (λ v. v.items) (outcome.get_tag_u64_vec self.old tag) result self.old self.new }
+    {
+        let alloc = self.alloc;
+        self.get_tag(tag)?.into_u64_vec(alloc)
+    }
+
+    /// The bits of a required tag's floating numbers of 4 bytes. No such tag: `RequiredTagNotFound`; then the faults of `find_tag` and of `Value::into_f32_vec`.
+    #[tactic(auto, using(crate::proofs::Required::unconverted, crate::proofs::Required::required_by), unfolding(crate::specs::Outcome::get_tag_f32_vec, crate::specs::Outcome::get_tag))]
+    pub fn get_tag_f32_vec(&mut self, tag: Tag) -> TiffResult<Vec<Bits32>>
+        ensures { TagsRead (λ v. map bits_32 v.items) (outcome.get_tag_f32_vec self.old tag) result self.old self.new }
+    {
+        let alloc = self.alloc;
+        self.get_tag(tag)?.into_f32_vec(alloc)
+    }
+
+    /// The bits of a required tag's floating numbers of 8 bytes. No such tag: `RequiredTagNotFound`; then the faults of `find_tag` and of `Value::into_f64_vec`.
+    #[tactic(auto, using(crate::proofs::Required::unconverted, crate::proofs::Required::required_by), unfolding(crate::specs::Outcome::get_tag_f64_vec, crate::specs::Outcome::get_tag))]
+    pub fn get_tag_f64_vec(&mut self, tag: Tag) -> TiffResult<Vec<Bits64>>
+        ensures { TagsRead (λ v. map bits_64 v.items) (outcome.get_tag_f64_vec self.old tag) result self.old self.new }
+    {
+        let alloc = self.alloc;
+        self.get_tag(tag)?.into_f64_vec(alloc)
+    }
+
+    /// A required tag's bytes. No such tag: `RequiredTagNotFound`; then the faults of `find_tag` and of `Value::into_u8_vec`.
+    #[tactic(auto, using(crate::proofs::Required::unconverted, crate::proofs::Required::required_by), unfolding(crate::specs::Outcome::get_tag_u8_vec, crate::specs::Outcome::get_tag))]
+    pub fn get_tag_u8_vec(&mut self, tag: Tag) -> TiffResult<Vec<u8>>
+        ensures { TagsRead (λ v. v.items) (outcome.get_tag_u8_vec self.old tag) result self.old self.new }
+    {
+        let alloc = self.alloc;
+        self.get_tag(tag)?.into_u8_vec(alloc)
+    }
+
+    /// A required tag's text. No such tag: `RequiredTagNotFound`; then the faults of `find_tag` and of `Value::into_string`.
+    #[tactic(auto, using(crate::proofs::Required::unconverted, crate::proofs::Required::required_by), unfolding(crate::specs::Outcome::get_tag_ascii_string, crate::specs::Outcome::get_tag))]
+    pub fn get_tag_ascii_string(&mut self, tag: Tag) -> TiffResult<String>
+        ensures { TagsRead (string_bytes) (outcome.get_tag_ascii_string self.old tag) result self.old self.new }
+    {
+        self.get_tag(tag)?.into_string()
+    }
+}
+
+impl<'a, R: Source> IfdDecoder<'a, R> {
+    /// The directory whose tags are read.
+    pub fn directory(&self) -> &Directory
+        ensures { result.now ≡ directory_or self.now.decoder.now.state.directory (option_map (λ d. d.now) self.now.other) }
+    {
+        self.decoder.directory_of(self.other)
+    }
+
+    /// The field of a tag, if there is the tag.
+    pub fn find_entry(&self, tag: Tag) -> Option<Entry>
+        ensures { result ≡ outcome.find_entry (reader_of self.now.decoder.now (option_map (λ d. d.now) self.now.other)) tag }
+    {
+        self.decoder.entry_in(self.other, tag)
+    }
+
+    /// The field of a tag, if there is the tag, and its bytes as they stand, in the file's order. No such tag: the buffer stays.
+    /// Values of 2^64 bytes or more, and more bytes than `decoding_buffer_size`: `LimitsExceeded`, and the buffer stays; values
+    /// past the end of the source: `IoError(UnexpectedEof)`. After any other fault the buffer has the field's type and no values.
+    pub fn find_tag_buf(&mut self, tag: Tag, buf: &mut ValueBuffer) -> TiffResult<Option<Entry>>
+        ensures held { IsBorrowed self.old.decoder self.new.decoder }
+        ensures swallowed { NoneSwallowed result self.old.decoder.now.failures self.new.decoder.now.failures }
+        ensures other { self.new.other ≡ self.old.other }
+        ensures answer { Answers (λ e. (e, buf.new)) result (outcome.find_tag_buf
+            (reader_of self.old.decoder.now (option_map (λ d. d.now) self.old.other)) tag buf.old).answer
+            self.old.decoder.now.failures self.new.decoder.now.failures }
+        ensures left { BufferLeft self.old.decoder.now.order
+            (outcome.find_entry (reader_of self.old.decoder.now (option_map (λ d. d.now) self.old.other)) tag) buf.old result
+            buf.new }
+    {
+        self.decoder.buf_in(self.other, tag, buf)
+    }
+
+    /// Copies the bytes of a tag's values from the byte `offset` on, as many as fit, and answers how many, if there is the tag; 0
+    /// where there is no such byte. Values of 2^64 bytes or more: `LimitsExceeded`; an offset of 2^64 or more:
+    /// `InconsistentSizesEncountered`; what is copied past the end of the source: `IoError(UnexpectedEof)`.
+    pub fn find_tag_bytes(
+        &mut self,
+        tag: Tag,
+        buf: &mut [u8],
+        offset: u64,
+    ) -> TiffResult<Option<usize>>
+        ensures held { IsBorrowed self.old.decoder self.new.decoder }
+        ensures swallowed { NoneSwallowed result self.old.decoder.now.failures self.new.decoder.now.failures }
+        ensures other { self.new.other ≡ self.old.other }
+        ensures answer { AnswersWithoutMemory (λ n. (n, buf.new)) result
+            (outcome.find_tag_bytes (reader_of self.old.decoder.now (option_map (λ d. d.now) self.old.other)) tag buf.old
+            offset).answer self.old.decoder.now.failures self.new.decoder.now.failures }
+    {
+        self.decoder.bytes_in(self.other, tag, buf, offset)
+    }
+
+    /// The value of a tag, if there is the tag. The faults are those of `Decoder::find_tag`.
+    pub fn find_tag(&mut self, tag: Tag) -> TiffResult<Option<Value>>
+        ensures held { IsBorrowed self.old.decoder self.new.decoder }
+        ensures swallowed { NoneSwallowed result self.old.decoder.now.failures self.new.decoder.now.failures }
+        ensures other { self.new.other ≡ self.old.other }
+        ensures answer { Answers (option_map datum) result (outcome.find_tag
+            (reader_of self.old.decoder.now (option_map (λ d. d.now) self.old.other)) tag).answer self.old.decoder.now.failures
+            self.new.decoder.now.failures }
+        ensures none { outcome.find_entry (reader_of self.old.decoder.now (option_map (λ d. d.now) self.old.other)) tag ≡ None →
+            result ≡ Ok None }
+    {
+        self.decoder.value_in(self.other, tag)
+    }
+
+    /// The number of a tag as a `T`, if there is the tag. The faults are those of `find_tag` and of
+    /// `Value::into_u64`; a number that is no `T`: `InvalidTagValueType`.
+    pub fn find_tag_unsigned<T: TryFrom<u64>>(&mut self, tag: Tag) -> TiffResult<Option<T>>
+    where
+        T::Error: Drop,
+        ensures answer { NumberIfAs T.try_from_gives (self.old.decoder.now.failures < self.new.decoder.now.failures) tag
+            (outcome.find_tag_unsigned (reader_of self.old.decoder.now (option_map (λ d. d.now) self.old.other)) tag).answer
+            result }
+        ensures held { IsBorrowed self.old.decoder self.new.decoder }
+        ensures swallowed { NoneSwallowed result self.old.decoder.now.failures self.new.decoder.now.failures }
+        ensures other { self.new.other ≡ self.old.other }
+    {
+        match self.decoder.number_in(self.other, tag) {
+            Ok(None) => Ok(None),
+            Ok(Some(n)) => match as_type(n, tag) {
+                Ok(x) => Ok(Some(x)),
+                Err(fault) => Err(fault),
+            },
+            Err(fault) => Err(fault),
+        }
+    }
+
+    /// The numbers of a tag as a list of `T`, if there is the tag. The faults are those of `find_tag` and of
+    /// `Value::into_u64_vec`; a number that is no `T`: `InvalidTagValueType`.
+    pub fn find_tag_unsigned_vec<T: TryFrom<u64> + Drop>(
+        &mut self,
+        tag: Tag,
+    ) -> TiffResult<Option<Vec<T>>>
+    where
+        T::Error: Drop,
+        ensures answer { NumbersIfAs T.try_from_gives (self.old.decoder.now.failures < self.new.decoder.now.failures) tag
+            (outcome.find_tag_unsigned_vec (reader_of self.old.decoder.now (option_map (λ d. d.now) self.old.other)) tag).answer
+            result }
+        ensures held { IsBorrowed self.old.decoder self.new.decoder }
+        ensures swallowed { NoneSwallowed result self.old.decoder.now.failures self.new.decoder.now.failures }
+        ensures other { self.new.other ≡ self.old.other }
+    {
+        let alloc = self.alloc;
+        match self.decoder.numbers_in(self.other, tag) {
+            Ok(None) => Ok(None),
+            Ok(Some(numbers)) => match all_as(alloc, &numbers, tag) {
+                Ok(all) => Ok(Some(all)),
+                Err(fault) => Err(fault),
+            },
+            Err(fault) => Err(fault),
+        }
+    }
+
+    /// The number of a required tag as a `T`. No such tag: `RequiredTagNotFound`; then the faults of
+    /// `find_tag_unsigned`.
+    pub fn get_tag_unsigned<T: TryFrom<u64>>(&mut self, tag: Tag) -> TiffResult<T>
+    where
+        T::Error: Drop,
+        ensures answer { NumberAs T.try_from_gives (self.old.decoder.now.failures < self.new.decoder.now.failures) tag
+            (outcome.get_tag_unsigned (reader_of self.old.decoder.now (option_map (λ d. d.now) self.old.other)) tag).answer
+            result }
+        ensures held { IsBorrowed self.old.decoder self.new.decoder }
+        ensures swallowed { NoneSwallowed result self.old.decoder.now.failures self.new.decoder.now.failures }
+        ensures other { self.new.other ≡ self.old.other }
+    {
+        match self.decoder.required_in(self.other, tag) {
+            Ok(n) => as_type(n, tag),
+            Err(fault) => Err(fault),
+        }
+    }
+
+    /// The value of a required tag. No such tag: `RequiredTagNotFound`; then the faults of `find_tag`.
+    #[tactic(auto, unfolding(crate::specs::Outcome::get_tag, crate::specs::Outcome::find_tag, tiff_ifd::specs::Look::require, tiff_ifd::specs::Look::find))]
+    pub fn get_tag(&mut self, tag: Tag) -> TiffResult<Value>
+        ensures held { IsBorrowed self.old.decoder self.new.decoder }
+        ensures swallowed { NoneSwallowed result self.old.decoder.now.failures self.new.decoder.now.failures }
+        ensures other { self.new.other ≡ self.old.other }
+        ensures answer { Answers datum result (outcome.get_tag
+            (reader_of self.old.decoder.now (option_map (λ d. d.now) self.old.other)) tag).answer self.old.decoder.now.failures
+            self.new.decoder.now.failures }
+    {
+        match self.find_tag(tag)? {
+            None => Err(TiffFormatError::RequiredTagNotFound(tag).into()),
+            Some(value) => Ok(value),
+        }
+    }
+
+    /// A required tag's number, below 2^32. No such tag: `RequiredTagNotFound`; then the faults of `find_tag` and of `Value::into_u32`.
+    #[tactic(auto, using(crate::proofs::Required::unconverted, crate::proofs::Required::required_by), unfolding(crate::specs::Outcome::get_tag_u32, crate::specs::Outcome::get_tag))]
+    pub fn get_tag_u32(&mut self, tag: Tag) -> TiffResult<u32>
+        ensures held { IsBorrowed self.old.decoder self.new.decoder }
+        ensures swallowed { NoneSwallowed result self.old.decoder.now.failures self.new.decoder.now.failures }
+        ensures other { self.new.other ≡ self.old.other }
+        ensures answer { Answers (λ n. n) result (outcome.get_tag_u32
+            (reader_of self.old.decoder.now (option_map (λ d. d.now) self.old.other)) tag).answer self.old.decoder.now.failures
+            self.new.decoder.now.failures }
+    {
+        self.get_tag(tag)?.into_u32()
+    }
+
+    /// A required tag's number, below 2^64. No such tag: `RequiredTagNotFound`; then the faults of `find_tag` and of `Value::into_u64`.
+    #[tactic(auto, using(crate::proofs::Required::unconverted, crate::proofs::Required::required_by), unfolding(crate::specs::Outcome::get_tag_u64, crate::specs::Outcome::get_tag))]
+    pub fn get_tag_u64(&mut self, tag: Tag) -> TiffResult<u64>
+        ensures held { IsBorrowed self.old.decoder self.new.decoder }
+        ensures swallowed { NoneSwallowed result self.old.decoder.now.failures self.new.decoder.now.failures }
+        ensures other { self.new.other ≡ self.old.other }
+        ensures answer { Answers (λ n. n) result (outcome.get_tag_u64
+            (reader_of self.old.decoder.now (option_map (λ d. d.now) self.old.other)) tag).answer self.old.decoder.now.failures
+            self.new.decoder.now.failures }
+    {
+        self.get_tag(tag)?.into_u64()
+    }
+
+    /// The bits of a required tag's floating number of 4 bytes. No such tag: `RequiredTagNotFound`; then the faults of `find_tag` and of `Value::into_f32`.
+    #[tactic(auto, using(crate::proofs::Required::unconverted, crate::proofs::Required::required_by), unfolding(crate::specs::Outcome::get_tag_f32, crate::specs::Outcome::get_tag))]
+    pub fn get_tag_f32(&mut self, tag: Tag) -> TiffResult<Bits32>
+        ensures held { IsBorrowed self.old.decoder self.new.decoder }
+        ensures swallowed { NoneSwallowed result self.old.decoder.now.failures self.new.decoder.now.failures }
+        ensures other { self.new.other ≡ self.old.other }
+        ensures answer { Answers (bits_32) result (outcome.get_tag_f32
+            (reader_of self.old.decoder.now (option_map (λ d. d.now) self.old.other)) tag).answer self.old.decoder.now.failures
+            self.new.decoder.now.failures }
+    {
+        self.get_tag(tag)?.into_f32()
+    }
+
+    /// The bits of a required tag's floating number of 8 bytes. No such tag: `RequiredTagNotFound`; then the faults of `find_tag` and of `Value::into_f64`.
+    #[tactic(auto, using(crate::proofs::Required::unconverted, crate::proofs::Required::required_by), unfolding(crate::specs::Outcome::get_tag_f64, crate::specs::Outcome::get_tag))]
+    pub fn get_tag_f64(&mut self, tag: Tag) -> TiffResult<Bits64>
+        ensures held { IsBorrowed self.old.decoder self.new.decoder }
+        ensures swallowed { NoneSwallowed result self.old.decoder.now.failures self.new.decoder.now.failures }
+        ensures other { self.new.other ≡ self.old.other }
+        ensures answer { Answers (bits_64) result (outcome.get_tag_f64
+            (reader_of self.old.decoder.now (option_map (λ d. d.now) self.old.other)) tag).answer self.old.decoder.now.failures
+            self.new.decoder.now.failures }
+    {
+        self.get_tag(tag)?.into_f64()
+    }
+
+    /// A required tag's numbers, below 2^32. No such tag: `RequiredTagNotFound`; then the faults of `find_tag` and of `Value::into_u32_vec`.
+    #[tactic(auto, using(crate::proofs::Required::unconverted, crate::proofs::Required::required_by), unfolding(crate::specs::Outcome::get_tag_u32_vec, crate::specs::Outcome::get_tag))]
+    pub fn get_tag_u32_vec(&mut self, tag: Tag) -> TiffResult<Vec<u32>>
+        ensures held { IsBorrowed self.old.decoder self.new.decoder }
+        ensures swallowed { NoneSwallowed result self.old.decoder.now.failures self.new.decoder.now.failures }
+        ensures other { self.new.other ≡ self.old.other }
+        ensures answer { Answers (λ v. v.items) result (outcome.get_tag_u32_vec
+            (reader_of self.old.decoder.now (option_map (λ d. d.now) self.old.other)) tag).answer self.old.decoder.now.failures
+            self.new.decoder.now.failures }
+    {
+        let alloc = self.alloc;
+        self.get_tag(tag)?.into_u32_vec(alloc)
+    }
+
+    /// A required tag's numbers, below 2^16. No such tag: `RequiredTagNotFound`; then the faults of `find_tag` and of `Value::into_u16_vec`.
+    #[tactic(auto, using(crate::proofs::Required::unconverted, crate::proofs::Required::required_by), unfolding(crate::specs::Outcome::get_tag_u16_vec, crate::specs::Outcome::get_tag))]
+    pub fn get_tag_u16_vec(&mut self, tag: Tag) -> TiffResult<Vec<u16>>
+        ensures held { IsBorrowed self.old.decoder self.new.decoder }
+        ensures swallowed { NoneSwallowed result self.old.decoder.now.failures self.new.decoder.now.failures }
+        ensures other { self.new.other ≡ self.old.other }
+        ensures answer { Answers (λ v. v.items) result (outcome.get_tag_u16_vec
+            (reader_of self.old.decoder.now (option_map (λ d. d.now) self.old.other)) tag).answer self.old.decoder.now.failures
+            self.new.decoder.now.failures }
+    {
+        let alloc = self.alloc;
+        self.get_tag(tag)?.into_u16_vec(alloc)
+    }
+
+    /// A required tag's numbers, below 2^64. No such tag: `RequiredTagNotFound`; then the faults of `find_tag` and of `Value::into_u64_vec`.
+    #[tactic(auto, using(crate::proofs::Required::unconverted, crate::proofs::Required::required_by), unfolding(crate::specs::Outcome::get_tag_u64_vec, crate::specs::Outcome::get_tag))]
+    pub fn get_tag_u64_vec(&mut self, tag: Tag) -> TiffResult<Vec<u64>>
+        ensures held { IsBorrowed self.old.decoder self.new.decoder }
+        ensures swallowed { NoneSwallowed result self.old.decoder.now.failures self.new.decoder.now.failures }
+        ensures other { self.new.other ≡ self.old.other }
+        ensures answer { Answers (λ v. v.items) result (outcome.get_tag_u64_vec
+            (reader_of self.old.decoder.now (option_map (λ d. d.now) self.old.other)) tag).answer self.old.decoder.now.failures
+            self.new.decoder.now.failures }
+    {
+        let alloc = self.alloc;
+        self.get_tag(tag)?.into_u64_vec(alloc)
+    }
+
+    /// The bits of a required tag's floating numbers of 4 bytes. No such tag: `RequiredTagNotFound`; then the faults of `find_tag` and of `Value::into_f32_vec`.
+    #[tactic(auto, using(crate::proofs::Required::unconverted, crate::proofs::Required::required_by), unfolding(crate::specs::Outcome::get_tag_f32_vec, crate::specs::Outcome::get_tag))]
+    pub fn get_tag_f32_vec(&mut self, tag: Tag) -> TiffResult<Vec<Bits32>>
+        ensures held { IsBorrowed self.old.decoder self.new.decoder }
+        ensures swallowed { NoneSwallowed result self.old.decoder.now.failures self.new.decoder.now.failures }
+        ensures other { self.new.other ≡ self.old.other }
+        ensures answer { Answers (λ v. map bits_32 v.items) result
+            (outcome.get_tag_f32_vec (reader_of self.old.decoder.now (option_map (λ d. d.now) self.old.other)) tag).answer
+            self.old.decoder.now.failures self.new.decoder.now.failures }
+    {
+        let alloc = self.alloc;
+        self.get_tag(tag)?.into_f32_vec(alloc)
+    }
+
+    /// The bits of a required tag's floating numbers of 8 bytes. No such tag: `RequiredTagNotFound`; then the faults of `find_tag` and of `Value::into_f64_vec`.
+    #[tactic(auto, using(crate::proofs::Required::unconverted, crate::proofs::Required::required_by), unfolding(crate::specs::Outcome::get_tag_f64_vec, crate::specs::Outcome::get_tag))]
+    pub fn get_tag_f64_vec(&mut self, tag: Tag) -> TiffResult<Vec<Bits64>>
+        ensures held { IsBorrowed self.old.decoder self.new.decoder }
+        ensures swallowed { NoneSwallowed result self.old.decoder.now.failures self.new.decoder.now.failures }
+        ensures other { self.new.other ≡ self.old.other }
+        ensures answer { Answers (λ v. map bits_64 v.items) result
+            (outcome.get_tag_f64_vec (reader_of self.old.decoder.now (option_map (λ d. d.now) self.old.other)) tag).answer
+            self.old.decoder.now.failures self.new.decoder.now.failures }
+    {
+        let alloc = self.alloc;
+        self.get_tag(tag)?.into_f64_vec(alloc)
+    }
+
+    /// A required tag's bytes. No such tag: `RequiredTagNotFound`; then the faults of `find_tag` and of `Value::into_u8_vec`.
+    #[tactic(auto, using(crate::proofs::Required::unconverted, crate::proofs::Required::required_by), unfolding(crate::specs::Outcome::get_tag_u8_vec, crate::specs::Outcome::get_tag))]
+    pub fn get_tag_u8_vec(&mut self, tag: Tag) -> TiffResult<Vec<u8>>
+        ensures held { IsBorrowed self.old.decoder self.new.decoder }
+        ensures swallowed { NoneSwallowed result self.old.decoder.now.failures self.new.decoder.now.failures }
+        ensures other { self.new.other ≡ self.old.other }
+        ensures answer { Answers (λ v. v.items) result (outcome.get_tag_u8_vec
+            (reader_of self.old.decoder.now (option_map (λ d. d.now) self.old.other)) tag).answer self.old.decoder.now.failures
+            self.new.decoder.now.failures }
+    {
+        let alloc = self.alloc;
+        self.get_tag(tag)?.into_u8_vec(alloc)
+    }
+
+    /// A required tag's text. No such tag: `RequiredTagNotFound`; then the faults of `find_tag` and of `Value::into_string`.
+    #[tactic(auto, using(crate::proofs::Required::unconverted, crate::proofs::Required::required_by), unfolding(crate::specs::Outcome::get_tag_ascii_string, crate::specs::Outcome::get_tag))]
+    pub fn get_tag_ascii_string(&mut self, tag: Tag) -> TiffResult<String>
+        ensures held { IsBorrowed self.old.decoder self.new.decoder }
+        ensures swallowed { NoneSwallowed result self.old.decoder.now.failures self.new.decoder.now.failures }
+        ensures other { self.new.other ≡ self.old.other }
+        ensures answer { Answers (string_bytes) result (outcome.get_tag_ascii_string
+            (reader_of self.old.decoder.now (option_map (λ d. d.now) self.old.other)) tag).answer self.old.decoder.now.failures
+            self.new.decoder.now.failures }
+    {
+        self.get_tag(tag)?.into_string()
+    }
+}

@@ -1,0 +1,13 @@
+-- How the data of an image are written, and what they leave.
+pub mod Calls
+pub mod Chunks
+pub mod Leaves
+pub mod Parts
+pub mod Open
+pub mod Shows
+pub mod Begun
+pub mod Image
+pub mod Offsets
+pub mod Pieces
+pub mod Cut
+pub mod Written

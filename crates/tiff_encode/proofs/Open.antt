@@ -1,0 +1,8 @@
+-- An image that is open.
+pub mod Held
+pub mod Tags
+pub mod Kept
+pub mod Settings
+pub mod Begun
+pub mod Chunks
+pub mod Ends

@@ -1,0 +1,255 @@
+-- An image that ends with every chunk is held, and shown.
+use Rattle.std.proofs.Common.{◌≡◌, ℕ, ◌^◌, ◌<◌, inl, inr, Bool, true, false, cond, List, [], ◌∷◌, ◌++◌, length, map, Some, None, Ok, refl, ap, sym, ◌∙◌, subst, arith}
+use Rattle.std.proofs.lemmas.Bool.{eqb-true, ltb-false, cases_lt}
+use Rattle.std.specs.Prelude.{◌==◌}
+use Rattle.std.specs.FinMap.{len}
+use Rattle.tiff_base.specs.declared.color.ChunkType.{ChunkType}
+use Rattle.tiff_base.specs.declared.color.ChunkType.TheVariants.{Strip, Tile}
+use Rattle.tiff_base.specs.declared.tags.FileKind.{FileKind}
+use Rattle.tiff_base.specs.declared.tags.Tag.{Tag}
+use Rattle.tiff_base.specs.declared.tags.Tag.TheVariants as tag
+use Rattle.tiff_base.specs.Tags.{tag_number}
+use Rattle.tiff_value.specs.Data.{Scalars, u16s, formats}
+use Rattle.tiff_page.specs.Counts.{all_chunks}
+use Rattle.tiff_encode.specs.Value.{offset_values}
+use Rattle.tiff_encode.specs.Model.{In, FinishedDirectory, Model, with_directory}
+use Rattle.tiff_encode.specs.Deeds.{Deed, Listed, after_deed, standing_fields}
+use Rattle.tiff_encode.specs.Machine.{FileState, OpenDirectory, OpenImage, Writing, does, ◌>>=◌}
+use Rattle.tiff_encode.specs.Causes.{end_of, finish_cause}
+use Rattle.tiff_encode.specs.Chunks.{all_samples, image_page, is_left}
+use Rattle.tiff_encode.specs.Calls.{Offsets, links_to, offsets_of, chains, finish, write_tags, extended_by_first, sample_tags, chunk_tags, last_tags, finish_image}
+use Rattle.tiff_encode.specs.Held.{Given, HoldsValues, ExtraGiven, TellsChunks, TellsImage, IsWholeImage, AreHanded, RegionsHaveChunks, ImagesShow}
+use Rattle.tiff_encode.specs.Open.{TellsForm, TellsOpen, IsOpen, HoldsChunks, HoldsOpen, model_by, EndsHeld, GrownEnded, EndedShown, EndsShown}
+use Rattle.tiff_encode.proofs.Slices.{ok_inj}
+use Rattle.tiff_encode.proofs.Deeds.{deeds_grow}
+use Rattle.tiff_encode.proofs.Open.Held.{holds_grown, chunks_grown, set}
+use Rattle.tiff_encode.proofs.Open.Tags.{both_held, caused_held, tags_adding, tags_held, after, after_joined}
+
+-- ---- its last tags
+
+module _ (kind : FileKind) (i : OpenImage) (given : Given) where
+  abbrev offsets : Scalars
+  offsets = offset_values kind (map (λ chunk. chunk.offset) i.chunks)
+
+  abbrev byte_counts : Scalars
+  byte_counts = offset_values kind (map (λ chunk. chunk.stored) i.chunks)
+
+  -- the values with the bits, then the number of samples, the formats, and the chunks
+  abbrev bits_given : Given
+  bits_given = set given (tag_number tag.BitsPerSample) (Some (u16s (extended_by_first i.color.bits (length i.extra))))
+
+  abbrev samples_given : Bool → Given
+  samples_given b = after bits_given (cond b [] ((tag.SamplesPerPixel, u16s (all_samples i ∷ [])) ∷ []))
+
+  abbrev formats_given : Bool → Given
+  formats_given b =
+      set (samples_given b) (tag_number tag.SampleFormat) (Some (formats (extended_by_first i.color.formats (length i.extra))))
+
+  abbrev chunks_given : Bool → ChunkType → Given
+  chunks_given b c = after (formats_given b) (chunk_tags c offsets byte_counts)
+
+  abbrev last_given : Given
+  last_given = chunks_given (length i.extra == 0) i.form.chunk_type
+
+  all_given : after given (last_tags kind i) ≡ last_given
+  unfolding last_tags
+  all_given =
+      after_joined bits_given (sample_tags i)
+      ((tag.SampleFormat, formats (extended_by_first i.color.formats (length i.extra))) ∷ chunk_tags i.form.chunk_type offsets byte_counts)
+
+  -- a tag that has neither the number of samples nor the offsets or lengths of chunks stays
+  samples_kept : (b : Bool) (n : ℕ) → samples_given false n ≡ bits_given n → samples_given b n ≡ bits_given n
+  samples_kept true n h = refl
+  samples_kept false n h = h
+
+  chunks_kept : (b : Bool) (c : ChunkType) (n : ℕ) → chunks_given b Strip n ≡ formats_given b n
+      → chunks_given b Tile n ≡ formats_given b n → chunks_given b c n ≡ formats_given b n
+  chunks_kept b Strip n h g = h
+  chunks_kept b Tile n h g = g
+
+  -- the number of all samples
+  samples_told : (b : Bool) → (length i.extra == 0) ≡ b → given (tag_number tag.SamplesPerPixel) ≡ Some (u16s (length i.color.bits ∷ []))
+      → samples_given b (tag_number tag.SamplesPerPixel) ≡ Some (u16s (all_samples i ∷ []))
+  samples_told false e h = refl
+  samples_told true e h =
+      let none : length i.extra ≡ 0 = eqb-true (length i.extra) 0 e in
+      let same : length i.color.bits ≡ all_samples i = omega (arith, none) in
+      h ∙ ap (λ n. Some (u16s (n ∷ []))) same
+
+  -- where the chunks stand
+  chunks_told : (b : Bool) (c : ChunkType) → TellsForm c i given → given (tag_number tag.StripOffsets) ≡ None
+      → given (tag_number tag.StripByteCounts) ≡ None → given (tag_number tag.TileOffsets) ≡ None
+      → given (tag_number tag.TileByteCounts) ≡ None → TellsChunks c kind i (chunks_given b c)
+  chunks_told b Strip f so sc to tc = record {
+    rows = samples_kept b 278 refl ∙ f;
+    offsets = refl;
+    byte_counts = refl;
+    no_offsets = samples_kept b 324 refl ∙ to;
+    no_byte_counts = samples_kept b 325 refl ∙ tc;
+  }
+  chunks_told b Tile f so sc to tc = record {
+    width = samples_kept b 322 refl ∙ f.0;
+    height = samples_kept b 323 refl ∙ f.1;
+    offsets = refl;
+    byte_counts = refl;
+    no_offsets = samples_kept b 273 refl ∙ so;
+    no_byte_counts = samples_kept b 279 refl ∙ sc;
+  }
+
+  -- what the image says of itself then
+  last_tells : TellsOpen i given → TellsImage kind i last_given
+  last_tells t =
+      let b : Bool = length i.extra == 0 in
+      let c : ChunkType = i.form.chunk_type in
+      let kept : (n : ℕ) → chunks_given b Strip n ≡ formats_given b n → chunks_given b Tile n ≡ formats_given b n
+      → formats_given b n ≡ samples_given b n → samples_given false n ≡ bits_given n → bits_given n ≡ given n → last_given n ≡ given n =
+      λ n p q r s u. chunks_kept b c n p q ∙ r ∙ samples_kept b n s ∙ u in
+      record {
+        width = kept 256 refl refl refl refl refl ∙ t.width;
+        height = kept 257 refl refl refl refl refl ∙ t.height;
+        bits = chunks_kept b c 258 refl refl ∙ samples_kept b 258 refl;
+        packed_by = kept 259 refl refl refl refl refl ∙ t.packed_by;
+        interpretation = kept 262 refl refl refl refl refl ∙ t.interpretation;
+        samples = chunks_kept b c 277 refl refl ∙ samples_told b refl t.samples;
+        predicted_by = kept 317 refl refl refl refl refl ∙ t.predicted_by;
+        planar = kept 284 refl refl refl refl refl ∙ t.planar;
+        extra = subst (λ x. ExtraGiven i.extra x) (sym (kept 338 refl refl refl refl refl)) t.extra;
+        sample_formats = chunks_kept b c 339 refl refl;
+        subsampling = kept 530 refl refl refl refl refl ∙ t.subsampling;
+        chunks = chunks_told b c t.form t.no_strips t.no_strip_counts t.no_tiles t.no_tile_counts;
+      }
+
+-- ---- its chunks
+
+module _ (kind : FileKind) (m : Model) (i : OpenImage) (samples : List (List ℕ)) where
+  -- none is left
+  all_written : HoldsChunks kind m i samples → is_left i ≡ false → length i.chunks ≡ all_chunks (image_page i)
+  all_written h l =
+      let a = ltb-false (length i.chunks) (all_chunks (image_page i)) l in
+      let b = h.within in
+      omega (arith, a, b)
+
+  -- they are not too many
+  few_chunks : HoldsChunks kind m i samples → is_left i ≡ false → all_chunks (image_page i) < 2 ^ 32
+  few_chunks h l =
+      let same = all_written h l in
+      elim (cases_lt 0 (length i.chunks)) [ inl b ↦ h.few b | inr a ↦ omega (arith, a, same) ]
+
+  -- the image is whole
+  is_whole : IsOpen i → HoldsChunks kind m i samples → is_left i ≡ false → IsWholeImage kind i
+  is_whole s h l = record {
+    name = s.name;
+    color = s.color;
+    size = s.size;
+    wide = s.wide;
+    high = s.high;
+    few = s.few;
+    packed_by = s.packed_by;
+    predicted_by = s.predicted_by;
+    form = s.form;
+    chunks = all_written h l;
+    count = few_chunks h l;
+    fit = h.fit;
+  }
+
+  -- each chunk was handed its samples
+  are_handed : HoldsChunks kind m i samples → is_left i ≡ false → AreHanded i samples
+  are_handed h l = record { lengths = λ k b. h.lengths k (subst (λ n. k < n) (sym (all_written h l)) b); small = h.small }
+
+  -- and stands for them
+  regions_have : HoldsChunks kind m i samples → is_left i ≡ false → RegionsHaveChunks m i samples
+  regions_have h l k b = h.regions k (subst (λ n. k < n) (sym (all_written h l)) b)
+
+-- ---- its end
+
+-- the directory that a call ends
+pub finish_listed : (d : OpenDirectory) (file : FileState) (m : Model) (offsets : Offsets) → (finish d file).answer ≡ Ok offsets
+    → (let listed : FinishedDirectory = record { offset = offsets.pointer; fields = standing_fields file.kind d.fields } in
+    In listed (model_by file m (finish d file)).directories)
+unfolding finish
+finish_listed d file m offsets h =
+    let rest : Unit {0} → Writing Offsets = λ _. chains d.chained (offsets_of file.kind (end_of file) (len d.fields)) in
+    let links : List Deed = links_to d.parent (end_of file) in
+    let call : Writing Offsets = does (Listed d.fields ∷ links) >>= rest in
+    let listed : ℕ → FinishedDirectory = λ p. record { offset = p; fields = standing_fields file.kind d.fields } in
+    let n : Model = with_directory file.kind m (listed (end_of file)) in
+    let P : Model → Type 0 = λ k. In (listed offsets.pointer) k.directories in
+    caused_held (finish_cause file d) call file m P offsets h
+    (λ _ a.
+    let same : end_of file ≡ offsets.pointer = ap (λ o. o.pointer) (ok_inj _ offsets a) in
+    let grown = deeds_grow file.kind (after_deed file.kind file.bytes (Listed d.fields)) n (links ++ []) in
+    grown.directories (listed offsets.pointer) (inl (ap listed (sym same))))
+
+-- a directory that holds some values, as it stands at an offset
+abbrev Ended : FileKind → ℕ → Given → Model → Type 0
+Ended kind offset given m =
+    (d : OpenDirectory)
+    × (let listed : FinishedDirectory = record { offset = offset; fields = standing_fields kind d.fields } in
+    In listed m.directories × HoldsValues m d.fields given)
+
+image_ended : (file : FileState) (m : Model) (i : OpenImage) (samples : List (List ℕ)) (offsets : Offsets)
+    (h : HoldsOpen file.kind m i samples) → (finish_image i file).answer ≡ Ok offsets
+    → Ended file.kind offsets.pointer (last_given file.kind i h.given) (model_by file m (finish_image i file))
+unfolding finish_image
+image_ended file m i samples offsets h a =
+    let tags : List (Tag × Scalars) = last_tags file.kind i in
+    let call : Writing OpenDirectory = write_tags i.directory tags in
+    let later : Given = last_given file.kind i h.given in
+    let adds = tags_adding i.directory tags file in
+    both_held call finish file m (Ended file.kind offsets.pointer later) offsets adds a
+    (λ d x y.
+    let mid : FileState = (call file).next in
+    let n : Model = model_by file m (call file) in
+    let k : Model = model_by mid n (finish d mid) in
+    let same : mid.kind ≡ file.kind = ap (λ s. s.kind) adds.next in
+    let held : HoldsValues n d.fields later =
+    subst (λ g. HoldsValues n d.fields g) (all_given file.kind i h.given) (tags_held i.directory tags file m h.given d h.holds x) in
+    let at : FileKind → FinishedDirectory = λ kind. record { offset = offsets.pointer; fields = standing_fields kind d.fields } in (
+      d,
+      (
+        subst (λ kind. In (at kind) k.directories) same (finish_listed d mid n offsets y),
+        holds_grown n k d.fields later (deeds_grow mid.kind mid.bytes n (finish d mid).deeds) held,
+      ),
+    ))
+
+-- it is held as one that has ended
+pub ends_held : EndsHeld
+ends_held file m i samples offsets h left a =
+    let n : Model = model_by file m (finish_image i file) in
+    let e = image_ended file m i samples offsets h a in
+    let c : HoldsChunks file.kind n i samples =
+    chunks_grown file.kind m n i samples (deeds_grow file.kind file.bytes m (finish_image i file).deeds) h.chunks in
+    record {
+      fields = e.0.fields;
+      given = last_given file.kind i h.given;
+      listed = e.1.0;
+      holds = e.1.1;
+      whole = is_whole file.kind n i samples h.open_so c left;
+      tells = last_tells file.kind i h.given h.tells;
+      handed = are_handed file.kind n i samples c left;
+      regions = regions_have file.kind n i samples c left;
+    }
+
+-- also when more is written
+pub grown_ended : GrownEnded
+grown_ended kind m n i samples offset g h = record {
+  fields = h.fields;
+  given = h.given;
+  listed = g.directories _ h.listed;
+  holds = holds_grown m n h.fields h.given g h.holds;
+  whole = h.whole;
+  tells = h.tells;
+  handed = h.handed;
+  regions = λ k b. let r = h.regions k b in (r.0, (g.regions _ r.1.0, r.1.1));
+}
+
+-- where what stands and holds an image shows it, it is shown
+pub ended_shown_by : ImagesShow → EndedShown
+ended_shown_by show kind file m i samples offset stands h =
+    show kind file m (record { offset = offset; fields = standing_fields kind h.fields }) h.fields h.given i samples
+    stands h.listed refl h.holds h.whole h.tells h.handed h.regions
+
+pub ends_shown_by : ImagesShow → EndsShown
+ends_shown_by show file m i samples offsets h left a stands =
+    ended_shown_by show file.kind (finish_image i file).next.bytes (model_by file m (finish_image i file)) i samples offsets.pointer
+    stands (ends_held file m i samples offsets h left a)

@@ -1,0 +1,153 @@
+-- What is held of an image that is open, when a call changes one part of it.
+use Rattle.std.proofs.Common.{◌≡◌, ℕ, false, List, [], ◌∷◌, Option, Some, Ok, refl, ap, sym, ◌∙◌, subst}
+use Rattle.std.specs.List.{list_any}
+use Rattle.std.specs.FinMap.{insert}
+use Rattle.tiff_base.specs.declared.color.ChunkType.{ChunkType}
+use Rattle.tiff_base.specs.declared.color.ChunkType.TheVariants.{Strip, Tile}
+use Rattle.tiff_base.specs.declared.error.TiffError.{TiffError}
+use Rattle.tiff_base.specs.declared.tags.FileKind.{FileKind}
+use Rattle.tiff_base.specs.declared.tags.Tag.{Tag}
+use Rattle.tiff_base.specs.declared.tags.Tag.TheVariants as tag
+use Rattle.tiff_base.specs.Field.{Field}
+use Rattle.tiff_base.specs.Tags.{tag_number}
+use Rattle.tiff_value.specs.Data.{Scalars, u32s, rationals, units}
+use Rattle.tiff_encode.specs.Model.{Model}
+use Rattle.tiff_encode.specs.Machine.{FileState, OpenDirectory, Chunk, OpenImage, Writing, gives, by_cause}
+use Rattle.tiff_encode.specs.Causes.{resolution_cause, one_resolution_cause, resolution_unit_cause}
+use Rattle.tiff_encode.specs.Calls.{write_tag, write_tag_buf, write_tags, extend_from, with_directory_of, with_tags, resolution_tags, resolution, x_resolution, y_resolution, resolution_unit}
+use Rattle.tiff_encode.specs.Stored.{unpacked_chunk}
+use Rattle.tiff_encode.specs.Held.{is_page_tag, Given, HoldsValues}
+use Rattle.tiff_encode.specs.Open.{TellsForm, TellsOpen, IsOpen, HoldsChunks, HoldsOpen, model_by, TagsKeepOpen, FieldsKeepOpen, ResolutionsKeepOpen}
+use Rattle.tiff_encode.proofs.Slices.{ok_inj}
+use Rattle.tiff_encode.proofs.Deeds.{deeds_grow}
+use Rattle.tiff_encode.proofs.Open.Held.{chunks_grown, other_held}
+use Rattle.tiff_encode.proofs.Open.Tags.{both_held, caused_held, tags_adding, other_tag_held, other_buf_held, others_held, neither}
+
+-- ---- one part
+
+-- how it is cut, where the tags of that are given the same
+pub form_kept : (c : ChunkType) (i next : OpenImage) (given later : Given) → next.form.chunk_width ≡ i.form.chunk_width
+    → next.form.chunk_height ≡ i.form.chunk_height → later (tag_number tag.RowsPerStrip) ≡ given (tag_number tag.RowsPerStrip)
+    → later (tag_number tag.TileWidth) ≡ given (tag_number tag.TileWidth)
+    → later (tag_number tag.TileLength) ≡ given (tag_number tag.TileLength) → TellsForm c i given → TellsForm c next later
+form_kept Strip i next given later w h r x y t = r ∙ t ∙ ap (λ n. Some (u32s (n ∷ []))) (sym h)
+form_kept Tile i next given later w h r x y t =
+    (x ∙ t.0 ∙ ap (λ n. Some (u32s (n ∷ []))) (sym w), y ∙ t.1 ∙ ap (λ n. Some (u32s (n ∷ []))) (sym h))
+
+-- what an image says of itself, with another directory and other chunks
+pub tells_kept : (i : OpenImage) (d : OpenDirectory) (chunks : List Chunk) (given : Given) → TellsOpen i given
+    → TellsOpen (record i { directory = d; chunks = chunks }) given
+tells_kept i d chunks given t = record {
+  width = t.width;
+  height = t.height;
+  packed_by = t.packed_by;
+  interpretation = t.interpretation;
+  samples = t.samples;
+  predicted_by = t.predicted_by;
+  planar = t.planar;
+  extra = t.extra;
+  subsampling = t.subsampling;
+  form = form_kept i.form.chunk_type i (record i { directory = d; chunks = chunks }) given given refl refl refl refl refl t.form;
+  no_strips = t.no_strips;
+  no_strip_counts = t.no_strip_counts;
+  no_tiles = t.no_tiles;
+  no_tile_counts = t.no_tile_counts;
+}
+
+-- what it is
+pub open_kept : (i : OpenImage) (d : OpenDirectory) (chunks : List Chunk) → IsOpen i
+    → IsOpen (record i { directory = d; chunks = chunks })
+open_kept i d chunks s = record {
+  name = s.name;
+  color = s.color;
+  size = s.size;
+  wide = s.wide;
+  high = s.high;
+  few = s.few;
+  packed_by = s.packed_by;
+  predicted_by = s.predicted_by;
+  form = s.form;
+}
+
+-- its directory
+pub directory_kept : (kind : FileKind) (m n : Model) (i : OpenImage) (d : OpenDirectory) (samples : List (List ℕ))
+    (h : HoldsOpen kind m i samples) → HoldsValues n d.fields h.given → HoldsChunks kind n i samples
+    → HoldsOpen kind n (with_directory_of i d) samples
+unfolding unpacked_chunk
+directory_kept kind m n i d samples h o c = record {
+  given = h.given;
+  holds = o;
+  tells = tells_kept i d i.chunks h.given h.tells;
+  open_so = open_kept i d i.chunks h.open_so;
+  chunks = record {
+    as_many = c.as_many;
+    within = c.within;
+    few = c.few;
+    lengths = c.lengths;
+    small = c.small;
+    regions = c.regions;
+    fit = c.fit;
+  };
+}
+
+-- ---- tags that a page isn't read by
+
+pub tags_keep_open : TagsKeepOpen
+tags_keep_open file m i samples t d h q = (
+  λ value a.
+      let call : Writing OpenDirectory = write_tag i.directory t value in
+      let n : Model = model_by file m (call file) in
+      directory_kept file.kind m n i d samples h (other_tag_held i.directory t value file m h.given d q h.holds a)
+      (chunks_grown file.kind m n i samples (deeds_grow file.kind file.bytes m (call file).deeds) h.chunks),
+  λ b a.
+      let call : Writing OpenDirectory = write_tag_buf i.directory t b in
+      let n : Model = model_by file m (call file) in
+      directory_kept file.kind m n i d samples h (other_buf_held i.directory t b file m h.given d q h.holds a)
+      (chunks_grown file.kind m n i samples (deeds_grow file.kind file.bytes m (call file).deeds) h.chunks),
+)
+
+-- fields of such tags
+extended_held : (m : Model) (given : Given) (d : OpenDirectory) (fields : List (ℕ × Field))
+    → list_any (λ entry. is_page_tag entry.0) fields ≡ false → HoldsValues m d.fields given → HoldsValues m (extend_from d fields).fields given
+unfolding extend_from
+extended_held m given d [] q o = o
+extended_held m given d (f ∷ fields) q o =
+    let each = neither (is_page_tag f.0) (list_any (λ entry. is_page_tag entry.0) fields) q in
+    extended_held m given (record d { fields = insert d.fields f.0 f.1 }) fields each.1 (other_held m d.fields given f.0 f.1 each.0 o)
+
+pub fields_keep_open : FieldsKeepOpen
+fields_keep_open kind m i samples fields h q =
+    directory_kept kind m m i (extend_from i.directory fields) samples h
+    (extended_held m h.given i.directory fields q h.holds) h.chunks
+
+-- ---- resolutions
+
+-- some tags more, none of which a page is read by
+pub with_tags_kept : (values : List (Tag × Scalars)) (cause : Option TiffError) (file : FileState) (m : Model) (i next : OpenImage)
+    (samples : List (List ℕ)) → list_any (λ v. is_page_tag (tag_number v.0)) values ≡ false → HoldsOpen file.kind m i samples
+    → (by_cause cause (with_tags i values) file).answer ≡ Ok next
+    → HoldsOpen file.kind (model_by file m (by_cause cause (with_tags i values) file)) next samples
+with_tags_kept values cause file m i next samples q h a =
+    let P : Model → Type 0 = λ n. HoldsOpen file.kind n next samples in
+    let call : Writing OpenDirectory = write_tags i.directory values in
+    let rest : OpenDirectory → Writing OpenImage = λ d. gives (with_directory_of i d) in
+    caused_held cause (with_tags i values) file m P next a
+    (λ _ b. both_held call rest file m P next (tags_adding i.directory values file) b
+    (λ d x y.
+    let n : Model = model_by file m (call file) in
+    subst (λ j. HoldsOpen file.kind n j samples) (ok_inj (with_directory_of i d) next y)
+    (directory_kept file.kind m n i d samples h (others_held i.directory values file m h.given d q h.holds x)
+    (chunks_grown file.kind m n i samples (deeds_grow file.kind file.bytes m (call file).deeds) h.chunks))))
+
+pub resolutions_keep_open : ResolutionsKeepOpen
+unfolding resolution x_resolution y_resolution resolution_unit
+resolutions_keep_open = (
+  λ u value file m i next samples h a. with_tags_kept (resolution_tags u value) (resolution_cause file) file m i next samples refl h a,
+  (
+    λ value file m i next samples h a. with_tags_kept ((tag.XResolution, rationals (value ∷ [])) ∷ []) (one_resolution_cause file) file m i next samples refl h a,
+    (
+      λ value file m i next samples h a. with_tags_kept ((tag.YResolution, rationals (value ∷ [])) ∷ []) (one_resolution_cause file) file m i next samples refl h a,
+      λ u file m i next samples h a. with_tags_kept ((tag.ResolutionUnit, units (u ∷ [])) ∷ []) (resolution_unit_cause file) file m i next samples refl h a,
+    ),
+  ),
+)

@@ -1,0 +1,262 @@
+-- An image that is open is held still when it is set how it is cut and what extra samples it has.
+use Rattle.std.proofs.Common.{◌≡◌, ℕ, ◌+◌, ◌^◌, ◌<◌, ◌≤◌, inl, Bool, true, false, cond, List, [], ◌∷◌, length, get_or, Option, Some, None, Ok, refl, ap, sym, ◌∙◌, subst, arith}
+use Rattle.std.proofs.lemmas.Bool.{ltb-false, eqb-false}
+use Rattle.std.specs.Prelude.{◌==◌}
+use Rattle.tiff_base.specs.declared.color.ChunkType.TheVariants.{Strip, Tile}
+use Rattle.tiff_base.specs.declared.error.TiffError.{TiffError}
+use Rattle.tiff_base.specs.declared.io.SinkFault.{SinkFault}
+use Rattle.tiff_base.specs.declared.tags.ExtraSamples.{ExtraSamples}
+use Rattle.tiff_base.specs.declared.tags.FileKind.{FileKind}
+use Rattle.tiff_base.specs.declared.tags.PlanarConfiguration.TheVariants.{Planar}
+use Rattle.tiff_base.specs.declared.tags.Tag.{Tag}
+use Rattle.tiff_base.specs.declared.tags.Tag.TheVariants as tag
+use Rattle.tiff_base.specs.Tags.{tag_number}
+use Rattle.tiff_value.specs.Data.{Scalars, u32s, planars, extras, data_of}
+use Rattle.tiff_encode.specs.Model.{In, Model}
+use Rattle.tiff_encode.specs.Machine.{FileState, OpenDirectory, Form, OpenImage, Writing, gives, by_cause, ◌>>=◌}
+use Rattle.tiff_encode.specs.Drawn.{IsForm}
+use Rattle.tiff_encode.specs.Chunks.{is_tile, is_begun}
+use Rattle.tiff_encode.specs.Causes.{unless_ended, is_no_side, extra_samples_cause, rows_per_strip_cause, tiles_cause, planar_cause}
+use Rattle.tiff_encode.specs.Calls.{write_tag, write_tags, strips_of, tiles_of, without_field, extra_samples, set_rows_per_strip, tiles, planar}
+use Rattle.tiff_encode.specs.Held.{Given, HoldsValues, samples_of_chunk}
+use Rattle.tiff_encode.specs.Open.{TellsOpen, IsOpen, HoldsChunks, HoldsOpen, model_by, KeepsOpen, SettingsKeepOpen}
+use Rattle.tiff_encode.proofs.Slices.{ok_inj}
+use Rattle.tiff_encode.proofs.Deeds.{deeds_grow}
+use Rattle.tiff_encode.proofs.Joining.{adding, tag_adds}
+use Rattle.tiff_encode.proofs.Open.Held.{chunks_grown, set, unset_held}
+use Rattle.tiff_encode.proofs.Open.Tags.{both_held, caused_held, tags_adding, tag_held, tags_held, after, neither}
+use Rattle.tiff_encode.proofs.Open.Kept.{form_kept}
+
+-- ---- what its causes say
+
+-- no earlier fault
+pub fresh : (fault : Option SinkFault) (cause : Option TiffError) → unless_ended fault cause ≡ None → cause ≡ None
+fresh None cause h = h
+fresh (Some f) cause h = absurd cc
+
+-- a test that was not met
+pub first_test : (a : Bool) (e : TiffError) (rest : Option TiffError) → cond a (Some e) rest ≡ None → (a ≡ false) × (rest ≡ None)
+first_test true e rest h = absurd cc
+first_test false e rest h = (refl, h)
+
+no_strip : Tile ≡ Strip → ⊥
+no_strip e = cc
+
+-- a number that is not 0
+pub above : (n : ℕ) → (n == 0) ≡ false → 0 < n
+above n h = let e = eqb-false n 0 h in omega (arith, e)
+
+-- ---- an image with no chunk yet
+
+-- it has none, however it is cut
+none_held : (kind : FileKind) (m : Model) (i next : OpenImage) (samples : List (List ℕ)) → HoldsChunks kind m i samples
+    → is_begun i ≡ false → next.chunks ≡ i.chunks → next.size ≡ i.size → HoldsChunks kind m next samples
+none_held kind m i next samples h b c s =
+    let none : length i.chunks ≤ 0 = ltb-false 0 (length i.chunks) b in
+    let same : length next.chunks ≡ length i.chunks = ap (λ cs. length cs) c in
+    record {
+      as_many = h.as_many ∙ sym same;
+      within = omega (arith, none, same);
+      few = λ l. absurd (omega (arith, none, same, l));
+      lengths = λ k l. absurd (omega (arith, none, same, l));
+      small = λ k n. subst (λ z. get_or (samples_of_chunk samples k) n 0 < 256 ^ z) (sym s) (h.small k n);
+      regions = λ k l. absurd (omega (arith, none, same, l));
+      fit = λ x l. h.fit x (subst (λ cs. In x cs) c l);
+    }
+
+-- one tag is written: what is held of the image with it
+one_set : (call : OpenDirectory → OpenImage) (t : Tag) (values : Scalars) (cause : Option TiffError) (file : FileState) (m : Model)
+    (i next : OpenImage) (samples : List (List ℕ)) (h : HoldsOpen file.kind m i samples)
+    → (let write : Writing OpenImage = write_tag i.directory t (Ok (data_of values)) >>= (λ d. gives (call d)) in
+    (by_cause cause write file).answer ≡ Ok next
+    → ((d : OpenDirectory) (n : Model) → cause ≡ None → HoldsChunks file.kind n i samples
+    → HoldsValues n d.fields (set h.given (tag_number t) (Some values)) → HoldsOpen file.kind n (call d) samples)
+    → HoldsOpen file.kind (model_by file m (by_cause cause write file)) next samples)
+one_set call t values cause file m i next samples h a f =
+    let first : Writing OpenDirectory = write_tag i.directory t (Ok (data_of values)) in
+    let P : Model → Type 0 = λ n. HoldsOpen file.kind n next samples in
+    caused_held cause (first >>= (λ d. gives (call d))) file m P next a
+    (λ c b. both_held first (λ d. gives (call d)) file m P next (adding (first file) file (tag_adds i.directory t (Ok (data_of values)) file)) b
+    (λ d x y.
+    let n : Model = model_by file m (first file) in
+    let grown = deeds_grow file.kind file.bytes m (first file).deeds in
+    subst (λ j. HoldsOpen file.kind n j samples) (ok_inj (call d) next y)
+    (f d n c (chunks_grown file.kind m n i samples grown h.chunks) (tag_held i.directory t values file m h.given d h.holds x))))
+
+-- ---- extra samples
+
+extra_kept : (extra : List ExtraSamples) → KeepsOpen (λ i. extra_samples i extra)
+unfolding extra_samples extra_samples_cause
+extra_kept extra file m i next samples h a =
+    let call : OpenDirectory → OpenImage = λ d. record i { directory = d; extra = extra } in
+    one_set call tag.ExtraSamples (extras extra) (extra_samples_cause file i extra) file m i next samples h a
+    (λ d n c g o.
+    let tests = first_test _ _ _ (fresh file.fault _ c) in
+    let count = first_test _ _ _ tests.1 in
+    let few = ltb-false 65535 (length i.color.bits + length extra) count.0 in
+    let t : TellsOpen i h.given = h.tells in
+    let s : IsOpen i = h.open_so in
+    record {
+      given = set h.given (tag_number tag.ExtraSamples) (Some (extras extra));
+      holds = o;
+      tells = record {
+        width = t.width;
+        height = t.height;
+        packed_by = t.packed_by;
+        interpretation = t.interpretation;
+        samples = t.samples;
+        predicted_by = t.predicted_by;
+        planar = t.planar;
+        extra = inl refl;
+        subsampling = t.subsampling;
+        form = form_kept i.form.chunk_type i (call d) h.given _ refl refl refl refl refl t.form;
+        no_strips = t.no_strips;
+        no_strip_counts = t.no_strip_counts;
+        no_tiles = t.no_tiles;
+        no_tile_counts = t.no_tile_counts;
+      };
+      open_so = record {
+        name = s.name;
+        color = s.color;
+        size = s.size;
+        wide = s.wide;
+        high = s.high;
+        few = omega (arith, few);
+        packed_by = s.packed_by;
+        predicted_by = s.predicted_by;
+        form = s.form;
+      };
+      chunks = none_held file.kind n i (call d) samples g tests.0 refl refl;
+    })
+
+-- ---- how it is cut
+
+-- by another form, that the values tell
+cut_kept : (kind : FileKind) (m : Model) (i : OpenImage) (d : OpenDirectory) (form : Form) (later : Given) (samples : List (List ℕ))
+    → IsOpen i → HoldsChunks kind m i samples → is_begun i ≡ false → IsForm i.width form → HoldsValues m d.fields later
+    → TellsOpen (record i { directory = d; form = form }) later
+    → HoldsOpen kind m (record i { directory = d; form = form }) samples
+cut_kept kind m i d form later samples s c b f o t =
+    record {
+      given = later;
+      holds = o;
+      tells = t;
+      open_so = record {
+        name = s.name;
+        color = s.color;
+        size = s.size;
+        wide = s.wide;
+        high = s.high;
+        few = s.few;
+        packed_by = s.packed_by;
+        predicted_by = s.predicted_by;
+        form = f;
+      };
+      chunks = none_held kind m i (record i { directory = d; form = form }) samples c b refl refl;
+    }
+
+rows_kept : (rows : ℕ) → rows < 2 ^ 32 → KeepsOpen (λ i. set_rows_per_strip i rows)
+unfolding set_rows_per_strip rows_per_strip_cause
+rows_kept rows l file m i next samples h a =
+    let form : Form = strips_of i.width rows i.form.planar in
+    let call : OpenDirectory → OpenImage = λ d. record i { directory = d; form = form } in
+    one_set call tag.RowsPerStrip (u32s (rows ∷ [])) (rows_per_strip_cause file i rows) file m i next samples h a
+    (λ d n c g o.
+    let tests = first_test _ _ _ (fresh file.fault _ c) in
+    let some = neither (rows == 0) _ tests.0 in
+    let fresh = neither (is_begun i) (is_tile i.form.chunk_type) some.1 in
+    let t : TellsOpen i h.given = h.tells in
+    cut_kept file.kind n i d form (set h.given (tag_number tag.RowsPerStrip) (Some (u32s (rows ∷ [])))) samples h.open_so g fresh.0
+    (record { wide = h.open_so.wide; high = (above rows some.0, l); strips = λ _. refl }) o
+    (record {
+      width = t.width;
+      height = t.height;
+      packed_by = t.packed_by;
+      interpretation = t.interpretation;
+      samples = t.samples;
+      predicted_by = t.predicted_by;
+      planar = t.planar;
+      extra = t.extra;
+      subsampling = t.subsampling;
+      form = refl;
+      no_strips = t.no_strips;
+      no_strip_counts = t.no_strip_counts;
+      no_tiles = t.no_tiles;
+      no_tile_counts = t.no_tile_counts;
+    }))
+
+planar_kept : KeepsOpen planar
+unfolding planar planar_cause
+planar_kept file m i next samples h a =
+    let form : Form = record i.form { planar = Planar } in
+    let call : OpenDirectory → OpenImage = λ d. record i { directory = d; form = form } in
+    one_set call tag.PlanarConfiguration (planars (Planar ∷ [])) (planar_cause file i) file m i next samples h a
+    (λ d n c g o.
+    let tests = first_test _ _ _ (fresh file.fault _ c) in
+    let t : TellsOpen i h.given = h.tells in
+    let f : IsForm i.width i.form = h.open_so.form in
+    let later : Given = set h.given (tag_number tag.PlanarConfiguration) (Some (planars (Planar ∷ []))) in
+    cut_kept file.kind n i d form later samples h.open_so g tests.0
+    (record { wide = f.wide; high = f.high; strips = f.strips }) o
+    (record {
+      width = t.width;
+      height = t.height;
+      packed_by = t.packed_by;
+      interpretation = t.interpretation;
+      samples = t.samples;
+      predicted_by = t.predicted_by;
+      planar = refl;
+      extra = t.extra;
+      subsampling = t.subsampling;
+      form = form_kept i.form.chunk_type i (call d) h.given later refl refl refl refl refl t.form;
+      no_strips = t.no_strips;
+      no_strip_counts = t.no_strip_counts;
+      no_tiles = t.no_tiles;
+      no_tile_counts = t.no_tile_counts;
+    }))
+
+-- a side of a tile
+side : (n : ℕ) → is_no_side n ≡ false → 0 < n
+side n h = above n (neither (n == 0) _ h).0
+
+tiles_kept : (width length : ℕ) → width < 2 ^ 32 → length < 2 ^ 32 → KeepsOpen (λ i. tiles i width length)
+unfolding tiles tiles_cause
+tiles_kept width length w l file m i next samples h a =
+    let form : Form = tiles_of width length i.form.planar in
+    let values : List (Tag × Scalars) = (tag.TileWidth, u32s (width ∷ [])) ∷ (tag.TileLength, u32s (length ∷ [])) ∷ [] in
+    let first : Writing OpenDirectory = write_tags i.directory values in
+    let call : OpenDirectory → OpenImage = λ d. record i { directory = without_field d tag.RowsPerStrip; form = form } in
+    let P : Model → Type 0 = λ n. HoldsOpen file.kind n next samples in
+    caused_held (tiles_cause file i width length) (first >>= (λ d. gives (call d))) file m P next a
+    (λ c b. both_held first (λ d. gives (call d)) file m P next (tags_adding i.directory values file) b
+    (λ d x y.
+    let n : Model = model_by file m (first file) in
+    let g : HoldsChunks file.kind n i samples =
+    chunks_grown file.kind m n i samples (deeds_grow file.kind file.bytes m (first file).deeds) h.chunks in
+    let tests = first_test _ _ _ (fresh file.fault _ c) in
+    let sides = neither (is_no_side width) (is_no_side length) (first_test _ _ _ tests.1).0 in
+    let t : TellsOpen i h.given = h.tells in
+    let later : Given = set (after h.given values) (tag_number tag.RowsPerStrip) None in
+    subst (λ j. HoldsOpen file.kind n j samples) (ok_inj (call d) next y)
+    (cut_kept file.kind n i (without_field d tag.RowsPerStrip) form later samples h.open_so g tests.0
+    (record { wide = (side width sides.0, w); high = (side length sides.1, l); strips = λ e. absurd (no_strip e) })
+    (unset_held n d.fields (after h.given values) (tag_number tag.RowsPerStrip) (tags_held i.directory values file m h.given d h.holds x))
+    (record {
+      width = t.width;
+      height = t.height;
+      packed_by = t.packed_by;
+      interpretation = t.interpretation;
+      samples = t.samples;
+      predicted_by = t.predicted_by;
+      planar = t.planar;
+      extra = t.extra;
+      subsampling = t.subsampling;
+      form = (refl, refl);
+      no_strips = t.no_strips;
+      no_strip_counts = t.no_strip_counts;
+      no_tiles = t.no_tiles;
+      no_tile_counts = t.no_tile_counts;
+    }))))
+
+pub settings_keep_open : SettingsKeepOpen
+settings_keep_open = (extra_kept, (rows_kept, (tiles_kept, planar_kept)))

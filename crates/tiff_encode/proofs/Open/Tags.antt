@@ -1,0 +1,196 @@
+-- What a model holds of a directory, it holds when a call writes tags.
+use Rattle.std.proofs.Common.{◌≡◌, ℕ, Bool, true, false, cond, List, [], ◌∷◌, ◌++◌, length, Option, Some, None, Result, Ok, Err, refl, ap, sym, ◌∙◌, subst, inl, arith}
+use Rattle.std.proofs.lemmas.List.{length-take-le, length-append}
+use Rattle.std.specs.Prelude.{replicate, ◌||◌}
+use Rattle.std.specs.List.{list_any}
+use Rattle.tiff_base.specs.declared.error.TiffError.{TiffError}
+use Rattle.tiff_base.specs.declared.tags.FileKind.{FileKind}
+use Rattle.tiff_base.specs.declared.tags.Tag.{Tag}
+use Rattle.tiff_base.specs.Field.{Field}
+use Rattle.tiff_base.specs.Number.{le}
+use Rattle.tiff_base.specs.Tags.{tag_number}
+use Rattle.tiff_value.specs.Buffer.{BufferRecord}
+use Rattle.tiff_value.specs.Data.{FieldData, Scalars, data_of}
+use Rattle.tiff_encode.specs.Model.{In, HandedField, Model}
+use Rattle.tiff_encode.specs.Deeds.{Deed, Appended, Handed, bytes_after, model_after}
+use Rattle.tiff_encode.specs.Value.{is_long, filled_field, field_at, buffer_data}
+use Rattle.tiff_encode.specs.Machine.{FileState, OpenDirectory, Writing, gives, by_cause, and_then, ◌>>=◌}
+use Rattle.tiff_encode.specs.Causes.{end_of, write_tag_cause, write_buf_cause}
+use Rattle.tiff_encode.specs.Calls.{with_field, placed_field, write_entry, write_entry_buf, write_tag, write_tag_buf, write_tags}
+use Rattle.tiff_encode.specs.Held.{is_page_tag, Given, HasValues, HoldsValues}
+use Rattle.tiff_encode.specs.Open.{model_by}
+use Rattle.tiff_encode.proofs.Slices.{ok_inj, length-le}
+use Rattle.tiff_encode.proofs.Deeds.{model_joined, deeds_append, deeds_grow}
+use Rattle.tiff_encode.proofs.Joining.{IsAdding, Adds, adding, caused_adds, placed_adds, entry_adds, tag_adds, answers_adding, bind_adding}
+use Rattle.tiff_encode.proofs.Open.Held.{holds_grown, set, set_held, other_held}
+
+-- ---- calls that were answered
+
+-- a fault is no answer
+pub no_answer : {A : Type 0} {e : TiffError} {x : A} → let a : Result A TiffError = Err e in let b : Result A TiffError = Ok x in a ≡ b → ⊥
+no_answer h = cc
+
+-- the first was, and then the second
+going_on_held : {A B : Type 0} (r : Result A TiffError) (deeds : List Deed) (next : FileState) (rest : A → Writing B) (file : FileState)
+    (m : Model) (P : Model → Type 0) (y : B) → next.kind ≡ file.kind → next.bytes ≡ bytes_after file.kind file.bytes deeds
+    → (and_then r deeds next rest).answer ≡ Ok y
+    → ((x : A) → r ≡ Ok x → (rest x next).answer ≡ Ok y → P (model_by next (model_after file.kind file.bytes m deeds) (rest x next)))
+    → P (model_after file.kind file.bytes m (and_then r deeds next rest).deeds)
+going_on_held (Err e) deeds next rest file m P y k b h f = absurd (no_answer h)
+going_on_held (Ok x) deeds next rest file m P y k b h f =
+    let after : Model = model_after file.kind file.bytes m deeds in
+    subst P ((λ i. model_after (k i) (b i) after (rest x next).deeds) ∙ sym (model_joined file.kind file.bytes m deeds (rest x next).deeds))
+    (f x refl h)
+
+-- What the second leaves, where the first appends, both leave.
+pub both_held : {A B : Type 0} (call : Writing A) (rest : A → Writing B) (file : FileState) (m : Model) (P : Model → Type 0) (y : B)
+    → IsAdding (call file) file → ((call >>= rest) file).answer ≡ Ok y
+    → ((x : A) → (call file).answer ≡ Ok x → (rest x (call file).next).answer ≡ Ok y
+    → P (model_by (call file).next (model_by file m (call file)) (rest x (call file).next)))
+    → P (model_by file m ((call >>= rest) file))
+both_held call rest file m P y a h f =
+    going_on_held (call file).answer (call file).deeds (call file).next rest file m P y (ap (λ s. s.kind) a.next)
+    (ap (λ s. s.bytes) a.next ∙ sym (deeds_append file.kind file.bytes (call file).deeds a.appending)) h f
+
+-- it was not refused
+pub caused_held : {A : Type 0} (cause : Option TiffError) (call : Writing A) (file : FileState) (m : Model) (P : Model → Type 0) (y : A)
+    → (by_cause cause call file).answer ≡ Ok y
+    → (cause ≡ None → (call file).answer ≡ Ok y → P (model_by file m (call file)))
+    → P (model_by file m (by_cause cause call file))
+caused_held None call file m P y h f = f refl h
+caused_held (Some e) call file m P y h f = absurd (no_answer h)
+
+-- ---- a value that is handed in
+
+-- its value field has eight bytes
+whole_by : (long : Bool) (offset : ℕ) (bytes : List ℕ) → length (cond long (le 8 offset) (filled_field bytes)) ≡ 8
+whole_by true offset bytes = length-le 0 8 offset
+whole_by false offset bytes =
+    length-take-le 8 (bytes ++ replicate 8 0) (omega (arith, length-append bytes (replicate 8 0)))
+
+-- the model has it
+handed_by : (long : Bool) (kind : FileKind) (bytes : List ℕ) (m : Model) (h : HandedField) (more : List ℕ)
+    → In h (model_after kind bytes m (cond long (Appended more ∷ Handed h ∷ []) (Handed h ∷ []) ++ [])).handed
+handed_by true kind bytes m h more = inl refl
+handed_by false kind bytes m h more = inl refl
+
+-- a value is a field of the model
+placed_held : (values : Scalars) (file : FileState) (m : Model) (field : Field) → (placed_field (data_of values) file).answer ≡ Ok field
+    → HasValues (model_by file m (placed_field (data_of values) file)) field values
+placed_held values file m field h =
+    let v : FieldData = data_of values in
+    let f : Field = field_at file.kind (end_of file) v in
+    let is : f ≡ field = ok_inj f field h in
+    subst (λ x. HasValues (model_by file m (placed_field v file)) x values) is (record {
+      field_type = refl;
+      count = refl;
+      whole = whole_by (is_long file.kind v) (end_of file) v.bytes;
+      handed = handed_by (is_long file.kind v) file.kind file.bytes m (record { field = f; bytes = v.bytes }) v.bytes;
+    })
+
+-- so is one that is written
+entry_held : (values : Scalars) (file : FileState) (m : Model) (field : Field) → (write_entry (Ok (data_of values)) file).answer ≡ Ok field
+    → HasValues (model_by file m (write_entry (Ok (data_of values)) file)) field values
+unfolding write_entry
+entry_held values file m field h =
+    let v : FieldData = data_of values in
+    caused_held (write_tag_cause file (Ok v)) (placed_field v) file m (λ n. HasValues n field values) field h (λ _ a. placed_held values file m field a)
+
+-- ---- tags
+
+-- the directory has the values of a tag that is written
+pub tag_held : (d : OpenDirectory) (t : Tag) (values : Scalars) (file : FileState) (m : Model) (given : Given) (next : OpenDirectory)
+    → HoldsValues m d.fields given → (write_tag d t (Ok (data_of values)) file).answer ≡ Ok next
+    → HoldsValues (model_by file m (write_tag d t (Ok (data_of values)) file)) next.fields (set given (tag_number t) (Some values))
+unfolding write_tag
+tag_held d t values file m given next o h =
+    let value : Result FieldData TiffError = Ok (data_of values) in
+    let later : Given = set given (tag_number t) (Some values) in
+    both_held (write_entry value) (λ field. gives (with_field d t field)) file m (λ n. HoldsValues n next.fields later) next
+    (adding (write_entry value file) file (entry_adds value file)) h
+    (λ field a b.
+    let n : Model = model_by file m (write_entry value file) in
+    let grown : HoldsValues n d.fields given = holds_grown m n d.fields given (deeds_grow file.kind file.bytes m (write_entry value file).deeds) o in
+    subst (λ x. HoldsValues n x.fields later) (ok_inj (with_field d t field) next b)
+    (set_held n d.fields given (tag_number t) field values (entry_held values file m field a) grown))
+
+-- the values after some tags were written
+abbrev pub after : Given → List (Tag × Scalars) → Given
+after given [] = given
+after given (v ∷ values) = after (set given (tag_number v.0) (Some v.1)) values
+
+-- the directory has them
+pub tags_held : (d : OpenDirectory) (values : List (Tag × Scalars)) (file : FileState) (m : Model) (given : Given) (next : OpenDirectory)
+    → HoldsValues m d.fields given → (write_tags d values file).answer ≡ Ok next
+    → HoldsValues (model_by file m (write_tags d values file)) next.fields (after given values)
+tags_held d [] file m given next o h = subst (λ x. HoldsValues m x.fields given) (ok_inj d next h) o
+tags_held d (v ∷ values) file m given next o h =
+    let call : Writing OpenDirectory = write_tag d v.0 (Ok (data_of v.1)) in
+    let later : Given = set given (tag_number v.0) (Some v.1) in
+    both_held call (λ x. write_tags x values) file m (λ n. HoldsValues n next.fields (after later values)) next
+    (adding (call file) file (tag_adds d v.0 (Ok (data_of v.1)) file)) h
+    (λ x a b. tags_held x values (call file).next (model_by file m (call file)) later next (tag_held d v.0 v.1 file m given x o a) b)
+
+-- they append
+pub tags_adding : (d : OpenDirectory) (values : List (Tag × Scalars)) (file : FileState) → IsAdding (write_tags d values file) file
+tags_adding d [] file = answers_adding (Ok d) file
+tags_adding d (v ∷ values) file =
+    let call : Writing OpenDirectory = write_tag d v.0 (Ok (data_of v.1)) in
+    bind_adding call (λ next. write_tags next values) file
+    (adding (call file) file (tag_adds d v.0 (Ok (data_of v.1)) file))
+    (λ next _. tags_adding next values (call file).next)
+
+-- some, and others after them
+pub after_joined : (given : Given) (xs ys : List (Tag × Scalars)) → after given (xs ++ ys) ≡ after (after given xs) ys
+after_joined given [] ys = refl
+after_joined given (x ∷ xs) ys = after_joined (set given (tag_number x.0) (Some x.1)) xs ys
+
+-- ---- tags that a page isn't read by
+
+-- the values stay, whatever a call writes for one
+other_by : (call : Writing Field) (d : OpenDirectory) (t : Tag) (file : FileState) (m : Model) (given : Given) (next : OpenDirectory)
+    → Adds (call file) file → is_page_tag (tag_number t) ≡ false → HoldsValues m d.fields given
+    → ((call >>= (λ field. gives (with_field d t field))) file).answer ≡ Ok next
+    → HoldsValues (model_by file m ((call >>= (λ field. gives (with_field d t field))) file)) next.fields given
+other_by call d t file m given next a q o h =
+    both_held call (λ field. gives (with_field d t field)) file m (λ n. HoldsValues n next.fields given) next (adding (call file) file a) h
+    (λ field _ b.
+    let n : Model = model_by file m (call file) in
+    let grown : HoldsValues n d.fields given = holds_grown m n d.fields given (deeds_grow file.kind file.bytes m (call file).deeds) o in
+    subst (λ x. HoldsValues n x.fields given) (ok_inj (with_field d t field) next b)
+    (other_held n d.fields given (tag_number t) field q grown))
+
+pub other_tag_held : (d : OpenDirectory) (t : Tag) (value : Result FieldData TiffError) (file : FileState) (m : Model) (given : Given)
+    (next : OpenDirectory) → is_page_tag (tag_number t) ≡ false → HoldsValues m d.fields given → (write_tag d t value file).answer ≡ Ok next
+    → HoldsValues (model_by file m (write_tag d t value file)) next.fields given
+unfolding write_tag
+other_tag_held d t value file m given next q o h = other_by (write_entry value) d t file m given next (entry_adds value file) q o h
+
+buf_adds : (b : BufferRecord) (file : FileState) → Adds (write_entry_buf b file) file
+unfolding write_entry_buf
+buf_adds b file = caused_adds (write_buf_cause file b) (placed_field (buffer_data b)) file (placed_adds (buffer_data b) file)
+
+pub other_buf_held : (d : OpenDirectory) (t : Tag) (b : BufferRecord) (file : FileState) (m : Model) (given : Given)
+    (next : OpenDirectory) → is_page_tag (tag_number t) ≡ false → HoldsValues m d.fields given → (write_tag_buf d t b file).answer ≡ Ok next
+    → HoldsValues (model_by file m (write_tag_buf d t b file)) next.fields given
+unfolding write_tag_buf
+other_buf_held d t b file m given next q o h = other_by (write_entry_buf b) d t file m given next (buf_adds b file) q o h
+
+-- neither of two tests
+pub neither : (a b : Bool) → (a || b) ≡ false → (a ≡ false) × (b ≡ false)
+neither true b h = absurd cc
+neither false b h = (refl, h)
+
+-- several of them
+pub others_held : (d : OpenDirectory) (values : List (Tag × Scalars)) (file : FileState) (m : Model) (given : Given) (next : OpenDirectory)
+    → list_any (λ v. is_page_tag (tag_number v.0)) values ≡ false → HoldsValues m d.fields given → (write_tags d values file).answer ≡ Ok next
+    → HoldsValues (model_by file m (write_tags d values file)) next.fields given
+others_held d [] file m given next q o h = subst (λ x. HoldsValues m x.fields given) (ok_inj d next h) o
+others_held d (v ∷ values) file m given next q o h =
+    let call : Writing OpenDirectory = write_tag d v.0 (Ok (data_of v.1)) in
+    let each = neither (is_page_tag (tag_number v.0)) (list_any (λ w. is_page_tag (tag_number w.0)) values) q in
+    both_held call (λ x. write_tags x values) file m (λ n. HoldsValues n next.fields given) next
+    (adding (call file) file (tag_adds d v.0 (Ok (data_of v.1)) file)) h
+    (λ x a b.
+    others_held x values (call file).next (model_by file m (call file)) given next each.1
+    (other_tag_held d v.0 (Ok (data_of v.1)) file m given x each.0 o a) b)

@@ -1,0 +1,295 @@
+-- A look-up of what an image says of itself tells the image's page.
+use Rattle.std.proofs.Common.{◌≡◌, ℕ, ◌+◌, ◌^◌, ◌<◌, ◌==◌, ◌⊎◌, List, [], ◌∷◌, length, map, get_or, true, false, Option, Some, None, Ok, refl, ap, sym, ◌∙◌, inl, inr, subst, arith}
+use Rattle.std.proofs.lemmas.Bool.{eq-eqb, ne_eqb, lt-ltb, le-leb}
+use Rattle.std.proofs.lemmas.List.{length-map}
+use Rattle.std.specs.Prelude.{unwrap_or}
+use Rattle.tiff_base.specs.declared.color.ChunkType.{ChunkType}
+use Rattle.tiff_base.specs.declared.color.ChunkType.TheVariants.{Strip, Tile}
+use Rattle.tiff_base.specs.declared.tags.CompressionMethod.{CompressionMethod}
+use Rattle.tiff_base.specs.declared.tags.CompressionMethod.TheVariants as method
+use Rattle.tiff_base.specs.declared.tags.ExtraSamples.{ExtraSamples}
+use Rattle.tiff_base.specs.declared.tags.ExtraSamples.TheVariants as extra
+use Rattle.tiff_base.specs.declared.tags.FileKind.{FileKind}
+use Rattle.tiff_base.specs.declared.tags.PhotometricInterpretation.{PhotometricInterpretation}
+use Rattle.tiff_base.specs.declared.tags.PhotometricInterpretation.TheVariants as meaning
+use Rattle.tiff_base.specs.declared.tags.PlanarConfiguration.{PlanarConfiguration}
+use Rattle.tiff_base.specs.declared.tags.PlanarConfiguration.TheVariants.{Chunky, Planar}
+use Rattle.tiff_base.specs.declared.tags.Predictor.{Predictor}
+use Rattle.tiff_base.specs.declared.tags.Predictor.TheVariants as predictor
+use Rattle.tiff_base.specs.declared.tags.SampleFormat.TheVariants.{Void}
+use Rattle.tiff_base.specs.declared.tags.Tag.TheVariants as tag
+use Rattle.tiff_base.specs.Tags.{method_number, interpretation_number, predictor_number, format_number, extra_number}
+use Rattle.tiff_base.specs.Tags as kinds
+use Rattle.tiff_ifd.specs.Into.{into_u16, into_u32, into_u16_vec, into_u64_vec}
+use Rattle.tiff_ifd.specs.Look.{Look, find}
+use Rattle.tiff_ifd.specs.Look as look
+use Rattle.tiff_page.specs.Counts.{planes_of, chunk_count}
+use Rattle.tiff_page.specs.Page.{Chunks}
+use Rattle.tiff_page.specs.Checks.{size_in, interpretation_in, method_in, samples_in, extra_in, format_from, format_in, depth_from, depth_in, predictor_in, planar_from, planar_in, subsampling_from, subsampling_in, chunk_type_in, chunks_counted, strips_in, tiles_in, chunks_in, page_of}
+use Rattle.tiff_encode.specs.Machine.{OpenImage}
+use Rattle.tiff_encode.specs.Chunks.{all_samples, image_page}
+use Rattle.tiff_encode.specs.Chunks as encoded
+use Rattle.tiff_encode.specs.Calls.{extended_by_first}
+use Rattle.tiff_encode.specs.Held.{IsWholeImage}
+use Rattle.tiff_encode.proofs.PageTold.Colors.{AreAlike, bits_repeated, formats_repeated, format_same, depth_same, image_alike, image_samples}
+
+-- ---- what a look-up finds
+
+-- where each chunk stands, and how many bytes it has there
+abbrev pub offsets_of : OpenImage → List ℕ
+offsets_of i = map (λ chunk. chunk.offset) i.chunks
+
+abbrev pub lengths_of : OpenImage → List ℕ
+lengths_of i = map (λ chunk. chunk.stored) i.chunks
+
+-- strips, and no tiles
+pub record FindsStrips (l : Look) (i : OpenImage) : Type 0 where
+  pub rows : find into_u32 l tag.RowsPerStrip ≡ Ok (Some i.form.chunk_height)
+  pub offsets : find into_u64_vec l tag.StripOffsets ≡ Ok (Some (offsets_of i))
+  pub byte_counts : find into_u64_vec l tag.StripByteCounts ≡ Ok (Some (lengths_of i))
+  pub has_offsets : l.has tag.StripOffsets ≡ true
+  pub has_counts : l.has tag.StripByteCounts ≡ true
+  pub no_offsets : l.has tag.TileOffsets ≡ false
+  pub no_counts : l.has tag.TileByteCounts ≡ false
+
+-- tiles, and no strips
+pub record FindsTiles (l : Look) (i : OpenImage) : Type 0 where
+  pub wide : find into_u32 l tag.TileWidth ≡ Ok (Some i.form.chunk_width)
+  pub high : find into_u32 l tag.TileLength ≡ Ok (Some i.form.chunk_height)
+  pub offsets : find into_u64_vec l tag.TileOffsets ≡ Ok (Some (offsets_of i))
+  pub byte_counts : find into_u64_vec l tag.TileByteCounts ≡ Ok (Some (lengths_of i))
+  pub has_offsets : l.has tag.TileOffsets ≡ true
+  pub has_counts : l.has tag.TileByteCounts ≡ true
+  pub no_offsets : l.has tag.StripOffsets ≡ false
+  pub no_counts : l.has tag.StripByteCounts ≡ false
+
+abbrev pub FindsChunks : ChunkType → Look → OpenImage → Type 0
+FindsChunks Strip l i = FindsStrips l i
+FindsChunks Tile l i = FindsTiles l i
+
+-- the number that is found of how samples stand, and the chroma sizes that are
+abbrev pub planar_found : PlanarConfiguration → Option ℕ
+planar_found Planar = Some 2
+planar_found Chunky = None
+
+abbrev pub chroma_found : PhotometricInterpretation → Option (List ℕ)
+chroma_found meaning.YCbCr = Some (1 ∷ 1 ∷ [])
+chroma_found _ = None
+
+-- The values that a look-up finds are those of an image.
+pub record FindsPage (l : Look) (i : OpenImage) : Type 0 where
+  pub wide : find into_u32 l tag.ImageWidth ≡ Ok (Some i.width)
+  pub high : find into_u32 l tag.ImageLength ≡ Ok (Some i.height)
+  pub bits : find into_u64_vec l tag.BitsPerSample ≡ Ok (Some (extended_by_first i.color.bits (length i.extra)))
+  pub packed_by : find into_u16 l tag.Compression ≡ Ok (Some (method_number i.method))
+  pub interpretation : find into_u16 l tag.PhotometricInterpretation ≡ Ok (Some (interpretation_number i.color.interpretation))
+  pub samples : find into_u16 l tag.SamplesPerPixel ≡ Ok (Some (all_samples i))
+  pub predicted_by : find into_u16 l tag.Predictor ≡ Ok (Some (predictor_number i.predictor))
+  pub planar : find into_u16 l tag.PlanarConfiguration ≡ Ok (planar_found i.form.planar)
+  pub extra_numbers : Option (List ℕ)
+  pub extra : find into_u16_vec l tag.ExtraSamples ≡ Ok extra_numbers
+  pub extra_is : unwrap_or extra_numbers [] ≡ map extra_number i.extra
+  pub formats : find into_u64_vec l tag.SampleFormat ≡ Ok (Some (map format_number (extended_by_first i.color.formats (length i.extra))))
+  pub chroma : find into_u64_vec l tag.ChromaSubsampling ≡ Ok (chroma_found i.color.interpretation)
+  pub chunks : FindsChunks i.form.chunk_type l i
+
+-- ---- what is read of a number that was written
+
+-- of a method
+method_back : (x : CompressionMethod) → (x ≡ method.None) ⊎ (x ≡ method.PackBits)
+    → kinds.method_of (method_number x) ≡ x
+unfolding kinds.method_of
+method_back x e =
+    let P : CompressionMethod → Type 0 = λ y. kinds.method_of (method_number y) ≡ y in
+    elim e as (λ _. P x) [ inl a ↦ subst P (sym a) refl | inr b ↦ subst P (sym b) refl ]
+
+-- of an interpretation
+interpretation_back : (x : PhotometricInterpretation)
+    → kinds.interpretation_of (interpretation_number x) ≡ Some x
+unfolding kinds.interpretation_of
+interpretation_back meaning.WhiteIsZero = refl
+interpretation_back meaning.BlackIsZero = refl
+interpretation_back meaning.RGB = refl
+interpretation_back meaning.RGBPalette = refl
+interpretation_back meaning.TransparencyMask = refl
+interpretation_back meaning.CMYK = refl
+interpretation_back meaning.YCbCr = refl
+interpretation_back meaning.CIELab = refl
+interpretation_back meaning.IccLab = refl
+interpretation_back meaning.ItuLab = refl
+
+-- of a predictor
+predictor_back : (x : Predictor) → kinds.predictor_of (predictor_number x) ≡ Some x
+unfolding kinds.predictor_of
+predictor_back predictor.None = refl
+predictor_back predictor.Horizontal = refl
+predictor_back predictor.FloatingPoint = refl
+
+-- of extra samples
+extra_back : (x : ExtraSamples) → unwrap_or (kinds.extra_of (extra_number x)) extra.Unspecified ≡ x
+unfolding kinds.extra_of
+extra_back extra.Unspecified = refl
+extra_back extra.AssociatedAlpha = refl
+extra_back extra.UnassociatedAlpha = refl
+
+extras_back : (xs : List ExtraSamples)
+    → map (λ (n : ℕ). unwrap_or (kinds.extra_of n) extra.Unspecified) (map extra_number xs) ≡ xs
+extras_back [] = refl
+extras_back (x ∷ xs) = let a = extra_back x in let b = extras_back xs in λ i. a i ∷ b i
+
+-- how samples stand
+planar_back : (x : PlanarConfiguration) → planar_from (planar_found x) ≡ Ok x
+unfolding kinds.planar_of
+planar_back Chunky = refl
+planar_back Planar = refl
+
+-- the chroma sizes
+chroma_back : (x : PhotometricInterpretation) → subsampling_from (chroma_found x) ≡ Ok (encoded.subsampling_of x)
+chroma_back meaning.WhiteIsZero = refl
+chroma_back meaning.BlackIsZero = refl
+chroma_back meaning.RGB = refl
+chroma_back meaning.RGBPalette = refl
+chroma_back meaning.TransparencyMask = refl
+chroma_back meaning.CMYK = refl
+chroma_back meaning.YCbCr = refl
+chroma_back meaning.CIELab = refl
+chroma_back meaning.IccLab = refl
+chroma_back meaning.ItuLab = refl
+
+-- ---- what each check of the page gives
+
+-- a number above 0 is not 0
+some_is : (n : ℕ) → 0 < n → (n == 0) ≡ false
+some_is n h = ne_eqb n 0 (λ e. omega (arith, e, h))
+
+-- the type of the chunks
+chunk_type_found : (l : Look) (i : OpenImage) (c : ChunkType) → FindsChunks c l i → chunk_type_in l ≡ Ok c
+unfolding chunk_type_in
+chunk_type_found l i Strip t = rw (t.has_offsets, t.has_counts, t.no_offsets, t.no_counts) refl
+chunk_type_found l i Tile t = rw (t.has_offsets, t.has_counts, t.no_offsets, t.no_counts) refl
+
+module _ (kind : FileKind) (l : Look) (i : OpenImage) (t : FindsPage l i) (w : IsWholeImage kind i) where
+  -- its samples
+  abbrev alike : AreAlike i.color
+  alike = image_alike kind i w
+
+  -- the sides
+  size_is : size_in l ≡ Ok (i.width, i.height)
+  unfolding size_in look.require
+  size_is = rw (t.wide, t.high, some_is i.width w.wide.0, some_is i.height w.high.0) refl
+
+  -- the meaning of a sample
+  interpretation_is : interpretation_in l ≡ Ok i.color.interpretation
+  unfolding interpretation_in
+  interpretation_is = rw (t.interpretation, interpretation_back i.color.interpretation) refl
+
+  -- how chunks are packed
+  method_is : method_in l ≡ Ok i.method
+  unfolding method_in
+  method_is = rw t.packed_by (ap (λ x. Ok x) (method_back i.method w.packed_by))
+
+  -- the samples of a pixel
+  samples_is : samples_in l ≡ Ok (all_samples i)
+  unfolding samples_in
+  samples_is =
+      let s = image_samples kind i w in
+      rw (t.samples, some_is (all_samples i) (omega (arith, s))) refl
+
+  -- the extra ones
+  extra_is : extra_in l (all_samples i) ≡ Ok i.extra
+  unfolding extra_in
+  extra_is =
+      rw t.extra (rw t.extra_is (rw (extras_back i.extra, le-leb (length i.extra) (all_samples i) (omega arith)) refl))
+
+  -- their format
+  format_is : format_in l ≡ Ok (get_or i.color.formats 0 Void)
+  unfolding format_in
+  format_is =
+      let a = alike in
+      let e : ℕ = length i.extra in
+      rw t.formats (ap (λ ns. format_from (Some ns)) (formats_repeated i.color a e)
+      ∙ format_same (a.more + e) a.format a.named a.small ∙ ap (λ fs. Ok (get_or fs 0 Void)) (sym a.formats))
+
+  -- their depth
+  depth_is : depth_in l (all_samples i) ≡ Ok (get_or i.color.bits 0 0)
+  unfolding depth_in
+  depth_is =
+      let a = alike in
+      let e : ℕ = length i.extra in
+      rw t.bits (ap (λ ns. depth_from (all_samples i) (Some ns)) (bits_repeated i.color a e)
+      ∙ depth_same (a.more + e) a.depth (all_samples i) a.some a.few (image_samples kind i w)
+      ∙ ap (λ bs. Ok (get_or bs 0 0)) (sym a.bits))
+
+  -- how they are differenced
+  predictor_is : predictor_in l ≡ Ok i.predictor
+  unfolding predictor_in
+  predictor_is = rw (t.predicted_by, predictor_back i.predictor) refl
+
+  -- how they stand
+  planar_is : planar_in l ≡ Ok i.form.planar
+  unfolding planar_in
+  planar_is = rw t.planar (planar_back i.form.planar)
+
+  -- the chroma sizes
+  chroma_is : subsampling_in l ≡ Ok (encoded.subsampling_of i.color.interpretation)
+  unfolding subsampling_in
+  chroma_is = rw t.chroma (chroma_back i.color.interpretation)
+
+  -- the type of its chunks
+  chunk_type_is : chunk_type_in l ≡ Ok i.form.chunk_type
+  chunk_type_is = chunk_type_found l i i.form.chunk_type t.chunks
+
+  -- how often they cover the image
+  abbrev planes : ℕ
+  planes = planes_of i.form.planar (all_samples i)
+
+  -- its chunks
+  the_chunks : Chunks
+  the_chunks = record {
+    chunk_width = i.form.chunk_width;
+    chunk_height = i.form.chunk_height;
+    offsets = offsets_of i;
+    byte_counts = lengths_of i;
+  }
+
+  -- they are as many as are counted
+  counted_is : chunks_counted i.width i.height planes the_chunks ≡ Ok the_chunks
+  unfolding chunks_counted the_chunks
+  counted_is =
+      let count : ℕ = chunk_count i.width i.height i.form.chunk_width i.form.chunk_height planes in
+      let o : length (offsets_of i) ≡ length i.chunks = length-map i.chunks (λ chunk. chunk.offset) in
+      let b : length (lengths_of i) ≡ length i.chunks = length-map i.chunks (λ chunk. chunk.stored) in
+      rw (
+        eq-eqb (length (offsets_of i)) (length (lengths_of i)) (o ∙ sym b),
+        eq-eqb (length (offsets_of i)) count (o ∙ w.chunks),
+        lt-ltb count (2 ^ 32) w.count,
+      ) refl
+
+  -- they are found
+  chunks_found : (c : ChunkType) → FindsChunks c l i → (c ≡ Strip → i.form.chunk_width ≡ i.width)
+      → chunks_in l c i.width i.height planes ≡ Ok the_chunks
+  unfolding strips_in tiles_in look.require the_chunks
+  chunks_found Strip f s =
+      let P : ℕ → Type 0 =
+      λ n. chunks_counted i.width i.height planes (record the_chunks { chunk_width = n }) ≡ Ok the_chunks in
+      rw (f.offsets, f.byte_counts, f.rows, some_is i.form.chunk_height w.form.high.0) (subst P (s refl) counted_is)
+  chunks_found Tile f s =
+      rw (f.wide, f.high, some_is i.form.chunk_width w.form.wide.0, some_is i.form.chunk_height w.form.high.0)
+      (rw (f.offsets, f.byte_counts) counted_is)
+
+  -- so they are its chunks
+  chunks_are : chunks_in l i.form.chunk_type i.width i.height planes ≡ Ok the_chunks
+  chunks_are = chunks_found i.form.chunk_type t.chunks w.form.strips
+
+  -- the page
+  pub page_found : page_of l ≡ Ok (image_page i)
+  unfolding page_of the_chunks
+  page_found =
+      rw (size_is, interpretation_is, method_is, samples_is, extra_is, format_is) (rw (
+        depth_is,
+        predictor_is,
+        planar_is,
+        chroma_is,
+        chunk_type_is,
+        chunks_are,
+      ) refl)

@@ -1,0 +1,197 @@
+-- All samples of a named color type are of one depth and of one format.
+use Rattle.std.proofs.Common.{zero, suc, ◌≡◌, ℕ, ◌+◌, ◌^◌, ◌<◌, ◌==◌, List, ◌∷◌, ◌++◌, length, map, replicate, get_or, true, Some, Ok, refl, ap, sym, ◌∙◌, subst, arith, lit<}
+use Rattle.std.proofs.lemmas.Bool.{eq-eqb, ne_eqb}
+use Rattle.std.proofs.lemmas.List.{length-replicate}
+use Rattle.std.specs.List.{list_all}
+use Rattle.tiff_base.specs.declared.tags.FileKind.{FileKind}
+use Rattle.tiff_base.specs.declared.tags.PhotometricInterpretation.{PhotometricInterpretation}
+use Rattle.tiff_base.specs.declared.tags.PhotometricInterpretation.TheVariants as meaning
+use Rattle.tiff_base.specs.declared.tags.SampleFormat.{SampleFormat}
+use Rattle.tiff_base.specs.declared.tags.SampleFormat.TheVariants.{Uint, Int, IEEEFP}
+use Rattle.tiff_base.specs.declared.tags.Tag.TheVariants as tag
+use Rattle.tiff_base.specs.Tags.{format_number}
+use Rattle.tiff_base.specs.Tags as kinds
+use Rattle.tiff_value.specs.ColorType.{ColorTypeRecord}
+use Rattle.tiff_value.specs.declared.encoder.colortype.ColorTypeName.{ColorTypeName}
+use Rattle.tiff_value.specs.declared.encoder.colortype.ColorTypeName.TheVariants as n
+use Rattle.tiff_value.specs.ColorTypes.{samples_of, color_type}
+use Rattle.tiff_ifd.proofs.Fitted.{all_fit}
+use Rattle.tiff_page.specs.Checks.{format_from, depth_from}
+use Rattle.tiff_encode.specs.Machine.{OpenImage}
+use Rattle.tiff_encode.specs.Chunks.{all_samples}
+use Rattle.tiff_encode.specs.Calls.{extended_by_first}
+use Rattle.tiff_encode.specs.Held.{IsWholeImage}
+use Rattle.tiff_encode.proofs.PageTold.Values.{AllBelow}
+
+-- ---- the samples of a color type
+
+-- All samples of a color are of one depth and of one format, which has a name.
+pub record AreAlike (c : ColorTypeRecord) : Type 0 where
+  pub more : ℕ
+  pub depth : ℕ
+  pub format : SampleFormat
+  pub bits : c.bits ≡ replicate (suc more) depth
+  pub formats : c.formats ≡ replicate (suc more) format
+  pub some : 0 < depth
+  pub few : depth < 2 ^ 8
+  pub named : kinds.format_of (format_number format) ≡ format
+  pub small : format_number format < 2 ^ 16
+
+-- so many whole numbers from 0 on, whole numbers, or floating ones
+uints : (x : PhotometricInterpretation) (k b : ℕ) → 0 < b → b < 2 ^ 8 → AreAlike (samples_of x (suc k) b Uint)
+unfolding kinds.format_of
+uints x k b p q = record {
+  more = k;
+  depth = b;
+  format = Uint;
+  bits = refl;
+  formats = refl;
+  some = p;
+  few = q;
+  named = refl;
+  small = lit< tt;
+}
+
+ints : (x : PhotometricInterpretation) (k b : ℕ) → 0 < b → b < 2 ^ 8 → AreAlike (samples_of x (suc k) b Int)
+unfolding kinds.format_of
+ints x k b p q = record {
+  more = k;
+  depth = b;
+  format = Int;
+  bits = refl;
+  formats = refl;
+  some = p;
+  few = q;
+  named = refl;
+  small = lit< tt;
+}
+
+floats : (x : PhotometricInterpretation) (k b : ℕ) → 0 < b → b < 2 ^ 8 → AreAlike (samples_of x (suc k) b IEEEFP)
+unfolding kinds.format_of
+floats x k b p q = record {
+  more = k;
+  depth = b;
+  format = IEEEFP;
+  bits = refl;
+  formats = refl;
+  some = p;
+  few = q;
+  named = refl;
+  small = lit< tt;
+}
+
+-- the samples of each named color type
+pub named_alike : (name : ColorTypeName) → AreAlike (color_type name)
+unfolding color_type
+named_alike n.Gray8 = uints meaning.BlackIsZero 0 8 (lit< tt) (lit< tt)
+named_alike n.Gray16 = uints meaning.BlackIsZero 0 16 (lit< tt) (lit< tt)
+named_alike n.Gray32 = uints meaning.BlackIsZero 0 32 (lit< tt) (lit< tt)
+named_alike n.Gray64 = uints meaning.BlackIsZero 0 64 (lit< tt) (lit< tt)
+named_alike n.GrayI8 = ints meaning.BlackIsZero 0 8 (lit< tt) (lit< tt)
+named_alike n.GrayI16 = ints meaning.BlackIsZero 0 16 (lit< tt) (lit< tt)
+named_alike n.GrayI32 = ints meaning.BlackIsZero 0 32 (lit< tt) (lit< tt)
+named_alike n.GrayI64 = ints meaning.BlackIsZero 0 64 (lit< tt) (lit< tt)
+named_alike n.Gray32Float = floats meaning.BlackIsZero 0 32 (lit< tt) (lit< tt)
+named_alike n.Gray64Float = floats meaning.BlackIsZero 0 64 (lit< tt) (lit< tt)
+named_alike n.RGB8 = uints meaning.RGB 2 8 (lit< tt) (lit< tt)
+named_alike n.RGB16 = uints meaning.RGB 2 16 (lit< tt) (lit< tt)
+named_alike n.RGB32 = uints meaning.RGB 2 32 (lit< tt) (lit< tt)
+named_alike n.RGB64 = uints meaning.RGB 2 64 (lit< tt) (lit< tt)
+named_alike n.RGB32Float = floats meaning.RGB 2 32 (lit< tt) (lit< tt)
+named_alike n.RGB64Float = floats meaning.RGB 2 64 (lit< tt) (lit< tt)
+named_alike n.RGBA8 = uints meaning.RGB 3 8 (lit< tt) (lit< tt)
+named_alike n.RGBA16 = uints meaning.RGB 3 16 (lit< tt) (lit< tt)
+named_alike n.RGBA32 = uints meaning.RGB 3 32 (lit< tt) (lit< tt)
+named_alike n.RGBA64 = uints meaning.RGB 3 64 (lit< tt) (lit< tt)
+named_alike n.RGBA32Float = floats meaning.RGB 3 32 (lit< tt) (lit< tt)
+named_alike n.RGBA64Float = floats meaning.RGB 3 64 (lit< tt) (lit< tt)
+named_alike n.CMYK8 = uints meaning.CMYK 3 8 (lit< tt) (lit< tt)
+named_alike n.CMYK16 = uints meaning.CMYK 3 16 (lit< tt) (lit< tt)
+named_alike n.CMYK32 = uints meaning.CMYK 3 32 (lit< tt) (lit< tt)
+named_alike n.CMYK64 = uints meaning.CMYK 3 64 (lit< tt) (lit< tt)
+named_alike n.CMYK32Float = floats meaning.CMYK 3 32 (lit< tt) (lit< tt)
+named_alike n.CMYK64Float = floats meaning.CMYK 3 64 (lit< tt) (lit< tt)
+named_alike n.YCbCr8 = uints meaning.YCbCr 2 8 (lit< tt) (lit< tt)
+named_alike n.CMYKA8 = uints meaning.CMYK 4 8 (lit< tt) (lit< tt)
+
+-- ---- numbers that are all the same
+
+-- so many of one, and some more
+many_more : {A : Type 0} (k e : ℕ) (x : A) → replicate k x ++ replicate e x ≡ replicate (k + e) x
+many_more zero e x = let z : 0 + e ≡ e = omega arith in ap (λ n. replicate n x) (sym z)
+many_more (suc k) e x =
+    let z : suc k + e ≡ suc (k + e) = omega arith in
+    ap (λ xs. x ∷ xs) (many_more k e x) ∙ ap (λ n. replicate n x) (sym z)
+
+-- what is repeated
+repeated_is : {A : Type 0} (k e : ℕ) (x : A) → extended_by_first (replicate (suc k) x) e ≡ replicate (suc (k + e)) x
+repeated_is k e x = ap (λ xs. x ∷ xs) (many_more k e x)
+
+-- their numbers
+map_replicate : {A B : Type 0} (g : A → B) (k : ℕ) (x : A) → map g (replicate k x) ≡ replicate k (g x)
+map_replicate g zero x = refl
+map_replicate g (suc k) x = ap (λ xs. g x ∷ xs) (map_replicate g k x)
+
+-- the depths of a color's samples, and of some more
+pub bits_repeated : (c : ColorTypeRecord) (a : AreAlike c) (e : ℕ)
+    → extended_by_first c.bits e ≡ replicate (suc (a.more + e)) a.depth
+bits_repeated c a e = ap (λ bs. extended_by_first bs e) a.bits ∙ repeated_is a.more e a.depth
+
+-- the numbers of their formats
+pub formats_repeated : (c : ColorTypeRecord) (a : AreAlike c) (e : ℕ)
+    → map format_number (extended_by_first c.formats e) ≡ replicate (suc (a.more + e)) (format_number a.format)
+formats_repeated c a e =
+    ap (λ fs. map format_number (extended_by_first fs e)) a.formats ∙ ap (map format_number) (repeated_is a.more e a.format)
+    ∙ map_replicate format_number (suc (a.more + e)) a.format
+
+-- each is the first
+all_same : (k x : ℕ) → list_all (λ m. m == x) (replicate k x) ≡ true
+all_same zero x = refl
+all_same (suc k) x = rw (eq-eqb x x refl) (all_same k x)
+
+-- each is below a limit
+all_below : (k x limit i : ℕ) → x < limit → get_or (replicate k x) i 0 < limit
+all_below zero x limit i h = omega (arith, h)
+all_below (suc k) x limit zero h = h
+all_below (suc k) x limit (suc i) h = all_below k x limit i h
+
+-- a few small numbers that are all the same are few and small
+pub same_few : (k x : ℕ) (ns : List ℕ) → ns ≡ replicate k x → k < 2 ^ 16 → x < 2 ^ 16
+    → AllBelow (2 ^ 16) ns × (length ns < 2 ^ 32)
+same_few k x ns e few small =
+    let n : length ns ≡ k = ap length e ∙ length-replicate k x in
+    (subst (AllBelow (2 ^ 16)) (sym e) (λ j. all_below k x (2 ^ 16) j small), omega (arith, n, few))
+
+-- one format for all
+pub format_same : (k : ℕ) (format : SampleFormat) → kinds.format_of (format_number format) ≡ format
+    → format_number format < 2 ^ 16
+    → format_from (Some (replicate (suc k) (format_number format))) ≡ Ok format
+format_same k format named small =
+    let x : ℕ = format_number format in
+    rw (all_fit tag.SampleFormat (2 ^ 16) (replicate (suc k) x) (λ i. all_below (suc k) x (2 ^ 16) i small))
+    (rw (all_same (suc k) x) (ap (λ y. Ok y) named))
+
+-- one depth for all
+pub depth_same : (k depth samples : ℕ) → 0 < depth → depth < 2 ^ 8 → suc k ≡ samples
+    → depth_from samples (Some (replicate (suc k) depth)) ≡ Ok depth
+depth_same k depth samples p q s =
+    rw (all_fit tag.BitsPerSample (2 ^ 8) (replicate (suc k) depth) (λ i. all_below (suc k) depth (2 ^ 8) i q))
+    (rw (
+      eq-eqb (length (replicate (suc k) depth)) samples (length-replicate (suc k) depth ∙ s),
+      all_same (suc k) depth,
+      ne_eqb depth 0 (λ e. omega (arith, e, p)),
+    ) refl)
+
+-- ---- the samples of an image
+
+-- they are alike
+pub image_alike : (kind : FileKind) (i : OpenImage) → IsWholeImage kind i → AreAlike i.color
+image_alike kind i w = subst AreAlike (sym w.color) (named_alike w.name)
+
+-- all samples of a pixel
+pub image_samples : (kind : FileKind) (i : OpenImage) (w : IsWholeImage kind i)
+    → suc ((image_alike kind i w).more + length i.extra) ≡ all_samples i
+image_samples kind i w =
+    let a = image_alike kind i w in
+    let b : length i.color.bits ≡ suc a.more = ap length a.bits ∙ length-replicate (suc a.more) a.depth in
+    omega (arith, b)

@@ -1,0 +1,228 @@
+-- The values of a directory's tags are those that were handed in for them.
+use Rattle.std.proofs.Common.{suc, ◌≡◌, ℕ, ◌^◌, ◌/◌, ◌<◌, ◌≤◌, ◌==◌, ◌||◌, List, [], ◌∷◌, ◌++◌, length, map, take, get_or, Bool, true, false, not, cond, leb, ltb, Option, Some, Result, Ok, Err, refl, ap, sym, ◌∙◌, inl, inr, arith, append-nil}
+use Rattle.std.proofs.lemmas.Bool.{leb-true, le-leb, ne_eqb}
+use Rattle.std.proofs.Math.Bool.{or-true}
+use Rattle.std.proofs.lemmas.List.{take_at, drop_at, take-append-le, length-take-le, take-take}
+use Rattle.std.specs.Option.{option_map}
+use Rattle.std.specs.Int.{w16, w32, w64}
+use Rattle.std.specs.List.{flat_map}
+use Rattle.std.specs.Cmp.{nat_cmp_total}
+use Rattle.std.specs.FinMap.{FinMap, find, get, entries, get-entries, get-from_entries}
+use Rattle.std.specs.Ordering.{nat_cmp, is_eq}
+use Rattle.tiff_base.specs.declared.error.TiffError.{TiffError}
+use Rattle.tiff_base.specs.declared.error.TiffError.TheVariants.{LimitsExceeded}
+use Rattle.tiff_base.specs.declared.tags.ByteOrder.TheVariants.{LittleEndian}
+use Rattle.tiff_base.specs.declared.tags.FileKind.{FileKind}
+use Rattle.tiff_base.specs.declared.tags.FileKind.TheVariants.{Classic, Big}
+use Rattle.tiff_base.specs.declared.tags.«Type».{«Type»}
+use Rattle.tiff_base.specs.declared.tags.«Type».TheVariants.{SHORT, LONG, LONG8}
+use Rattle.tiff_base.specs.Answers.{◌>>=◌}
+use Rattle.tiff_base.specs.Field.{Field}
+use Rattle.tiff_base.specs.FieldBytes.{field_len, field_offset, field_bytes}
+use Rattle.tiff_base.specs.Number.{number, le}
+use Rattle.tiff_base.specs.SourceAndSink.{exactly_at}
+use Rattle.tiff_base.specs.Types.{type_size}
+use Rattle.tiff_ifd.specs.Datum.{Datum, datum_list_of, short, unsigned, unsigned_big}
+use Rattle.tiff_ifd.specs.Datum as f
+use Rattle.tiff_ifd.specs.Item.{item, list_item, items}
+use Rattle.tiff_ifd.proofs.Items.{items-first}
+use Rattle.tiff_ifd.specs.FieldValue.{numbers, value_from, is_allowed, field_value}
+use Rattle.tiff_ifd.specs.Limits.{unlimited}
+use Rattle.tiff_encode.specs.FileBytes.{offset_len}
+use Rattle.tiff_encode.specs.Deeds.{standing_field, standing_fields}
+use Rattle.tiff_encode.proofs.Slices.{ok_bind, ok_inj, length-le, number-le}
+
+-- ---- a field as it stands
+
+-- one of two entries, each changed
+changed : {X : Type 0} (g : X → X) (b : Bool) (x : X) (o p : Option X) → o ≡ option_map g p
+    → cond b (Some (g x)) o ≡ option_map g (cond b (Some x) p)
+changed g true x o p e = refl
+changed g false x o p e = e
+
+-- what is found at a key, where each entry was changed
+find_changed : {X : Type 0} (g : X → X) (q : ℕ) (es : List (ℕ × X))
+    → find nat_cmp q (map (λ e. (e.0, g e.1)) es) ≡ option_map g (find nat_cmp q es)
+find_changed g q [] = refl
+find_changed g q (e ∷ es) =
+    changed g (is_eq (nat_cmp q e.0)) e.1 (find nat_cmp q (map (λ x. (x.0, g x.1)) es)) (find nat_cmp q es)
+    (find_changed g q es)
+
+-- the field of a tag, as it stands
+pub get_standing : (kind : FileKind) (fields : FinMap nat_cmp Field) (q : ℕ)
+    → get (standing_fields kind fields) q ≡ option_map (standing_field kind) (get fields q)
+get_standing kind fields q =
+    get-from_entries nat_cmp_total (map (λ entry. (entry.0, standing_field kind entry.1)) (entries fields)) q
+    ∙ find_changed (standing_field kind) q (entries fields)
+    ∙ ap (option_map (standing_field kind)) (sym (get-entries fields q))
+
+-- the first bytes of four that stand, filled up
+front_stands : (n : ℕ) (v : List ℕ) → length v ≡ 8 → n ≤ 4 → take n (take 4 v ++ (0 ∷ 0 ∷ 0 ∷ 0 ∷ [])) ≡ take n v
+front_stands n v l h =
+    take-append-le n (take 4 v) (0 ∷ 0 ∷ 0 ∷ 0 ∷ []) (omega (arith, length-take-le 4 v (omega (arith, l))))
+    ∙ take-take n 4 v h
+
+-- the offset that they hold
+offset_stands : (v : List ℕ) → length v ≡ 8
+    → number LittleEndian w32 (take 4 v ++ (0 ∷ 0 ∷ 0 ∷ 0 ∷ [])) ≡ number LittleEndian w32 v
+unfolding number
+offset_stands [] l = absurd (omega (arith, l))
+offset_stands (a ∷ []) l = absurd (omega (arith, l))
+offset_stands (a ∷ b ∷ []) l = absurd (omega (arith, l))
+offset_stands (a ∷ b ∷ c ∷ []) l = absurd (omega (arith, l))
+offset_stands (a ∷ b ∷ c ∷ d ∷ v) l = refl
+
+-- an answer where a test holds
+where_true : {A : Type 0} (b : Bool) (x y z : A) → (b ≡ true → x ≡ y) → cond b x z ≡ cond b y z
+where_true true x y z e = e refl
+where_true false x y z e = refl
+
+-- the bytes of a field are those of the field as it stands
+pub standing_bytes : (kind : FileKind) (file : List ℕ) (e : Field) → length e.value ≡ 8
+    → field_bytes kind LittleEndian file (standing_field kind e) ≡ field_bytes kind LittleEndian file e
+unfolding field_bytes
+standing_bytes Classic file e l =
+    let n : ℕ = field_len e in
+    let v : List ℕ = e.value in
+    let w : List ℕ = take 4 v ++ (0 ∷ 0 ∷ 0 ∷ 0 ∷ []) in
+    let far : ℕ → Result (List ℕ) TiffError = λ p. exactly_at file p n in
+    let near : List ℕ → Result (List ℕ) TiffError = λ x. Ok (take n x) in
+    let none : Result (List ℕ) TiffError = Err LimitsExceeded in
+    ap (λ p. cond (ltb n (2 ^ 64)) (cond (leb n 4) (near w) (far p)) none) (offset_stands v l)
+    ∙ ap (λ r. cond (ltb n (2 ^ 64)) r none)
+    (where_true (leb n 4) (near w) (near v) (far (number LittleEndian w32 v))
+    (λ t. ap (λ x. Ok x) (front_stands n v l (leb-true n 4 t))))
+standing_bytes Big file e l = refl
+
+-- ---- numbers
+
+-- each number is below a limit
+abbrev pub AllBelow : ℕ → List ℕ → Type 0
+AllBelow limit ns = (i : ℕ) → get_or ns i 0 < limit
+
+-- the value that some others are: one alone, or their list
+abbrev pub joint : List Datum → Datum
+joint (d ∷ []) = d
+joint ds = f.list (datum_list_of ds)
+
+-- numbers that were written are read
+items_read : (k limit : ℕ) (read : List ℕ → Datum) (one : ℕ → Datum)
+    → ((n : ℕ) → n < limit → read (le k n) ≡ one n) → (ns : List ℕ) → AllBelow limit ns
+    → items read k (length ns) (flat_map (le k) ns) ≡ map one ns
+items_read k limit read one back [] b = refl
+items_read k limit read one back (n ∷ ns) b =
+    let rest : List ℕ = flat_map (le k) ns in
+    let l : length (le k n) ≡ k = length-le 0 k n in
+    let x = ap read (take_at (le k n) rest k l) ∙ back n (b 0) in
+    let y = ap (items read k (length ns)) (drop_at (le k n) rest k l)
+    ∙ items_read k limit read one back ns (λ i. b (suc i)) in
+    items-first read k (length ns) (flat_map (le k) (n ∷ ns)) ∙ (λ i. x i ∷ y i)
+
+-- a type of numbers from 0 on, of some bytes each, and the value that one of them is
+pub record AreNumbers (type : «Type») (limit : ℕ) (one : ℕ → Datum) : Type 0 where
+  pub alone : (n : ℕ) → n < limit → item type LittleEndian (le (type_size type) n) ≡ one n
+  pub among : (inline : Bool) (n : ℕ) → n < limit
+      → list_item inline type LittleEndian (le (type_size type) n) ≡ one n
+  pub plain : (inline : Bool) (n : ℕ) (bytes : List ℕ)
+      → value_from inline type LittleEndian n bytes ≡ Ok (numbers inline type LittleEndian n bytes)
+  pub free : (n : ℕ) → n < 2 ^ 32 → is_allowed unlimited type n ≡ true
+
+-- numbers of a type that were written are its values
+numbers_read : (type : «Type») (limit : ℕ) (one : ℕ → Datum) (inline : Bool) (ns : List ℕ) → AreNumbers type limit one
+    → AllBelow limit ns
+    → numbers inline type LittleEndian (length ns) (flat_map (le (type_size type)) ns) ≡ joint (map one ns)
+numbers_read type limit one inline [] a b = refl
+numbers_read type limit one inline (n ∷ []) a b =
+    ap (item type LittleEndian) (append-nil (le (type_size type) n)) ∙ a.alone n (b 0)
+numbers_read type limit one inline (n ∷ m ∷ ns) a b =
+    let k : ℕ = type_size type in
+    let B : List ℕ = flat_map (le k) (n ∷ m ∷ ns) in
+    ap (λ t. cond t (item type LittleEndian B)
+    (f.list (datum_list_of (items (list_item inline type LittleEndian) k (length (n ∷ m ∷ ns)) B))))
+    (ne_eqb (length (n ∷ m ∷ ns)) 1 (λ e. omega (arith, e)))
+    ∙ ap (λ ds. f.list (datum_list_of ds))
+    (items_read k limit (list_item inline type LittleEndian) one (a.among inline) (n ∷ m ∷ ns) b)
+
+-- ---- the value of a field
+
+-- a value by tests: of none, of too many bytes, of bytes in the entry, of allowed ones elsewhere
+by_tests : (none few inline allowed : Bool) (empty value : Datum) (front bytes : List ℕ)
+    (far : Result (List ℕ) TiffError) (near elsewhere : List ℕ → Result Datum TiffError)
+    → (none ≡ true → empty ≡ value) → allowed ≡ true
+    → cond few (cond inline (Ok front) far) (Err LimitsExceeded) ≡ Ok bytes
+    → near bytes ≡ Ok value → elsewhere bytes ≡ Ok value
+    → cond none (Ok empty) (cond (not few) (Err LimitsExceeded) (cond inline (near front)
+    (cond allowed (cond few (cond inline (Ok front) far) (Err LimitsExceeded) >>= elsewhere) (Err LimitsExceeded)))) ≡ Ok value
+by_tests true few inline allowed empty value front bytes far near elsewhere a b c d e = ap (λ x. Ok x) (a refl)
+by_tests false false inline allowed empty value front bytes far near elsewhere a b c d e = absurd cc
+by_tests false true true allowed empty value front bytes far near elsewhere a b c d e =
+    ap near (ok_inj front bytes c) ∙ d
+by_tests false true false false empty value front bytes far near elsewhere a b c d e = absurd cc
+by_tests false true false true empty value front bytes far near elsewhere a b c d e =
+    ok_bind far elsewhere bytes value c e
+
+-- no numbers are an empty list
+empty_joint : (one : ℕ → Datum) (ns : List ℕ) → (length ns == 0) ≡ true → f.list (datum_list_of []) ≡ joint (map one ns)
+empty_joint one [] e = refl
+empty_joint one (n ∷ ns) e =
+    let some : (length (n ∷ ns) == 0) ≡ false = ne_eqb (length (n ∷ ns)) 0 (λ z. omega (arith, z)) in
+    absurd (cc (some, e))
+
+-- the value of a field whose bytes are those of numbers
+pub value_read : (kind : FileKind) (file : List ℕ) (e : Field) (type : «Type») (limit : ℕ) (one : ℕ → Datum) (ns : List ℕ)
+    → AreNumbers type limit one → AllBelow limit ns → length ns < 2 ^ 32
+    → e.field_type ≡ type → e.count ≡ length ns
+    → field_bytes kind LittleEndian file e ≡ Ok (flat_map (le (type_size type)) ns)
+    → field_value kind LittleEndian file unlimited e ≡ Ok (joint (map one ns))
+unfolding field_value field_bytes
+value_read kind file e type limit one ns a b few t c h =
+    let F : Bool → List ℕ → Result Datum TiffError = λ inline bytes. value_from inline e.field_type LittleEndian e.count bytes in
+    let B : List ℕ = flat_map (le (type_size type)) ns in
+    let V : Datum = joint (map one ns) in
+    let back : (inline : Bool) → F inline B ≡ Ok V = λ inline.
+    (λ i. value_from inline (t i) LittleEndian (c i) B) ∙ a.plain inline (length ns) B
+    ∙ ap (λ v. Ok v) (numbers_read type limit one inline ns a b) in
+    by_tests (e.count == 0) (ltb (field_len e) (2 ^ 64)) (leb (field_len e) (offset_len kind))
+    (is_allowed unlimited e.field_type e.count) (f.list (datum_list_of [])) V (take (field_len e) e.value) B
+    (exactly_at file (field_offset kind LittleEndian e) (field_len e)) (F true) (F false)
+    (λ z. empty_joint one ns (sym (ap (λ n. n == 0) c) ∙ z))
+    ((λ i. is_allowed unlimited (t i) (c i)) ∙ a.free (length ns) few)
+    h (back true) (back false)
+
+-- ---- the types that a page's numbers have
+
+-- so many numbers may be read without limits
+all_free : (n : ℕ) → n < 2 ^ 32 → ((n == 1) || leb n (0xFFFF_FFFF_FFFF_FFFF / 32)) ≡ true
+all_free n h = rw (le-leb n (0xFFFF_FFFF_FFFF_FFFF / 32) (omega arith)) (or-true (n == 1))
+
+-- one value, in the entry or elsewhere
+either : (inline : Bool) (x y : Datum) → x ≡ y → cond inline x x ≡ y
+either true x y e = e
+either false x y e = e
+
+-- numbers of 2 bytes
+pub are_shorts : AreNumbers SHORT (2 ^ 16) short
+are_shorts = record {
+  alone = λ n h. ap short (number-le w16 n (inl refl) h);
+  among = λ inline n h. either inline _ _ (ap short (number-le w16 n (inl refl) h));
+  plain = λ inline n bytes. refl;
+  free = all_free;
+}
+
+-- of 4 bytes
+pub are_longs : AreNumbers LONG (2 ^ 32) unsigned
+are_longs = record {
+  alone = λ n h. ap unsigned (number-le w32 n (inr (inl refl)) h);
+  among = λ inline n h. either inline _ _ (ap unsigned (number-le w32 n (inr (inl refl)) h));
+  plain = λ inline n bytes. refl;
+  free = all_free;
+}
+
+-- of 8 bytes
+pub are_long8s : AreNumbers LONG8 (2 ^ 64) unsigned_big
+are_long8s = record {
+  alone = λ n h. ap unsigned_big (number-le w64 n (inr (inr refl)) h);
+  among = λ inline n h. either inline _ _ (ap unsigned_big (number-le w64 n (inr (inr refl)) h));
+  plain = λ inline n bytes. refl;
+  free = all_free;
+}

@@ -1,7 +1,0 @@
--- Where the resolutions of an image stand.
-use Rattle.std.proofs.Common.{◌≡◌, ℕ, ◌+◌, ◌-◌, ◌%◌, ap}
-use Rattle.std.proofs.lemmas.List.{length-replicate}
-use Rattle.tiff_encode.specs.Written.{resolutions_place}
-
-pub resolutions_of : (n : ℕ) → resolutions_place n ≡ n + (4 - n % 4) % 4
-resolutions_of n = ap (λ k. n + k) (length-replicate ((4 - n % 4) % 4) 0)

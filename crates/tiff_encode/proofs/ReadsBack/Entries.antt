@@ -1,0 +1,219 @@
+-- A page that shows an image is read as its samples.
+use Rattle.std.proofs.Common.{◌≡◌, ℕ, ◌+◌, ◌*◌, ◌/◌, ◌%◌, ◌^◌, ◌<◌, ◌≤◌, min, true, false, List, length, Result, Ok, refl, ap, sym, ◌∙◌, subst, arith}
+use Rattle.std.specs.Prelude.{nat_lt, nat_le, not, ◌==◌, slice_index}
+use Rattle.std.specs.Int.{div_ceil}
+use Rattle.std.proofs.lemmas.Bool.{lt-ltb, le-ltb, lt-leb, eq-eqb, and_right}
+use Rattle.std.proofs.lemmas.Nat.{div-mul-add, mod-mul-add}
+use Rattle.std.proofs.Math.Nat.{mul-mod_left, le-div_iff_mul-le, le-mul_of_pos_right}
+use Rattle.tiff_base.specs.declared.color.ColorType.{ColorType}
+use Rattle.tiff_base.specs.declared.error.TiffError.{TiffError}
+use Rattle.tiff_base.specs.declared.tags.ByteOrder.TheVariants.{LittleEndian}
+use Rattle.tiff_base.specs.declared.tags.FileKind.{FileKind}
+use Rattle.tiff_base.specs.declared.tags.PlanarConfiguration.{PlanarConfiguration}
+use Rattle.tiff_base.specs.declared.tags.PlanarConfiguration.TheVariants.{Chunky, Planar}
+use Rattle.tiff_base.specs.declared.tags.SampleFormat.{SampleFormat}
+use Rattle.tiff_base.specs.declared.tags.SampleFormat.TheVariants.{Uint, Int, IEEEFP, Void, Unknown}
+use Rattle.tiff_base.specs.Color.{num_samples}
+use Rattle.tiff_base.specs.Directory.{directory_at}
+use Rattle.tiff_ifd.specs.declared.limits.Limits.{Limits}
+use Rattle.tiff_ifd.specs.Limits.{unlimited}
+use Rattle.tiff_ifd.specs.Look.{look_in}
+use Rattle.tiff_page.specs.declared.layout.DecodingSampleType.{DecodingSampleType}
+use Rattle.tiff_page.specs.declared.layout.DecodingSampleType.TheVariants.{U8, U16, U32, U64, F16, F32, F64, I8, I16, I32, I64}
+use Rattle.tiff_page.specs.Page.{PageRecord}
+use Rattle.tiff_page.specs.Counts.{all_chunks, parts}
+use Rattle.tiff_page.specs.Rect.{chunks_of_plane}
+use Rattle.tiff_page.specs.Layout.{LayoutRecord, row_bits, row_bytes, shown, planes, wide, aligned, layout_of, sample_type_from, sample_type_of, size_of}
+use Rattle.tiff_page.specs.PixelFault.{is_whole, depth_fault, form_fault, chunk_fault, each_below, samples_fault}
+use Rattle.tiff_page.specs.Row.{IsSize}
+use Rattle.tiff_page.specs.Pixels.{is_short, image_bytes, numbers_in}
+use Rattle.tiff_page.specs.Image.{Decoded, decoded_samples, image_of}
+use Rattle.tiff_page.proofs.Sizes.{planes_some}
+use Rattle.tiff_page.proofs.Rows.{by_size, some_size}
+use Rattle.tiff_page.proofs.PositionLaws.{no_fault}
+use Rattle.tiff_page.proofs.Planes.{layout_gives, color_shows}
+use Rattle.tiff_page.proofs.Planes as plane
+use Rattle.tiff_encode.specs.Shows.{Image, Shows}
+use Rattle.tiff_encode.specs.ReadsBack.{samples_shown, HasSamplesOf, IsReadable, LetsPass, ReadsShown, ReadsBack}
+use Rattle.tiff_encode.proofs.Slices.{bind_ok, ok_inj}
+use Rattle.tiff_encode.proofs.ReadsBack.Numbers.{all_are, sample_within, column_within, row_within, numbers_are}
+use Rattle.tiff_encode.proofs.ReadsBack.Page.{IsListed, page_listed}
+
+-- ---- of a page
+
+-- a sample type is of the bytes of its samples
+sized : (x y : DecodingSampleType) → (let a : Result DecodingSampleType TiffError = Ok x in let b : Result DecodingSampleType TiffError = Ok y in a ≡ b)
+    → size_of y ≡ size_of x
+sized x y e = ap size_of (sym (ok_inj x y e))
+
+type_sized : (f : SampleFormat) (size : ℕ) (t : DecodingSampleType) → IsSize size → sample_type_from f (8 * size) ≡ Ok t → size_of t ≡ size
+type_sized Uint size t s = by_size (λ n. sample_type_from Uint (8 * n) ≡ Ok t → size_of t ≡ n) size (sized U8 t) (sized U16 t) (sized U32 t) (sized U64 t) s
+type_sized Int size t s = by_size (λ n. sample_type_from Int (8 * n) ≡ Ok t → size_of t ≡ n) size (sized I8 t) (sized I16 t) (sized I32 t) (sized I64 t) s
+type_sized IEEEFP size t s = by_size (λ n. sample_type_from IEEEFP (8 * n) ≡ Ok t → size_of t ≡ n) size (λ e. absurd cc) (sized F16 t) (sized F32 t) (sized F64 t) s
+type_sized Void size t s = λ e. absurd cc
+type_sized (Unknown n) size t s = λ e. absurd cc
+
+-- such samples are of whole bytes
+whole_size : (size : ℕ) → IsSize size → is_whole (8 * size) ≡ true
+whole_size size s = by_size (λ n. is_whole (8 * n) ≡ true) size refl refl refl refl s
+
+-- a plane shows no more samples than a color has
+shown_few : (planar : PlanarConfiguration) (color : ColorType) → 0 < num_samples color → shown planar color ≤ num_samples color
+shown_few Chunky color h = omega arith
+shown_few Planar color h = h
+
+-- a color has planes
+planes_there : (planar : PlanarConfiguration) (color : ColorType) → 0 < num_samples color → 0 < planes planar color
+planes_there Chunky color h = omega arith
+planes_there Planar color h = h
+
+-- so many times a number are at least so many
+at_least : (n k m : ℕ) → 0 < k → n * k ≤ m → n ≤ m / k
+at_least n k m b h = (le-div_iff_mul-le b).1 h
+
+-- ---- of a page that shows an image
+module _ (kind : FileKind) (file : List ℕ) (offset : ℕ) (i : Image) (size : ℕ) (limits : Limits) (s : Shows kind file offset i) (h : HasSamplesOf i size) where
+  abbrev p : PageRecord
+  p = s.page
+
+  abbrev color : ColorType
+  color = s.color
+
+  abbrev samples : ℕ
+  samples = p.height * p.width * shown p.planar color
+
+  deep : p.depth ≡ 8 * size
+  deep = ap (λ (q : PageRecord). q.depth) s.is_image ∙ h.depth
+
+  listed : IsListed p
+  listed =
+      let d = bind_ok (directory_at kind LittleEndian file offset) _ _ s.is_page in
+      page_listed (look_in kind LittleEndian file unlimited d.0.entries) p d.1.1
+
+  some : 0 < num_samples color
+  some = subst plane.Shows s.is_color (color_shows p listed.some)
+
+  -- the numbers of its bytes are the samples that it shows
+  bytes_are : numbers_in size (image_bytes file LittleEndian p color) ≡ samples_shown i p color
+  bytes_are =
+      let n : ℕ = shown p.planar color in
+      numbers_are file p color size deep h.is_size (λ k. i.sample_at (k / n % p.width) (k / n / p.width) (k % n))
+      (λ k b.
+      let few : k % n < num_samples color = omega (arith, sample_within file p color size deep h.is_size k b, shown_few p.planar color some) in
+      s.shows (k / n % p.width) (k / n / p.width) (k % n)
+      (column_within file p color size deep h.is_size k b) (row_within file p color size deep h.is_size k b) few)
+      (λ k. h.small (k / n % p.width) (k / n / p.width) (k % n))
+
+  -- its sample type is of so many bytes
+  type_is : (t : DecodingSampleType) → sample_type_of p ≡ Ok t → size_of t ≡ size
+  unfolding sample_type_of
+  type_is t e = type_sized p.format size t h.is_size (sym (ap (λ (n : ℕ). sample_type_from p.format n) deep) ∙ e)
+
+  numbers_of : (t : DecodingSampleType) (c : ColorType) → sample_type_of p ≡ Ok t → c ≡ color
+      → numbers_in (size_of t) (image_bytes file LittleEndian p c) ≡ samples_shown i p color
+  numbers_of t c e f =
+      ap (λ (n : ℕ). numbers_in n (image_bytes file LittleEndian p c)) (type_is t e)
+      ∙ ap (λ (k : ColorType). numbers_in size (image_bytes file LittleEndian p k)) f
+      ∙ bytes_are
+
+  -- whatever is read of it are these samples
+  shown_read : (d : Decoded) → image_of file LittleEndian p limits ≡ Ok d
+      → (d.numbers ≡ samples_shown i p color) × (sample_type_of p ≡ Ok d.sample_type)
+  unfolding image_of
+  shown_read d e =
+      let layout = bind_ok (layout_of p p.width p.height) _ _ e in
+      let l : LayoutRecord = layout.0 in
+      let given = layout_gives p p.width p.height l layout.1.0 in
+      let same : l.color ≡ color = ok_inj l.color color (sym given.1.0 ∙ s.is_color) in
+      let fits = bind_ok (wide (l.plane_stride * planes p.planar l.color)) _ _ layout.1.1 in
+      let type = bind_ok (sample_type_of p) _ _ fits.1.1 in
+      let passed = bind_ok (samples_fault limits (size_of type.0) l.plane_stride) _ _ type.1.1 in
+      let chunks = bind_ok (each_below (chunk_fault p limits (is_short file LittleEndian p l.color) l.color) (chunks_of_plane p)) _ _ passed.1.1 in
+      let is_d : decoded_samples type.0 (image_bytes file LittleEndian p l.color) ≡ d = ok_inj (decoded_samples type.0 (image_bytes file LittleEndian p l.color)) d chunks.1.1 in (
+        sym (ap (λ (x : Decoded). x.numbers) is_d) ∙ numbers_of type.0 l.color type.1.0 same,
+        type.1.0 ∙ ap (λ (x : Decoded). Ok x.sample_type) is_d,
+      )
+
+  -- ---- where it is readable and the limits let it pass
+  module _ (type : DecodingSampleType) (is_type : sample_type_of p ≡ Ok type) (r : IsReadable p color) (l : LetsPass limits p color) where
+    -- the bytes of a row, and of the image
+    abbrev row : ℕ
+    row = row_bytes p color p.width
+
+    abbrev all : ℕ
+    all = row * p.height
+
+    aligned_is : aligned p color p.width ≡ Ok color
+    unfolding row_bits
+    aligned_is =
+        let w : ℕ = p.chunk_width in
+        let n : ℕ = shown p.planar color in
+        let a : w * p.depth * n ≡ w * (8 * size) * n = ap (λ (m : ℕ). w * m * n) deep in
+        let b : w * (8 * size) * n ≡ w * size * n * 8 = omega arith in
+        let e : row_bits p color w % 8 ≡ 0 = ap (λ (m : ℕ). m % 8) (a ∙ b) ∙ mul-mod_left (w * size * n) 8 in
+        let t : not (row_bits p color w % 8 == 0) ≡ false = ap not (eq-eqb (row_bits p color w % 8) 0 e) in
+        rw (and_right (nat_lt 1 (parts p.width w)) (not (row_bits p color w % 8 == 0)) t) refl
+
+    plane_fits : all < 2 ^ 64
+    plane_fits =
+        let m : all ≤ all * planes p.planar color = le-mul_of_pos_right all (planes_there p.planar color some) in
+        omega (arith, m, l.whole)
+
+    layout_is : layout_of p p.width p.height ≡ Ok (record { color = color; row_bytes = row; plane_stride = all })
+    unfolding layout_of
+    layout_is =
+        rw (s.is_color, lt-ltb (row * p.chunk_height) (2 ^ 64) l.rows, lt-ltb all (2 ^ 64) plane_fits, aligned_is, r.chroma) refl
+
+    -- the samples are not too many
+    samples_pass : samples_fault limits (size_of type) all ≡ Ok tt
+    samples_pass =
+        let some_bytes : 0 < size = some_size size h.is_size in
+        let e : samples * size ≡ samples * size + 0 = omega arith in
+        let d : (samples * size) / size ≡ samples = ap (λ (m : ℕ). m / size) e ∙ div-mul-add samples size 0 some_bytes in
+        let m : (samples * size) % size ≡ 0 = ap (λ (k : ℕ). k % size) e ∙ mod-mul-add samples size 0 some_bytes in
+        let a : all ≡ samples * size = all_are file p color size deep h.is_size in
+        let c : div_ceil all size ≡ samples = ap (λ (k : ℕ). div_ceil k size) a ∙ (λ t. d t + min 1 (m t)) ∙ omega arith in
+        let b : samples ≤ limits.decoding_buffer_size / size = at_least samples size limits.decoding_buffer_size some_bytes (omega (arith, a, l.image)) in
+        let f : nat_lt (limits.decoding_buffer_size / size) (div_ceil all size) ≡ false =
+        le-ltb (limits.decoding_buffer_size / size) (div_ceil all size) (omega (arith, b, c)) in
+        rw (type_is type is_type, f) refl
+
+    -- no chunk has a fault
+    chunk_listed : (k : ℕ) → k < chunks_of_plane p → k < all_chunks p
+    chunk_listed k b =
+        let m : chunks_of_plane p ≤ all_chunks p = le-mul_of_pos_right (chunks_of_plane p) (planes_some p.planar p.samples listed.some) in
+        omega (arith, b, m)
+
+    depth_is : depth_fault p color ≡ Ok tt
+    unfolding depth_fault
+    depth_is =
+        let w : is_whole p.depth ≡ true = ap is_whole deep ∙ whole_size size h.is_size in
+        rw (w, r.plain) refl
+
+    form_is : (k : ℕ) → k < chunks_of_plane p → form_fault p limits color k ≡ Ok tt
+    unfolding form_fault
+    form_is k b =
+        let a : nat_le (length p.offsets) k ≡ false = lt-leb (length p.offsets) k (omega (arith, chunk_listed k b, listed.offsets)) in
+        let c : nat_lt limits.intermediate_buffer_size (slice_index p.byte_counts k) ≡ false =
+        le-ltb limits.intermediate_buffer_size (slice_index p.byte_counts k) (l.chunks k b) in
+        rw (a, depth_is, r.predictor, c, r.packed_by) r.upright
+
+    chunk_is : (k : ℕ) → k < chunks_of_plane p → chunk_fault p limits (is_short file LittleEndian p color) color k ≡ Ok tt
+    chunk_is k b = rw (form_is k b, s.whole k (chunk_listed k b)) refl
+
+    chunks_are : each_below (chunk_fault p limits (is_short file LittleEndian p color) color) (chunks_of_plane p) ≡ Ok tt
+    chunks_are = (no_fault (chunk_fault p limits (is_short file LittleEndian p color) color) (chunks_of_plane p)).1 chunk_is
+
+    -- it is read
+    is_read : image_of file LittleEndian p limits ≡ Ok (record { sample_type = type; numbers = samples_shown i p color })
+    unfolding image_of
+    is_read =
+        let decoded_by : List ℕ → Result Decoded TiffError = λ numbers. Ok (record { sample_type = type; numbers = numbers }) in
+        let fits : nat_lt (all * planes p.planar color) (2 ^ 64) ≡ true = lt-ltb (all * planes p.planar color) (2 ^ 64) l.whole in
+        rw (layout_is, fits, is_type, samples_pass, chunks_are) (ap decoded_by (numbers_of type color is_type refl))
+
+pub reads_shown : ReadsShown
+reads_shown kind file offset i size limits d s h e = shown_read kind file offset i size limits s h d e
+
+pub reads_back : ReadsBack
+reads_back kind file offset i size limits type s h is_type r l = is_read kind file offset i size limits s h type is_type r l

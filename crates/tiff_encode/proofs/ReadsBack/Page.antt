@@ -1,0 +1,121 @@
+-- What is known of a page that the tags tell: it has samples, and an offset for each chunk.
+use Rattle.std.proofs.Common.{zero, suc, ◌≡◌, ℕ, ◌^◌, ◌<◌, true, false, cond, Bool, length, Result, Ok, Err, refl, sym, subst, arith, ⊎_elim}
+use Rattle.std.specs.Prelude.{nat_lt, ◌==◌, ◌&&◌}
+use Rattle.std.proofs.lemmas.Bool.{eqb-true}
+use Rattle.tiff_base.specs.declared.color.ChunkType.{ChunkType}
+use Rattle.tiff_base.specs.declared.color.ChunkType.TheVariants.{Strip, Tile}
+use Rattle.tiff_base.specs.declared.error.TiffError.{TiffError}
+use Rattle.tiff_base.specs.declared.tags.Tag.TheVariants as tag
+use Rattle.tiff_base.specs.declared.error.TiffError.TheVariants.{FormatError}
+use Rattle.tiff_base.specs.declared.error.TiffFormatError.TheVariants.{InvalidTagValueType}
+use Rattle.tiff_ifd.specs.Into.{into_u16, into_u32, into_u64_vec}
+use Rattle.tiff_ifd.specs.Look.{Look, find_or, require}
+use Rattle.tiff_page.specs.Page.{PageRecord, Chunks}
+use Rattle.tiff_page.specs.Counts.{chunk_count, planes_of, all_chunks}
+use Rattle.tiff_page.specs.Checks.{size_in, interpretation_in, method_in, some_samples, samples_in, extra_in, format_in, depth_in, predictor_in, planar_in, subsampling_in, chunk_type_in, some_rows, some_side, inconsistent, chunks_counted, strips_in, tiles_in, chunks_in, page_of}
+use Rattle.tiff_page.proofs.Planes.{cases_of, given_bind}
+use Rattle.tiff_encode.proofs.Slices.{bind_ok, ok_inj}
+
+-- what a choice of an answer and a fault is
+chosen : {A : Type 0} (b : Bool) (x y : A) (e : TiffError) → cond b (Ok x) (Err e) ≡ Ok y → (b ≡ true) × (x ≡ y)
+chosen true x y e h = (refl, ok_inj x y h)
+chosen false x y e h = absurd cc
+
+refused : {A : Type 0} (b : Bool) (x y : A) (e : TiffError) → cond b (Err e) (Ok x) ≡ Ok y → (b ≡ false) × (x ≡ y)
+refused true x y e h = absurd cc
+refused false x y e h = (refl, ok_inj x y h)
+
+-- the middle one of three tests that hold
+middle : (a b c : Bool) → ((a && b) && c) ≡ true → b ≡ true
+middle true true c h = refl
+middle true false c h = cc
+middle false b c h = cc
+
+-- a number that is not 0
+positive : (n : ℕ) → (n == 0) ≡ false → 0 < n
+positive zero h = cc
+positive (suc n) h = omega arith
+
+-- a page has samples
+some_is : (n m : ℕ) → some_samples n ≡ Ok m → 0 < m
+some_is n m e =
+    let r = refused (n == 0) n m _ e in
+    subst (λ (k : ℕ). 0 < k) r.1 (positive n r.0)
+
+samples_some : (look : Look) (n : ℕ) → samples_in look ≡ Ok n → 0 < n
+unfolding samples_in
+samples_some look n e = let b = bind_ok (find_or into_u16 look tag.SamplesPerPixel 1) _ _ e in some_is b.0 n b.1.1
+
+-- chunks that are counted have an offset each
+abbrev AreListed : ℕ → ℕ → ℕ → Chunks → Type 0
+AreListed width height planes c = length c.offsets ≡ chunk_count width height c.chunk_width c.chunk_height planes
+
+counted_listed : (width height planes : ℕ) (chunks c : Chunks) → chunks_counted width height planes chunks ≡ Ok c → AreListed width height planes c
+unfolding chunks_counted
+counted_listed width height planes chunks c e =
+    let count : ℕ = chunk_count width height chunks.chunk_width chunks.chunk_height planes in
+    let r = chosen ((length chunks.offsets == length chunks.byte_counts) && (length chunks.offsets == count) && nat_lt count (2 ^ 32)) chunks c inconsistent e in
+    subst (AreListed width height planes) r.1
+    (eqb-true (length chunks.offsets) count (middle (length chunks.offsets == length chunks.byte_counts) (length chunks.offsets == count) (nat_lt count (2 ^ 32)) r.0))
+
+-- the same of an answer
+abbrev Counted : ℕ → ℕ → ℕ → Result Chunks TiffError → Type 0
+Counted width height planes (Ok c) = AreListed width height planes c
+Counted width height planes (Err e) = Unit {0}
+
+counted_given : (width height planes : ℕ) (chunks : Chunks) → Counted width height planes (chunks_counted width height planes chunks)
+counted_given width height planes chunks =
+    ⊎_elim (λ a. subst (Counted width height planes) (sym a.1) (counted_listed width height planes chunks a.0 a.1))
+    (λ b. subst (Counted width height planes) (sym b.1) tt) (cases_of (chunks_counted width height planes chunks))
+
+chunks_given : (look : Look) (type : ChunkType) (width height planes : ℕ) → Counted width height planes (chunks_in look type width height planes)
+unfolding strips_in tiles_in
+chunks_given look Strip width height planes =
+    let P : Result Chunks TiffError → Type 0 = Counted width height planes in
+    given_bind P (require into_u64_vec look tag.StripOffsets) _ (λ e. tt) (λ offsets eo.
+    given_bind P (require into_u64_vec look tag.StripByteCounts) _ (λ e. tt) (λ byte_counts eb.
+    given_bind P (find_or into_u32 look tag.RowsPerStrip height) _ (λ e. tt) (λ rows er.
+    given_bind P (some_rows rows) _ (λ e. tt) (λ some es.
+    counted_given width height planes (record { chunk_width = width; chunk_height = rows; offsets = offsets; byte_counts = byte_counts })))))
+chunks_given look Tile width height planes =
+    let P : Result Chunks TiffError → Type 0 = Counted width height planes in
+    given_bind P (require into_u32 look tag.TileWidth) _ (λ e. tt) (λ wide ew.
+    given_bind P (require into_u32 look tag.TileLength) _ (λ e. tt) (λ high eh.
+    given_bind P (some_side wide (FormatError (InvalidTagValueType tag.TileWidth))) _ (λ e. tt) (λ some es.
+    given_bind P (some_side high (FormatError (InvalidTagValueType tag.TileLength))) _ (λ e. tt) (λ other et.
+    given_bind P (require into_u64_vec look tag.TileOffsets) _ (λ e. tt) (λ offsets eo.
+    given_bind P (require into_u64_vec look tag.TileByteCounts) _ (λ e. tt) (λ byte_counts eb.
+    counted_given width height planes (record { chunk_width = wide; chunk_height = high; offsets = offsets; byte_counts = byte_counts })))))))
+
+-- What is known of a page.
+pub record IsListed (p : PageRecord) : Type 0 where
+  pub some : 0 < p.samples
+  pub offsets : length p.offsets ≡ all_chunks p
+
+abbrev Listed : Result PageRecord TiffError → Type 0
+Listed (Ok p) = IsListed p
+Listed (Err e) = Unit {0}
+
+page_given : (look : Look) → Listed (page_of look)
+unfolding page_of
+page_given look =
+    given_bind Listed (size_in look) _ (λ e. tt) (λ size es.
+    given_bind Listed (interpretation_in look) _ (λ e. tt) (λ interpretation ei.
+    given_bind Listed (method_in look) _ (λ e. tt) (λ packed_by em.
+    given_bind Listed (samples_in look) _ (λ e. tt) (λ samples en.
+    given_bind Listed (extra_in look samples) _ (λ e. tt) (λ extra ex.
+    given_bind Listed (format_in look) _ (λ e. tt) (λ format ef.
+    given_bind Listed (depth_in look samples) _ (λ e. tt) (λ depth ed.
+    given_bind Listed (predictor_in look) _ (λ e. tt) (λ predictor ep.
+    given_bind Listed (planar_in look) _ (λ e. tt) (λ planar el.
+    given_bind Listed (subsampling_in look) _ (λ e. tt) (λ subsampling eu.
+    given_bind Listed (chunk_type_in look) _ (λ e. tt) (λ type et.
+    given_bind Listed (chunks_in look type size.0 size.1 (planes_of planar samples)) _ (λ e. tt) (λ chunks ec.
+    record {
+      some = samples_some look samples en;
+      offsets = subst (Counted size.0 size.1 (planes_of planar samples)) ec (chunks_given look type size.0 size.1 (planes_of planar samples));
+    }))))))))))))
+
+-- a page that is told is known so
+pub page_listed : (look : Look) (p : PageRecord) → page_of look ≡ Ok p → IsListed p
+page_listed look p e = subst Listed e (page_given look)

@@ -1,0 +1,221 @@
+-- A page that an encoder made of an image is of a form that is read.
+use Rattle.std.proofs.Common.{◌≡◌, ℕ, ◌+◌, ◌*◌, ◌/◌, ◌%◌, ◌<◌, ◌⊎◌, length, true, cond, get_or, Result, Ok, Err, refl, ap, sym, ◌∙◌, subst, inl, inr, arith}
+use Rattle.std.specs.Prelude.{◌==◌, slice_index}
+use Rattle.std.proofs.lemmas.List.{ext_get_or}
+use Rattle.std.proofs.lemmas.List.FromFn.{length-map-range_with_len, get_or-map-range_with_len}
+use Rattle.std.proofs.lemmas.Nat.{div-add-mod'}
+use Rattle.tiff_base.specs.declared.color.ColorType.{ColorType}
+use Rattle.tiff_base.specs.declared.color.ColorType.TheVariants.{Gray, RGB, RGBA, CMYK, CMYKA, YCbCr, Multiband}
+use Rattle.tiff_base.specs.declared.error.TiffError.{TiffError}
+use Rattle.tiff_base.specs.declared.tags.CompressionMethod.{CompressionMethod}
+use Rattle.tiff_base.specs.declared.tags.CompressionMethod.TheVariants as method
+use Rattle.tiff_base.specs.declared.tags.FileKind.{FileKind}
+use Rattle.tiff_base.specs.declared.tags.PhotometricInterpretation.{PhotometricInterpretation}
+use Rattle.tiff_base.specs.declared.tags.Predictor.{Predictor}
+use Rattle.tiff_base.specs.declared.tags.Predictor.TheVariants as predictor
+use Rattle.tiff_base.specs.declared.tags.SampleFormat.{SampleFormat}
+use Rattle.tiff_base.specs.declared.tags.SampleFormat.TheVariants.{Uint, Int, IEEEFP, Void, Unknown}
+use Rattle.tiff_value.specs.declared.encoder.colortype.ColorTypeName.{ColorTypeName}
+use Rattle.tiff_value.specs.declared.encoder.colortype.ColorTypeName.TheVariants as n
+use Rattle.tiff_value.specs.ColorType.{ColorTypeRecord}
+use Rattle.tiff_value.specs.ColorTypes.{color_type}
+use Rattle.tiff_page.specs.declared.layout.DecodingSampleType.{DecodingSampleType}
+use Rattle.tiff_page.specs.declared.layout.DecodingSampleType.TheVariants.{U8, U16, U32, U64, F32, F64, I8, I16, I32, I64}
+use Rattle.tiff_page.specs.Page.{PageRecord}
+use Rattle.tiff_page.specs.Layout.{shown, first_is_alpha, photometric, no_color, color_from, color_of, whole_chroma, sample_type_from, sample_type_of}
+use Rattle.tiff_page.specs.PixelFault.{is_plain, is_number, fault_of_predictor, predictor_fault, method_fault, white_from, white_fault}
+use Rattle.tiff_page.specs.Pixels.{each_to}
+use Rattle.tiff_page.proofs.Rows.{each_same}
+use Rattle.tiff_page.proofs.Planes.{given_if}
+use Rattle.tiff_encode.specs.Machine.{OpenImage}
+use Rattle.tiff_encode.specs.Chunks.{all_samples, subsampling_of, image_page}
+use Rattle.tiff_encode.specs.Held.{IsWholeImage}
+use Rattle.tiff_encode.specs.ReadsBack.{IsReadable, WrittenReadsBack, ShownInOrder}
+use Rattle.tiff_encode.proofs.Shown.Color.{Family, OneGray, ThreeRgb, FourRgb, FourCmyk, FiveCmyk, ThreeYcbcr, meaning_of, IsOf, of_family, IsColored, colored}
+use Rattle.tiff_encode.proofs.ReadsBack.Entries.{reads_back}
+
+-- ---- the sample type
+
+-- each named color type is of a sample type
+typed : (name : ColorTypeName) → (t : DecodingSampleType) × (sample_type_from (get_or (color_type name).formats 0 Void) (get_or (color_type name).bits 0 0) ≡ Ok t)
+unfolding color_type
+typed n.Gray8 = (U8, refl)
+typed n.Gray16 = (U16, refl)
+typed n.Gray32 = (U32, refl)
+typed n.Gray64 = (U64, refl)
+typed n.GrayI8 = (I8, refl)
+typed n.GrayI16 = (I16, refl)
+typed n.GrayI32 = (I32, refl)
+typed n.GrayI64 = (I64, refl)
+typed n.Gray32Float = (F32, refl)
+typed n.Gray64Float = (F64, refl)
+typed n.RGB8 = (U8, refl)
+typed n.RGB16 = (U16, refl)
+typed n.RGB32 = (U32, refl)
+typed n.RGB64 = (U64, refl)
+typed n.RGB32Float = (F32, refl)
+typed n.RGB64Float = (F64, refl)
+typed n.RGBA8 = (U8, refl)
+typed n.RGBA16 = (U16, refl)
+typed n.RGBA32 = (U32, refl)
+typed n.RGBA64 = (U64, refl)
+typed n.RGBA32Float = (F32, refl)
+typed n.RGBA64Float = (F64, refl)
+typed n.CMYK8 = (U8, refl)
+typed n.CMYK16 = (U16, refl)
+typed n.CMYK32 = (U32, refl)
+typed n.CMYK64 = (U64, refl)
+typed n.CMYK32Float = (F32, refl)
+typed n.CMYK64Float = (F64, refl)
+typed n.YCbCr8 = (U8, refl)
+typed n.CMYKA8 = (U8, refl)
+
+-- samples of a type are numbers
+numbered : (f : SampleFormat) (d : ℕ) (t : DecodingSampleType) → sample_type_from f d ≡ Ok t → is_number f ≡ true
+numbered Uint d t e = refl
+numbered Int d t e = refl
+numbered IEEEFP d t e = refl
+numbered Void d t e = absurd cc
+numbered (Unknown k) d t e = absurd cc
+
+-- ---- the color
+
+-- it is plain, and its chroma is whole
+abbrev IsTaken : PageRecord → Result ColorType TiffError → Type 0
+IsTaken p (Ok c) = (is_plain c ≡ true) × (whole_chroma p c ≡ Ok c)
+IsTaken p (Err e) = Unit {0}
+
+module _ (p : PageRecord) where
+  none_taken : IsTaken p (no_color p)
+  unfolding no_color
+  none_taken = tt
+
+  -- one of two colors, by a test, where a count is a number
+  some_taken : (k : ℕ) (x y : ColorType) (other : Result ColorType TiffError) → IsTaken p (Ok x) → IsTaken p (Ok y) → IsTaken p other
+      → IsTaken p (cond (photometric p == k) (Ok (cond (first_is_alpha p.extra) x y)) other)
+  some_taken k x y other a b c =
+      given_if (IsTaken p) (photometric p == k) (Ok (cond (first_is_alpha p.extra) x y)) other
+      (given_if (λ z. IsTaken p (Ok z)) (first_is_alpha p.extra) x y a b) c
+
+  one_taken : (k : ℕ) (x : ColorType) → IsTaken p (Ok x) → IsTaken p (cond (photometric p == k) (Ok x) (no_color p))
+  one_taken k x a = given_if (IsTaken p) (photometric p == k) (Ok x) (no_color p) a none_taken
+
+  rgb_taken : IsTaken p (color_from (meaning_of ThreeRgb) p)
+  rgb_taken = some_taken 3 (RGBA p.depth) (RGB p.depth) (cond (photometric p == 4) (Ok (RGBA p.depth)) (no_color p)) (refl, refl) (refl, refl) (one_taken 4 (RGBA p.depth) (refl, refl))
+
+  cmyk_taken : IsTaken p (color_from (meaning_of FourCmyk) p)
+  cmyk_taken = some_taken 4 (CMYKA p.depth) (CMYK p.depth) (cond (photometric p == 5) (Ok (CMYKA p.depth)) (no_color p)) (refl, refl) (refl, refl) (one_taken 5 (CMYKA p.depth) (refl, refl))
+
+  family_taken : (f : Family) → p.subsampling ≡ subsampling_of (meaning_of f) → IsTaken p (color_from (meaning_of f) p)
+  family_taken OneGray e = given_if (IsTaken p) (p.samples == 1) (Ok (Gray p.depth)) (Ok (Multiband p.depth p.samples)) (refl, refl) (refl, refl)
+  family_taken ThreeRgb e = rgb_taken
+  family_taken FourRgb e = rgb_taken
+  family_taken FourCmyk e = cmyk_taken
+  family_taken FiveCmyk e = cmyk_taken
+  family_taken ThreeYcbcr e = one_taken 3 (YCbCr p.depth) (refl, rw e refl)
+
+  -- nothing is inverted
+  family_upright : (f : Family) (c : ColorType) → white_from (meaning_of f) p c ≡ Ok tt
+  family_upright OneGray c = refl
+  family_upright ThreeRgb c = refl
+  family_upright FourRgb c = refl
+  family_upright FourCmyk c = refl
+  family_upright FiveCmyk c = refl
+  family_upright ThreeYcbcr c = refl
+
+  -- differences of numbers are undone
+  undone : (q : Predictor) (c : ColorType) → (q ≡ predictor.None) ⊎ (q ≡ predictor.Horizontal) → is_number p.format ≡ true → fault_of_predictor q p c ≡ Ok tt
+  undone q c way e =
+      let P : Predictor → Type 0 = λ r. fault_of_predictor r p c ≡ Ok tt in
+      elim way as (λ _. P q) [
+        | inl h ↦ subst P (sym h) refl
+        | inr h ↦ subst P (sym h) (rw e refl)
+      ]
+
+unpacked : (m : CompressionMethod) → (m ≡ method.None) ⊎ (m ≡ method.PackBits) → method_fault m ≡ Ok tt
+unpacked m way =
+    let P : CompressionMethod → Type 0 = λ r. method_fault r ≡ Ok tt in
+    elim way as (λ _. P m) [
+      | inl h ↦ subst P (sym h) refl
+      | inr h ↦ subst P (sym h) refl
+    ]
+
+-- ---- an image, and a page of it, wherever its chunks stand
+module _ (kind : FileKind) (i : OpenImage) (w : IsWholeImage kind i) (p : PageRecord)
+    (same : p ≡ record (image_page i) { offsets = p.offsets; byte_counts = p.byte_counts }) where
+  is_of : IsOf i.color i.size
+  is_of =
+      let P : ColorTypeRecord → Type 0 = λ c. IsOf c i.size in
+      let Q : ℕ → Type 0 = λ k. IsOf (color_type w.name) k in
+      subst P (sym w.color) (subst Q (sym w.size) (of_family w.name))
+
+  tinted : IsColored i
+  tinted = colored i is_of
+
+  interpretation_is : p.interpretation ≡ meaning_of is_of.family
+  interpretation_is = ap (λ (q : PageRecord). q.interpretation) same ∙ is_of.interpretation
+
+  subsampling_is : p.subsampling ≡ subsampling_of (meaning_of is_of.family)
+  subsampling_is = ap (λ (q : PageRecord). q.subsampling) same ∙ ap subsampling_of is_of.interpretation
+
+  pub type_there : (t : DecodingSampleType) × (sample_type_of p ≡ Ok t)
+  unfolding sample_type_of
+  type_there =
+      let t = typed w.name in (
+        t.0,
+        ap (λ (q : PageRecord). sample_type_from q.format q.depth) same
+            ∙ ap (λ (c : ColorTypeRecord). sample_type_from (get_or c.formats 0 Void) (get_or c.bits 0 0)) w.color
+            ∙ t.1,
+      )
+
+  pub readable : (c : ColorType) → color_of p ≡ Ok c → IsReadable p c
+  unfolding color_of sample_type_of predictor_fault white_fault
+  readable c e =
+      let f : Family = is_of.family in
+      let from : color_from (meaning_of f) p ≡ Ok c = ap (λ (m : PhotometricInterpretation). color_from m p) (sym interpretation_is) ∙ e in
+      let taken : IsTaken p (Ok c) = subst (IsTaken p) from (family_taken p f subsampling_is) in
+      let way : (p.predictor ≡ predictor.None) ⊎ (p.predictor ≡ predictor.Horizontal) =
+      subst (λ (q : Predictor). (q ≡ predictor.None) ⊎ (q ≡ predictor.Horizontal)) (sym (ap (λ (q : PageRecord). q.predictor) same)) w.predicted_by in
+      let packed : (p.method ≡ method.None) ⊎ (p.method ≡ method.PackBits) =
+      subst (λ (q : CompressionMethod). (q ≡ method.None) ⊎ (q ≡ method.PackBits)) (sym (ap (λ (q : PageRecord). q.method) same)) w.packed_by in
+      record {
+        plain = taken.0;
+        predictor = undone p p.predictor c way (numbered p.format p.depth type_there.0 type_there.1);
+        packed_by = unpacked p.method packed;
+        upright = ap (λ (m : PhotometricInterpretation). white_from m p c) interpretation_is ∙ family_upright p f c;
+        chroma = taken.1;
+      }
+
+pub written_reads_back : WrittenReadsBack
+written_reads_back kind file offset i sample_at limits w small s l =
+    let c = tinted kind i w s.page s.is_image in
+    let t = type_there kind i w s.page s.is_image in (
+      t.0,
+      (
+        t.1,
+        reads_back kind file offset (record { page = image_page i; sample_at = sample_at }) i.size limits t.0 s
+            (record { is_size = c.is_size; depth = c.depth; small = small }) t.1
+            (readable kind i w s.page s.is_image s.color s.is_color) l,
+      ),
+    )
+
+-- ---- an image that was handed in whole
+
+-- the samples of an image are in the order in which they were handed in
+pub shown_in_order : ShownInOrder
+shown_in_order i samples p color wide all long =
+    let s : ℕ = shown p.planar color in
+    let n : ℕ = p.height * p.width * s in
+    let at : ℕ → ℕ = λ k. slice_index samples ((k / s / p.width * i.width + k / s % p.width) * all_samples i + k % s) in
+    let offset : (k : ℕ) → (k / s / p.width * i.width + k / s % p.width) * all_samples i + k % s ≡ k = λ k.
+    let a : (k / s / p.width * p.width + k / s % p.width) * s ≡ k / s * s = ap (λ (m : ℕ). m * s) (div-add-mod' (k / s) p.width) in
+    let b : (k / s / p.width * i.width + k / s % p.width) * all_samples i ≡ (k / s / p.width * p.width + k / s % p.width) * s =
+    λ t. (k / s / p.width * sym wide t + k / s % p.width) * sym all t in
+    omega (arith, a, b, div-add-mod' k s) in
+    let count : length samples ≡ n = long ∙ ap (λ (m : ℕ). p.height * p.width * m) (sym all) in
+    each_same n at (λ k. slice_index samples k) (λ k b. ap (λ (m : ℕ). slice_index samples m) (offset k))
+    ∙ ext_get_or 0 (each_to n (λ k. slice_index samples k)) samples
+    (length-map-range_with_len (λ k. slice_index samples k) 0 n ∙ sym count)
+    (λ k b.
+    let c : k < n = subst (λ (m : ℕ). k < m) (length-map-range_with_len (λ j. slice_index samples j) 0 n) b in
+    get_or-map-range_with_len (λ j. slice_index samples j) 0 n k k 0 c (omega arith))

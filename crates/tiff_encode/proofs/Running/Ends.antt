@@ -1,0 +1,289 @@
+-- The end of a directory or an image leads from a standing of the file that it finds to one of the file that it leaves.
+use Rattle.std.proofs.Common.{◌≡◌, ℕ, ◌^◌, ◌<◌, inl, inr, Bool, true, false, Option, Some, None, Ok, Err, refl, ap, sym, ◌∙◌, subst}
+use Rattle.std.specs.FinMap.{len}
+use Rattle.tiff_base.specs.declared.error.TiffError.{TiffError}
+use Rattle.tiff_base.specs.Field.{AreEntries}
+use Rattle.tiff_encode.specs.Model.{Model, IsLink, Stands, Grows, relinked}
+use Rattle.tiff_encode.specs.Deeds.{model_after}
+use Rattle.tiff_encode.specs.Machine.{FileState, OpenDirectory, OpenImage, WriteOutcome}
+use Rattle.tiff_encode.specs.Causes.{end_of}
+use Rattle.tiff_encode.specs.Calls.{Offsets, finish, finish_image}
+use Rattle.tiff_encode.specs.Ends.{IsTold, IsTornOff, CallFails}
+use Rattle.tiff_encode.specs.Leaves.{LeavesTorn}
+use Rattle.tiff_encode.specs.ImageData.{IsShortFile}
+use Rattle.tiff_encode.specs.Open.{model_by}
+use Rattle.tiff_encode.specs.declared.encoder.script.EndReply.TheVariants as last
+use Rattle.tiff_encode.specs.Jobs.{Standing, IsDone, Refuses, FinishesWith, FinishesSilently}
+use Rattle.tiff_encode.specs.Stepping.{StandsIfKnown, HasLink, EndMoves}
+use Rattle.tiff_encode.proofs.Moving.{grows_here}
+use Rattle.tiff_encode.proofs.Deeds.{deeds_grow, link_kept}
+use Rattle.tiff_encode.proofs.Leaving.{begun_leaves, torn_leaves, entries_fit, finish_plain}
+use Rattle.tiff_encode.proofs.Guarding.{finish_left}
+use Rattle.tiff_encode.proofs.Image.Fits.{finish_image_fits}
+use Rattle.tiff_encode.proofs.Image.FitsCalls.{Fits}
+use Rattle.tiff_encode.proofs.Data.Calls.{Patches}
+use Rattle.tiff_encode.proofs.Data.Chunks.{finish_patches, image_patches}
+use Rattle.tiff_encode.proofs.Data.Leaves.{appended_stands, patched_stands, patched_torn}
+use Rattle.tiff_encode.proofs.EndLinks.{EndLinks, finish_links, image_links}
+
+-- ---- what stands then
+
+-- What stands where an end was told, and where the parent's link broke off.
+pub record CanStand (told : WriteOutcome Offsets) (old new : FileState) (m : Model) : Type 0 where
+  pub done : (offsets : Offsets) → IsTold told (Ok offsets) new → Stands old.kind new.bytes (model_by old m told)
+  pub torn : (e : TiffError) → IsTornOff told.deeds e old new → LeavesTorn told e old new m
+
+-- the link of a parent, where there is one
+abbrev pub Parent : Option ℕ → FileState → Model → Type 0
+Parent parent file m = (offset : ℕ) → parent ≡ Some offset → IsLink file.kind m offset
+
+-- What is known of an end: what its deeds are, where its links stand, and what stands then.
+pub record IsEnding (parent : Option ℕ) (told : WriteOutcome Offsets) (old new : FileState) : Type 0 where
+  pub patches : Patches parent told old
+  pub links : (m : Model) → EndLinks told old m
+  pub stands : (m : Model) → Stands old.kind old.bytes m → Parent parent old m → CanStand told old new m
+
+-- a directory's
+pub directory_ending : (d : OpenDirectory) (old new : FileState) → AreEntries d.fields → len d.fields < 2 ^ 64
+    → (old.fault ≡ None → end_of old < 2 ^ 64) → IsEnding d.parent (finish d old) old new
+directory_ending d old new a n fits = record {
+  patches = finish_patches d old;
+  links = finish_links d old;
+  stands = λ m s p. record {
+    done = λ offsets t. let view : Offsets → Offsets = λ o. o in finish_left old new m d a n fits s p view (Ok offsets) t;
+    torn = λ e t. torn_leaves (finish d old) e old new m (finish_plain d old) (entries_fit old m d a n p (fits t.fresh)) s t;
+  };
+}
+
+-- an image's
+pub image_ending : (i : OpenImage) (old new : FileState) → AreEntries i.directory.fields → IsShortFile new
+    → IsEnding i.directory.parent (finish_image i old) old new
+image_ending i old new a short =
+    let told : WriteOutcome Offsets = finish_image i old in
+    let patches = image_patches i old in
+    record {
+      patches = patches;
+      links = image_links i old;
+      stands = λ m s p.
+          let fits : Fits told old m (λ _. Unit {0}) = λ offsets h l. (finish_image_fits old m i offsets a h l p, tt) in
+          record {
+            done = λ offsets t. patched_stands i.directory.parent told offsets old new m patches fits short s t;
+            torn = λ e t. patched_torn i.directory.parent told e old new m patches fits p short s t;
+          };
+    }
+
+-- ---- where it leads
+
+-- an offset is told, or none is
+told_offset : (x o : Offsets) → (let a : Option Offsets = Some x in let b : Option Offsets = Some o in a ≡ b) → x ≡ o
+told_offset x o h = ap held h where
+  held : Option Offsets → Offsets
+  held (Some p) = p
+  held None = x
+
+pub no_offset : {o : Offsets} → let a : Option Offsets = None in a ≡ Some o → ⊥
+no_offset h = cc
+
+-- What is known of the standing that it leads to, but for what it answers.
+pub record Leads (known : Bool) (s t : Standing) (offset : Option Offsets) : Type 0 where
+  pub known_so : StandsIfKnown known t
+  pub grows : Grows s.model t.model
+  pub own : (o : Offsets) → offset ≡ Some o → IsLink t.file.kind t.model o.link
+  pub chain : IsLink s.file.kind s.model s.file.chain → IsLink t.file.kind t.model t.file.chain
+
+-- a standing of the file that it leaves
+abbrev pub Led : Bool → Standing → FileState → (Standing → Standing → Option Offsets → Type 0)
+    → (Standing → Standing → Option Offsets → Type 0) → Type 0
+Led known s new Ended Held =
+    (t : Standing) × ((offset : Option Offsets) × ((t.file ≡ new) × (Ended s t offset × (StandsIfKnown known t × (Grows s.model t.model
+    × (((o : Offsets) → offset ≡ Some o → IsLink t.file.kind t.model o.link)
+    × ((IsLink s.file.kind s.model s.file.chain → IsLink t.file.kind t.model t.file.chain)
+    × Held s t offset)))))))
+
+pub led : (known : Bool) (s t : Standing) (new : FileState) (Ended Held : Standing → Standing → Option Offsets → Type 0)
+    (offset : Option Offsets) → t.file ≡ new → Ended s t offset → Held s t offset → Leads known s t offset → Led known s new Ended Held
+led known s t new Ended Held offset f e h l = (t, (offset, (f, (e, (l.known_so, (l.grows, (l.own, (l.chain, h))))))))
+
+-- the standings of a file
+abbrev pub at : FileState → Model → Standing
+at file m = record { file = file; model = m }
+
+-- an end leads on from each standing of the file
+pub moves_from : (Ended Held : Standing → Standing → Option Offsets → Type 0) (parent : Option ℕ) (old new : FileState)
+    → ((known : Bool) (m : Model) → StandsIfKnown known (at old m) → HasLink known (at old m) parent → Led known (at old m) new Ended Held)
+    → EndMoves Ended parent old new Held
+moves_from Ended Held parent old new f known s same k l =
+    let P : FileState → Type 0 = λ file. StandsIfKnown known (at file s.model) → HasLink known (at file s.model) parent
+    → Led known (at file s.model) new Ended Held in
+    subst P (sym same) (f known s.model) k l
+
+-- what is told of a call that leaves the model as it was
+module _ (known : Bool) (old new : FileState) (m : Model) where
+  -- it leaves what stood
+  pub leads_still : new.kind ≡ old.kind → new.chain ≡ old.chain → (known ≡ true → Stands old.kind new.bytes m)
+      → Leads known (at old m) (at new m) None
+  leads_still kind chain s = record {
+    known_so = λ q. subst (λ k. Stands k new.bytes m) (sym kind) (s q);
+    grows = grows_here m;
+    own = λ o h. absurd (no_offset h);
+    chain = λ i. subst (λ k. IsLink k m new.chain) (sym kind) (subst (λ q. IsLink old.kind m q) (sym chain) i);
+  }
+
+module _ (parent : Option ℕ) (told : WriteOutcome Offsets) (old new : FileState) (ending : IsEnding parent told old new) (known : Bool) (m : Model)
+    (k : StandsIfKnown known (at old m)) (l : HasLink known (at old m) parent) where
+  -- what stands, where it is known to
+  can_stand : known ≡ true → CanStand told old new m
+  can_stand q = ending.stands m (k q) (l q)
+
+  -- it is told
+  pub leads_told : (offsets : Offsets) → IsTold told (Ok offsets) new
+      → Leads known (at old m) (at new (model_by old m told)) (Some offsets)
+  leads_told offsets t =
+      let n : Model = model_by old m told in
+      let kind : new.kind ≡ old.kind = ap (λ f. f.kind) t.state ∙ ending.patches.done.kind in
+      let links = ending.links m in
+      record {
+        known_so = λ q. subst (λ x. Stands x new.bytes n) (sym kind) ((can_stand q).done offsets t);
+        grows = deeds_grow old.kind old.bytes m told.deeds;
+        own = λ o h.
+            subst (λ x. IsLink x n o.link) (sym kind)
+            (subst (λ p. IsLink old.kind n p.link) (told_offset offsets o h) (links.own offsets t.answer));
+        chain = λ i.
+            subst (λ x. IsLink x n new.chain) (sym kind)
+            (subst (λ q. IsLink old.kind n q) (sym (ap (λ f. f.chain) t.state)) (links.chain offsets t.answer i));
+      }
+
+  -- the model where the parent's link broke off
+  abbrev torn_model : (e : TiffError) → IsTornOff told.deeds e old new → ℕ → Model
+  torn_model e t holds = relinked old.kind (model_after old.kind old.bytes m t.before) t.offset holds
+
+  leads_torn : (e : TiffError) (t : IsTornOff told.deeds e old new) (holds : ℕ)
+      → (known ≡ true → Stands old.kind new.bytes (torn_model e t holds))
+      → Leads known (at old m) (at new (torn_model e t holds)) None
+  leads_torn e t holds s =
+      let n : Model = torn_model e t holds in
+      let kind : new.kind ≡ old.kind = ap (λ f. f.kind) t.state in
+      let grown = deeds_grow old.kind old.bytes m t.before in
+      let grows : Grows m n = record { directories = grown.directories; handed = grown.handed; regions = grown.regions } in
+      record {
+        known_so = λ q. subst (λ x. Stands x new.bytes n) (sym kind) (s q);
+        grows = grows;
+        own = λ o h. absurd (no_offset h);
+        chain = λ i.
+            subst (λ x. IsLink x n new.chain) (sym kind)
+            (subst (λ q. IsLink old.kind n q) (sym (ap (λ f. f.chain) t.state)) (link_kept old.kind m n old.chain grows i));
+      }
+
+  -- it fails
+  abbrev Failed : TiffError → Type 0
+  Failed e = (n : Model) × (Refuses told e (at old m) (at new n) × Leads known (at old m) (at new n) None)
+
+  torn_away : (e : TiffError) (t : IsTornOff told.deeds e old new) (holds : ℕ)
+      → (known ≡ true → Stands old.kind new.bytes (torn_model e t holds)) → Failed e
+  torn_away e t holds s = (
+    torn_model e t holds,
+    (inr (inl (record { torn = t; holds = holds; model = refl })), leads_torn e t holds s),
+  )
+
+  -- with the parent's link, by whether it is known what stands
+  torn_failed : (e : TiffError) → IsTornOff told.deeds e old new → (b : Bool) → known ≡ b → Failed e
+  torn_failed e t true h = let x = (can_stand h).torn e t in torn_away e x.torn x.holds (λ _. x.stands)
+  torn_failed e t false h = torn_away e t 0 (λ q. absurd (no_truth (sym q ∙ h))) where
+    no_truth : true ≡ false → ⊥
+    no_truth h = cc
+
+  pub failed : (e : TiffError) → CallFails told e old new → Failed e
+  failed e h =
+      let here : Refuses told e (at old m) (at new m) → new.kind ≡ old.kind → new.chain ≡ old.chain
+      → ((n : Model) → Stands old.kind old.bytes n → Stands old.kind new.bytes n) → Failed e = λ r kind chain s.
+      (m, (r, leads_still known old new m kind chain (λ q. s m (k q)))) in
+      elim h as (λ _. Failed e) [
+        | inl t ↦ here (inl (refl, t)) (ap (λ f. f.kind) t.state ∙ ending.patches.done.kind)
+            (ap (λ f. f.chain) t.state ∙ (ending.links m).refused e t.answer)
+            (appended_stands told old new ending.patches.done (ending.patches.refused e t.answer) t.state)
+        | inr h ↦ elim h [
+          | inl c ↦ here (inr (inr (inl (refl, c)))) (ap (λ f. f.kind) c.state) (ap (λ f. f.chain) c.state)
+              (λ n s. begun_leaves told.deeds c.count old new.bytes n (ap (λ f. f.bytes) c.state) s)
+          | inr h ↦ elim h [
+            | inl t ↦ torn_failed e t known refl
+            | inr c ↦ here (inr (inr (inr (refl, c)))) (ap (λ f. f.kind) c.state) (ap (λ f. f.chain) c.state)
+                (λ n s. begun_leaves told.deeds c.count old new.bytes n (ap (λ f. f.bytes) c.state) s)
+          ]
+        ]
+      ]
+
+-- ---- ends by their answers
+
+module _ (Ended Held : Standing → Standing → Option Offsets → Type 0) (parent : Option ℕ) (told : WriteOutcome Offsets) (old new : FileState)
+    (ending : IsEnding parent told old new) where
+  -- an end that is told
+  pub told_moves : (offsets : Offsets) → IsTold told (Ok offsets) new
+      → ((m : Model) → IsDone told (Ok offsets) (at old m) (at new (model_by old m told))
+      → Ended (at old m) (at new (model_by old m told)) (Some offsets))
+      → ((m : Model) → Held (at old m) (at new (model_by old m told)) (Some offsets))
+      → EndMoves Ended parent old new Held
+  told_moves offsets t ended held =
+      moves_from Ended Held parent old new
+      (λ known m k l.
+      led known (at old m) (at new (model_by old m told)) new Ended Held (Some offsets) refl
+      (ended m (record { ended = t; model = refl })) (held m)
+      (leads_told parent told old new ending known m k l offsets t))
+
+  -- one that fails
+  pub fails_moves : (e : TiffError) → CallFails told e old new
+      → ((m n : Model) → Refuses told e (at old m) (at new n) → Ended (at old m) (at new n) None)
+      → ((m n : Model) → Held (at old m) (at new n) None)
+      → EndMoves Ended parent old new Held
+  fails_moves e h ended held =
+      moves_from Ended Held parent old new
+      (λ known m k l.
+      let x = failed parent told old new ending known m k l e h in
+      led known (at old m) (at new x.0) new Ended Held None refl (ended m x.0 x.1.0) (held m x.0) x.1.1)
+
+-- what is known of an end is known as what follows from it
+pub moves_as : (Ended Held Known_so Held_so : Standing → Standing → Option Offsets → Type 0) (parent : Option ℕ) (old new : FileState)
+    → ((s t : Standing) (offset : Option Offsets) → Ended s t offset → Known_so s t offset)
+    → ((s t : Standing) (offset : Option Offsets) → Held s t offset → Held_so s t offset)
+    → EndMoves Ended parent old new Held → EndMoves Known_so parent old new Held_so
+moves_as Ended Held Known_so Held_so parent old new f g e known s same k l =
+    let x = e known s same k l in
+    let t : Standing = x.0 in
+    let offset : Option Offsets = x.1.0 in
+    let y = x.1.1 in
+    let z = y.1.1.1.1.1 in
+    (t, (offset, (y.0, (f s t offset y.1.0, (y.1.1.0, (y.1.1.1.0, (y.1.1.1.1.0, (z.0, g s t offset z.1))))))))
+
+-- ---- a directory
+
+-- nothing is held of it
+abbrev pub Nothing_held : Standing → Standing → Option Offsets → Type 0
+Nothing_held s t offset = Unit {0}
+
+module _ (d : OpenDirectory) (old new : FileState) (ending : IsEnding d.parent (finish d old) old new) where
+  pub offsets_told : (offsets : Offsets) (pointer link : ℕ) → offsets.pointer ≡ pointer → offsets.link ≡ link
+      → IsTold (finish d old) (Ok offsets) new
+      → EndMoves (λ s t offset. FinishesWith (finish d s.file) (Ok (last.Offsets pointer link)) s t offset) d.parent old new Nothing_held
+  offsets_told offsets pointer link p l t =
+      let told : WriteOutcome Offsets = finish d old in
+      let all : Offsets = record { pointer = pointer; link = link } in
+      let same : offsets ≡ all = λ i. record { pointer = p i; link = l i } in
+      told_moves (λ s t offset. FinishesWith (finish d s.file) (Ok (last.Offsets pointer link)) s t offset) Nothing_held d.parent told old new ending
+      all (subst (λ o. IsTold told (Ok o) new) same t) (λ m done. (done, refl)) (λ m. tt)
+
+  pub offsets_failed : (e : TiffError) → CallFails (finish d old) e old new
+      → EndMoves (λ s t offset. FinishesWith (finish d s.file) (Err e) s t offset) d.parent old new Nothing_held
+  offsets_failed e h =
+      fails_moves (λ s t offset. FinishesWith (finish d s.file) (Err e) s t offset) Nothing_held d.parent (finish d old) old new ending
+      e h (λ m n r. (r, refl)) (λ m n. tt)
+
+  pub silently_told : (offsets : Offsets) → IsTold (finish d old) (Ok offsets) new
+      → EndMoves (λ s t offset. FinishesSilently (finish d s.file) (Ok last.Nothing) s t offset) d.parent old new Nothing_held
+  silently_told offsets t =
+      told_moves (λ s t offset. FinishesSilently (finish d s.file) (Ok last.Nothing) s t offset) Nothing_held d.parent (finish d old) old new ending
+      offsets t (λ m done. (offsets, (done, refl))) (λ m. tt)
+
+  pub silently_failed : (e : TiffError) → CallFails (finish d old) e old new
+      → EndMoves (λ s t offset. FinishesSilently (finish d s.file) (Err e) s t offset) d.parent old new Nothing_held
+  silently_failed e h =
+      fails_moves (λ s t offset. FinishesSilently (finish d s.file) (Err e) s t offset) Nothing_held d.parent (finish d old) old new ending
+      e h (λ m n r. (r, refl)) (λ m n. tt)

@@ -1,0 +1,199 @@
+-- The page of an image of a named color type has a color, of no more samples than a pixel has.
+use Rattle.std.proofs.Common.{◌≡◌, ◌==◌, ℕ, ◌+◌, ◌*◌, ◌≤◌, ◌⊎◌, true, false, cond, Bool, List, [], ◌∷◌, length, get_or, replicate, Ok, refl, ap, ◌∙◌, inl, inr, arith}
+use Rattle.std.proofs.lemmas.Bool.{ne_eqb}
+use Rattle.std.proofs.lemmas.List.{length-replicate}
+use Rattle.tiff_base.specs.declared.color.ColorType.{ColorType}
+use Rattle.tiff_base.specs.declared.color.ColorType.TheVariants.{Gray, RGB, RGBA, CMYK, CMYKA, YCbCr, Multiband}
+use Rattle.tiff_base.specs.declared.tags.ByteOrder.{ByteOrder}
+use Rattle.tiff_base.specs.declared.tags.ExtraSamples.{ExtraSamples}
+use Rattle.tiff_base.specs.declared.tags.PhotometricInterpretation.{PhotometricInterpretation}
+use Rattle.tiff_base.specs.declared.tags.PhotometricInterpretation.TheVariants as meaning
+use Rattle.tiff_base.specs.declared.tags.SampleFormat.{SampleFormat}
+use Rattle.tiff_base.specs.declared.tags.SampleFormat.TheVariants.{Uint, Int, IEEEFP}
+use Rattle.tiff_base.specs.Color.{num_samples}
+use Rattle.tiff_value.specs.declared.encoder.colortype.ColorTypeName.{ColorTypeName}
+use Rattle.tiff_value.specs.declared.encoder.colortype.ColorTypeName.TheVariants as n
+use Rattle.tiff_value.specs.ColorType.{ColorTypeRecord}
+use Rattle.tiff_value.specs.ColorTypes.{samples_of, color_type, inner_type, inner_size}
+use Rattle.tiff_page.specs.Page.{PageRecord}
+use Rattle.tiff_page.specs.Layout.{first_is_alpha, photometric, color_from, color_of}
+use Rattle.tiff_page.specs.Pixels.{inverted}
+use Rattle.tiff_encode.specs.Machine.{OpenImage}
+use Rattle.tiff_encode.specs.Chunks.{all_samples, image_page}
+
+-- ---- six families
+
+-- an interpretation and a number of samples
+pub data Family : Type 0 where
+  OneGray : Family
+  ThreeRgb : Family
+  FourRgb : Family
+  FourCmyk : Family
+  FiveCmyk : Family
+  ThreeYcbcr : Family
+
+abbrev pub meaning_of : Family → PhotometricInterpretation
+meaning_of OneGray = meaning.BlackIsZero
+meaning_of ThreeRgb = meaning.RGB
+meaning_of FourRgb = meaning.RGB
+meaning_of FourCmyk = meaning.CMYK
+meaning_of FiveCmyk = meaning.CMYK
+meaning_of ThreeYcbcr = meaning.YCbCr
+
+abbrev pub count_of : Family → ℕ
+count_of OneGray = 1
+count_of ThreeRgb = 3
+count_of FourRgb = 4
+count_of FourCmyk = 4
+count_of FiveCmyk = 5
+count_of ThreeYcbcr = 3
+
+-- the bytes that a sample may have
+abbrev pub IsSize : ℕ → Type 0
+IsSize size = (size ≡ 1) ⊎ ((size ≡ 2) ⊎ ((size ≡ 4) ⊎ (size ≡ 8)))
+
+-- A color type of a family, whose samples have so many bytes.
+pub record IsOf (c : ColorTypeRecord) (size : ℕ) : Type 0 where
+  pub family : Family
+  pub interpretation : c.interpretation ≡ meaning_of family
+  pub bits : c.bits ≡ replicate (count_of family) (8 * size)
+  pub is_size : IsSize size
+
+alike : (f : Family) (size : ℕ) (format : SampleFormat) → IsSize size
+    → IsOf (samples_of (meaning_of f) (count_of f) (8 * size) format) size
+alike f size format s = record { family = f; interpretation = refl; bits = refl; is_size = s }
+
+one : IsSize 1
+one = inl refl
+
+two : IsSize 2
+two = inr (inl refl)
+
+four : IsSize 4
+four = inr (inr (inl refl))
+
+eight : IsSize 8
+eight = inr (inr (inr refl))
+
+-- each name is of a family
+pub of_family : (name : ColorTypeName) → IsOf (color_type name) (inner_size name)
+unfolding color_type inner_type
+of_family n.Gray8 = alike OneGray 1 Uint one
+of_family n.Gray16 = alike OneGray 2 Uint two
+of_family n.Gray32 = alike OneGray 4 Uint four
+of_family n.Gray64 = alike OneGray 8 Uint eight
+of_family n.GrayI8 = alike OneGray 1 Int one
+of_family n.GrayI16 = alike OneGray 2 Int two
+of_family n.GrayI32 = alike OneGray 4 Int four
+of_family n.GrayI64 = alike OneGray 8 Int eight
+of_family n.Gray32Float = alike OneGray 4 IEEEFP four
+of_family n.Gray64Float = alike OneGray 8 IEEEFP eight
+of_family n.RGB8 = alike ThreeRgb 1 Uint one
+of_family n.RGB16 = alike ThreeRgb 2 Uint two
+of_family n.RGB32 = alike ThreeRgb 4 Uint four
+of_family n.RGB64 = alike ThreeRgb 8 Uint eight
+of_family n.RGB32Float = alike ThreeRgb 4 IEEEFP four
+of_family n.RGB64Float = alike ThreeRgb 8 IEEEFP eight
+of_family n.RGBA8 = alike FourRgb 1 Uint one
+of_family n.RGBA16 = alike FourRgb 2 Uint two
+of_family n.RGBA32 = alike FourRgb 4 Uint four
+of_family n.RGBA64 = alike FourRgb 8 Uint eight
+of_family n.RGBA32Float = alike FourRgb 4 IEEEFP four
+of_family n.RGBA64Float = alike FourRgb 8 IEEEFP eight
+of_family n.CMYK8 = alike FourCmyk 1 Uint one
+of_family n.CMYK16 = alike FourCmyk 2 Uint two
+of_family n.CMYK32 = alike FourCmyk 4 Uint four
+of_family n.CMYK64 = alike FourCmyk 8 Uint eight
+of_family n.CMYK32Float = alike FourCmyk 4 IEEEFP four
+of_family n.CMYK64Float = alike FourCmyk 8 IEEEFP eight
+of_family n.YCbCr8 = alike ThreeYcbcr 1 Uint one
+of_family n.CMYKA8 = alike FiveCmyk 1 Uint one
+
+-- ---- its color
+
+-- a color of no more samples than a pixel has
+abbrev pub HasColor : PhotometricInterpretation → PageRecord → ℕ → Type 0
+HasColor interpretation p most = (color : ColorType) × ((color_from interpretation p ≡ Ok color) × (num_samples color ≤ most))
+
+-- one of two colors, by a test
+by_test : (b : Bool) (x y : ColorType) (interpretation : PhotometricInterpretation) (p : PageRecord) (most : ℕ)
+    → color_from interpretation p ≡ Ok (cond b x y) → (b ≡ true → num_samples x ≤ most) → num_samples y ≤ most
+    → HasColor interpretation p most
+by_test true x y interpretation p most e h k = (x, (e, h refl))
+by_test false x y interpretation p most e h k = (y, (e, k))
+
+-- where the first extra sample is alpha, there is one
+some_alpha : (extra : List ExtraSamples) → first_is_alpha extra ≡ true → 1 ≤ length extra
+some_alpha [] e = cc
+some_alpha (x ∷ extra) e = omega arith
+
+-- a page with so many samples that are no extra ones
+module _ (p : PageRecord) (most : ℕ) (all : p.samples ≤ most) where
+  gray_has : p.samples ≡ 1 + length p.extra → HasColor meaning.BlackIsZero p most
+  gray_has e =
+      let P : List ExtraSamples → Type 0 = λ xs. p.samples ≡ 1 + length xs → HasColor meaning.BlackIsZero p most in
+      elim p.extra as P [
+        | [] ↦ λ z. (Gray p.depth, (rw z refl, omega (arith, all, z)))
+        | x ∷ xs ↦ λ z.
+            let t : (p.samples == 1) ≡ false = ne_eqb p.samples 1 (λ q. omega (arith, q, z)) in
+            (Multiband p.depth p.samples, (rw t refl, all))
+      ] e
+
+  pub family_has : (f : Family) → p.samples ≡ count_of f + length p.extra → photometric p ≡ count_of f → HasColor (meaning_of f) p most
+  family_has OneGray e h = gray_has e
+  family_has ThreeRgb e h =
+      by_test (first_is_alpha p.extra) (RGBA p.depth) (RGB p.depth) meaning.RGB p most (rw h refl)
+      (λ t. omega (arith, all, e, some_alpha p.extra t)) (omega (arith, all, e))
+  family_has FourRgb e h = (RGBA p.depth, (rw h refl, omega (arith, all, e)))
+  family_has FourCmyk e h =
+      by_test (first_is_alpha p.extra) (CMYKA p.depth) (CMYK p.depth) meaning.CMYK p most (rw h refl)
+      (λ t. omega (arith, all, e, some_alpha p.extra t)) (omega (arith, all, e))
+  family_has FiveCmyk e h = (CMYKA p.depth, (rw h refl, omega (arith, all, e)))
+  family_has ThreeYcbcr e h = (YCbCr p.depth, (rw h refl, omega (arith, all, e)))
+
+-- nothing is inverted
+plain_family : (file : List ℕ) (order : ByteOrder) (p : PageRecord) (f : Family) (limit v : ℕ)
+    → inverted file order p (meaning_of f) limit v ≡ v
+plain_family file order p OneGray limit v = refl
+plain_family file order p ThreeRgb limit v = refl
+plain_family file order p FourRgb limit v = refl
+plain_family file order p FourCmyk limit v = refl
+plain_family file order p FiveCmyk limit v = refl
+plain_family file order p ThreeYcbcr limit v = refl
+
+-- the first of alike numbers
+first_of : (f : Family) (x : ℕ) → get_or (replicate (count_of f) x) 0 0 ≡ x
+first_of OneGray x = refl
+first_of ThreeRgb x = refl
+first_of FourRgb x = refl
+first_of FourCmyk x = refl
+first_of FiveCmyk x = refl
+first_of ThreeYcbcr x = refl
+
+-- What is needed of the color of an image.
+pub record IsColored (i : OpenImage) : Type 0 where
+  pub color : ColorType
+  pub is_color : color_of (image_page i) ≡ Ok color
+  pub few : num_samples color ≤ all_samples i
+  pub depth : (image_page i).depth ≡ 8 * i.size
+  pub is_size : IsSize i.size
+  pub upright : (file : List ℕ) (order : ByteOrder) (p : PageRecord) (limit v : ℕ) → inverted file order p i.color.interpretation limit v ≡ v
+
+-- an image of a color type of a family
+pub colored : (i : OpenImage) → IsOf i.color i.size → IsColored i
+unfolding color_of
+colored i c =
+    let p : PageRecord = image_page i in
+    let f : Family = c.family in
+    let many : length i.color.bits ≡ count_of f = ap length c.bits ∙ length-replicate (count_of f) (8 * i.size) in
+    let has = family_has p (all_samples i) (omega arith) f (omega (arith, many)) (omega (arith, many)) in
+    record {
+      color = has.0;
+      is_color = ap (λ (m : PhotometricInterpretation). color_from m p) c.interpretation ∙ has.1.0;
+      few = has.1.1;
+      depth = ap (λ (l : List ℕ). get_or l 0 0) c.bits ∙ first_of f (8 * i.size);
+      is_size = c.is_size;
+      upright = λ file order q limit v.
+          ap (λ (m : PhotometricInterpretation). inverted file order q m limit v) c.interpretation
+          ∙ plain_family file order q f limit v;
+    }

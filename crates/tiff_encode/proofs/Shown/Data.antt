@@ -1,0 +1,173 @@
+-- The data of a chunk begin with its bytes, and its numbers are its samples.
+use Rattle.std.proofs.Common.{◌≡◌, ℕ, ◌+◌, ◌-◌, ◌*◌, ◌/◌, ◌%◌, ◌^◌, ◌<◌, ◌≤◌, ◌⊎◌, false, Bool, List, [], ◌++◌, length, map, take, drop, get_or, Ok, refl, ap, sym, ◌∙◌, subst, inl, inr, arith, append-nil}
+use Rattle.std.specs.Prelude.{nat_lt, slice_index, sum_by}
+use Rattle.std.specs.List.{range_with_len, flat_map}
+use Rattle.std.proofs.lemmas.Bool.{le-ltb}
+use Rattle.std.proofs.lemmas.List.{take-append-drop}
+use Rattle.std.proofs.lemmas.List.FromFn.{length-map-range_with_len, get_or-map-range_with_len}
+use Rattle.std.proofs.Math.Nat.{mul-le-mul_right, mul_assoc}
+use lib.Pow.{pow_pos}
+use Rattle.tiff_base.specs.declared.tags.ByteOrder.{ByteOrder}
+use Rattle.tiff_base.specs.declared.tags.ByteOrder.TheVariants.{LittleEndian}
+use Rattle.tiff_base.specs.declared.tags.CompressionMethod.{CompressionMethod}
+use Rattle.tiff_base.specs.declared.tags.CompressionMethod.TheVariants as method
+use Rattle.tiff_base.specs.declared.tags.Predictor.{Predictor}
+use Rattle.tiff_base.specs.declared.tags.Predictor.TheVariants as predictor
+use Rattle.tiff_base.specs.Number.{number, le}
+use Rattle.tiff_base.specs.Runs.{Unpacked, runs}
+use Rattle.tiff_base.specs.SourceAndSink.{exactly_at}
+use Rattle.tiff_value.specs.Differences.{stored_difference, differences}
+use Rattle.tiff_value.specs.Packed.{IsStored}
+use Rattle.tiff_value.proofs.Packing.{unpacks}
+use Rattle.tiff_page.specs.Page.{PageRecord}
+use Rattle.tiff_page.specs.Pixels.{each_to, width_of, stored_samples, stored_row_bytes, data_by, chunk_data, raw_number, number_by, stored_number}
+use Rattle.tiff_page.proofs.ChunkRows.{bits_are}
+use Rattle.tiff_encode.specs.Machine.{OpenImage}
+use Rattle.tiff_encode.specs.Chunks.{image_page, row_samples}
+use Rattle.tiff_encode.specs.Stored.{unpacked_chunk}
+use Rattle.tiff_encode.proofs.Slices.{is_exact}
+use Rattle.tiff_encode.proofs.Shown.Color.{IsSize, IsColored}
+use Rattle.tiff_encode.proofs.Shown.Bytes.{number_found, length_written}
+use Rattle.tiff_encode.proofs.Shown.Undone.{summed, kept_small}
+
+-- what is stored for bytes, where it stands in a file, gives data that begin with these bytes
+module _ (file : List ℕ) (order : ByteOrder) (p : PageRecord) (offset : ℕ) (stored bytes : List ℕ)
+    (there : exactly_at file offset (length stored) ≡ Ok stored) where
+  -- such data
+  abbrev Begins : CompressionMethod → Type 0
+  Begins m = (rest : List ℕ) × (data_by file order p m offset (length stored) ≡ bytes ++ rest)
+
+  as_they_are : stored ≡ bytes → Begins method.None
+  as_they_are e =
+      let n : ℕ = length stored in
+      let o = is_exact file offset n stored there in (
+        drop n (drop offset file),
+        sym (take-append-drop n (drop offset file)) ∙ ap (λ (s : List ℕ). s ++ drop n (drop offset file)) (o.1 ∙ e),
+      )
+
+  unpacked : (u : Unpacked) → runs false stored ≡ u → u.out ≡ bytes → Begins method.PackBits
+  unpacked u e h =
+      let n : ℕ = length stored in
+      let o = is_exact file offset n stored there in
+      let late : nat_lt (length file - offset) n ≡ false = le-ltb (length file - offset) n o.0 in (
+        [],
+        ap (λ (b : Bool). (runs b (take n (drop offset file))).out) late
+            ∙ ap (λ (xs : List ℕ). (runs false xs).out) o.1
+            ∙ ap (λ (v : Unpacked). v.out) e
+            ∙ h
+            ∙ sym (append-nil bytes),
+      )
+
+  pub data_begin : (m : CompressionMethod) → (m ≡ method.None) ⊎ (m ≡ method.PackBits) → IsStored m stored bytes → Begins m
+  data_begin m c =
+      let P : CompressionMethod → Type 0 = λ q. IsStored q stored bytes → Begins q in
+      elim c as (λ _. P m) [
+        | inl e ↦ subst P (sym e) as_they_are
+        | inr e ↦ subst P (sym e) (λ s. unpacked _ (unpacks bytes stored s) refl)
+      ]
+
+-- the bits of a sample are those of its bytes
+bits_of : (size : ℕ) → IsSize size → 2 ^ (8 * size) ≡ 256 ^ size
+bits_of size s =
+    let P : ℕ → Type 0 = λ n. 2 ^ (8 * n) ≡ 256 ^ n in
+    elim s as (λ _. P size) [
+      | inl e ↦ subst P (sym e) refl
+      | inr t ↦ elim t as (λ _. P size) [
+        | inl e ↦ subst P (sym e) refl
+        | inr u ↦ elim u as (λ _. P size) [
+          | inl e ↦ subst P (sym e) refl
+          | inr e ↦ subst P (sym e) refl
+        ]
+      ]
+    ]
+
+some_of : (size : ℕ) → IsSize size → 0 < 256 ^ size
+some_of size s = let e : 0 < 2 ^ (8 * size) = pow_pos (8 * size) in subst (λ (n : ℕ). 0 < n) (bits_of size s) e
+
+-- an image that has a color
+module _ (i : OpenImage) (c : IsColored i) where
+  abbrev pub p : PageRecord
+  p = image_page i
+
+  -- the numbers of a row, and those of a pixel
+  abbrev pub l : ℕ
+  l = row_samples p
+
+  abbrev pub s : ℕ
+  s = stored_samples p
+
+  -- a number has whole bytes
+  size_is : p.depth / 8 ≡ i.size
+  size_is = omega (arith, c.depth)
+
+  -- and so has a row
+  pub row_is : stored_row_bytes p ≡ l * i.size
+  row_is = let e : p.depth ≡ i.size * 8 = omega (arith, c.depth) in bits_are p.chunk_width p.depth i.size s e
+
+  -- the samples of a chunk
+  module _ (xs : List ℕ) where
+    -- what is kept of each
+    abbrev kept_of : ℕ → ℕ
+    kept_of = stored_difference i.predictor (256 ^ i.size) l s xs
+
+    abbrev kept_all : List ℕ
+    kept_all = map kept_of (range_with_len 0 (length xs))
+
+    bytes_are : unpacked_chunk i xs ≡ flat_map (le i.size) kept_all
+    unfolding unpacked_chunk differences
+    bytes_are = refl
+
+    -- its bytes
+    pub length_bytes : length (unpacked_chunk i xs) ≡ length xs * i.size
+    length_bytes =
+        ap length bytes_are ∙ length_written i.size kept_all
+        ∙ ap (λ (n : ℕ). n * i.size) (length-map-range_with_len kept_of 0 (length xs))
+
+    -- where data begin with its bytes
+    module _ (file rest : List ℕ) (k : ℕ) (begins : chunk_data file LittleEndian p k ≡ unpacked_chunk i xs ++ rest)
+        (small : (n : ℕ) → get_or xs n 0 < 256 ^ i.size) (way : (i.predictor ≡ predictor.None) ⊎ (i.predictor ≡ predictor.Horizontal))
+        (row : ℕ) where
+      -- the offset of a number
+      abbrev at : ℕ → ℕ → ℕ
+      at column sample = row * l + (column * s + sample)
+
+      -- a number as it stands is what was kept
+      raw_is : (column sample : ℕ) → at column sample < length xs
+          → raw_number file LittleEndian p k row column sample ≡ kept_of (at column sample)
+      raw_is column sample h =
+          let here : List ℕ = chunk_data file LittleEndian p k in
+          let n : ℕ = at column sample in
+          let q : ℕ = column * s + sample in
+          let f : ℕ → ℕ → ℕ = λ size j. slice_index here (row * stored_row_bytes p + (q * size + j)) in
+          let there : get_or kept_all n 0 ≡ kept_of n = get_or-map-range_with_len kept_of 0 (length xs) n n 0 h (omega arith) in
+          let long : length kept_all ≡ length xs = length-map-range_with_len kept_of 0 (length xs) in
+          let fits : kept_of n < 256 ^ i.size = kept_small i.predictor (256 ^ i.size) l s xs n way (some_of i.size c.is_size) small in
+          let r : row * stored_row_bytes p ≡ row * (l * i.size) = ap (λ (m : ℕ). row * m) row_is in
+          let a : row * (l * i.size) ≡ row * l * i.size = sym (mul_assoc row l i.size) in
+          let e : (j : ℕ) → f i.size j ≡ get_or (flat_map (le i.size) kept_all ++ rest) (n * i.size + j) 0 = λ j.
+          let z : row * stored_row_bytes p + (q * i.size + j) ≡ n * i.size + j = omega (arith, r, a) in
+          ap (λ (m : ℕ). slice_index here m) z
+          ∙ ap (λ (b : List ℕ). get_or b (n * i.size + j) 0) (begins ∙ ap (λ (b : List ℕ). b ++ rest) bytes_are) in
+          ap (λ (m : ℕ). number LittleEndian (width_of m) (each_to m (f m))) size_is
+          ∙ number_found i.size kept_all rest n (f i.size) c.is_size (omega (arith, h, long))
+          (subst (λ (m : ℕ). m < 256 ^ i.size) (sym there) fits) e
+          ∙ there
+
+      -- and the number of a sample is the sample
+      pub number_is : (column sample : ℕ) → sample < s → column < p.chunk_width → at column sample < length xs
+          → stored_number file LittleEndian p k row column sample ≡ get_or xs (at column sample) 0
+      number_is column sample first inside h =
+          let m : ℕ = 256 ^ i.size in
+          let raw : ℕ → ℕ = λ j. raw_number file LittleEndian p k row j sample in
+          let P : Predictor → Type 0 = λ q. ((j : ℕ) → j ≤ column → raw j ≡ stored_difference q m l s xs (at j sample))
+          → number_by file LittleEndian p q k row column sample ≡ get_or xs (at column sample) 0 in
+          let u : (column + 1) * s ≤ p.chunk_width * s = mul-le-mul_right s (omega (arith, inside)) in
+          let way_of : P i.predictor = elim way as (λ _. P i.predictor) [
+            | inl e ↦ subst P (sym e) (λ f. f column (omega arith))
+            | inr e ↦ subst P (sym e) (λ f.
+                ap (λ (n : ℕ). sum_by raw (range_with_len 0 (column + 1)) % n) (ap (λ (d : ℕ). 2 ^ d) c.depth ∙ bits_of i.size c.is_size)
+                ∙ summed m l s xs small row sample column first (omega (arith, u, first)) raw f)
+          ] in
+          way_of (λ j b.
+          let v : j * s ≤ column * s = mul-le-mul_right s b in
+          raw_is j sample (omega (arith, v, h)))

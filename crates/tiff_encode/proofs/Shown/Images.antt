@@ -1,0 +1,31 @@
+-- What stands and holds an image shows it.
+use Rattle.std.proofs.Common.{ℕ, List, refl}
+use Rattle.std.specs.Prelude.{slice_index}
+use Rattle.tiff_base.specs.declared.tags.FileKind.{FileKind}
+use Rattle.tiff_encode.specs.Model.{Model, Stands}
+use Rattle.tiff_encode.specs.Machine.{OpenImage}
+use Rattle.tiff_encode.specs.Chunks.{image_page, sample_in}
+use Rattle.tiff_encode.specs.Held.{HasChunks, RegionsHaveChunks, ShowsSamples, PageTold, ImagesShow}
+use Rattle.tiff_encode.proofs.Shown.Chunks.{chunks_show}
+
+-- regions that stand for the samples of chunks stand in the file
+regions_stand : (kind : FileKind) (file : List ℕ) (m : Model) (i : OpenImage) (samples : List (List ℕ))
+    → Stands kind file m → RegionsHaveChunks m i samples → HasChunks file i samples
+regions_stand kind file m i samples s r k b =
+    let t = r k b in
+    (t.0, (s.regions (record { offset = slice_index (image_page i).offsets k; bytes = t.0 }) t.1.0, t.1.1))
+
+-- where a directory that holds what an image says of itself is the image's page
+pub images_show_by : PageTold → ImagesShow
+images_show_by told kind file m d fields given i samples s in_directories is_listed holds whole tells handed regions =
+    let c : ShowsSamples file (image_page i) (sample_in (image_page i) samples) =
+    chunks_show kind file i samples whole handed (regions_stand kind file m i samples s regions) in
+    record {
+      page = image_page i;
+      is_page = told kind file m d fields given i s in_directories is_listed holds whole tells;
+      is_image = refl;
+      color = c.color;
+      is_color = c.is_color;
+      whole = c.whole;
+      shows = c.shows;
+    }

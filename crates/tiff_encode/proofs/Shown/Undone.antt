@@ -1,0 +1,88 @@
+-- Differences along the rows of a chunk, undone, are its numbers.
+use Rattle.std.proofs.Common.{◌≡◌, ℕ, zero, suc, ◌+◌, ◌-◌, ◌*◌, ◌%◌, ◌<◌, ◌≤◌, ◌⊎◌, List, [], ◌∷◌, ◌++◌, get_or, refl, ap, sym, ◌∙◌, subst, inl, inr, arith, add-one}
+use Rattle.std.specs.Prelude.{sum_by}
+use Rattle.std.specs.List.{range_with_len}
+use Rattle.std.proofs.lemmas.Bool.{cases_lt, lt-ltb, le-ltb}
+use Rattle.std.proofs.lemmas.List.Sums.{sum_by_push}
+use Rattle.std.proofs.lemmas.Nat.{mod-mul-add, mod_below}
+use Rattle.std.proofs.Math.Nat.{mod-eq_of_lt, mul-le-mul_right, mod-add-mod, add-mod-mod, add-mod_right}
+use Rattle.tiff_base.specs.declared.tags.Predictor.{Predictor}
+use Rattle.tiff_base.specs.declared.tags.Predictor.TheVariants as predictor
+use Rattle.tiff_base.specs.declared.tags.Predictor.TheVariants.{Horizontal}
+use Rattle.tiff_value.specs.Differences.{stored_difference}
+use Rattle.tiff_page.proofs.Rows.{sum_same}
+
+-- one more number of a range
+range_more : (a n : ℕ) → range_with_len a (suc n) ≡ range_with_len a n ++ (a + n) ∷ []
+range_more a zero = let e : a ≡ a + 0 = omega arith in ap (λ (k : ℕ). k ∷ []) e
+range_more a (suc n) =
+    let e : (a + 1) + n ≡ a + suc n = omega arith in
+    ap (λ (l : List ℕ). a ∷ l) (range_more (a + 1) n) ∙ ap (λ (k : ℕ). a ∷ (range_with_len (a + 1) n ++ k ∷ [])) e
+
+-- the first numbers, summed
+abbrev total : (ℕ → ℕ) → ℕ → ℕ
+total d n = sum_by d (range_with_len 0 n)
+
+total_more : (d : ℕ → ℕ) (n : ℕ) → total d (suc n) ≡ total d n + d n
+total_more d n =
+    let e : 0 + n ≡ n = omega arith in
+    ap (sum_by d) (range_more 0 n) ∙ sum_by_push d (range_with_len 0 n) (0 + n) ∙ ap (λ (k : ℕ). total d n + d k) e
+
+one_total : (d : ℕ → ℕ) → total d (suc zero) ≡ d 0
+one_total d = total_more d zero ∙ omega arith
+
+-- what differs by d, summed, is x
+undone : (x d : ℕ → ℕ) (m last : ℕ) → ((c : ℕ) → x c < m) → d 0 ≡ x 0
+    → ((c : ℕ) → c < last → d (suc c) ≡ (x (suc c) + m - x c) % m)
+    → (c : ℕ) → c ≤ last → total d (suc c) % m ≡ x c
+undone x d m last b z e zero h = rw (one_total d, z) (mod-eq_of_lt (b 0))
+undone x d m last b z e (suc c) h =
+    let ih : total d (suc c) % m ≡ x c = undone x d m last b z e c (omega (arith, h)) in
+    let w : x c + (x (suc c) + m - x c) ≡ x (suc c) + m = omega (arith, b c) in
+    rw (total_more d (suc c), ← mod-add-mod, ih, e c (omega (arith, h)), add-mod-mod, w, add-mod_right) (mod-eq_of_lt (b (suc c)))
+
+-- rows of l numbers, a pixel having s
+module _ (m l s : ℕ) (numbers : List ℕ) (small : (k : ℕ) → get_or numbers k 0 < m) (row sample last : ℕ)
+    (first : sample < s) (within : last * s + sample < l) where
+  -- where a number of this sample stands
+  abbrev at : ℕ → ℕ
+  at c = row * l + (c * s + sample)
+
+  -- it is of this row
+  in_row : (c : ℕ) → c ≤ last → at c % l ≡ c * s + sample
+  in_row c h =
+      let u : c * s ≤ last * s = mul-le-mul_right s h in
+      mod-mul-add row l (c * s + sample) (omega (arith, u, within))
+
+  -- the row's first pixel is kept as it is
+  begun : stored_difference Horizontal m l s numbers (at 0) ≡ get_or numbers (at 0) 0
+  begun = rw (in_row 0 (omega arith), lt-ltb (0 * s + sample) s (omega (arith, first))) refl
+
+  -- of each later one the difference
+  goes_on : (c : ℕ) → c < last
+      → stored_difference Horizontal m l s numbers (at (suc c)) ≡ (get_or numbers (at (suc c)) 0 + m - get_or numbers (at c) 0) % m
+  goes_on c h =
+      let u : at (suc c) - s ≡ at c = omega arith in
+      rw (in_row (suc c) (omega (arith, h)), le-ltb (suc c * s + sample) s (omega arith), u) refl
+
+  -- the sum of what is kept is the number
+  pub summed : (d : ℕ → ℕ) → ((c : ℕ) → c ≤ last → d c ≡ stored_difference Horizontal m l s numbers (at c))
+      → sum_by d (range_with_len 0 (last + 1)) % m ≡ get_or numbers (at last) 0
+  summed d e =
+      let f : ℕ → ℕ = λ c. stored_difference Horizontal m l s numbers (at c) in
+      ap (λ (n : ℕ). n % m) (sum_same (last + 1) 0 d f (λ j a b. e j (omega (arith, b))))
+      ∙ ap (λ (n : ℕ). total f n % m) (add-one last)
+      ∙ undone (λ c. get_or numbers (at c) 0) f m last (λ c. small (at c)) begun goes_on last (omega arith)
+
+-- what is kept is as small as the numbers
+pub kept_small : (p : Predictor) (m l s : ℕ) (numbers : List ℕ) (k : ℕ) → (p ≡ predictor.None) ⊎ (p ≡ predictor.Horizontal)
+    → 0 < m → ((k : ℕ) → get_or numbers k 0 < m) → stored_difference p m l s numbers k < m
+kept_small p m l s numbers k c h b =
+    let P : Predictor → Type 0 = λ q. stored_difference q m l s numbers k < m in
+    elim c as (λ _. P p) [
+      | inl e ↦ subst P (sym e) (b k)
+      | inr e ↦ subst P (sym e) (elim (cases_lt (k % l) s) as (λ _. P predictor.Horizontal) [
+        | inl a ↦ rw (lt-ltb (k % l) s a) (b k)
+        | inr a ↦ rw (le-ltb (k % l) s a) (mod_below (get_or numbers k 0 + m - get_or numbers (k - s) 0) m h)
+      ])
+    ]

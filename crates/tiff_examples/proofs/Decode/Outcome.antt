@@ -1,0 +1,181 @@
+-- The worked examples of Openings compute.
+use Rattle.std.specs.Prelude.{refl}
+use Rattle.tiff_base.specs.Tags as tags
+use Rattle.tiff_ifd.specs.Look as look
+use Rattle.tiff_ifd.specs.Look.{require}
+use Rattle.tiff_page.specs.Checks.{page_of, size_in, interpretation_in, method_in, samples_in, extra_in, format_in, depth_in, predictor_in, planar_in, subsampling_in, chunk_type_in, strips_in, chunks_counted}
+use Rattle.tiff_base.specs.Number.{number}
+use Rattle.std.specs.Prelude.{◌≡◌, ℕ, List, [], ◌∷◌, drop, reverse, is_some, Some, Result, Ok}
+use Rattle.std.proofs.Common.{ap}
+use Rattle.std.specs.Ordering.{nat_cmp}
+use Rattle.std.specs.Cmp.{nat_cmp_total}
+use Rattle.std.specs.FinMap.{find, from_entries, get-from_entries}
+use Rattle.tiff_base.specs.declared.error.TiffError.{TiffError}
+use Rattle.tiff_base.specs.Answers.{◌>>=◌}
+use Rattle.tiff_base.specs.Field.{Field}
+use Rattle.tiff_base.specs.FieldBytes.{field_bytes}
+use Rattle.tiff_base.specs.Header.{header_at}
+use Rattle.tiff_base.specs.Tags.{tag_number, type_of}
+use Rattle.tiff_base.specs.Directory.{directory_at, entries_from, last_of_each, entry_of}
+use Rattle.tiff_base.specs.SourceAndSink.{put}
+use Rattle.tiff_ifd.specs.Chain.{chain}
+use Rattle.tiff_ifd.specs.Datum.{Datum}
+use Rattle.tiff_ifd.specs.FieldValue.{field_value}
+use Rattle.tiff_ifd.specs.Look.{Look, look_up_in, look_in, if_found}
+use Rattle.tiff_decode.specs.Machine.{Decoding}
+use Rattle.tiff_decode.specs.Outcome.{decoder_of, first_directory}
+use Rattle.tiff_decode.specs.DefaultLimits.{default_limits}
+use Rattle.tiff_examples.specs.Decoders.{at, gray_state, decoder_at, two_decoder}
+use Rattle.tiff_examples.specs.Files.{gray_file, gray_entries, one_long, one_short}
+use Rattle.tiff_examples.specs.Decode.Outcome as s
+
+-- the look-up in fields, by the list that they are made of
+pub looked_by : (value : Field → Result Datum TiffError) (fields : List (ℕ × Field))
+    → look_up_in value (from_entries {R = nat_cmp} fields)
+    ≡ record {
+      has = λ tag. is_some (find nat_cmp (tag_number tag) fields);
+      value = λ tag. if_found value (find nat_cmp (tag_number tag) fields);
+    }
+looked_by value fields = λ i. record {
+  has = λ tag. is_some (get-from_entries nat_cmp_total fields (tag_number tag) i);
+  value = λ tag. if_found value (get-from_entries nat_cmp_total fields (tag_number tag) i);
+}
+
+-- a file of the one gray pixel's form with a field that is another one
+abbrev fields_with : Field → Field → Field → List (ℕ × Field)
+fields_with width method count = reverse (
+    (256, width)
+    ∷ (257, one_long (1 ∷ 0 ∷ 0 ∷ 0 ∷ 0 ∷ 0 ∷ 0 ∷ 0 ∷ []))
+    ∷ (258, one_short (8 ∷ 0 ∷ 0 ∷ 0 ∷ 0 ∷ 0 ∷ 0 ∷ 0 ∷ []))
+    ∷ (259, method)
+    ∷ (262, one_short (1 ∷ 0 ∷ 0 ∷ 0 ∷ 0 ∷ 0 ∷ 0 ∷ 0 ∷ []))
+    ∷ (273, one_long (24 ∷ 0 ∷ 0 ∷ 0 ∷ 0 ∷ 0 ∷ 0 ∷ 0 ∷ []))
+    ∷ (277, one_short (1 ∷ 0 ∷ 0 ∷ 0 ∷ 0 ∷ 0 ∷ 0 ∷ 0 ∷ []))
+    ∷ (278, one_long (64 ∷ 66 ∷ 15 ∷ 0 ∷ 0 ∷ 0 ∷ 0 ∷ 0 ∷ []))
+    ∷ (279, count)
+    ∷ drop 9 gray_entries)
+
+-- 0, 1 and 5
+abbrev long_0 : Field
+long_0 = one_long (0 ∷ 0 ∷ 0 ∷ 0 ∷ 0 ∷ 0 ∷ 0 ∷ 0 ∷ [])
+
+abbrev long_1 : Field
+long_1 = one_long (1 ∷ 0 ∷ 0 ∷ 0 ∷ 0 ∷ 0 ∷ 0 ∷ 0 ∷ [])
+
+abbrev short_1 : Field
+short_1 = one_short (1 ∷ 0 ∷ 0 ∷ 0 ∷ 0 ∷ 0 ∷ 0 ∷ 0 ∷ [])
+
+abbrev short_5 : Field
+short_5 = one_short (5 ∷ 0 ∷ 0 ∷ 0 ∷ 0 ∷ 0 ∷ 0 ∷ 0 ∷ [])
+
+-- a decoder, once the tags of its first page can be looked up
+abbrev answer : Decoding → Look → Result Decoding TiffError
+answer d look = page_of look >>= λ page. Ok (record d { state = record d.state { page = page } })
+
+-- the tags that a decoder looks up
+abbrev tags_of : (d : Decoding) (fields : List (ℕ × Field)) → look_up_in (field_value d.kind d.order d.bytes default_limits) (from_entries {R = nat_cmp} fields) ≡ record {
+  has = λ tag. is_some (find nat_cmp (tag_number tag) fields);
+  value = λ tag. if_found (field_value d.kind d.order d.bytes default_limits) (find nat_cmp (tag_number tag) fields);
+}
+tags_of d fields = looked_by (field_value d.kind d.order d.bytes default_limits) fields
+
+-- the decoder of a file of the one gray pixel's form
+abbrev changed : List ℕ → List (ℕ × Field) → Decoding
+changed bytes fields = decoder_at bytes 25 (record gray_state { directory = record gray_state.directory { entries = from_entries fields } })
+
+pub big_endian_0 : s.big_endian_0
+unfolding decoder_of first_directory header_at chain number
+big_endian_0 = refl
+
+pub big_endian_44 : s.big_endian_44
+unfolding decoder_of first_directory header_at chain number
+big_endian_44 = refl
+
+pub big_file_cut : s.big_file_cut
+unfolding decoder_of first_directory header_at chain number
+big_file_cut = refl
+
+pub big_file_4 : s.big_file_4
+unfolding decoder_of first_directory header_at chain number
+big_file_4 = refl
+
+pub directory_cut : s.directory_cut
+unfolding decoder_of first_directory header_at chain directory_at number
+directory_cut = refl
+
+pub gray_cut : s.gray_cut
+unfolding decoder_of first_directory header_at chain directory_at number
+gray_cut = refl
+
+pub no_tags : s.no_tags
+unfolding decoder_of first_directory header_at chain directory_at number entries_from entry_of type_of last_of_each
+    look_in field_value page_of size_in require look.find
+no_tags =
+    let d : Decoding = decoder_at s.bare_file 8 gray_state in
+    ap (answer (record d { state = record d.state { pointer = Some (at 8); directory = s.alone [] } })) (tags_of d [])
+
+pub width_0 : s.width_0
+unfolding decoder_of first_directory header_at chain directory_at number entries_from entry_of type_of last_of_each
+    look_in field_value page_of size_in require look.find
+width_0 =
+    let d : Decoding = changed (put gray_file 35 (0 ∷ [])) (fields_with long_0 short_1 long_1) in
+    ap (answer d) (tags_of d (fields_with long_0 short_1 long_1))
+
+pub lzw : s.lzw
+unfolding decoder_of first_directory header_at chain directory_at number entries_from entry_of type_of last_of_each
+    look_in field_value page_of size_in require look.find interpretation_in
+    tags.interpretation_of method_in tags.method_of samples_in extra_in format_in depth_in predictor_in
+    planar_in subsampling_in chunk_type_in strips_in chunks_counted tags.predictor_of tags.format_of
+lzw =
+    let d : Decoding = changed (put gray_file 71 (5 ∷ [])) (fields_with long_1 short_5 long_1) in
+    ap (λ (l : Look). answer d l >>= λ d. Ok d.state.page) (tags_of d (fields_with long_1 short_5 long_1))
+
+pub count_0 : s.count_0
+unfolding decoder_of first_directory header_at chain directory_at number entries_from entry_of type_of last_of_each
+    look_in field_value page_of size_in require look.find interpretation_in
+    tags.interpretation_of method_in tags.method_of samples_in extra_in format_in depth_in predictor_in
+    planar_in subsampling_in chunk_type_in strips_in chunks_counted tags.predictor_of tags.format_of
+count_0 =
+    let d : Decoding = changed (put gray_file 131 (0 ∷ [])) (fields_with long_1 short_1 long_0) in
+    ap (λ (l : Look). answer d l >>= λ d. Ok d.state.page) (tags_of d (fields_with long_1 short_1 long_0))
+
+pub list_limited : s.list_limited
+unfolding decoder_of first_directory header_at chain directory_at number entries_from entry_of type_of last_of_each
+    look_in field_value page_of size_in require look.find interpretation_in
+    tags.interpretation_of method_in tags.method_of samples_in extra_in format_in depth_in predictor_in
+    planar_in subsampling_in chunk_type_in strips_in chunks_counted tags.predictor_of tags.format_of field_bytes
+list_limited =
+    let fields : List (ℕ × Field) = fields_with long_1 short_1 (record long_1 { count = 8388609 }) in
+    let d : Decoding = changed (put gray_file 127 (1 ∷ 0 ∷ 128 ∷ 0 ∷ [])) fields in
+    ap (answer d) (tags_of d fields)
+
+pub list_within : s.list_within
+unfolding decoder_of first_directory header_at chain directory_at number entries_from entry_of type_of last_of_each
+    look_in field_value page_of size_in require look.find interpretation_in
+    tags.interpretation_of method_in tags.method_of samples_in extra_in format_in depth_in predictor_in
+    planar_in subsampling_in chunk_type_in strips_in chunks_counted tags.predictor_of tags.format_of field_bytes
+list_within =
+    let fields : List (ℕ × Field) = fields_with long_1 short_1 (record long_1 { count = 8388608 }) in
+    let d : Decoding = changed (put gray_file 127 (0 ∷ 0 ∷ 128 ∷ 0 ∷ [])) fields in
+    ap (answer d) (tags_of d fields)
+
+pub next_unread : s.next_unread
+unfolding decoder_of first_directory header_at chain directory_at number entries_from entry_of type_of last_of_each
+    look_in field_value page_of size_in require look.find interpretation_in
+    tags.interpretation_of method_in tags.method_of samples_in extra_in format_in depth_in predictor_in
+    planar_in subsampling_in chunk_type_in strips_in chunks_counted tags.predictor_of tags.format_of
+next_unread = ap (answer (two_decoder [])) (tags_of (two_decoder []) (reverse gray_entries))
+
+pub big_endian : s.big_endian
+unfolding decoder_of first_directory header_at chain directory_at number entries_from entry_of type_of last_of_each
+    look_in field_value field_bytes page_of size_in require look.find interpretation_in
+    tags.interpretation_of method_in tags.method_of samples_in extra_in format_in depth_in predictor_in
+    planar_in subsampling_in chunk_type_in strips_in chunks_counted tags.predictor_of tags.format_of
+big_endian = ap (answer s.big_endian_decoder) (tags_of s.big_endian_decoder (reverse s.big_endian_entries))
+
+pub big : s.big
+unfolding decoder_of first_directory header_at chain directory_at number entries_from entry_of type_of last_of_each
+    look_in field_value field_bytes page_of size_in require look.find interpretation_in
+    tags.interpretation_of method_in tags.method_of samples_in extra_in format_in depth_in predictor_in
+    planar_in subsampling_in chunk_type_in strips_in chunks_counted tags.predictor_of tags.format_of
+big = ap (answer s.big_decoder) (tags_of s.big_decoder (reverse s.big_entries))

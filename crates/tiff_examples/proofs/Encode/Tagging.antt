@@ -1,0 +1,153 @@
+-- The worked examples of Resolved hold.
+use Rattle.std.specs.Prelude.{refl, zero, suc, take}
+use Rattle.std.specs.FinMap.{entries, len}
+use Rattle.std.proofs.Common.{◌≡◌, ℕ, ◌<◌, List, [], ◌∷◌, length, Ok, ap, sym, ◌∙◌, subst, inl, inr, arith, lit<, lit≤}
+use Rattle.tiff_base.specs.declared.tags.FileKind.TheVariants.{Classic}
+use Rattle.tiff_base.specs.Field.{Field}
+use Rattle.tiff_value.specs.Data.{data_of}
+use Rattle.tiff_encode.specs.Machine.{FileState, OpenDirectory, OpenImage}
+use Rattle.tiff_encode.specs.Causes.{resolution_cause, write_tag_cause}
+use Rattle.tiff_encode.specs.Calls.{resolution, write_entry, write_tag}
+use Rattle.tiff_encode.specs.Ends.{IsTold}
+use Rattle.tiff_encode.specs.Tagging.{write_fields, StopsInPart}
+use Rattle.tiff_encode.proofs.Slices.{ok_inj}
+use Rattle.tiff_examples.specs.OneValue.{short_field, rational_field}
+use Rattle.tiff_examples.specs.Encode.Calls.{with_fields}
+use Rattle.tiff_examples.specs.Encode.Causes.{new_file}
+use Rattle.tiff_examples.specs.Encode.Tagging as s
+use Rattle.tiff_examples.specs.Encode.Tagging.{three_fields, none_set, unit_set, x_set, all_set}
+use Rattle.tiff_examples.proofs.Encode.Causes.{resolutions_far}
+use Rattle.tiff_examples.proofs.Encode.Jobs.{some_none}
+use Rattle.tiff_examples.proofs.Maps.{entries_puts, len_puts}
+use Rattle.tiff_examples.proofs.Encode.Model.{unequal}
+
+-- how many fields a directory has, and the tag of the first
+abbrev count_of : OpenDirectory → ℕ
+count_of d = len d.fields
+
+abbrev tag_of_first : List (ℕ × Field) → ℕ
+tag_of_first [] = 0
+tag_of_first (e ∷ es) = e.0
+
+abbrev first_of : OpenDirectory → ℕ
+first_of d = tag_of_first (entries d.fields)
+
+none_count : count_of none_set ≡ 0
+none_count = len_puts []
+
+unit_count : count_of unit_set ≡ 1
+unit_count = len_puts ((296, short_field 2) ∷ [])
+
+two_count : count_of (with_fields none_set ((282, rational_field 8) ∷ (296, short_field 2) ∷ [])) ≡ 2
+two_count = len_puts ((282, rational_field 8) ∷ (296, short_field 2) ∷ [])
+
+x_count : count_of x_set ≡ 1
+x_count = len_puts ((282, rational_field 8) ∷ [])
+
+all_count : count_of all_set ≡ 3
+all_count = len_puts ((283, rational_field 16) ∷ (282, rational_field 8) ∷ (296, short_field 2) ∷ [])
+
+unit_first : first_of unit_set ≡ 296
+unit_first = ap tag_of_first (entries_puts ((296, short_field 2) ∷ []))
+
+x_first : first_of x_set ≡ 282
+x_first = ap tag_of_first (entries_puts ((282, rational_field 8) ∷ []))
+
+-- what the first ones of the three fields make
+abbrev Set : ℕ → OpenDirectory → FileState → Type 0
+Set k next mid = IsTold (write_fields none_set (take k three_fields) (new_file Classic)) (Ok next) mid
+
+set_none : (next : OpenDirectory) (mid : FileState) → Set 0 next mid → none_set ≡ next
+set_none next mid t = ok_inj none_set next t.answer
+
+set_one : (next : OpenDirectory) (mid : FileState) → Set 1 next mid → unit_set ≡ next
+unfolding write_tag write_entry write_tag_cause data_of
+set_one next mid t = ok_inj unit_set next t.answer
+
+set_two : (next : OpenDirectory) (mid : FileState) → Set 2 next mid → with_fields none_set ((282, rational_field 8) ∷ (296, short_field 2) ∷ []) ≡ next
+unfolding write_tag write_entry write_tag_cause data_of
+set_two next mid t = ok_inj (with_fields none_set ((282, rational_field 8) ∷ (296, short_field 2) ∷ [])) next t.answer
+
+not_all : (k : ℕ) (mid : FileState) → k < 3 → Set k all_set mid → ⊥
+not_all zero mid l t = unequal 0 3 (lit< tt) (sym none_count ∙ (ap count_of (set_none all_set mid t) ∙ all_count))
+not_all (suc zero) mid l t = unequal 1 3 (lit< tt) (sym unit_count ∙ (ap count_of (set_one all_set mid t) ∙ all_count))
+not_all (suc (suc zero)) mid l t = unequal 2 3 (lit< tt) (sym two_count ∙ (ap count_of (set_two all_set mid t) ∙ all_count))
+not_all (suc (suc (suc k))) mid l t = omega (arith, l)
+
+not_left : (k : ℕ) (mid : FileState) → k < 3 → Set k x_set mid → ⊥
+not_left zero mid l t = unequal 0 1 (lit< tt) (sym none_count ∙ (ap count_of (set_none x_set mid t) ∙ x_count))
+not_left (suc zero) mid l t = unequal 282 296 (lit< tt) (sym x_first ∙ (sym (ap first_of (set_one x_set mid t)) ∙ unit_first))
+not_left (suc (suc zero)) mid l t = unequal 1 2 (lit< tt) (sym x_count ∙ (sym (ap count_of (set_two x_set mid t)) ∙ two_count))
+not_left (suc (suc (suc k))) mid l t = omega (arith, l)
+
+part : s.unit_alone
+unfolding write_tag write_entry write_tag_cause data_of
+part = (
+  1,
+  (
+    lit< tt,
+    (
+      new_file Classic,
+      (
+        record { answer = refl; state = refl },
+        inr (inr (inr (record { fresh = refl; fault = refl; begun = tt; count = 0; within = lit≤ tt; state = refl }))),
+      ),
+    ),
+  ),
+)
+
+pub unit_alone : s.unit_alone
+unit_alone = part
+
+pub all_stopped : s.all_stopped
+all_stopped = λ e new h. not_all h.0 h.1.1.0 h.1.0 h.1.1.1.0
+
+pub left_out : s.left_out
+left_out = λ e new h. not_left h.0 h.1.1.0 h.1.0 h.1.1.1.0
+
+pub none_stopped : s.none_stopped
+none_stopped = λ e new next h. let l : h.0 < 0 = h.1.0 in omega (arith, l)
+
+-- ---- an image's
+
+pub resolving_unit : s.resolving_unit
+unfolding resolution_cause
+resolving_unit = inr (refl, (unit_set, (refl, part)))
+
+pub resolving_failed : s.resolving_failed
+unfolding resolution resolution_cause
+resolving_failed = inl (refl, inl (record { answer = refl; state = refl }))
+
+not_refused : s.resolving_refused
+unfolding resolution_cause
+not_refused e new (inl h) =
+    unequal 0 1 (lit< tt) (sym none_count ∙ (sym (ap (λ (i : OpenImage). count_of i.directory) h.0) ∙ unit_count))
+not_refused e new (inr h) = some_none h.0
+
+pub resolving_refused : s.resolving_refused
+resolving_refused = not_refused
+
+not_far : s.resolving_far
+not_far bytes e new l (inl h) =
+    unequal 0 1 (lit< tt) (sym none_count ∙ (sym (ap (λ (i : OpenImage). count_of i.directory) h.0) ∙ unit_count))
+not_far bytes e new l (inr h) = some_none (sym (resolutions_far bytes l) ∙ h.0)
+
+pub resolving_far : s.resolving_far
+resolving_far = not_far
+
+not_resolved : s.resolving_all
+not_resolved e new (inl h) =
+    unequal 0 3 (lit< tt) (sym none_count ∙ (sym (ap (λ (i : OpenImage). count_of i.directory) h.0) ∙ all_count))
+not_resolved e new (inr h) =
+    let same : all_set ≡ h.1.0 = ap (λ (i : OpenImage). i.directory) h.1.1.0 in
+    all_stopped e new (subst (λ d. StopsInPart none_set three_fields e (new_file Classic) new d) (sym same) h.1.1.1)
+
+pub resolving_all : s.resolving_all
+resolving_all = not_resolved
+
+not_changed : s.resolving_chunk
+not_changed e new now l (inl h) = unequal 0 1 (lit< tt) (sym (ap (λ (i : OpenImage). length i.chunks) h.0) ∙ l)
+not_changed e new now l (inr h) = unequal 0 1 (lit< tt) (sym (ap (λ (i : OpenImage). length i.chunks) h.1.1.0) ∙ l)
+
+pub resolving_chunk : s.resolving_chunk
+resolving_chunk = not_changed

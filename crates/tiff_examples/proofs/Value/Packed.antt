@@ -1,0 +1,254 @@
+-- The worked examples of Samples compute.
+use Rattle.std.specs.Prelude.{refl, Bool, true, false}
+use Rattle.std.specs.List.{list_all}
+use Rattle.std.proofs.Common.{◌≡◌, ℕ, ◌+◌, ◌-◌, ◌<◌, ◌&&◌, List, [], ◌∷◌, ◌++◌, arith, ap, drop, flat_map, get_or, length, length-append, subst, sym, take, ◌∙◌}
+use Rattle.std.proofs.lemmas.List.{take_all, take_at}
+use Rattle.tiff_base.specs.Runs.{Unpacked, runs_after}
+use Rattle.tiff_base.specs.Blocks.{Block, Nothing, Literal, Repeated, AreBlocks, packed_block}
+use Rattle.tiff_value.specs.ColorTypes.{color_type, inner_type}
+use Rattle.tiff_value.specs.Differences.{differences}
+use Rattle.tiff_value.proofs.Packing.{unpacks}
+use Rattle.tiff_value.specs.Packed.{is_sparing, may_be_written, IsPacked}
+use Rattle.tiff_examples.specs.Value.Packed as s
+
+abbrev IsTrue : Bool → Type 0
+IsTrue true = Unit {0}
+IsTrue false = ⊥
+
+pub gray8 : s.gray8
+unfolding color_type
+gray8 = refl
+
+pub gray_i16 : s.gray_i16
+unfolding color_type
+gray_i16 = refl
+
+pub gray64_float : s.gray64_float
+unfolding color_type
+gray64_float = refl
+
+pub rgb16 : s.rgb16
+unfolding color_type
+rgb16 = refl
+
+pub rgba8 : s.rgba8
+unfolding color_type
+rgba8 = refl
+
+pub cmyk32_float : s.cmyk32_float
+unfolding color_type
+cmyk32_float = refl
+
+pub ycbcr8 : s.ycbcr8
+unfolding color_type
+ycbcr8 = refl
+
+pub cmyka8 : s.cmyka8
+unfolding color_type
+cmyka8 = refl
+
+pub size_gray8 : s.size_gray8
+unfolding inner_type
+size_gray8 = refl
+
+pub size_gray_i32 : s.size_gray_i32
+unfolding inner_type
+size_gray_i32 = refl
+
+pub size_rgb64 : s.size_rgb64
+unfolding inner_type
+size_rgb64 = refl
+
+pub size_rgba32_float : s.size_rgba32_float
+unfolding inner_type
+size_rgba32_float = refl
+
+pub two_pixels : s.two_pixels
+unfolding differences inner_type
+two_pixels = refl
+
+pub extra_number : s.extra_number
+unfolding differences inner_type
+extra_number = refl
+
+pub wide_numbers : s.wide_numbers
+unfolding differences inner_type
+wide_numbers = refl
+
+pub signed_numbers : s.signed_numbers
+unfolding differences inner_type
+signed_numbers = refl
+
+pub no_pixel : s.no_pixel
+unfolding differences inner_type
+no_pixel = refl
+
+pub short_row : s.short_row
+unfolding differences inner_type
+short_row = refl
+
+pub one_pixel : s.one_pixel
+unfolding differences inner_type
+one_pixel = refl
+
+pub floating_row : s.floating_row
+unfolding differences inner_type
+floating_row = refl
+
+pub floating_no_pixel : s.floating_no_pixel
+unfolding differences inner_type
+floating_no_pixel = refl
+
+pub two_rows : s.two_rows
+unfolding differences
+two_rows = refl
+
+pub no_predictor : s.no_predictor
+unfolding differences
+no_predictor = refl
+
+pub restored_0 : s.restored_0
+restored_0 = refl
+
+pub restored_6 : s.restored_6
+restored_6 = refl
+
+pub pack_one : s.pack_one
+pack_one = record {
+  packs = record { blocks = Literal (0x3f ∷ []) ∷ []; are_blocks = ((omega arith, omega arith), tt); written = refl; is_list = refl; stands = refl };
+  bound = omega arith;
+}
+
+pub pack_pairs : s.pack_pairs
+pack_pairs = record {
+  packs = record { blocks = Repeated 2 0x41 ∷ Repeated 2 0x42 ∷ []; are_blocks = ((omega arith, omega arith), ((omega arith, omega arith), tt)); written = refl; is_list = refl; stands = refl };
+  bound = omega arith;
+}
+
+pub pack_literal : s.pack_literal
+pack_literal = record {
+  packs = record { blocks = Literal (0x41 ∷ 0x42 ∷ 0x42 ∷ []) ∷ []; are_blocks = ((omega arith, omega arith), tt); written = refl; is_list = refl; stands = refl };
+  bound = omega arith;
+}
+
+pub pack_128 : s.pack_128
+pack_128 = record {
+  packs = record { blocks = Repeated 128 0x41 ∷ []; are_blocks = ((omega arith, omega arith), tt); written = refl; is_list = refl; stands = refl };
+  bound = omega arith;
+}
+
+pub pack_129 : s.pack_129
+pack_129 = record {
+  packs = record { blocks = Repeated 128 0x41 ∷ Literal (0x41 ∷ []) ∷ []; are_blocks = ((omega arith, omega arith), ((omega arith, omega arith), tt)); written = refl; is_list = refl; stands = refl };
+  bound = omega arith;
+}
+
+first_of : (a b : Bool) → (a && b) ≡ true → a ≡ true
+first_of true b h = refl
+first_of false b h = h
+
+second_of : (a b : Bool) → (a && b) ≡ true → b ≡ true
+second_of true b h = h
+second_of false b h = absurd (cc)
+
+-- a list that begins with a header below 128 begins with a literal, which is whole and sparing
+literal_first : (blocks : List Block) (h : ℕ) (more : List ℕ) → AreBlocks blocks → list_all may_be_written blocks ≡ true → h < 128
+    → h ∷ more ≡ flat_map packed_block blocks
+    → (xs : List ℕ) × ((rest : List ℕ) × ((length xs ≡ h + 1) × ((more ≡ xs ++ rest) × (is_sparing xs ≡ true))))
+literal_first [] h more a w b e = absurd (cc)
+literal_first (Nothing ∷ blocks) h more a w b e = absurd (cc)
+literal_first (Literal xs ∷ blocks) h more a w b e =
+    let l : h ≡ length xs - 1 = ap (λ (ys : List ℕ). get_or ys 0 0) e in
+    (xs, (flat_map packed_block blocks, (omega (arith, a.0.0, l), (ap (λ (ys : List ℕ). drop 1 ys) e, first_of (is_sparing xs) (list_all may_be_written blocks) w))))
+literal_first (Repeated n v ∷ blocks) h more a w b e = absurd (omega (arith, a.0.1, b, ap (λ (ys : List ℕ). get_or ys 0 0) e))
+
+-- one above 128, with a run
+run_first : (blocks : List Block) (h v : ℕ) (more : List ℕ) → AreBlocks blocks → list_all may_be_written blocks ≡ true → 128 < h
+    → h ∷ v ∷ more ≡ flat_map packed_block blocks
+    → (rest : List Block) × (AreBlocks rest × ((list_all may_be_written rest ≡ true) × (more ≡ flat_map packed_block rest)))
+run_first [] h v more a w b e = absurd (cc)
+run_first (Nothing ∷ blocks) h v more a w b e = absurd (cc)
+run_first (Literal xs ∷ blocks) h v more a w b e = absurd (omega (arith, a.0.1, b, ap (λ (ys : List ℕ). get_or ys 0 0) e))
+run_first (Repeated n x ∷ blocks) h v more a w b e = (blocks, (a.1, (w, ap (λ (ys : List ℕ). drop 2 ys) e)))
+
+-- and none with 128
+no_header_128 : (blocks : List Block) (more : List ℕ) → AreBlocks blocks → list_all may_be_written blocks ≡ true → 128 ∷ more ≡ flat_map packed_block blocks → ⊥
+no_header_128 [] more a w e = cc
+no_header_128 (Nothing ∷ blocks) more a w e = cc
+no_header_128 (Literal xs ∷ blocks) more a w e = omega (arith, a.0.1, ap (λ (ys : List ℕ). get_or ys 0 0) e)
+no_header_128 (Repeated n v ∷ blocks) more a w e = omega (arith, a.0.0, a.0.1, ap (λ (ys : List ℕ). get_or ys 0 0) e)
+
+-- one literal that isn't sparing
+not_sparing : (bytes xs : List ℕ) (h : ℕ) → h < 128 → length xs ≡ h + 1 → is_sparing xs ≡ false → IsPacked bytes (h ∷ xs) → ⊥
+not_sparing bytes xs h b l s p =
+    let f = literal_first p.packs.blocks h xs p.packs.are_blocks p.packs.written b p.packs.is_list in
+    let e : f.0 ≡ xs = sym (take_at f.0 f.1.0 (h + 1) f.1.1.0) ∙ ap (take (h + 1)) (sym f.1.1.1.0) ∙ take_all (h + 1) xs (omega (arith, l)) in
+    subst IsTrue (sym f.1.1.1.1 ∙ (ap is_sparing e ∙ s)) tt
+
+pub literal_pair : s.literal_pair
+literal_pair = not_sparing _ (0x41 ∷ 0x41 ∷ []) 1 (omega arith) refl refl
+
+pub literal_three : s.literal_three
+literal_three = not_sparing _ (0x40 ∷ 0x41 ∷ 0x41 ∷ 0x41 ∷ []) 3 (omega arith) refl refl
+
+pub literals_alone : s.literals_alone
+literals_alone = λ p. omega (arith, p.bound)
+
+pub with_128 : s.with_128
+with_128 = λ p.
+    let f = run_first p.packs.blocks 0xff 0x41 (0x80 ∷ []) p.packs.are_blocks p.packs.written (omega arith) p.packs.is_list in
+    no_header_128 f.0 [] f.1.0 f.1.1.0 f.1.1.1
+
+pub literal_cut : s.literal_cut
+literal_cut = λ p.
+    let f = literal_first p.packs.blocks 2 (0x41 ∷ 0x42 ∷ []) p.packs.are_blocks p.packs.written (omega arith) p.packs.is_list in
+    omega (arith, f.1.1.0, ap length f.1.1.1.0, length-append f.0 f.1.0)
+
+pub pack_other : s.pack_other
+unfolding runs_after
+pack_other = λ p. absurd (omega (arith, ap (λ (u : Unpacked). get_or u.out 0 0) (unpacks (0x41 ∷ []) (0x00 ∷ 0x42 ∷ []) p)))
+
+pub pack_standard : s.pack_standard
+pack_standard = record {
+  packs = record { blocks = Repeated 3 0xaa ∷ Literal (0x80 ∷ 0x00 ∷ 0x2a ∷ []) ∷ Repeated 4 0xaa ∷ Literal (0x80 ∷ 0x00 ∷ 0x2a ∷ 0x22 ∷ []) ∷ Repeated 10 0xaa ∷ []; are_blocks = ((omega arith, omega arith), ((omega arith, omega arith), ((omega arith, omega arith), ((omega arith, omega arith), ((omega arith, omega arith), tt))))); written = refl; is_list = refl; stands = refl };
+  bound = omega arith;
+}
+
+pub bound_0 : s.bound_0
+bound_0 = refl
+
+pub bound_128 : s.bound_128
+bound_128 = refl
+
+pub bound_129 : s.bound_129
+bound_129 = refl
+
+pub stored_plain : s.stored_plain
+stored_plain = refl
+
+pub stored_packed : s.stored_packed
+stored_packed = record {
+  packs = record { blocks = Repeated 4 0x01 ∷ []; are_blocks = ((omega arith, omega arith), tt); written = refl; is_list = refl; stands = refl };
+  bound = omega arith;
+}
+
+pub stored_else : s.stored_else
+stored_else = λ h. h
+
+pub fault_of_none : s.fault_of_none
+fault_of_none = refl
+
+pub plain_of_none : s.plain_of_none
+plain_of_none = refl
+
+pub no_fault : s.no_fault
+no_fault = refl
+
+pub plain_literal : s.plain_literal
+plain_literal = refl
+
+pub three_literal : s.three_literal
+three_literal = refl
+
+pub sparing_literal : s.sparing_literal
+sparing_literal = refl

@@ -1,0 +1,16 @@
+-- Each example is proved in proofs/Base/Answers.antt.
+use Rattle.tiff_examples.proofs.Base.Answers as p
+use Rattle.tiff_examples.proofs.base.answers.names.Goals as goal
+
+pub returns : goal.returns
+returns c = (
+  p.tags_named,
+  p.methods_named,
+  p.formats_named,
+  p.units_of,
+  p.gray_known,
+  p.gray_wide,
+  p.gray_white,
+  p.gray_signed,
+  p.gray_two,
+)

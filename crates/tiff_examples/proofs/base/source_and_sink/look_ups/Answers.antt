@@ -1,0 +1,14 @@
+-- Each example is proved in proofs/Base/SourceAndSink.antt.
+use Rattle.tiff_examples.proofs.Base.SourceAndSink as p
+use Rattle.tiff_examples.proofs.base.source_and_sink.look_ups.Goals as goal
+
+pub returns : goal.returns
+returns c = (
+  p.signed_byte_alone,
+  p.look_big_endian,
+  p.look_placed,
+  p.look_limited,
+  p.wide_offset,
+  p.wide_count,
+  p.no_letters,
+)

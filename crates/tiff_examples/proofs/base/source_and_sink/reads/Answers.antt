@@ -1,0 +1,17 @@
+-- Each example is proved in proofs/Base/SourceAndSink.antt.
+use Rattle.tiff_examples.proofs.Base.SourceAndSink as p
+use Rattle.tiff_examples.proofs.base.source_and_sink.reads.Goals as goal
+
+pub returns : goal.returns
+returns c = (
+  p.two_in_middle,
+  p.read_two,
+  p.read_one,
+  p.read_none,
+  p.read_at_end,
+  p.read_past_end,
+  p.read_elsewhere,
+  p.read_into_none,
+  p.octets,
+  p.no_octets,
+)

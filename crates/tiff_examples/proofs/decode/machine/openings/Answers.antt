@@ -1,0 +1,11 @@
+-- Each example is proved in proofs/Decode/Machine.antt.
+use Rattle.tiff_examples.proofs.Decode.Machine as p
+use Rattle.tiff_examples.proofs.decode.machine.openings.Goals as goal
+
+pub returns : goal.returns
+returns c = (
+  p.gray_begins,
+  p.no_file,
+  p.own_cycle,
+  p.past_end,
+)

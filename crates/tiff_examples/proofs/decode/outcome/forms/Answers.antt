@@ -1,0 +1,9 @@
+-- Each example is proved in proofs/Decode/Outcome.antt.
+use Rattle.tiff_examples.proofs.Decode.Outcome as p
+use Rattle.tiff_examples.proofs.decode.outcome.forms.Goals as goal
+
+pub returns : goal.returns
+returns c = (
+  p.big_endian,
+  p.big,
+)

@@ -1,6 +1,0 @@
--- Each example is proved in proofs/Directories.antt.
-use Rattle.tiff_examples.proofs.Directories as p
-use Rattle.tiff_examples.proofs.directory.gray.Goals as goal
-
-pub returns : goal.returns
-returns c = (p.gray_length, p.gray_found, p.gray_14, p.gray_rows, p.gray_artist, p.gray_cut)

@@ -1,0 +1,13 @@
+-- Each example is proved in proofs/Encode/Calls.antt.
+use Rattle.tiff_examples.proofs.Encode.Calls as p
+use Rattle.tiff_examples.proofs.encode.calls.begins.Goals as goal
+
+pub returns : goal.returns
+returns c = (
+  p.set_predictor,
+  p.set_method,
+  p.begun_directory,
+  p.padded_directory,
+  p.stopped_directory,
+  p.stopped_extra,
+)

@@ -1,0 +1,9 @@
+-- Each example is proved in proofs/Encode/FileBytes.antt.
+use Rattle.tiff_examples.proofs.Encode.FileBytes as p
+use Rattle.tiff_examples.proofs.encode.file_bytes.files.Goals as goal
+
+pub returns : goal.returns
+returns c = (
+  p.two_fields,
+  p.no_field,
+)

@@ -1,0 +1,11 @@
+-- Each example is proved in proofs/Encode/ImageDataWholes.antt.
+use Rattle.tiff_examples.proofs.Encode.ImageDataWholes as p
+use Rattle.tiff_examples.proofs.encode.image_data_wholes.data.Goals as goal
+
+pub returns : goal.returns
+returns c = (
+  p.data_left,
+  p.data_other,
+  p.data_refused,
+  p.data_changed,
+)

@@ -1,0 +1,14 @@
+-- Each example is proved in proofs/Encode/ImageDataWholes.antt.
+use Rattle.tiff_examples.proofs.Encode.ImageDataWholes as p
+use Rattle.tiff_examples.proofs.encode.image_data_wholes.images.Goals as goal
+
+pub returns : goal.returns
+returns c = (
+  p.image_left,
+  p.image_other,
+  p.image_wider,
+  p.image_unlinked,
+  p.image_refused,
+  p.image_sideless,
+  p.image_changed,
+)

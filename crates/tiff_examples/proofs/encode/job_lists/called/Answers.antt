@@ -1,0 +1,6 @@
+-- Each example is proved in proofs/Encode/JobLists.antt.
+use Rattle.tiff_examples.proofs.Encode.JobLists as p
+use Rattle.tiff_examples.proofs.encode.job_lists.called.Goals as goal
+
+pub returns : goal.returns
+returns c = (p.three_jobs, p.three_wrong)

@@ -1,0 +1,20 @@
+-- Each example is proved in proofs/Encode/Jobs.antt.
+use Rattle.tiff_examples.proofs.Encode.Jobs as p
+use Rattle.tiff_examples.proofs.encode.jobs.jobs.Goals as goal
+
+pub returns : goal.returns
+returns c = (
+  p.parent_named,
+  p.parent_refused,
+  p.parent_later,
+  p.parent_none,
+  p.ran_offsets,
+  p.ran_nothing,
+  p.parented_22,
+  p.parented_none,
+  p.parent_job,
+  p.packed_job,
+  p.directory_job,
+  p.extra_end,
+  p.lost_end,
+)

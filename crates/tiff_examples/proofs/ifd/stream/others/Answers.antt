@@ -1,0 +1,13 @@
+-- Each example is proved in proofs/Ifd/Stream.antt.
+use Rattle.tiff_examples.proofs.Ifd.Stream as p
+use Rattle.tiff_examples.proofs.ifd.stream.others.Goals as goal
+
+pub returns : goal.returns
+returns c = (
+  p.signed_read,
+  p.signed_positive,
+  p.float_read,
+  p.double_read,
+  p.bits_32,
+  p.bits_64,
+)

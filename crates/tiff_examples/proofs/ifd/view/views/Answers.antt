@@ -1,0 +1,19 @@
+-- Each example is proved in proofs/Ifd/View.antt.
+use Rattle.tiff_examples.proofs.Ifd.View as p
+use Rattle.tiff_examples.proofs.ifd.view.views.Goals as goal
+
+pub returns : goal.returns
+returns c = (
+  p.byte_seen,
+  p.list_seen,
+  p.float_seen,
+  p.no_depth,
+  p.two_deep,
+  p.two_seen,
+  p.bytes_decoded,
+  p.signed_decoded,
+  p.floats_decoded,
+  p.zeros_behind,
+  p.no_zeros,
+  p.wide_bytes,
+)

@@ -1,0 +1,12 @@
+-- Each example is proved in proofs/Value/Values.antt.
+use Rattle.tiff_examples.proofs.Value.Values as p
+use Rattle.tiff_examples.proofs.value.values.rows.Goals as goal
+
+pub returns : goal.returns
+returns c = (
+  p.row_of_bytes,
+  p.row_of_floats,
+  p.row_added,
+  p.row_refused,
+  p.row_not_lost,
+)

@@ -1,0 +1,9 @@
+-- What the definitions of `tiff_base` give.
+pub mod Number
+pub mod Header
+pub mod Tags
+pub mod Runs
+pub mod Directory
+pub mod FieldBytes
+pub mod SourceAndSink
+pub mod Answers

@@ -1,0 +1,166 @@
+-- Worked entries and directories.
+use Rattle.std.specs.Prelude.{◌≡◌, ℕ, List, [], ◌∷◌, ◌++◌, take, Option, Some, None, Result, Ok, Err, length}
+use Rattle.std.specs.FinMap.{get, len}
+use Rattle.tiff_base.specs.declared.error.TiffError.{TiffError}
+use Rattle.tiff_base.specs.declared.error.TiffError.TheVariants.{IoError}
+use Rattle.tiff_base.specs.declared.io.IoKind.TheVariants.{UnexpectedEof}
+use Rattle.tiff_base.specs.declared.tags.ByteOrder.TheVariants.{LittleEndian, BigEndian}
+use Rattle.tiff_base.specs.declared.tags.FileKind.TheVariants.{Classic, Big}
+use Rattle.tiff_base.specs.Field.{Field, DirectoryRecord}
+use Rattle.tiff_base.specs.Directory.{entry_of, entry_at, last_of_each, directory_at}
+use Rattle.tiff_examples.specs.Files.{gray_file, gray_entries, one_long, one_short}
+
+-- what a directory that was found holds at a tag number, and of how many tag numbers
+abbrev pub field_in : Result DirectoryRecord TiffError → ℕ → Option Field
+field_in (Ok d) tag = get d.entries tag
+field_in (Err e) tag = None
+
+abbrev pub fields_in : Result DirectoryRecord TiffError → ℕ
+fields_in (Ok d) = len d.entries
+fields_in (Err e) = 0
+
+-- an entry of a classic file: ImageWidth, LONG, one value, 5
+abbrev pub classic_entry : Type 0
+classic_entry =
+    entry_of Classic LittleEndian (0x00 ∷ 0x01 ∷ 0x04 ∷ 0x00 ∷ 0x01 ∷ 0x00 ∷ 0x00 ∷ 0x00 ∷ 0x05 ∷ 0x00 ∷ 0x00
+    ∷ 0x00 ∷ [])
+    ≡ Some (256, one_long (0x05 ∷ 0x00 ∷ 0x00 ∷ 0x00 ∷ 0x00 ∷ 0x00 ∷ 0x00 ∷ 0x00 ∷ []))
+
+-- an entry of a classic file that is big-endian: BitsPerSample, SHORT, one value, 8, at the front of its value field
+abbrev pub big_endian_entry : Type 0
+big_endian_entry =
+    entry_of Classic BigEndian (0x01 ∷ 0x02 ∷ 0x00 ∷ 0x03 ∷ 0x00 ∷ 0x00 ∷ 0x00 ∷ 0x01 ∷ 0x00 ∷ 0x08 ∷ 0x00 ∷ 0x00
+    ∷ [])
+    ≡ Some (258, one_short (0x00 ∷ 0x08 ∷ 0x00 ∷ 0x00 ∷ 0x00 ∷ 0x00 ∷ 0x00 ∷ 0x00 ∷ []))
+
+-- the type 99 is unknown
+abbrev pub unknown_entry : Type 0
+unknown_entry = entry_of Classic LittleEndian (0xff ∷ 0xff ∷ 0x63 ∷ 0x00 ∷ 0xaa ∷ 0xaa ∷ 0xaa ∷ 0xaa ∷ 0xaa ∷ 0xaa
+    ∷ 0xaa ∷ 0xaa ∷ []) ≡ None
+
+-- an entry of a BigTIFF file: ImageWidth, LONG, one value, 5
+abbrev pub wide_entry : Type 0
+wide_entry =
+    entry_of Big LittleEndian (0x00 ∷ 0x01 ∷ 0x04 ∷ 0x00 ∷ 0x01 ∷ 0x00 ∷ 0x00 ∷ 0x00 ∷ 0x00 ∷ 0x00 ∷ 0x00 ∷ 0x00
+    ∷ 0x05 ∷ 0x00 ∷ 0x00 ∷ 0x00 ∷ 0x00 ∷ 0x00 ∷ 0x00 ∷ 0x00 ∷ [])
+    ≡ Some (256, one_long (0x05 ∷ 0x00 ∷ 0x00 ∷ 0x00 ∷ 0x00 ∷ 0x00 ∷ 0x00 ∷ 0x00 ∷ []))
+
+-- and one of the type 99
+abbrev pub unknown_wide_entry : Type 0
+unknown_wide_entry =
+    entry_of Big LittleEndian (0xff ∷ 0xff ∷ 0x63 ∷ 0x00 ∷ 0xaa ∷ 0xaa ∷ 0xaa ∷ 0xaa ∷ 0xaa ∷ 0xaa ∷ 0xaa ∷ 0xaa
+    ∷ 0xaa ∷ 0xaa ∷ 0xaa ∷ 0xaa ∷ 0xaa ∷ 0xaa ∷ 0xaa ∷ 0xaa ∷ []) ≡ None
+
+-- an entry at an offset, and one that is cut off
+abbrev pub entry_at_1 : Type 0
+entry_at_1 =
+    entry_at Classic LittleEndian (0xee ∷ 0x00 ∷ 0x01 ∷ 0x04 ∷ 0x00 ∷ 0x01 ∷ 0x00 ∷ 0x00 ∷ 0x00 ∷ 0x05 ∷ 0x00
+    ∷ 0x00 ∷ 0x00 ∷ []) 1
+    ≡ Ok (Some (256, one_long (0x05 ∷ 0x00 ∷ 0x00 ∷ 0x00 ∷ 0x00 ∷ 0x00 ∷ 0x00 ∷ 0x00 ∷ [])))
+
+abbrev pub cut_entry : Type 0
+cut_entry =
+    entry_at Classic LittleEndian (0x00 ∷ 0x01 ∷ 0x04 ∷ 0x00 ∷ 0x01 ∷ 0x00 ∷ 0x00 ∷ 0x00 ∷ 0x05 ∷ 0x00 ∷ 0x00
+    ∷ []) 0 ≡ Err (IoError UnexpectedEof)
+
+-- a directory of no entries, and one whose link is 258
+abbrev pub no_entries : Type 0
+no_entries =
+    directory_at Classic LittleEndian (0x00 ∷ 0x00 ∷ 0x00 ∷ 0x00 ∷ 0x00 ∷ 0x00 ∷ []) 0
+    ≡ Ok (record { entries = last_of_each []; next = None })
+
+abbrev pub linked : Type 0
+linked =
+    directory_at Classic BigEndian (0x00 ∷ 0x00 ∷ 0x00 ∷ 0x00 ∷ 0x01 ∷ 0x02 ∷ []) 0
+    ≡ Ok (record { entries = last_of_each []; next = Some 258 })
+
+-- the link is cut off by one byte
+abbrev pub cut_link : Type 0
+cut_link = directory_at Classic LittleEndian (0x00 ∷ 0x00 ∷ 0x00 ∷ 0x00 ∷ 0x00 ∷ []) 0 ≡ Err (IoError UnexpectedEof)
+
+-- a directory that begins past the end
+abbrev pub past_end : Type 0
+past_end = directory_at Classic LittleEndian (0x00 ∷ 0x00 ∷ 0x00 ∷ 0x00 ∷ 0x00 ∷ 0x00 ∷ []) 9
+    ≡ Err (IoError UnexpectedEof)
+
+-- a directory of two entries, both ImageWidth: 1, then 2
+abbrev pub twice : List ℕ
+twice =
+    (0x02 ∷ 0x00 ∷ [])
+    ++ (0x00 ∷ 0x01 ∷ 0x04 ∷ 0x00 ∷ 0x01 ∷ 0x00 ∷ 0x00 ∷ 0x00 ∷ 0x01 ∷ 0x00 ∷ 0x00 ∷ 0x00 ∷ [])
+    ++ (0x00 ∷ 0x01 ∷ 0x04 ∷ 0x00 ∷ 0x01 ∷ 0x00 ∷ 0x00 ∷ 0x00 ∷ 0x02 ∷ 0x00 ∷ 0x00 ∷ 0x00 ∷ [])
+    ++ (0x00 ∷ 0x00 ∷ 0x00 ∷ 0x00 ∷ [])
+
+abbrev pub twice_entries : List (ℕ × Field)
+twice_entries =
+    (256, one_long (0x01 ∷ 0x00 ∷ 0x00 ∷ 0x00 ∷ 0x00 ∷ 0x00 ∷ 0x00 ∷ 0x00 ∷ [])) ∷ (
+      256,
+      one_long (0x02 ∷ 0x00
+          ∷ 0x00 ∷ 0x00 ∷ 0x00 ∷ 0x00 ∷ 0x00 ∷ 0x00 ∷ []),
+    ) ∷ []
+
+abbrev pub twice_found : Type 0
+twice_found =
+    directory_at Classic LittleEndian twice 0 ≡ Ok (record { entries = last_of_each twice_entries; next = None })
+
+-- the last stands, and no other
+abbrev pub last_stands : Type 0
+last_stands =
+    field_in (directory_at Classic LittleEndian twice 0) 256
+    ≡ Some (one_long (0x02 ∷ 0x00 ∷ 0x00 ∷ 0x00 ∷ 0x00 ∷ 0x00 ∷ 0x00 ∷ 0x00 ∷ []))
+
+abbrev pub one_stands : Type 0
+one_stands = fields_in (directory_at Classic LittleEndian twice 0) ≡ 1
+
+-- the same where the second is of the unknown type 99: the first stands
+abbrev pub first_stands : Type 0
+first_stands =
+    field_in (directory_at Classic LittleEndian
+    ((0x02 ∷ 0x00 ∷ [])
+    ++ (0x00 ∷ 0x01 ∷ 0x04 ∷ 0x00 ∷ 0x01 ∷ 0x00 ∷ 0x00 ∷ 0x00 ∷ 0x01 ∷ 0x00 ∷ 0x00 ∷ 0x00 ∷ [])
+    ++ (0x00 ∷ 0x01 ∷ 0x63 ∷ 0x00 ∷ 0x01 ∷ 0x00 ∷ 0x00 ∷ 0x00 ∷ 0x02 ∷ 0x00 ∷ 0x00 ∷ 0x00 ∷ [])
+    ++ (0x00 ∷ 0x00 ∷ 0x00 ∷ 0x00 ∷ [])) 0) 256
+    ≡ Some (one_long (0x01 ∷ 0x00 ∷ 0x00 ∷ 0x00 ∷ 0x00 ∷ 0x00 ∷ 0x00 ∷ 0x00 ∷ []))
+
+-- a BigTIFF directory whose first entry is of the unknown type 99: it is skipped whole
+abbrev pub wide_directory : Type 0
+wide_directory =
+    directory_at Big LittleEndian
+    ((0x49 ∷ 0x49 ∷ 0x2b ∷ 0x00 ∷ 0x08 ∷ 0x00 ∷ 0x00 ∷ 0x00 ∷ 0x10 ∷ 0x00 ∷ 0x00 ∷ 0x00 ∷ 0x00 ∷ 0x00 ∷ 0x00 ∷ 0x00
+    ∷ 0x02 ∷ 0x00 ∷ 0x00 ∷ 0x00 ∷ 0x00 ∷ 0x00 ∷ 0x00 ∷ 0x00 ∷ [])
+    ++ (0xff ∷ 0xff ∷ 0x63 ∷ 0x00 ∷ 0xaa ∷ 0xaa ∷ 0xaa ∷ 0xaa ∷ 0xaa ∷ 0xaa ∷ 0xaa ∷ 0xaa ∷ 0xaa ∷ 0xaa ∷ 0xaa
+    ∷ 0xaa ∷ 0xaa ∷ 0xaa ∷ 0xaa ∷ 0xaa ∷ [])
+    ++ (0x00 ∷ 0x01 ∷ 0x04 ∷ 0x00 ∷ 0x01 ∷ 0x00 ∷ 0x00 ∷ 0x00 ∷ 0x00 ∷ 0x00 ∷ 0x00 ∷ 0x00 ∷ 0x05 ∷ 0x00 ∷ 0x00
+    ∷ 0x00 ∷ 0x00 ∷ 0x00 ∷ 0x00 ∷ 0x00 ∷ [])
+    ++ (0x00 ∷ 0x00 ∷ 0x00 ∷ 0x00 ∷ 0x00 ∷ 0x00 ∷ 0x00 ∷ 0x00 ∷ [])) 16
+    ≡ Ok (record {
+      entries = last_of_each ((256, one_long (0x05 ∷ 0x00 ∷ 0x00 ∷ 0x00 ∷ 0x00 ∷ 0x00 ∷ 0x00 ∷ 0x00 ∷ [])) ∷ []);
+      next = None;
+    })
+
+-- the file of one gray pixel has 199 bytes
+abbrev pub gray_length : Type 0
+gray_length = length gray_file ≡ 199
+
+-- its directory at 25: these fields, and no next directory
+abbrev pub gray_found : Type 0
+gray_found =
+    directory_at Classic LittleEndian gray_file 25
+    ≡ Ok (record { entries = last_of_each gray_entries; next = None })
+
+-- 14 fields
+abbrev pub gray_14 : Type 0
+gray_14 = fields_in (directory_at Classic LittleEndian gray_file 25) ≡ 14
+
+-- RowsPerStrip is a million, and Artist is not there
+abbrev pub gray_rows : Type 0
+gray_rows =
+    field_in (directory_at Classic LittleEndian gray_file 25) 278
+    ≡ Some (one_long (0x40 ∷ 0x42 ∷ 0x0f ∷ 0x00 ∷ 0x00 ∷ 0x00 ∷ 0x00 ∷ 0x00 ∷ []))
+
+abbrev pub gray_artist : Type 0
+gray_artist = field_in (directory_at Classic LittleEndian gray_file 25) 315 ≡ None
+
+-- the file without its last byte
+abbrev pub gray_cut : Type 0
+gray_cut = directory_at Classic LittleEndian (take 198 gray_file) 25 ≡ Err (IoError UnexpectedEof)

@@ -1,0 +1,164 @@
+-- Worked answers of sources and sinks, and values looked up in a directory.
+use Rattle.std.specs.Prelude.{◌≡◌, ℕ, negsuc, List, [], ◌∷◌, Some, Ok, Err}
+use Rattle.tiff_base.specs.declared.error.TiffError.TheVariants.{IoError, LimitsExceeded}
+use Rattle.tiff_base.specs.declared.io.IoKind.TheVariants.{UnexpectedEof}
+use Rattle.tiff_base.specs.declared.tags.ByteOrder.TheVariants.{LittleEndian, BigEndian}
+use Rattle.tiff_base.specs.declared.tags.FileKind.TheVariants.{Classic, Big}
+use Rattle.tiff_base.specs.declared.tags.Tag.TheVariants as tag
+use Rattle.tiff_base.specs.declared.tags.«Type».TheVariants.{BYTE, ASCII, SHORT, SBYTE}
+use Rattle.tiff_base.specs.SourceAndSink.{bytes_at, AreOctets, Reads, Appends, Overwrites}
+use Rattle.tiff_base.specs.Directory.{entry_of, last_of_each}
+use Rattle.tiff_base.specs.Field.{Field}
+use Rattle.tiff_base.specs.FieldBytes.{field_bytes}
+use Rattle.tiff_ifd.specs.declared.limits.Limits.{Limits}
+use Rattle.tiff_ifd.specs.Limits.{unlimited}
+use Rattle.tiff_ifd.specs.Datum.{none, more, list, short, signed_byte}
+use Rattle.tiff_ifd.specs.FieldValue.{field_value}
+use Rattle.tiff_ifd.specs.Look.{look_in}
+use Rattle.tiff_examples.specs.Base.FieldBytes.{of}
+
+-- BitsPerSample: one short in the entry, and three at the offset 0
+abbrev pub short_field : List (ℕ × Field)
+short_field = (258, of SHORT 1 (0x00 ∷ 0x08 ∷ 0x00 ∷ 0x00 ∷ 0x00 ∷ 0x00 ∷ 0x00 ∷ 0x00 ∷ [])) ∷ []
+
+abbrev pub shorts_field : List (ℕ × Field)
+shorts_field = (258, of SHORT 3 (0x00 ∷ 0x00 ∷ 0x00 ∷ 0x00 ∷ 0x00 ∷ 0x00 ∷ 0x00 ∷ 0x00 ∷ [])) ∷ []
+
+-- limits of so many bytes of decoded values
+abbrev pub limited : ℕ → Limits
+limited n = record unlimited { decoding_buffer_size = n }
+
+-- two bytes of four
+abbrev pub two_in_middle : Type 0
+two_in_middle =
+    bytes_at (0x0a ∷ 0x0b ∷ 0x0c ∷ 0x0d ∷ []) 1 2 ≡ (0x0b ∷ 0x0c ∷ [])
+
+-- a read at 1 into a buffer of two bytes may give two, or one, and then the rest of the buffer stays
+abbrev pub read_two : Type 0
+read_two =
+    Reads (0x0a ∷ 0x0b ∷ 0x0c ∷ []) 1 (0x00 ∷ 0x00 ∷ []) 2 (0x0b ∷ 0x0c ∷ [])
+
+abbrev pub read_one : Type 0
+read_one =
+    Reads (0x0a ∷ 0x0b ∷ 0x0c ∷ []) 1 (0x00 ∷ 0x00 ∷ []) 1 (0x0b ∷ 0x00 ∷ [])
+
+-- before the end it may not give none
+abbrev pub read_none : Type 0
+read_none =
+    Reads (0x0a ∷ 0x0b ∷ 0x0c ∷ []) 1 (0x00 ∷ 0x00 ∷ []) 0 (0x00 ∷ 0x00 ∷ []) → ⊥
+
+-- at the end it gives none
+abbrev pub read_at_end : Type 0
+read_at_end =
+    Reads (0x0a ∷ 0x0b ∷ 0x0c ∷ []) 3 (0x00 ∷ 0x00 ∷ []) 0 (0x00 ∷ 0x00 ∷ [])
+
+-- more than there are it may not give
+abbrev pub read_past_end : Type 0
+read_past_end =
+    Reads (0x0a ∷ 0x0b ∷ 0x0c ∷ []) 2 (0x00 ∷ 0x00 ∷ []) 2 (0x0c ∷ 0x00 ∷ []) → ⊥
+
+-- nor other bytes
+abbrev pub read_elsewhere : Type 0
+read_elsewhere =
+    Reads (0x0a ∷ 0x0b ∷ 0x0c ∷ []) 1 (0x00 ∷ 0x00 ∷ []) 1 (0x0a ∷ 0x00 ∷ []) → ⊥
+
+-- into no buffer
+abbrev pub read_into_none : Type 0
+read_into_none =
+    Reads (0x0a ∷ 0x0b ∷ 0x0c ∷ []) 1 [] 0 []
+
+-- bytes, and a number that is none
+abbrev pub octets : Type 0
+octets =
+    AreOctets (0x00 ∷ 0xff ∷ [])
+
+abbrev pub no_octets : Type 0
+no_octets =
+    AreOctets (0x100 ∷ []) → ⊥
+
+-- a write at the end may take two bytes, or one
+abbrev pub append_two : Type 0
+append_two =
+    Appends (0x0a ∷ []) (0x0b ∷ 0x0c ∷ []) 2 (0x0a ∷ 0x0b ∷ 0x0c ∷ [])
+
+abbrev pub append_one : Type 0
+append_one =
+    Appends (0x0a ∷ []) (0x0b ∷ 0x0c ∷ []) 1 (0x0a ∷ 0x0b ∷ [])
+
+-- none it may take only of none
+abbrev pub append_none : Type 0
+append_none =
+    Appends (0x0a ∷ []) (0x0b ∷ 0x0c ∷ []) 0 (0x0a ∷ []) → ⊥
+
+abbrev pub append_nothing : Type 0
+append_nothing =
+    Appends (0x0a ∷ []) [] 0 (0x0a ∷ [])
+
+abbrev pub append_too_many : Type 0
+append_too_many =
+    Appends (0x0a ∷ []) (0x0b ∷ []) 2 (0x0a ∷ 0x0b ∷ []) → ⊥
+
+-- a write at 1 may take one byte of two, and the rest stays
+abbrev pub over_one : Type 0
+over_one =
+    Overwrites (0x0a ∷ 0x0b ∷ 0x0c ∷ []) 1 (0xfe ∷ 0xff ∷ []) 1 (0x0a ∷ 0xfe ∷ 0x0c ∷ [])
+
+abbrev pub over_two : Type 0
+over_two =
+    Overwrites (0x0a ∷ 0x0b ∷ 0x0c ∷ []) 1 (0xfe ∷ 0xff ∷ []) 2 (0x0a ∷ 0xfe ∷ 0xff ∷ [])
+
+-- it may reach past the end
+abbrev pub over_end : Type 0
+over_end =
+    Overwrites (0x0a ∷ 0x0b ∷ 0x0c ∷ []) 2 (0xfe ∷ 0xff ∷ []) 2 (0x0a ∷ 0x0b ∷ 0xfe ∷ 0xff ∷ [])
+
+-- none it may not take
+abbrev pub over_none : Type 0
+over_none =
+    Overwrites (0x0a ∷ 0x0b ∷ 0x0c ∷ []) 1 (0xfe ∷ 0xff ∷ []) 0 (0x0a ∷ 0x0b ∷ 0x0c ∷ []) → ⊥
+
+-- nor write at another offset
+abbrev pub over_elsewhere : Type 0
+over_elsewhere =
+    Overwrites (0x0a ∷ 0x0b ∷ 0x0c ∷ []) 1 (0xfe ∷ 0xff ∷ []) 1 (0xfe ∷ 0x0b ∷ 0x0c ∷ []) → ⊥
+
+-- a signed byte in its entry
+abbrev pub signed_byte_alone : Type 0
+signed_byte_alone =
+    field_value Classic LittleEndian [] unlimited (of SBYTE 1 (0xfe ∷ 0x00 ∷ 0x00 ∷ 0x00 ∷ 0x00 ∷ 0x00 ∷ 0x00 ∷ 0x00 ∷ []))
+    ≡ Ok (signed_byte (negsuc 1))
+
+-- a short by the look-up in a directory of a big-endian file
+abbrev pub look_big_endian : Type 0
+look_big_endian =
+    (look_in Classic BigEndian [] unlimited (last_of_each short_field)).value tag.BitsPerSample ≡ Ok (Some (short 8))
+
+-- a list that stands elsewhere
+abbrev pub look_placed : Type 0
+look_placed =
+    (look_in Classic LittleEndian (0x08 ∷ 0x00 ∷ 0x08 ∷ 0x00 ∷ 0x08 ∷ 0x00 ∷ []) unlimited (last_of_each shorts_field)).value tag.BitsPerSample
+    ≡ Ok (Some (list (more (short 8) (more (short 8) (more (short 8) none)))))
+
+-- and under a limit that refuses it
+abbrev pub look_limited : Type 0
+look_limited =
+    (look_in Classic LittleEndian (0x08 ∷ 0x00 ∷ 0x08 ∷ 0x00 ∷ 0x08 ∷ 0x00 ∷ []) (limited 95) (last_of_each shorts_field)).value tag.BitsPerSample
+    ≡ Err LimitsExceeded
+
+-- in a BigTIFF file an offset has eight bytes: this one is past the end
+abbrev pub wide_offset : Type 0
+wide_offset =
+    field_bytes Big LittleEndian (0x01 ∷ 0x02 ∷ 0x03 ∷ 0x04 ∷ 0x05 ∷ 0x06 ∷ 0x07 ∷ 0x08 ∷ 0x09 ∷ []) (of BYTE 9 (0x00 ∷ 0x00 ∷ 0x00 ∷ 0x00 ∷ 0x01 ∷ 0x00 ∷ 0x00 ∷ 0x00 ∷ []))
+    ≡ Err (IoError UnexpectedEof)
+
+-- and a count eight
+abbrev pub wide_count : Type 0
+wide_count =
+    entry_of Big LittleEndian (0x00 ∷ 0x01 ∷ 0x01 ∷ 0x00 ∷ 0x00 ∷ 0x00 ∷ 0x00 ∷ 0x00 ∷ 0x01 ∷ 0x00 ∷ 0x00 ∷ 0x00 ∷ 0x05 ∷ 0x00 ∷ 0x00 ∷ 0x00 ∷ 0x00 ∷ 0x00 ∷ 0x00 ∷ 0x00 ∷ [])
+    ≡ Some (256, of BYTE 4294967296 (0x05 ∷ 0x00 ∷ 0x00 ∷ 0x00 ∷ 0x00 ∷ 0x00 ∷ 0x00 ∷ 0x00 ∷ []))
+
+-- a text of no letters is an empty list, as other values are
+abbrev pub no_letters : Type 0
+no_letters =
+    field_value Classic LittleEndian [] unlimited (of ASCII 0 (0x41 ∷ 0x00 ∷ 0x00 ∷ 0x00 ∷ 0x00 ∷ 0x00 ∷ 0x00 ∷ 0x00 ∷ []))
+    ≡ Ok (list none)

@@ -1,0 +1,293 @@
+-- Worked reads of tags: of the page's directory or of another one, and their numbers as another type.
+use Rattle.std.specs.Prelude.{◌≡◌, ℕ, ◌<◌, ◌≤◌, List, [], ◌∷◌, Vec, Option, Some, None, Result, Ok, Err}
+use Rattle.std.specs.declared.alloc.Global.{Global}
+use Rattle.std.specs.Borrow.{MutBor}
+use Rattle.std.specs.FinMap.{empty}
+use Rattle.tiff_base.specs.declared.error.TiffError.{TiffError}
+use Rattle.tiff_base.specs.declared.error.TiffError.TheVariants.{FormatError, IoError, OutOfMemory}
+use Rattle.tiff_base.specs.declared.error.TiffFormatError.TheVariants.{InvalidTagValueType, InvalidTypeForTag, RequiredTagNotFound}
+use Rattle.tiff_base.specs.declared.io.IoKind.TheVariants.{Device, UnexpectedEof}
+use Rattle.tiff_base.specs.declared.tags.Tag.TheVariants as tag
+use Rattle.tiff_base.specs.Field.{DirectoryRecord}
+use Rattle.tiff_decode.specs.Machine.{Decoding, stays}
+use Rattle.tiff_decode.specs.Reader.{directory_or, reader_of, TagsRead, IsBorrowed, IsNumber, NumberAs, NumberIfAs, EachGives, FirstUnfit, NumbersAs, NumbersIfAs}
+use Rattle.tiff_examples.specs.Decoders.{gray_fields, gray_state, gray_decoder}
+
+-- ---- the directory
+
+-- one of no fields
+abbrev pub bare : DirectoryRecord
+bare = record { entries = empty; next = None }
+
+-- the page's directory, where there is no other one
+abbrev pub own_chosen : Type 0
+own_chosen = directory_or gray_fields None ≡ gray_fields
+
+abbrev pub other_chosen : Type 0
+other_chosen = directory_or gray_fields (Some bare) ≡ bare
+
+-- the decoder itself, and the one with the other directory; nothing else of it is another
+abbrev pub own_read : Type 0
+own_read = reader_of gray_decoder None ≡ gray_decoder
+
+abbrev pub other_read : Type 0
+other_read = reader_of gray_decoder (Some bare) ≡ record gray_decoder { state = record gray_state { directory = bare } }
+
+-- ---- reads that move nothing
+
+-- a decoder whose reads failed so many times
+abbrev pub failed : ℕ → Decoding
+failed n = record gray_decoder { failures = n }
+
+-- a read of tags that gives 7 answered this, and left this decoder
+abbrev pub Reads7 : Result ℕ TiffError → Decoding → Decoding → Type 0
+Reads7 result old new = TagsRead (λ (n : ℕ). n) (stays old (Ok 7)) result old new
+
+-- it answered, after a read that failed before it; two reads that failed meanwhile aren't passed over
+abbrev pub seven_read : Type 0
+seven_read = Reads7 (Ok 7) (failed 1) (failed 1)
+
+abbrev pub failures_swallowed : Type 0
+failures_swallowed = Reads7 (Ok 7) (failed 1) (failed 3) → ⊥
+
+abbrev pub eight_read : Type 0
+eight_read = Reads7 (Ok 8) (failed 1) (failed 1) → ⊥
+
+-- no failed read is forgotten, and no offset is moved
+abbrev pub failures_forgotten : Type 0
+failures_forgotten = Reads7 (Ok 7) (failed 1) (failed 0) → ⊥
+
+abbrev pub offset_moved : Type 0
+offset_moved = Reads7 (Ok 7) gray_decoder (record gray_decoder { state = record gray_state { offset = 9 } }) → ⊥
+
+-- want of memory; a fault of the device, with a read that failed and without one
+abbrev pub seven_wanting : Type 0
+seven_wanting = Reads7 (Err OutOfMemory) (failed 1) (failed 1)
+
+abbrev pub seven_failed : Type 0
+seven_failed = Reads7 (Err (IoError Device)) (failed 1) (failed 2)
+
+abbrev pub seven_not_failed : Type 0
+seven_not_failed = Reads7 (Err (IoError Device)) (failed 1) (failed 1) → ⊥
+
+-- a borrow of a decoder is the same one as long as nothing was done
+abbrev pub held : Type 0
+held = (d : MutBor Decoding) → IsBorrowed d d
+
+-- not where the decoder behind it stands elsewhere, or has fewer failures
+abbrev pub held_moved : Type 0
+held_moved = (d e : MutBor Decoding) → d.now.state.offset ≡ 8 → e.now.state.offset ≡ 9 → IsBorrowed d e → ⊥
+
+abbrev pub held_forgotten : Type 0
+held_forgotten = (d e : MutBor Decoding) → d.now.failures ≡ 1 → e.now.failures ≡ 0 → IsBorrowed d e → ⊥
+
+-- ---- one number
+
+-- what a number becomes as a byte: itself below 256, else a fault
+abbrev pub byte : ℕ → Result ℕ (Unit {0}) → Type 0
+byte n (Ok x) = (x ≡ n) × (n < 256)
+byte n (Err fault) = 256 ≤ n
+
+-- the tag's number doesn't fit the type, there is no such tag, and its value is none of numbers
+abbrev pub unfit : TiffError
+unfit = FormatError (InvalidTagValueType tag.ImageWidth)
+
+abbrev pub missing : TiffError
+missing = FormatError (RequiredTagNotFound tag.ImageWidth)
+
+abbrev pub no_number : TiffError
+no_number = FormatError InvalidTypeForTag
+
+abbrev pub fits : Type 0
+fits = IsNumber byte tag.ImageWidth 255 (Ok 255)
+
+-- 256 doesn't
+abbrev pub too_great : Type 0
+too_great = IsNumber byte tag.ImageWidth 256 (Err unfit)
+
+-- nor is it another number, nor is another tag named, nor another fault
+abbrev pub cut_off : Type 0
+cut_off = IsNumber byte tag.ImageWidth 256 (Ok 0) → ⊥
+
+abbrev pub other_tag : Type 0
+other_tag = IsNumber byte tag.ImageWidth 256 (Err (FormatError (InvalidTagValueType tag.ImageLength))) → ⊥
+
+abbrev pub other_fault : Type 0
+other_fault = IsNumber byte tag.ImageWidth 256 (Err no_number) → ⊥
+
+-- one that fits isn't refused
+abbrev pub fitting_refused : Type 0
+fitting_refused = (e : TiffError) → IsNumber byte tag.ImageWidth 255 (Err e) → ⊥
+
+-- a tag's number as a byte, where two reads failed before, and so many after
+abbrev pub AsByte : ℕ → Result ℕ TiffError → Result ℕ TiffError → Type 0
+AsByte after given result = NumberAs byte (2 < after) tag.ImageWidth given result
+
+abbrev pub number_fits : Type 0
+number_fits = AsByte 2 (Ok 255) (Ok 255)
+
+abbrev pub number_other : Type 0
+number_other = AsByte 2 (Ok 255) (Ok 254) → ⊥
+
+abbrev pub number_great : Type 0
+number_great = AsByte 2 (Ok 256) (Err unfit)
+
+-- the fault of the value is told before the test, whatever the type
+abbrev pub number_missing : Type 0
+number_missing = AsByte 2 (Err missing) (Err missing)
+
+abbrev pub number_missing_unfit : Type 0
+number_missing_unfit = AsByte 2 (Err missing) (Err unfit) → ⊥
+
+abbrev pub number_missing_given : Type 0
+number_missing_given = (n : ℕ) → AsByte 2 (Err missing) (Ok n) → ⊥
+
+-- want of memory; a fault of the device, with a read that failed and without one
+abbrev pub number_wanting : Type 0
+number_wanting = AsByte 2 (Ok 255) (Err OutOfMemory)
+
+abbrev pub number_failed : Type 0
+number_failed = AsByte 3 (Ok 255) (Err (IoError Device))
+
+abbrev pub number_not_failed : Type 0
+number_not_failed = AsByte 2 (Ok 255) (Err (IoError Device)) → ⊥
+
+-- the same, where there may be no such tag
+abbrev pub IfByte : ℕ → Result (Option ℕ) TiffError → Result (Option ℕ) TiffError → Type 0
+IfByte after given result = NumberIfAs byte (2 < after) tag.ImageWidth given result
+
+abbrev pub none_none : Type 0
+none_none = IfByte 2 (Ok None) (Ok None)
+
+abbrev pub none_some : Type 0
+none_some = (n : ℕ) → IfByte 2 (Ok None) (Ok (Some n)) → ⊥
+
+abbrev pub none_unfit : Type 0
+none_unfit = IfByte 2 (Ok None) (Err unfit) → ⊥
+
+abbrev pub some_fits : Type 0
+some_fits = IfByte 2 (Ok (Some 255)) (Ok (Some 255))
+
+abbrev pub some_none : Type 0
+some_none = IfByte 2 (Ok (Some 255)) (Ok None) → ⊥
+
+abbrev pub some_great : Type 0
+some_great = IfByte 2 (Ok (Some 256)) (Err unfit)
+
+abbrev pub some_great_none : Type 0
+some_great_none = IfByte 2 (Ok (Some 256)) (Ok None) → ⊥
+
+abbrev pub if_no_number : Type 0
+if_no_number = IfByte 2 (Err no_number) (Err no_number)
+
+abbrev pub if_no_number_unfit : Type 0
+if_no_number_unfit = IfByte 2 (Err no_number) (Err unfit) → ⊥
+
+abbrev pub if_wanting : Type 0
+if_wanting = IfByte 2 (Ok None) (Err OutOfMemory)
+
+abbrev pub if_failed : Type 0
+if_failed = IfByte 3 (Ok None) (Err (IoError Device))
+
+abbrev pub if_not_failed : Type 0
+if_not_failed = IfByte 2 (Ok None) (Err (IoError Device)) → ⊥
+
+-- ---- lists of numbers
+
+abbrev pub each_fits : Type 0
+each_fits = EachGives byte (7 ∷ 255 ∷ []) (7 ∷ 255 ∷ [])
+
+abbrev pub each_of_none : Type 0
+each_of_none = EachGives byte [] []
+
+-- a shorter list isn't it, nor is a longer one, one in another order, or one of a number that doesn't fit
+abbrev pub each_fewer : Type 0
+each_fewer = EachGives byte (7 ∷ 255 ∷ []) (7 ∷ []) → ⊥
+
+abbrev pub each_more : Type 0
+each_more = EachGives byte (7 ∷ []) (7 ∷ 255 ∷ []) → ⊥
+
+abbrev pub each_turned : Type 0
+each_turned = EachGives byte (7 ∷ 255 ∷ []) (255 ∷ 7 ∷ []) → ⊥
+
+abbrev pub each_great : Type 0
+each_great = EachGives byte (7 ∷ 256 ∷ []) (7 ∷ 256 ∷ []) → ⊥
+
+-- the second of three is the first that doesn't fit
+abbrev pub second_unfit : Type 0
+second_unfit = FirstUnfit byte tag.ImageWidth (7 ∷ 256 ∷ 300 ∷ []) unfit
+
+abbrev pub third_later : Type 0
+third_later = (u : FirstUnfit byte tag.ImageWidth (7 ∷ 256 ∷ 300 ∷ []) unfit) → u.n ≡ 300 → ⊥
+
+-- all fit, or there are none
+abbrev pub none_is_unfit : Type 0
+none_is_unfit = (e : TiffError) → FirstUnfit byte tag.ImageWidth (7 ∷ 255 ∷ []) e → ⊥
+
+abbrev pub no_list_unfit : Type 0
+no_list_unfit = (e : TiffError) → FirstUnfit byte tag.ImageWidth [] e → ⊥
+
+-- another fault
+abbrev pub unfit_otherwise : Type 0
+unfit_otherwise = FirstUnfit byte tag.ImageWidth (256 ∷ []) no_number → ⊥
+
+-- numbers as bytes
+abbrev pub AsBytes : List ℕ → Result (Vec ℕ Global) TiffError → Type 0
+AsBytes numbers result = NumbersAs byte tag.ImageWidth numbers result
+
+abbrev pub numbers_fit : Type 0
+numbers_fit = (v : Vec ℕ Global) → v.items ≡ 7 ∷ 255 ∷ [] → AsBytes (7 ∷ 255 ∷ []) (Ok v)
+
+abbrev pub numbers_fewer : Type 0
+numbers_fewer = (v : Vec ℕ Global) → v.items ≡ 7 ∷ [] → AsBytes (7 ∷ 255 ∷ []) (Ok v) → ⊥
+
+abbrev pub numbers_great : Type 0
+numbers_great = AsBytes (7 ∷ 256 ∷ []) (Err unfit)
+
+abbrev pub numbers_refused : Type 0
+numbers_refused = AsBytes (7 ∷ 255 ∷ []) (Err unfit) → ⊥
+
+-- there may be no memory for them; nothing is read
+abbrev pub numbers_wanting : Type 0
+numbers_wanting = AsBytes (7 ∷ 255 ∷ []) (Err OutOfMemory)
+
+abbrev pub numbers_not_failed : Type 0
+numbers_not_failed = AsBytes (7 ∷ 255 ∷ []) (Err (IoError Device)) → ⊥
+
+-- the numbers of a tag as bytes, where there is the tag
+abbrev pub IfBytes : ℕ → Result (Option (List ℕ)) TiffError → Result (Option (Vec ℕ Global)) TiffError → Type 0
+IfBytes after given result = NumbersIfAs byte (2 < after) tag.ImageWidth given result
+
+abbrev pub lists_none : Type 0
+lists_none = IfBytes 2 (Ok None) (Ok None)
+
+abbrev pub list_not_none : Type 0
+list_not_none = IfBytes 2 (Ok (Some [])) (Ok None) → ⊥
+
+abbrev pub list_of_none : Type 0
+list_of_none = (v : Vec ℕ Global) → IfBytes 2 (Ok None) (Ok (Some v)) → ⊥
+
+abbrev pub list_fits : Type 0
+list_fits = (v : Vec ℕ Global) → v.items ≡ 7 ∷ 255 ∷ [] → IfBytes 2 (Ok (Some (7 ∷ 255 ∷ []))) (Ok (Some v))
+
+abbrev pub list_fewer : Type 0
+list_fewer = (v : Vec ℕ Global) → v.items ≡ 7 ∷ [] → IfBytes 2 (Ok (Some (7 ∷ 255 ∷ []))) (Ok (Some v)) → ⊥
+
+abbrev pub list_great : Type 0
+list_great = IfBytes 2 (Ok (Some (7 ∷ 256 ∷ []))) (Err unfit)
+
+-- the fault of the value is told before the test
+abbrev pub list_cut : Type 0
+list_cut = IfBytes 2 (Err (IoError UnexpectedEof)) (Err (IoError UnexpectedEof))
+
+abbrev pub list_cut_unfit : Type 0
+list_cut_unfit = IfBytes 2 (Err (IoError UnexpectedEof)) (Err unfit) → ⊥
+
+abbrev pub list_wanting : Type 0
+list_wanting = IfBytes 2 (Ok None) (Err OutOfMemory)
+
+abbrev pub list_failed : Type 0
+list_failed = IfBytes 3 (Ok None) (Err (IoError Device))
+
+abbrev pub list_not_failed : Type 0
+list_not_failed = IfBytes 2 (Ok None) (Err (IoError Device)) → ⊥

@@ -1,0 +1,109 @@
+-- Worked files of the writer.
+use Rattle.std.specs.Prelude.{◌≡◌, ℕ, ◌++◌, true, false, List, [], ◌∷◌, None}
+use Rattle.std.specs.FinMap.{from_entries}
+use Rattle.tiff_base.specs.declared.tags.CompressionMethod.TheVariants as method
+use Rattle.tiff_base.specs.declared.tags.FileKind.TheVariants.{Classic, Big}
+use Rattle.tiff_base.specs.declared.tags.PhotometricInterpretation.TheVariants.{BlackIsZero, WhiteIsZero}
+use Rattle.tiff_base.specs.declared.tags.Predictor.TheVariants as predictor
+use Rattle.tiff_base.specs.declared.tags.SampleFormat.TheVariants.{Uint, Int}
+use Rattle.tiff_value.specs.ColorType.{is_gray_8}
+use Rattle.tiff_value.specs.Written.{Written, writer_after, writer_after_counted}
+use Rattle.tiff_encode.specs.FileBytes.{header_bytes, entry_bytes, directory_bytes, padding, rows_per_strip}
+use Rattle.tiff_encode.specs.Machine.{FileState}
+use Rattle.tiff_examples.specs.OneValue.{short_field, long_field}
+
+-- headers that link to no directory yet
+abbrev pub classic_header : Type 0
+classic_header = header_bytes Classic ≡ (0x49 ∷ 0x49 ∷ 0x2a ∷ 0x00 ∷ 0x00 ∷ 0x00 ∷ 0x00 ∷ 0x00 ∷ [])
+
+abbrev pub big_header : Type 0
+big_header = header_bytes Big
+    ≡ (0x49 ∷ 0x49 ∷ 0x2b ∷ 0x00 ∷ 0x08 ∷ 0x00 ∷ 0x00 ∷ 0x00 ∷ 0x00 ∷ 0x00 ∷ 0x00 ∷ 0x00 ∷ 0x00 ∷ 0x00 ∷ 0x00
+    ∷ 0x00 ∷ [])
+
+-- entries: BitsPerSample 8, and ImageWidth 5 in a BigTIFF file
+abbrev pub classic_entry : Type 0
+classic_entry = entry_bytes Classic (258, short_field 8)
+    ≡ (0x02 ∷ 0x01 ∷ 0x03 ∷ 0x00 ∷ 0x01 ∷ 0x00 ∷ 0x00 ∷ 0x00 ∷ 0x08 ∷ 0x00 ∷ 0x00 ∷ 0x00 ∷ [])
+
+abbrev pub big_entry : Type 0
+big_entry =
+    entry_bytes Big (256, long_field 5)
+    ≡ (0x00 ∷ 0x01 ∷ 0x04 ∷ 0x00 ∷ 0x01 ∷ 0x00 ∷ 0x00 ∷ 0x00 ∷ 0x00 ∷ 0x00 ∷ 0x00 ∷ 0x00 ∷ 0x05 ∷ 0x00 ∷ 0x00
+    ∷ 0x00 ∷ 0x00 ∷ 0x00 ∷ 0x00 ∷ 0x00 ∷ [])
+
+-- zeros up to the next multiple of 4
+abbrev pub padding_8 : Type 0
+padding_8 = padding 8 ≡ []
+
+abbrev pub padding_199 : Type 0
+padding_199 = padding 199 ≡ (0x00 ∷ [])
+
+abbrev pub padding_201 : Type 0
+padding_201 = padding 201 ≡ (0x00 ∷ 0x00 ∷ 0x00 ∷ [])
+
+-- a row of 3 bytes makes a strip of 333334 rows, one of 300 bytes 3334, and one of two million bytes 1
+abbrev pub rows_3 : Type 0
+rows_3 = rows_per_strip 3 ≡ 333334
+
+abbrev pub rows_300 : Type 0
+rows_300 = rows_per_strip 300 ≡ 3334
+
+abbrev pub rows_long : Type 0
+rows_long = rows_per_strip 2000000 ≡ 1
+
+-- a directory of two fields, which are written in ascending order of their tag numbers
+abbrev pub two_fields : Type 0
+two_fields =
+    directory_bytes Classic (from_entries ((258, short_field 8) ∷ (256, long_field 5) ∷ []))
+    ≡ (0x02 ∷ 0x00 ∷ [])
+    ++ (0x00 ∷ 0x01 ∷ 0x04 ∷ 0x00 ∷ 0x01 ∷ 0x00 ∷ 0x00 ∷ 0x00 ∷ 0x05 ∷ 0x00 ∷ 0x00 ∷ 0x00 ∷ [])
+    ++ (0x02 ∷ 0x01 ∷ 0x03 ∷ 0x00 ∷ 0x01 ∷ 0x00 ∷ 0x00 ∷ 0x00 ∷ 0x08 ∷ 0x00 ∷ 0x00 ∷ 0x00 ∷ [])
+    ++ (0x00 ∷ 0x00 ∷ 0x00 ∷ 0x00 ∷ [])
+
+-- and one of no field
+abbrev pub no_field : Type 0
+no_field = directory_bytes Big (from_entries [])
+    ≡ (0x00 ∷ 0x00 ∷ 0x00 ∷ 0x00 ∷ 0x00 ∷ 0x00 ∷ 0x00 ∷ 0x00 ∷ 0x00 ∷ 0x00 ∷ 0x00 ∷ 0x00 ∷ 0x00 ∷ 0x00 ∷ 0x00
+    ∷ 0x00 ∷ [])
+
+-- an encoder that has these bytes and no page yet
+abbrev pub begun : List ℕ → FileState
+begun bytes = record {
+  kind = Classic;
+  bytes = bytes;
+  failures = 0;
+  fault = None;
+  chain = 4;
+  predictor = predictor.None;
+  method = method.None;
+}
+
+abbrev pub fresh : FileState
+fresh = begun (header_bytes Classic)
+
+-- color types: gray of 8 bits, of 16 bits, of signed numbers, and with white as 0
+abbrev pub gray_8 : Type 0
+gray_8 = is_gray_8 (record { interpretation = BlackIsZero; bits = 8 ∷ []; formats = Uint ∷ [] }) ≡ true
+
+abbrev pub gray_16 : Type 0
+gray_16 = is_gray_8 (record { interpretation = BlackIsZero; bits = 16 ∷ []; formats = Uint ∷ [] }) ≡ false
+
+abbrev pub gray_signed : Type 0
+gray_signed = is_gray_8 (record { interpretation = BlackIsZero; bits = 8 ∷ []; formats = Int ∷ [] }) ≡ false
+
+abbrev pub white_8 : Type 0
+white_8 = is_gray_8 (record { interpretation = WhiteIsZero; bits = 8 ∷ []; formats = Uint ∷ [] }) ≡ false
+
+-- a writer at the end of two bytes
+abbrev pub at_end : Written
+at_end = record { bytes = 1 ∷ 2 ∷ []; at = 2; fault = None; failures = 0; last = 0; method = method.None }
+
+-- a byte that is appended, and told as the last write
+abbrev pub appended : Type 0
+appended = writer_after_counted at_end (3 ∷ []) ≡ record at_end { bytes = 1 ∷ 2 ∷ 3 ∷ []; at = 3; last = 1 }
+
+-- two bytes from offset 1 on: the first is written over, and they are not told
+abbrev pub over : Type 0
+over =
+    writer_after (record at_end { at = 1 }) (8 ∷ 9 ∷ []) ≡ record at_end { bytes = 1 ∷ 8 ∷ 9 ∷ []; at = 3 }

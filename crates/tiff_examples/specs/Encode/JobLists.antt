@@ -1,0 +1,121 @@
+-- Worked lists of jobs, and of what is handed over behind them.
+use Rattle.std.specs.Prelude.{◌≡◌, ℕ, false, List, [], ◌∷◌, ◌++◌, take, Option, Some, None, Ok, Err}
+use Rattle.std.specs.Global.{Vec}
+use Rattle.tiff_base.specs.declared.error.TiffError.{TiffError}
+use Rattle.tiff_base.specs.declared.error.TiffError.TheVariants.{IoError, IntSizeError, OutOfMemory}
+use Rattle.tiff_base.specs.declared.io.IoKind.TheVariants.{Device}
+use Rattle.tiff_base.specs.declared.io.SinkFault.{SinkFault}
+use Rattle.tiff_base.specs.declared.io.SinkFault.TheVariants as fault
+use Rattle.tiff_base.specs.declared.tags.FileKind.TheVariants.{Classic}
+use Rattle.tiff_base.specs.declared.tags.Predictor.TheVariants as predictor
+use Rattle.tiff_value.specs.declared.encoder.colortype.ColorTypeName.TheVariants as name
+use Rattle.tiff_encode.specs.declared.encoder.script.DirectoryEnd.TheVariants as end
+use Rattle.tiff_encode.specs.declared.encoder.script.DirectoryJob.{DirectoryJob}
+use Rattle.tiff_encode.specs.declared.encoder.script.ImageEnd.TheVariants as iend
+use Rattle.tiff_encode.specs.declared.encoder.script.ImageJob.{ImageJob}
+use Rattle.tiff_encode.specs.declared.encoder.script.Job.{Job}
+use Rattle.tiff_encode.specs.declared.encoder.script.Job.TheVariants as job
+use Rattle.tiff_encode.specs.declared.encoder.script.EndReply.TheVariants as last
+use Rattle.tiff_encode.specs.declared.encoder.script.JobReply.{JobReply}
+use Rattle.tiff_encode.specs.Encoder.{HeaderFails}
+use Rattle.tiff_encode.specs.Jobs.{LeavesJobs, RefusesJobs, RunsJobs}
+use Rattle.tiff_examples.specs.Files.{gray_file}
+use Rattle.tiff_examples.specs.Encode.Calls.{header}
+
+-- ---- three jobs
+
+-- a setting; an image of one gray pixel, which is given one sample too many; a directory that no chain has, of no entry
+pub record AreThree (jobs : List Job) : Type 0 where
+  pub image : ImageJob
+  pub samples : Vec ℕ
+  pub directory : DirectoryJob
+  pub are : jobs ≡ job.Predictor predictor.None ∷ job.Image image ∷ job.Directory directory ∷ []
+  pub color : image.color ≡ name.Gray8
+  pub width : image.width ≡ 1
+  pub height : image.height ≡ 1
+  pub steps : image.steps.items ≡ []
+  pub ending : image.end ≡ iend.WriteData samples
+  pub given : samples.items ≡ 7 ∷ 8 ∷ []
+  pub chained : directory.chained ≡ false
+  pub parent : directory.parent ≡ None
+  pub no_steps : directory.steps.items ≡ []
+  pub finish : directory.end ≡ end.Finish
+
+-- their replies, of which the last is these offsets
+pub record AreReplies (replies : List JobReply) (pointer link : ℕ) : Type 0 where
+  pub first : JobReply
+  pub second : JobReply
+  pub third : JobReply
+  pub are : replies ≡ first ∷ second ∷ third ∷ []
+  pub first_steps : first.steps.items ≡ []
+  pub first_last : first.last ≡ Ok last.Nothing
+  pub second_steps : second.steps.items ≡ []
+  pub second_last : second.last ≡ Ok last.Nothing
+  pub third_steps : third.steps.items ≡ []
+  pub third_last : third.last ≡ Ok (last.Offsets pointer link)
+
+-- the page at 25, a zero, and the directory at 200: no entries, and its link 0
+abbrev pub three_file : List ℕ
+three_file = gray_file ++ (0 ∷ []) ++ (0 ∷ 0 ∷ []) ++ (0 ∷ 0 ∷ 0 ∷ 0 ∷ [])
+
+-- the jobs leave this file, with all that stands in it, and the image at 25
+abbrev pub three_jobs : Type 0
+three_jobs = (jobs : List Job) (replies : List JobReply) → AreThree jobs → AreReplies replies 200 202
+    → LeavesJobs Classic jobs replies [] 0 three_file 0
+
+-- with another link in the last reply they leave no file
+abbrev pub three_wrong : Type 0
+three_wrong = (jobs : List Job) (replies : List JobReply) → AreThree jobs → AreReplies replies 200 206
+    → (bytes : List ℕ) (after : ℕ) → LeavesJobs Classic jobs replies [] 0 bytes after → ⊥
+
+-- ---- jobs that are not called
+
+-- a sink, by its bytes, how many of its writes failed, and the fault of the last one
+abbrev pub SinkRecord : Type 0
+SinkRecord = List ℕ × (ℕ × Option SinkFault)
+
+abbrev pub told : SinkRecord → List ℕ
+told s = s.0
+
+abbrev pub failures : SinkRecord → ℕ
+failures s = s.1.0
+
+abbrev pub last_fault : SinkRecord → Option SinkFault
+last_fault s = s.1.1
+
+-- one that holds nothing
+abbrev pub fresh : SinkRecord
+fresh = ([], (0, None))
+
+-- no room for the replies, and no reply is added
+abbrev pub no_room : Type 0
+no_room = RefusesJobs told failures last_fault Classic fresh OutOfMemory
+
+abbrev pub no_room_run : Type 0
+no_room_run = (jobs : List Job) (earlier : List JobReply)
+    → RunsJobs told failures last_fault Classic jobs fresh earlier earlier (Err OutOfMemory)
+
+-- the device failed behind three bytes of the header
+abbrev pub cut_sink : SinkRecord
+cut_sink = (take 3 header, (1, Some fault.Device))
+
+abbrev pub header_cut : Type 0
+header_cut = (r : HeaderFails Classic told failures last_fault fresh (IoError Device)) × (r.last ≡ cut_sink)
+
+abbrev pub header_cut_run : Type 0
+header_cut_run = (jobs : List Job) → RunsJobs told failures last_fault Classic jobs fresh [] [] (Err (IoError Device))
+
+-- which is not told as want of memory
+abbrev pub header_swapped : Type 0
+header_swapped = (r : HeaderFails Classic told failures last_fault fresh OutOfMemory) → r.last ≡ cut_sink → ⊥
+
+-- where all of the header was written, it didn't fail
+abbrev pub header_whole : Type 0
+header_whole = (e : TiffError) (r : HeaderFails Classic told failures last_fault fresh e) → told r.last ≡ header → ⊥
+
+-- no other cause, and no reply
+abbrev pub other_cause : Type 0
+other_cause = RefusesJobs told failures last_fault Classic fresh IntSizeError → ⊥
+
+abbrev pub replied : Type 0
+replied = (jobs : List Job) (e : TiffError) (r : JobReply) → RunsJobs told failures last_fault Classic jobs fresh [] (r ∷ []) (Err e) → ⊥

@@ -1,0 +1,101 @@
+-- Worked whole images: their samples, how these are written, and what holds an image that has ended.
+use Rattle.std.specs.Prelude.{◌≡◌, ℕ, List, [], ◌∷◌, ◌++◌, Some, Ok, Err}
+use Rattle.tiff_base.specs.declared.error.TiffError.TheVariants.{FormatError, IoError, OutOfMemory}
+use Rattle.tiff_base.specs.declared.error.TiffFormatError.TheVariants.{InvalidDimensions}
+use Rattle.tiff_base.specs.declared.io.IoKind.TheVariants.{InvalidData}
+use Rattle.tiff_base.specs.declared.tags.ExtraSamples.TheVariants.{Unspecified}
+use Rattle.tiff_base.specs.declared.tags.FileKind.TheVariants.{Classic}
+use Rattle.tiff_base.specs.declared.tags.PlanarConfiguration.TheVariants.{Chunky}
+use Rattle.tiff_encode.specs.Model.{Model, header_model}
+use Rattle.tiff_encode.specs.Machine.{FileState, OpenImage}
+use Rattle.tiff_encode.specs.Calls as calls
+use Rattle.tiff_encode.specs.Calls.{strips_of}
+use Rattle.tiff_encode.specs.ImageData.{whole_image, WritesDataBy, WritesImageData, ImageIsNotBegun, WritesImage}
+use Rattle.tiff_encode.specs.Open.{HoldsEnded}
+use Rattle.tiff_examples.specs.Encode.Calls.{header}
+use Rattle.tiff_examples.specs.Encode.Causes.{new_file, file_with, gray, rgb, pixel}
+use Rattle.tiff_examples.specs.Encode.Chunks.{new_pixel, pixel_in_file, two_strips}
+use Rattle.tiff_examples.specs.Encode.ImageJobs.{after_begin, after_data, after_end}
+
+-- ---- samples
+
+-- two rows of two RGB pixels
+abbrev pub four_pixels : OpenImage
+four_pixels = record pixel { width = 2; height = 2; color = rgb; form = strips_of 2 2 Chunky }
+
+abbrev pub twelve : List ℕ
+twelve = 1 ∷ 2 ∷ 3 ∷ 4 ∷ 5 ∷ 6 ∷ 7 ∷ 8 ∷ 9 ∷ 10 ∷ 11 ∷ 12 ∷ []
+
+-- the second pixel of the first row, the first of the second, and the last sample of all
+abbrev pub second_pixel : Type 0
+second_pixel = (whole_image four_pixels twelve).sample_at 1 0 0 ≡ 4
+
+abbrev pub second_row : Type 0
+second_row = (whole_image four_pixels twelve).sample_at 0 1 0 ≡ 7
+
+abbrev pub last_sample : Type 0
+last_sample = (whole_image four_pixels twelve).sample_at 1 1 2 ≡ 12
+
+-- extra samples are counted
+abbrev pub behind_extra : Type 0
+behind_extra = (whole_image (record four_pixels { extra = Unspecified ∷ [] }) twelve).sample_at 1 0 0 ≡ 5
+
+-- ---- how they are written
+
+-- where there is a cause it is answered, and nothing is done
+abbrev pub data_refused : Type 0
+data_refused = WritesDataBy {A = ℕ} (Some (IoError InvalidData)) pixel [] (Err (IoError InvalidData)) (new_file Classic) (new_file Classic)
+
+abbrev pub data_changed : Type 0
+data_changed =
+    WritesDataBy {A = ℕ} (Some (IoError InvalidData)) pixel [] (Err (IoError InvalidData)) (new_file Classic) (file_with Classic (header ++ (7 ∷ [])))
+    → ⊥
+
+abbrev pub data_wanting : Type 0
+data_wanting = (new : FileState) → WritesDataBy {A = ℕ} (Some (IoError InvalidData)) pixel [] (Err OutOfMemory) (new_file Classic) new → ⊥
+
+abbrev pub data_answered : Type 0
+data_answered = (new : FileState) → WritesDataBy {A = ℕ} (Some (IoError InvalidData)) pixel [] (Ok 0) (new_file Classic) new → ⊥
+
+-- too few samples; one too many; memory for the first of two strips alone
+abbrev pub data_few : Type 0
+data_few = WritesImageData {A = ℕ} pixel [] (Err (IoError InvalidData)) (new_file Classic) (new_file Classic)
+
+abbrev pub data_whole : Type 0
+data_whole = WritesImageData {A = ℕ} new_pixel (7 ∷ 8 ∷ []) (Ok 0) after_begin.file after_data.file
+
+abbrev pub data_within : Type 0
+data_within = WritesImageData {A = ℕ} two_strips (1 ∷ 2 ∷ 3 ∷ []) (Err OutOfMemory) (new_file Classic) (file_with Classic (header ++ (1 ∷ 2 ∷ [])))
+
+-- an image of no side isn't begun; there may be no memory to begin one; where there is an answer, it was begun
+abbrev pub not_begun : Type 0
+not_begun = ImageIsNotBegun {A = ℕ} (calls.new_image gray 1 0 5 (new_file Classic)) (Err (FormatError (InvalidDimensions 0 5))) (new_file Classic) (new_file Classic)
+
+abbrev pub not_begun_wanting : Type 0
+not_begun_wanting = ImageIsNotBegun {A = ℕ} (calls.new_image gray 1 1 1 (new_file Classic)) (Err OutOfMemory) (new_file Classic) (new_file Classic)
+
+abbrev pub not_begun_answered : Type 0
+not_begun_answered = (new : FileState) → ImageIsNotBegun {A = ℕ} (calls.new_image gray 1 0 5 (new_file Classic)) (Ok 0) (new_file Classic) new → ⊥
+
+-- the image of one pixel; none of no side is written
+abbrev pub image_written : Type 0
+image_written = WritesImage {A = ℕ} gray 1 1 1 (7 ∷ 8 ∷ []) (Ok 0) (new_file Classic) after_data.file
+
+abbrev pub image_sideless : Type 0
+image_sideless = (samples : List ℕ) (new : FileState) → WritesImage {A = ℕ} gray 1 0 5 samples (Ok 0) (new_file Classic) new → ⊥
+
+-- ---- what holds one that has ended
+
+-- the image of one pixel, which ended at 25
+abbrev pub held : Type 0
+held = HoldsEnded Classic after_end.model pixel_in_file ((7 ∷ []) ∷ []) 25
+
+-- it has one sample; it has a strip; a header alone holds none
+abbrev pub held_more : Type 0
+held_more = (m : Model) (offset : ℕ) → HoldsEnded Classic m pixel_in_file ((7 ∷ 8 ∷ []) ∷ []) offset → ⊥
+
+abbrev pub held_unwritten : Type 0
+held_unwritten = (m : Model) (samples : List (List ℕ)) (offset : ℕ) → HoldsEnded Classic m new_pixel samples offset → ⊥
+
+abbrev pub held_nowhere : Type 0
+held_nowhere = (i : OpenImage) (samples : List (List ℕ)) (offset : ℕ) → HoldsEnded Classic (header_model Classic) i samples offset → ⊥

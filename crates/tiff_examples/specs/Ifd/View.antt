@@ -1,0 +1,104 @@
+-- Worked views: the plain data that contracts see of values.
+use Rattle.std.specs.Prelude.{◌≡◌, ℕ, ℤ, pos, negsuc, [], ◌∷◌, Vec, true, false, Some}
+use Rattle.std.specs.FinMap.{empty, get}
+use Rattle.tiff_base.specs.declared.tags.Tag.TheVariants as tag
+use Rattle.tiff_base.specs.declared.tags.«Type».TheVariants.{BYTE}
+use Rattle.tiff_base.specs.Directory.{with_entries}
+use Rattle.tiff_base.specs.Field.{Field, DirectoryRecord}
+use Rattle.tiff_ifd.specs.Same.{same}
+use Rattle.std.specs.declared.alloc.Global.{Global}
+use Rattle.tiff_base.specs.declared.tags.Bits16.{Bits16}
+use Rattle.tiff_ifd.specs.Datum as d
+use Rattle.tiff_ifd.specs.Datum.{DatumList, none, more, datum_list_of, depth}
+use Rattle.tiff_ifd.specs.View.{datum, datum_list}
+use Rattle.tiff_ifd.specs.declared.value.Value.TheVariants as v
+use Rattle.tiff_page.specs.declared.layout.DecodingSampleType.TheVariants as type
+use Rattle.tiff_decode.specs.declared.result.DecodingResult.TheVariants as result
+use Rattle.tiff_decode.specs.Result.{decoded_as, whole_numbers, bytes_of}
+
+-- a number, and a list that holds a list
+abbrev pub byte_seen : Type 0
+byte_seen = datum (v.Byte 3) ≡ d.byte 3
+
+abbrev pub list_seen : Type 0
+list_seen = datum (v.List (d.short 1 ∷ d.list none ∷ [])) ≡ d.list (more (d.short 1) (more (d.list none) none))
+
+-- floating numbers are their bits
+abbrev pub float_seen : Type 0
+float_seen = datum (v.Float (record { 0 = 0x3f80_0000 })) ≡ d.float 0x3f80_0000
+
+-- how deep lists nest
+abbrev pub no_depth : Type 0
+no_depth = depth (d.ascii (0x41 ∷ [])) ≡ 0
+
+abbrev pub two_deep : Type 0
+two_deep = depth (d.list (more (d.list (more (d.byte 1) none)) none)) ≡ 2
+
+abbrev pub two_seen : Type 0
+two_seen = datum_list (v.Byte 1 ∷ v.Short 2 ∷ []) ≡ (d.byte 1 ∷ d.short 2 ∷ [])
+
+-- decoded samples by their bits: whole numbers, signed ones, floating ones
+abbrev pub bytes_decoded : Type 0
+bytes_decoded = (samples : Vec ℕ Global) → decoded_as (result.U8 samples) ≡ record { sample_type = type.U8; numbers = samples.items }
+
+abbrev pub signed_decoded : Type 0
+signed_decoded = (samples : Vec ℤ Global) → samples.items ≡ (negsuc 0 ∷ pos 1 ∷ negsuc 127 ∷ [])
+    → decoded_as (result.I8 samples) ≡ record { sample_type = type.I8; numbers = 0xff ∷ 0x01 ∷ 0x80 ∷ [] }
+
+abbrev pub floats_decoded : Type 0
+floats_decoded = (samples : Vec Bits16 Global) → samples.items ≡ (record { 0 = 0x3c00 } ∷ [])
+    → decoded_as (result.F16 samples) ≡ record { sample_type = type.F16; numbers = 0x3c00 ∷ [] }
+
+-- bytes whose last number is filled up, and those of whole numbers
+abbrev pub zeros_behind : Type 0
+zeros_behind = whole_numbers 4 (1 ∷ 2 ∷ 3 ∷ 4 ∷ 5 ∷ []) ≡ 1 ∷ 2 ∷ 3 ∷ 4 ∷ 5 ∷ 0 ∷ 0 ∷ 0 ∷ []
+
+abbrev pub no_zeros : Type 0
+no_zeros = whole_numbers 2 (1 ∷ 2 ∷ []) ≡ 1 ∷ 2 ∷ []
+
+-- the bytes of samples, the lowest of each first
+abbrev pub wide_bytes : Type 0
+wide_bytes = bytes_of (record { sample_type = type.U16; numbers = 0x0102 ∷ 0x0304 ∷ [] }) ≡ (0x02 ∷ 0x01 ∷ 0x04 ∷ 0x03 ∷ [])
+
+-- ---- the same values
+
+abbrev pub bytes_same : Type 0
+bytes_same = same (d.byte 1) (d.byte 1) ≡ true
+
+-- of another kind, though the number is the same
+abbrev pub byte_short : Type 0
+byte_short = same (d.byte 1) (d.short 1) ≡ false
+
+-- lists by their items, at any depth
+abbrev pub lists_same : Type 0
+lists_same = same (d.list (more (d.list (more (d.byte 1) none)) none)) (d.list (more (d.list (more (d.byte 1) none)) none)) ≡ true
+
+abbrev pub lists_differ : Type 0
+lists_differ =
+    (same (d.list (more (d.list (more (d.byte 1) none)) none)) (d.list (more (d.list (more (d.byte 2) none)) none)) ≡ false)
+    × (same (d.list (more (d.byte 1) none)) (d.list none) ≡ false)
+
+-- rationals by both numbers, texts by their bytes
+abbrev pub rationals_differ : Type 0
+rationals_differ = same (d.rational 1 2) (d.rational 1 3) ≡ false
+
+abbrev pub texts_differ : Type 0
+texts_differ = same (d.ascii (0x41 ∷ [])) (d.ascii (0x41 ∷ 0x41 ∷ [])) ≡ false
+
+-- ---- fields that are set in turn
+
+abbrev pub one_byte : Field
+one_byte = record { field_type = BYTE; count = 1; value = [] }
+
+abbrev pub no_fields : DirectoryRecord
+no_fields = record { entries = empty; next = Some 8 }
+
+-- of a number that comes twice the last stands, by whatever name it goes
+abbrev pub last_set : Type 0
+last_set =
+    get (with_entries no_fields ((tag.Unknown 256, one_byte) ∷ (tag.ImageWidth, record one_byte { count = 2 }) ∷ [])).entries 256
+    ≡ Some (record one_byte { count = 2 })
+
+-- nothing is set, and the next directory stays
+abbrev pub none_set : Type 0
+none_set = (with_entries no_fields [] ≡ no_fields) × ((with_entries no_fields ((tag.Make, one_byte) ∷ [])).next ≡ Some 8)

@@ -1,0 +1,169 @@
+-- Worked walks along chains of directories.
+use Rattle.std.specs.Prelude.{ℕ, List, [], ◌∷◌, Option, Some, None, Result, Ok, Err, take}
+use Rattle.std.specs.FinMap.{from_entries}
+use Rattle.tiff_base.specs.declared.error.TiffError.{TiffError}
+use Rattle.tiff_base.specs.declared.error.TiffError.TheVariants.{FormatError, IoError}
+use Rattle.tiff_base.specs.declared.error.TiffFormatError.TheVariants.{CycleInOffsets}
+use Rattle.tiff_base.specs.declared.io.IoKind.TheVariants.{UnexpectedEof}
+use Rattle.tiff_base.specs.declared.tags.ByteOrder.TheVariants.{LittleEndian}
+use Rattle.tiff_base.specs.declared.tags.FileKind.TheVariants.{Classic}
+use Rattle.tiff_base.specs.Field.{DirectoryRecord}
+use Rattle.tiff_base.specs.SourceAndSink.{put}
+use Rattle.tiff_ifd.specs.Walk as walk
+use Rattle.tiff_ifd.specs.Walk.{Walked, AreLinked}
+use Rattle.tiff_examples.specs.Ifd.Chain.{accepted}
+use Rattle.tiff_examples.specs.Decoders.{three_file}
+
+-- the walk along three directories at 8, 14 and 20, as far as so many were entered
+abbrev pub none_entered : Walked
+none_entered = record { offsets = []; next = Some 8 }
+
+abbrev pub one_entered : Walked
+one_entered = record { offsets = 8 ∷ []; next = Some 14 }
+
+abbrev pub two_entered : Walked
+two_entered = record { offsets = 8 ∷ 14 ∷ []; next = Some 20 }
+
+abbrev pub all_entered : Walked
+all_entered = record { offsets = 8 ∷ 14 ∷ 20 ∷ []; next = None }
+
+-- the same file, whose second directory links back to the first, and without its last byte
+abbrev pub back_file : List ℕ
+back_file = put three_file 16 (8 ∷ [])
+
+abbrev pub cut_file : List ℕ
+cut_file = take 25 three_file
+
+-- a directory of no fields with this next one
+abbrev pub linking : Option ℕ → DirectoryRecord
+linking next = record { entries = from_entries []; next = next }
+
+-- ---- accepted links
+
+-- no link, a link to the next offset, two one after another, and the last one to none
+abbrev pub none_linked : Type 0
+none_linked = AreLinked (accepted []) [] (Some 8)
+
+abbrev pub one_linked : Type 0
+one_linked = AreLinked (accepted ((8, Some 14) ∷ [])) (8 ∷ []) (Some 14)
+
+abbrev pub two_linked : Type 0
+two_linked = AreLinked (accepted ((14, Some 20) ∷ (8, Some 14) ∷ [])) (14 ∷ 8 ∷ []) (Some 20)
+
+abbrev pub last_linked : Type 0
+last_linked = AreLinked (accepted ((8, None) ∷ [])) (8 ∷ []) None
+
+-- a link of an offset that wasn't entered
+abbrev pub other_linked : Type 0
+other_linked = AreLinked (accepted ((30, Some 8) ∷ (8, Some 14) ∷ [])) (8 ∷ []) (Some 14) → ⊥
+
+-- no link goes on to the next offset
+abbrev pub not_linked : Type 0
+not_linked = AreLinked (accepted ((8, None) ∷ [])) (8 ∷ []) (Some 14) → ⊥
+
+-- the next offset was entered before
+abbrev pub linked_back : Type 0
+linked_back = AreLinked (accepted ((8, Some 8) ∷ [])) (8 ∷ []) (Some 8) → ⊥
+
+-- ---- steps
+
+-- the walk along a file goes so from one to the other, with this answer
+abbrev pub Steps : List ℕ → Walked → Result (Option DirectoryRecord) TiffError → Walked → Type 0
+Steps bytes before answer after = walk.Steps Classic LittleEndian bytes before answer after
+
+-- the first offset is entered, and then the second, behind it
+abbrev pub enters_first : Type 0
+enters_first = walk.Enters Classic LittleEndian three_file none_entered (linking (Some 14)) one_entered
+
+abbrev pub enters_second : Type 0
+enters_second = walk.Enters Classic LittleEndian three_file one_entered (linking (Some 20)) two_entered
+
+abbrev pub enters_in_front : Type 0
+enters_in_front =
+    walk.Enters Classic LittleEndian three_file one_entered (linking (Some 20)) (record { offsets = 14 ∷ 8 ∷ []; next = Some 20 }) → ⊥
+
+-- no other directory is answered, and no other link is left
+abbrev pub enters_other : Type 0
+enters_other = (after : Walked) → walk.Enters Classic LittleEndian three_file one_entered (linking None) after → ⊥
+
+abbrev pub enters_same_link : Type 0
+enters_same_link =
+    walk.Enters Classic LittleEndian three_file one_entered (linking (Some 20)) (record two_entered { next = Some 14 }) → ⊥
+
+-- a second directory that links back, and a third that is cut, aren't entered
+abbrev pub enters_back : Type 0
+enters_back = (directory : DirectoryRecord) (after : Walked) → walk.Enters Classic LittleEndian back_file one_entered directory after → ⊥
+
+abbrev pub back_refused : Type 0
+back_refused = walk.IsRefused Classic LittleEndian back_file one_entered (FormatError CycleInOffsets)
+
+abbrev pub cut_refused : Type 0
+cut_refused = walk.IsRefused Classic LittleEndian cut_file two_entered (IoError UnexpectedEof)
+
+-- the second of three is, and where there is no next offset none is refused
+abbrev pub second_refused : Type 0
+second_refused = (e : TiffError) → walk.IsRefused Classic LittleEndian three_file one_entered e → ⊥
+
+abbrev pub none_refused : Type 0
+none_refused = (e : TiffError) → walk.IsRefused Classic LittleEndian three_file all_entered e → ⊥
+
+-- a step enters the next offset
+abbrev pub step_first : Type 0
+step_first = Steps three_file none_entered (Ok (Some (linking (Some 14)))) one_entered
+
+-- behind the last one it answers none, and not before
+abbrev pub step_last : Type 0
+step_last = Steps three_file all_entered (Ok None) all_entered
+
+abbrev pub step_early : Type 0
+step_early = Steps three_file two_entered (Ok None) two_entered → ⊥
+
+-- a fault leaves the walk as it was
+abbrev pub step_back : Type 0
+step_back = Steps back_file one_entered (Err (FormatError CycleInOffsets)) one_entered
+
+abbrev pub step_back_ends : Type 0
+step_back_ends = Steps back_file one_entered (Err (FormatError CycleInOffsets)) (record one_entered { next = None }) → ⊥
+
+-- ---- chains
+
+-- the chain of a file from 8 on begins with this walk
+abbrev pub Begins : List ℕ → Walked → Type 0
+Begins bytes so_far = walk.Begins Classic LittleEndian bytes 8 so_far
+
+abbrev pub Ends : List ℕ → Walked → Option TiffError → Type 0
+Ends bytes so_far end = walk.Ends Classic LittleEndian bytes 8 so_far end
+
+abbrev pub begins_none : Type 0
+begins_none = Begins three_file none_entered
+
+abbrev pub begins_one : Type 0
+begins_one = Begins three_file one_entered
+
+abbrev pub begins_all : Type 0
+begins_all = Begins three_file all_entered
+
+-- before a directory that links back
+abbrev pub begins_back : Type 0
+begins_back = Begins back_file one_entered
+
+-- not with the second, and not with one offset where no link goes on from it
+abbrev pub begins_second : Type 0
+begins_second = Begins three_file (record { offsets = 14 ∷ []; next = Some 20 }) → ⊥
+
+abbrev pub begins_ended : Type 0
+begins_ended = Begins three_file (record one_entered { next = None }) → ⊥
+
+-- all three are the chain, and two aren't
+abbrev pub ends_all : Type 0
+ends_all = Ends three_file all_entered None
+
+abbrev pub ends_early : Type 0
+ends_early = Ends three_file two_entered None → ⊥
+
+-- where the second links back the first is the chain, and the fault its end
+abbrev pub ends_back : Type 0
+ends_back = Ends back_file one_entered (Some (FormatError CycleInOffsets))
+
+abbrev pub ends_plain : Type 0
+ends_plain = Ends back_file one_entered None → ⊥

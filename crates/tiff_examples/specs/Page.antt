@@ -1,0 +1,7 @@
+-- What the definitions of `tiff_page` give.
+pub mod Layout
+pub mod Pixels
+pub mod Buffers
+pub mod PixelCalls
+pub mod Checks
+pub mod Row

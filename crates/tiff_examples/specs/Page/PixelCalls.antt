@@ -1,0 +1,402 @@
+-- Worked calls that read pixels.
+use Rattle.std.specs.Prelude.{◌≡◌, ℕ, List, [], ◌∷◌, ◌++◌, ◌^◌, Result, Ok, Err, take, drop, replicate}
+use Rattle.std.specs.List.{range_with_len}
+use Rattle.tiff_base.specs.declared.color.ChunkType.TheVariants.{Tile}
+use Rattle.tiff_base.specs.declared.color.ColorType.TheVariants as color
+use Rattle.tiff_base.specs.declared.error.TiffError.{TiffError}
+use Rattle.tiff_base.specs.declared.error.TiffError.TheVariants.{FormatError, UnsupportedError, UsageError, IoError, LimitsExceeded}
+use Rattle.tiff_base.specs.declared.error.TiffFormatError.TheVariants.{InconsistentSizesEncountered}
+use Rattle.tiff_base.specs.declared.error.TiffUnsupportedError.TheVariants.{UnsupportedCompressionMethod, UnsupportedSampleFormat, UnsupportedSampleDepth}
+use Rattle.tiff_base.specs.declared.error.UsageError.TheVariants.{InvalidCodingUnit, InsufficientOutputBufferSize, InsufficientOutputRowStride}
+use Rattle.tiff_base.specs.declared.io.IoKind.TheVariants.{UnexpectedEof}
+use Rattle.tiff_base.specs.declared.tags.ByteOrder.TheVariants.{LittleEndian, BigEndian}
+use Rattle.tiff_base.specs.declared.tags.CompressionMethod.TheVariants as method
+use Rattle.tiff_base.specs.declared.tags.ExtraSamples.TheVariants as extra
+use Rattle.tiff_base.specs.declared.tags.PlanarConfiguration.TheVariants.{Planar}
+use Rattle.tiff_base.specs.declared.tags.Predictor.TheVariants as predictor
+use Rattle.tiff_base.specs.declared.tags.SampleFormat.TheVariants as format
+use Rattle.tiff_ifd.specs.Limits.{unlimited}
+use Rattle.tiff_page.specs.declared.layout.DecodingSampleType.TheVariants as type
+use Rattle.tiff_page.specs.Page.{PageRecord}
+use Rattle.tiff_page.specs.Pixels.{whole_image, chunk_region}
+use Rattle.tiff_page.specs.Image.{Decoded, image_of}
+use Rattle.tiff_page.specs.PixelCalls.{placed, read_image_bytes, read_image_to_buffer, read_chunk, read_chunk_bytes, read_chunk_to_buffer, read_coding_unit_bytes}
+use Rattle.tiff_examples.specs.Files.{gray_file}
+use Rattle.tiff_examples.specs.Page.Pixels.{pixel_page, row_page, rgb_row, planar_row, tiled_page, tiled_file, limits}
+use Rattle.tiff_examples.specs.Page.Buffers.{of_bytes, largest_page}
+
+-- numbers of one byte
+abbrev pub bytes : List ℕ → Decoded
+bytes numbers = record { sample_type = type.U8; numbers = numbers }
+
+-- the first 16 numbers of 256, and the last
+abbrev pub rows_of : Result Decoded TiffError → List ℕ × List ℕ
+rows_of (Ok d) = (take 16 d.numbers, drop 240 d.numbers)
+rows_of (Err e) = ([], [])
+
+-- two planes of 3 by 3 samples in tiles of 2 by 2: each byte of chunk c is c + 1
+abbrev pub two_planes : PageRecord
+two_planes = record tiled_page {
+  samples = 2;
+  planar = Planar;
+  offsets = 0 ∷ 4 ∷ 8 ∷ 12 ∷ 16 ∷ 20 ∷ 24 ∷ 28 ∷ [];
+  byte_counts = replicate 8 4;
+}
+
+abbrev pub tiles : List ℕ
+tiles = replicate 4 1 ++ replicate 4 2 ++ replicate 4 3 ++ replicate 4 4 ++ replicate 4 5 ++ replicate 4 6
+    ++ replicate 4 7 ++ replicate 4 8
+
+abbrev pub first_plane : List ℕ
+first_plane = 1 ∷ 1 ∷ 2 ∷ 1 ∷ 1 ∷ 2 ∷ 3 ∷ 3 ∷ 4 ∷ []
+
+abbrev pub second_plane : List ℕ
+second_plane = 5 ∷ 5 ∷ 6 ∷ 5 ∷ 5 ∷ 6 ∷ 7 ∷ 7 ∷ 8 ∷ []
+
+-- the image is the first plane
+abbrev pub plane_read : Type 0
+plane_read = image_of tiles LittleEndian two_planes unlimited ≡ Ok (bytes first_plane)
+
+-- into 20 bytes go both planes, and two bytes stay
+abbrev pub both_planes : Type 0
+both_planes =
+    read_image_bytes tiles LittleEndian two_planes unlimited (replicate 20 170)
+    ≡ Ok (first_plane ++ second_plane ++ replicate 2 170)
+
+-- into 17 goes one
+abbrev pub only_plane : Type 0
+only_plane =
+    read_image_bytes tiles LittleEndian two_planes unlimited (replicate 17 170) ≡ Ok (first_plane ++ replicate 8 170)
+
+-- 27 bytes have no third plane
+abbrev pub no_third_plane : Type 0
+no_third_plane =
+    read_image_bytes tiles LittleEndian two_planes unlimited (replicate 27 170)
+    ≡ Ok (first_plane ++ second_plane ++ replicate 9 170)
+
+-- into 8 goes none, whatever faults the chunks have
+abbrev pub no_room : Type 0
+no_room =
+    read_image_bytes [] LittleEndian (record two_planes { method = method.LZW }) unlimited (replicate 8 170)
+    ≡ Err (UsageError (InsufficientOutputBufferSize 9 8))
+
+-- the first chunk of the second plane has a fault, then the second of the first plane another: the first chunk's is
+-- told, unless its plane isn't read
+abbrev pub two_faults : PageRecord
+two_faults = record two_planes {
+  offsets = 0 ∷ 40 ∷ 8 ∷ 12 ∷ 16 ∷ 20 ∷ 24 ∷ 28 ∷ [];
+  byte_counts = 4 ∷ 4 ∷ 4 ∷ 4 ∷ 9 ∷ 4 ∷ 4 ∷ 4 ∷ [];
+}
+
+abbrev pub first_chunk_first : Type 0
+first_chunk_first =
+    read_image_bytes tiles LittleEndian two_faults (limits 99 8) (replicate 18 170) ≡ Err LimitsExceeded
+
+abbrev pub plane_not_read : Type 0
+plane_not_read =
+    read_image_bytes tiles LittleEndian two_faults (limits 99 8) (replicate 17 170) ≡ Err (IoError UnexpectedEof)
+
+-- two planes of the largest sides are too many bytes, whatever room there is
+abbrev pub too_many_bytes : Type 0
+too_many_bytes =
+    read_image_bytes [] LittleEndian (record largest_page { samples = 2; planar = Planar }) unlimited []
+    ≡ Err LimitsExceeded
+
+abbrev pub image_planes : Type 0
+image_planes =
+    image_of [] LittleEndian (record largest_page { samples = 2; planar = Planar; format = format.Void }) unlimited
+    ≡ Err LimitsExceeded
+
+-- a pixel of two samples of which one is past the strip's byte count
+abbrev pub past_count : Type 0
+past_count =
+    image_of gray_file LittleEndian (record pixel_page { samples = 2 }) unlimited ≡ Ok (bytes (7 ∷ 14 ∷ []))
+
+-- a strip past the end of the file
+abbrev pub past_end : Type 0
+past_end =
+    image_of gray_file LittleEndian (record pixel_page { offsets = 0xffff_ffff ∷ [] }) unlimited
+    ≡ Err (IoError UnexpectedEof)
+
+-- floating point of 8 bits, and samples that are no numbers
+abbrev pub float_8 : Type 0
+float_8 =
+    image_of gray_file LittleEndian (record pixel_page { format = format.IEEEFP }) unlimited
+    ≡ Err (UnsupportedError (UnsupportedSampleDepth 8))
+
+abbrev pub void : Type 0
+void =
+    image_of gray_file LittleEndian (record pixel_page { format = format.Void }) unlimited
+    ≡ Err (UnsupportedError (UnsupportedSampleFormat (format.Void ∷ [])))
+
+-- a tile in a buffer of rows two apart, and the image in one of rows four apart: what isn't of a row stays
+abbrev pub tile_placed : Type 0
+tile_placed =
+    placed tiled_file LittleEndian tiled_page (color.Gray 8) (chunk_region tiled_file LittleEndian tiled_page 1) 2 1
+    (replicate 5 170)
+    ≡ (3 ∷ 170 ∷ 6 ∷ 170 ∷ 170 ∷ [])
+
+abbrev pub image_placed : Type 0
+image_placed =
+    placed tiled_file LittleEndian tiled_page (color.Gray 8) (whole_image tiled_file LittleEndian tiled_page) 4 1
+    (replicate 13 170)
+    ≡ (1 ∷ 2 ∷ 3 ∷ 170 ∷ 4 ∷ 5 ∷ 6 ∷ 170 ∷ 7 ∷ 8 ∷ 9 ∷ 170 ∷ 170 ∷ [])
+
+-- three planes of two bytes: with a limit of six all are read, with less the first; the layout names all
+abbrev pub planes : List ℕ
+planes = 1 ∷ 4 ∷ 2 ∷ 5 ∷ 3 ∷ 6 ∷ []
+
+abbrev pub all_planes_read : Type 0
+all_planes_read =
+    read_image_to_buffer planes LittleEndian planar_row (limits 6 99) ≡ Ok (of_bytes 2 2 3 6, bytes planes)
+
+abbrev pub first_plane_read : Type 0
+first_plane_read =
+    read_image_to_buffer planes LittleEndian planar_row (limits 5 99)
+    ≡ Ok (of_bytes 2 2 3 6, bytes (1 ∷ 4 ∷ []))
+
+abbrev pub no_plane_read : Type 0
+no_plane_read = read_image_to_buffer planes LittleEndian planar_row (limits 1 99) ≡ Err LimitsExceeded
+
+-- three bytes are within the limit, two numbers of two bytes are not
+abbrev pub within_but_more : Type 0
+within_but_more =
+    read_image_to_buffer planes LittleEndian (record (row_page 2) { depth = 12 }) (limits 3 99) ≡ Err LimitsExceeded
+
+-- a fault of a plane that is read, and of one that is not
+abbrev pub third_plane_cut : Type 0
+third_plane_cut =
+    read_image_to_buffer (take 5 planes) LittleEndian planar_row (limits 6 99) ≡ Err (IoError UnexpectedEof)
+
+abbrev pub third_plane_unread : Type 0
+third_plane_unread =
+    read_image_to_buffer (take 5 planes) LittleEndian planar_row (limits 5 99)
+    ≡ Ok (of_bytes 2 2 3 6, bytes (1 ∷ 4 ∷ []))
+
+-- chunks of the second plane, and one past the list
+abbrev pub chunk_of_plane : Type 0
+chunk_of_plane = read_chunk tiles LittleEndian two_planes unlimited 5 ≡ Ok (bytes (6 ∷ 6 ∷ []))
+
+abbrev pub chunk_past_list : Type 0
+chunk_past_list =
+    read_chunk tiles LittleEndian two_planes unlimited 8 ≡ Err (FormatError InconsistentSizesEncountered)
+
+-- two numbers of two bytes as differences in a big-endian file
+abbrev pub chunk_of_differences : Type 0
+chunk_of_differences =
+    read_chunk (0x00 ∷ 0x01 ∷ 0xff ∷ 0xff ∷ []) BigEndian (record (row_page 2) {
+      depth = 16;
+      predictor = predictor.Horizontal;
+    }) unlimited 0
+    ≡ Ok (record { sample_type = type.U16; numbers = 1 ∷ 0 ∷ [] })
+
+-- a sample that isn't shown is needed all the same, in the last pixel too
+abbrev pub dropped_row : PageRecord
+dropped_row = record rgb_row { samples = 4; extra = extra.Unspecified ∷ []; predictor = predictor.Horizontal }
+
+abbrev pub dropped_read : Type 0
+dropped_read =
+    read_chunk (1 ∷ 2 ∷ 3 ∷ 9 ∷ 1 ∷ 2 ∷ 3 ∷ 0 ∷ []) LittleEndian dropped_row unlimited 0
+    ≡ Ok (bytes (1 ∷ 2 ∷ 3 ∷ 2 ∷ 4 ∷ 6 ∷ []))
+
+abbrev pub dropped_cut : Type 0
+dropped_cut =
+    read_chunk (1 ∷ 2 ∷ 3 ∷ 9 ∷ 1 ∷ 2 ∷ 3 ∷ []) LittleEndian dropped_row unlimited 0 ≡ Err (IoError UnexpectedEof)
+
+-- of the last row of a tile that is cut at the right one byte is needed
+abbrev pub tile_read : Type 0
+tile_read = read_chunk (take 7 tiled_file) LittleEndian tiled_page unlimited 1 ≡ Ok (bytes (3 ∷ 6 ∷ []))
+
+abbrev pub tile_cut : Type 0
+tile_cut = read_chunk (take 6 tiled_file) LittleEndian tiled_page unlimited 1 ≡ Err (IoError UnexpectedEof)
+
+-- with byte planes the whole row
+abbrev pub float_tiles : PageRecord
+float_tiles = record (row_page 3) {
+  depth = 16;
+  format = format.IEEEFP;
+  predictor = predictor.FloatingPoint;
+  chunk_type = Tile;
+  chunk_width = 2;
+  offsets = 0 ∷ 4 ∷ [];
+  byte_counts = 4 ∷ 4 ∷ [];
+}
+
+abbrev pub float_file : List ℕ
+float_file = 0x00 ∷ 0x00 ∷ 0x00 ∷ 0x00 ∷ 0x3c ∷ 0x00 ∷ 0xc4 ∷ 0x00 ∷ []
+
+abbrev pub float_read : Type 0
+float_read =
+    read_chunk float_file LittleEndian float_tiles unlimited 1
+    ≡ Ok (record { sample_type = type.F16; numbers = 0x3c00 ∷ [] })
+
+abbrev pub float_cut : Type 0
+float_cut = read_chunk (take 7 float_file) LittleEndian float_tiles unlimited 1 ≡ Err (IoError UnexpectedEof)
+
+-- the limit of a chunk's bytes comes before the method, that of samples before both, and the number type before that
+abbrev pub bytes_before_method : Type 0
+bytes_before_method =
+    read_chunk [] LittleEndian (record (row_page 2) { method = method.LZW }) (limits 99 98) 0 ≡ Err LimitsExceeded
+
+abbrev pub method_unread : Type 0
+method_unread =
+    read_chunk [] LittleEndian (record (row_page 2) { method = method.LZW }) (limits 2 99) 0
+    ≡ Err (UnsupportedError (UnsupportedCompressionMethod method.LZW))
+
+abbrev pub type_before_limit : Type 0
+type_before_limit =
+    read_chunk [] LittleEndian (record (row_page 2) { format = format.Void }) (limits 0 0) 0
+    ≡ Err (UnsupportedError (UnsupportedSampleFormat (format.Void ∷ [])))
+
+-- the planes come before the number type
+abbrev pub planes_before_type : Type 0
+planes_before_type =
+    read_chunk [] LittleEndian (record largest_page {
+      samples = 2;
+      planar = Planar;
+      format = format.Void;
+    }) unlimited 0
+    ≡ Err LimitsExceeded
+
+-- a chunk goes into a slice as one plane, though there is room for two
+abbrev pub chunk_in_slice : Type 0
+chunk_in_slice =
+    read_chunk_bytes tiles LittleEndian two_planes unlimited 2 (replicate 4 170) ≡ Ok (3 ∷ 3 ∷ 170 ∷ 170 ∷ [])
+
+abbrev pub chunk_of_second : Type 0
+chunk_of_second =
+    read_chunk_bytes tiles LittleEndian two_planes unlimited 6 (replicate 3 170) ≡ Ok (7 ∷ 7 ∷ 170 ∷ [])
+
+-- no room comes before an index past the list; and a slice is asked for no number type
+abbrev pub chunk_no_room : Type 0
+chunk_no_room =
+    read_chunk_bytes tiles LittleEndian two_planes unlimited 8 (replicate 3 170)
+    ≡ Err (UsageError (InsufficientOutputBufferSize 4 3))
+
+abbrev pub void_in_slice : Type 0
+void_in_slice =
+    read_chunk_bytes (7 ∷ 8 ∷ []) LittleEndian (record (row_page 2) {
+      format = format.Void;
+    }) (limits 0 99) 0 (replicate 2 170)
+    ≡ Ok (7 ∷ 8 ∷ [])
+
+-- a cut tile in rows as long as the tile's: what stands in the file beside it isn't shown
+abbrev pub tile_strided : Type 0
+tile_strided =
+    read_chunk_to_buffer tiled_file LittleEndian tiled_page unlimited 1 2 ≡ Ok (bytes (3 ∷ 0 ∷ 6 ∷ 0 ∷ []))
+
+-- the first row of a tile of 16 by 16, of which the image has four columns, and its last
+abbrev pub wide_tiles : PageRecord
+wide_tiles = record tiled_page {
+  width = 20;
+  height = 20;
+  chunk_width = 16;
+  chunk_height = 16;
+  offsets = 0 ∷ 0 ∷ 0 ∷ 0 ∷ [];
+  byte_counts = replicate 4 256;
+}
+
+abbrev pub first_16 : List ℕ
+first_16 = 0 ∷ 1 ∷ 2 ∷ 3 ∷ replicate 12 0
+
+abbrev pub last_16 : List ℕ
+last_16 = 0xf0 ∷ 0xf1 ∷ 0xf2 ∷ 0xf3 ∷ replicate 12 0
+
+abbrev pub wide_tile_rows : Type 0
+wide_tile_rows =
+    rows_of (read_chunk_to_buffer (range_with_len 0 256) LittleEndian wide_tiles unlimited 1 16) ≡ (first_16, last_16)
+
+abbrev pub wide_tile_short : Type 0
+wide_tile_short =
+    read_chunk_to_buffer (range_with_len 0 256) LittleEndian wide_tiles unlimited 1 3
+    ≡ Err (UsageError (InsufficientOutputRowStride 4 3))
+
+-- rows that touch each other
+abbrev pub no_gaps : Type 0
+no_gaps =
+    read_chunk_to_buffer tiled_file LittleEndian tiled_page unlimited 0 2 ≡ Ok (bytes (1 ∷ 2 ∷ 4 ∷ 5 ∷ []))
+
+-- rows of no byte, told before too many bytes, which are told before the number type
+abbrev pub short_stride : Type 0
+short_stride =
+    read_chunk_to_buffer tiled_file LittleEndian (record tiled_page { format = format.Void }) unlimited 1 0
+    ≡ Err (UsageError (InsufficientOutputRowStride 1 0))
+
+abbrev pub long_stride : Type 0
+long_stride =
+    read_chunk_to_buffer tiled_file LittleEndian (record tiled_page { format = format.Void }) unlimited 1 (2 ^ 63)
+    ≡ Err LimitsExceeded
+
+-- a stride is tested against the stored height of a chunk, not against what the image has of it
+abbrev pub long_stride_of_last : Type 0
+long_stride_of_last =
+    read_chunk_to_buffer tiled_file LittleEndian (record tiled_page { format = format.Void }) unlimited 3 (2 ^ 63)
+    ≡ Err LimitsExceeded
+
+-- the gaps count as samples; the planes come before the stride
+abbrev pub gaps_count : Type 0
+gaps_count =
+    read_chunk_to_buffer tiled_file LittleEndian tiled_page (limits 3 99) 1 2 ≡ Err LimitsExceeded
+
+abbrev pub planes_before_stride : Type 0
+planes_before_stride =
+    read_chunk_to_buffer [] LittleEndian (record largest_page { samples = 2; planar = Planar }) unlimited 0 0
+    ≡ Err LimitsExceeded
+
+-- numbers of two bytes in rows of three: the last is filled up by zeros
+abbrev pub odd_stride : Type 0
+odd_stride =
+    read_chunk_to_buffer (1 ∷ 2 ∷ []) LittleEndian (record (row_page 1) { depth = 16 }) unlimited 0 3
+    ≡ Ok (record { sample_type = type.U16; numbers = 0x0201 ∷ 0 ∷ [] })
+
+-- a coding unit: the chunk of each plane
+abbrev pub unit_read : Type 0
+unit_read =
+    read_coding_unit_bytes tiles LittleEndian two_planes unlimited 1 (replicate 4 170)
+    ≡ Ok (2 ∷ 2 ∷ 6 ∷ 6 ∷ [])
+
+abbrev pub unit_of_one_plane : Type 0
+unit_of_one_plane =
+    read_coding_unit_bytes tiles LittleEndian two_planes unlimited 1 (replicate 3 170) ≡ Ok (2 ∷ 2 ∷ 170 ∷ [])
+
+-- samples of 4 bits too
+abbrev pub unit_of_4_bits : Type 0
+unit_of_4_bits =
+    read_coding_unit_bytes (0x12 ∷ 0x34 ∷ []) LittleEndian
+    (record (row_page 2) {
+      depth = 4;
+      samples = 2;
+      planar = Planar;
+      offsets = 0 ∷ 1 ∷ [];
+      byte_counts = 1 ∷ 1 ∷ [];
+    })
+    unlimited 0 (replicate 3 170)
+    ≡ Ok (0x12 ∷ 0x34 ∷ 170 ∷ [])
+
+-- no such unit, told before the room; too many bytes, told before it
+abbrev pub unit_past : Type 0
+unit_past =
+    read_coding_unit_bytes tiles LittleEndian two_planes unlimited 4 []
+    ≡ Err (UsageError (InvalidCodingUnit 4 4))
+
+abbrev pub unit_no_room : Type 0
+unit_no_room =
+    read_coding_unit_bytes [] LittleEndian two_planes unlimited 1 (170 ∷ [])
+    ≡ Err (UsageError (InsufficientOutputBufferSize 2 1))
+
+abbrev pub unit_too_long : Type 0
+unit_too_long =
+    read_coding_unit_bytes [] LittleEndian (record largest_page { samples = 2; planar = Planar }) unlimited 1 []
+    ≡ Err LimitsExceeded
+
+-- the units of a page whose samples stand together are tested too
+abbrev pub chunky_unit_past : Type 0
+chunky_unit_past =
+    read_coding_unit_bytes tiled_file LittleEndian tiled_page unlimited 4 (replicate 9 170)
+    ≡ Err (UsageError (InvalidCodingUnit 4 4))
+
+-- the second plane's chunk is cut
+abbrev pub unit_cut : Type 0
+unit_cut =
+    read_coding_unit_bytes (take 22 tiles) LittleEndian two_planes unlimited 1 (replicate 4 170)
+    ≡ Err (IoError UnexpectedEof)

@@ -1,0 +1,195 @@
+-- Worked values that are written, bytes that are stored, rows as differences; and where chunks stand in an image.
+use Rattle.std.specs.Prelude.{◌≡◌, ℕ, ◌^◌, ◌-◌, [], ◌∷◌, Some, None, true, false, Ok, Err}
+use Rattle.tiff_base.specs.declared.color.ColorType.TheVariants.{Multiband}
+use Rattle.tiff_base.specs.declared.error.TiffError.TheVariants.{FormatError, IntSizeError, IoError, OutOfMemory, UsageError}
+use Rattle.tiff_base.specs.declared.error.TiffFormatError.TheVariants.{InvalidTag}
+use Rattle.tiff_base.specs.declared.error.UsageError.TheVariants.{PredictorIncompatible}
+use Rattle.tiff_base.specs.declared.error.UsageError.TheVariants as usage
+use Rattle.tiff_base.specs.declared.io.IoKind.TheVariants.{WriteZero}
+use Rattle.tiff_base.specs.declared.io.SinkFault.TheVariants as fault
+use Rattle.tiff_base.specs.declared.tags.ByteOrder.TheVariants.{LittleEndian}
+use Rattle.tiff_base.specs.declared.tags.CompressionMethod.TheVariants as method
+use Rattle.tiff_base.specs.declared.tags.«Type».TheVariants as t
+use Rattle.tiff_value.specs.Buffer.{buffer_given}
+use Rattle.tiff_value.specs.Data.{u8s, u16s, data_of, text_data}
+use Rattle.tiff_value.specs.Predicted.{row_of_type, AppendsRow}
+use Rattle.tiff_value.specs.Stored.{takes_memory, StoreWants, Stores, StoresBytes}
+use Rattle.tiff_value.specs.Values.{values_in, IsValue, IsWritable, byte_count, IsWanting, ValueIsRefused, WritesValue}
+use Rattle.tiff_value.specs.Written.{Written}
+use Rattle.tiff_page.specs.Layout.{LayoutRecord}
+use Rattle.tiff_laws.specs.Whole.{chunks_used, chunk_row, at_chunk, at_image, chunk_byte_count}
+use Rattle.tiff_laws.specs.Bytes.{chunk_of_byte, row_of_byte, byte_in_row}
+use Rattle.tiff_laws.specs.Units.{unit_chunk}
+use Rattle.tiff_encode.specs.Kind.{WritesWithin}
+use Rattle.tiff_examples.specs.Page.Layout.{planar_tiles}
+use Rattle.tiff_examples.specs.Decode.Steps.{Never}
+
+-- a writer that stands behind the first of three bytes
+abbrev pub three : Written
+three = record { bytes = 1 ∷ 2 ∷ 3 ∷ []; at = 1; fault = None; failures = 0; last = 0; method = method.None }
+
+-- the same after a fault of its sink's device
+abbrev pub broken : Written
+broken = record three { fault = Some fault.Device; failures = 1 }
+
+-- ---- values
+
+-- one SHORT, by its bytes; it isn't two
+abbrev pub value_given : Type 0
+value_given = values_in t.SHORT 1 (5 ∷ 0 ∷ []) ≡ data_of (u16s (5 ∷ []))
+
+abbrev pub is_value : Type 0
+is_value = IsValue t.SHORT 1 (Ok (data_of (u16s (5 ∷ []))))
+
+abbrev pub is_not_value : Type 0
+is_not_value = Never (IsValue t.SHORT 2 (Ok (data_of (u16s (5 ∷ [])))))
+
+-- a text that isn't ASCII is refused
+abbrev pub value_refused : Type 0
+value_refused = IsValue t.ASCII 2 (text_data (0xe9 ∷ []))
+
+-- such a text can't be written, where numbers can
+abbrev pub value_writable : Type 0
+value_writable = IsWritable (Ok (data_of (u16s (5 ∷ [])))) × Never (IsWritable (text_data (0xe9 ∷ [])))
+
+abbrev pub bytes_three : Type 0
+bytes_three = byte_count 3 t.SHORT ≡ 6
+
+-- 2^65 bytes don't fit
+abbrev pub bytes_most : Type 0
+bytes_most = byte_count (2 ^ 62) t.DOUBLE ≡ 2 ^ 64 - 1
+
+abbrev pub value_writes : Type 0
+value_writes = WritesValue {A = ℕ} (Ok (data_of (u8s (9 ∷ [])))) three (record three { bytes = 1 ∷ 9 ∷ 3 ∷ []; at = 2; last = 1 }) (Ok 0)
+
+-- no text is written
+abbrev pub value_writes_not : Type 0
+value_writes_not = Never (WritesValue {A = ℕ} (text_data (0xe9 ∷ [])) three three (Ok 0))
+
+abbrev pub wanting : Type 0
+wanting = IsWanting OutOfMemory three three
+
+abbrev pub refused : Type 0
+refused = ValueIsRefused (FormatError InvalidTag) (FormatError InvalidTag) three three
+
+-- no memory is wanted for a text that is refused
+abbrev pub text_not_wanting : Type 0
+text_not_wanting = Never (WritesValue {A = ℕ} (text_data (0xe9 ∷ [])) three three (Err OutOfMemory))
+
+-- after a failed write a value is neither refused nor wanting: that write is told first
+abbrev pub value_stopped : Type 0
+value_stopped =
+    WritesValue {A = ℕ} (Ok (data_of (u8s (9 ∷ [])))) broken broken (Err (UsageError usage.WriterFailed))
+    × WritesValue {A = ℕ} (text_data (0xe9 ∷ [])) broken broken (Err (UsageError usage.WriterFailed))
+
+abbrev pub value_not_wanting : Type 0
+value_not_wanting = Never (WritesValue {A = ℕ} (Ok (data_of (u8s (9 ∷ [])))) broken broken (Err OutOfMemory))
+
+abbrev pub value_not_refused : Type 0
+value_not_refused = Never (WritesValue {A = ℕ} (text_data (0xe9 ∷ [])) broken broken (Err (FormatError InvalidTag)))
+
+abbrev pub not_refused : Type 0
+not_refused = Never (ValueIsRefused (FormatError InvalidTag) OutOfMemory three three)
+
+abbrev pub buffer_of_short : Type 0
+buffer_of_short = buffer_given (Ok (data_of (u16s (5 ∷ [])))) ≡ Ok (record { order = LittleEndian; data_type = t.SHORT; bytes = 5 ∷ 0 ∷ [] })
+
+abbrev pub buffer_refused : Type 0
+buffer_refused = buffer_given (text_data (0xe9 ∷ [])) ≡ Err (FormatError InvalidTag)
+
+-- an offset past a classic file's: nothing is written
+abbrev pub offset_past : Type 0
+offset_past = WritesWithin {A = ℕ} true (5 ∷ 0 ∷ 0 ∷ 0 ∷ []) three three (Err IntSizeError)
+
+abbrev pub offset_not_past : Type 0
+offset_not_past = Never (WritesWithin {A = ℕ} false [] three three (Err IntSizeError))
+
+-- ---- bytes that are stored
+
+abbrev pub plain_takes_none : Type 0
+plain_takes_none = takes_memory method.None ≡ false
+
+abbrev pub packing_takes : Type 0
+packing_takes = takes_memory method.PackBits ≡ true
+
+-- no bytes are stored as they are, and can't be packed
+abbrev pub stores_none : Type 0
+stores_none = Stores method.None [] three three (Ok 0)
+
+-- another length is answered
+abbrev pub stores_miscounted : Type 0
+stores_miscounted = Never (Stores method.None [] three three (Ok 1))
+
+-- a byte that is packed is told as two
+abbrev pub packs_one : Type 0
+packs_one = StoresBytes {A = ℕ} method.PackBits (9 ∷ []) three (record three { bytes = 1 ∷ 0 ∷ 9 ∷ []; at = 3; last = 2 }) (Ok 0)
+
+abbrev pub packs_none : Type 0
+packs_none = Stores method.PackBits [] three three (Err (IoError WriteZero))
+
+-- memory is wanted for packing alone
+abbrev pub plain_wants_none : Type 0
+plain_wants_none = Never (StoreWants method.None (9 ∷ []) OutOfMemory three three)
+
+-- ---- rows as differences
+
+abbrev pub row_of_bytes : Type 0
+row_of_bytes = row_of_type t.BYTE 1 (5 ∷ 3 ∷ []) ≡ Ok (5 ∷ 254 ∷ [])
+
+abbrev pub row_of_floats : Type 0
+row_of_floats = row_of_type t.FLOAT 1 (5 ∷ 3 ∷ []) ≡ Err (UsageError PredictorIncompatible)
+
+abbrev pub row_added : Type 0
+row_added = AppendsRow {A = ℕ} {B = ℕ} (λ n. n) (Ok (1 ∷ 2 ∷ [])) (5 ∷ []) (5 ∷ 1 ∷ 2 ∷ []) (Ok 0)
+
+abbrev pub row_refused : Type 0
+row_refused = AppendsRow {A = ℕ} {B = ℕ} (λ n. n) (Err IntSizeError) (5 ∷ []) (5 ∷ []) (Err IntSizeError)
+
+-- what the list held is kept, refused or not
+abbrev pub row_not_lost : Type 0
+row_not_lost = Never (AppendsRow {A = ℕ} {B = ℕ} (λ n. n) (Err IntSizeError) (5 ∷ []) [] (Err IntSizeError))
+
+-- ---- chunks in an image
+
+-- the layout of 20 by 20 pixels, in two planes
+abbrev pub two_bands : LayoutRecord
+two_bands = record { color = Multiband 8 2; row_bytes = 20; plane_stride = 400 }
+
+-- a slice of 805 bytes takes both planes, one of 799 the first
+abbrev pub eight_chunks : Type 0
+eight_chunks = chunks_used planar_tiles two_bands 805 ≡ 8
+
+abbrev pub four_chunks : Type 0
+four_chunks = chunks_used planar_tiles two_bands 799 ≡ 4
+
+-- the last tile of the second plane shows four pixels of four rows
+abbrev pub corner_row : Type 0
+corner_row = chunk_row planar_tiles two_bands 7 ≡ 4
+
+abbrev pub corner_bytes : Type 0
+corner_bytes = chunk_byte_count planar_tiles two_bands 7 ≡ 16
+
+-- byte 2 of its row 1 alone, and in the image, behind a plane, 17 rows and 16 columns
+abbrev pub corner_at_chunk : Type 0
+corner_at_chunk = at_chunk planar_tiles two_bands 7 1 2 ≡ 6
+
+abbrev pub corner_at_image : Type 0
+corner_at_image = at_image planar_tiles two_bands 7 1 2 ≡ 758
+
+-- which byte of which row of which chunk a byte of the two planes is
+abbrev pub found_at : ℕ → ℕ × ℕ × ℕ
+found_at at = (chunk_of_byte planar_tiles two_bands at, row_of_byte planar_tiles two_bands at, byte_in_row planar_tiles two_bands at)
+
+-- that byte again, by its position; the first of the second plane; and the first behind the first tile's first row
+abbrev pub corner_found : Type 0
+corner_found = found_at 758 ≡ (7, 1, 2)
+
+abbrev pub plane_found : Type 0
+plane_found = found_at 400 ≡ (4, 0, 0)
+
+abbrev pub edge_found : Type 0
+edge_found = found_at 16 ≡ (1, 0, 0)
+
+-- the last tile of the first plane, in the second
+abbrev pub corner_unit : Type 0
+corner_unit = unit_chunk planar_tiles 3 1 ≡ 7

@@ -1,0 +1,10 @@
+//! What the definitions of `tiff_base` give: numbers, headers, directories, fields and packed lists.
+
+pub mod answers;
+pub mod directory;
+pub mod field_bytes;
+pub mod header;
+pub mod number;
+pub mod runs;
+pub mod source_and_sink;
+pub mod tags;

@@ -1,0 +1,31 @@
+//! Worked words.
+
+ghost use Rattle.tiff_examples.specs.Base.Answers as s;
+
+/// What a call may answer, and what a source is left as.
+pub fn answers()
+    ensures { s.given × s.another × s.fault_given × s.fault_another × s.fault_for_none × s.wanting × s.not_wanting × s.failed ×
+        s.not_failed × s.end_given × s.kept × s.not_kept × s.swallowed × s.fails_from × s.never_fails × s.fails_elsewhere }
+{}
+
+/// What a sink and a directory in memory have.
+pub fn memories()
+    ensures { s.sink_errors × s.entry_fits × s.entry_not × s.one_in × s.entries_fit }
+{}
+
+/// What a writer does.
+pub fn writers()
+    ensures { s.three_new × s.nine_moved × s.nines_written × s.none_moved × s.write_fails × s.write_fails_not ×
+        s.fault_swapped × s.stopped × s.not_stopped × s.cut × s.not_cut × s.cut_swapped × s.cut_whole × s.cut_twice × s.writes × s.writes_not }
+{}
+
+/// Names.
+pub fn names()
+    ensures { s.tags_named × s.methods_named × s.formats_named × s.units_of × s.gray_known × s.gray_wide × s.gray_white ×
+        s.gray_signed × s.gray_two }
+{}
+
+/// What color types are.
+pub fn color_types()
+    ensures { s.gray_type_is × s.two_grays × s.uneven_bits × s.narrow_bits × s.more_formats × s.no_samples × s.two_formats }
+{}

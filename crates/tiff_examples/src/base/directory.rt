@@ -1,0 +1,20 @@
+//! Worked entries and directories.
+
+ghost use Rattle.tiff_examples.specs.Base.Directory as s;
+
+/// Entries that are read, that are skipped, and that are cut off.
+pub fn entries()
+    ensures { s.classic_entry × s.big_endian_entry × s.unknown_entry × s.wide_entry × s.unknown_wide_entry ×
+        s.entry_at_1 × s.cut_entry }
+{}
+
+/// Directories that are read, or cut off; of entries with one tag number the last of known type stands.
+pub fn directories()
+    ensures { s.no_entries × s.linked × s.cut_link × s.past_end × s.twice_found × s.last_stands ×
+        s.one_stands × s.first_stands × s.wide_directory }
+{}
+
+/// The directory of the file of one gray pixel.
+pub fn gray()
+    ensures { s.gray_length × s.gray_found × s.gray_14 × s.gray_rows × s.gray_artist × s.gray_cut }
+{}

@@ -1,0 +1,21 @@
+//! Worked answers of sources and sinks, and values looked up in a directory.
+
+ghost use Rattle.tiff_examples.specs.Base.SourceAndSink as s;
+
+/// Answers of a source.
+pub fn reads()
+    ensures { s.two_in_middle × s.read_two × s.read_one × s.read_none × s.read_at_end × s.read_past_end ×
+        s.read_elsewhere × s.read_into_none × s.octets × s.no_octets }
+{}
+
+/// Answers of a sink.
+pub fn writes()
+    ensures { s.append_two × s.append_one × s.append_none × s.append_nothing × s.append_too_many × s.over_one ×
+        s.over_two × s.over_end × s.over_none × s.over_elsewhere }
+{}
+
+/// Values of a directory's fields.
+pub fn look_ups()
+    ensures { s.signed_byte_alone × s.look_big_endian × s.look_placed × s.look_limited × s.wide_offset ×
+        s.wide_count × s.no_letters }
+{}

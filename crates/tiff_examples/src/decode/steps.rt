@@ -1,0 +1,27 @@
+//! Worked lists of calls of decoders.
+
+ghost use Rattle.tiff_examples.specs.Decode.Steps as s;
+
+/// One call with its reply.
+pub fn one_call()
+    ensures { s.sides_told × s.sides_wrong × s.other_call × s.left_elsewhere × s.failed_read × s.no_failed_read × s.no_read ×
+        s.swallowed × s.moved_by_failure × s.wanting × s.none_to_enter × s.not_wanting × s.color_told × s.color_wanting }
+{}
+
+/// Several calls with their replies.
+pub fn several_calls()
+    ensures { s.gray_read × s.none_called × s.one_unanswered × s.one_unasked × s.cycle_steps × s.two_failures × s.no_failures ×
+        s.failing_ran }
+{}
+
+/// What replies tell.
+pub fn replies()
+    ensures { s.next_of_long × s.next_of_sides × s.fault_told × s.no_fault_told × s.named × s.not_named × s.same × s.not_same ×
+        s.not_same_call × s.directory_read × s.directory_past × s.told_of × s.told_of_two × s.chunk_sides × s.told_of_big }
+{}
+
+/// Items of tags, and the buffers that refused reads leave.
+pub fn items()
+    ensures { s.no_items × s.item_missing × s.item_unasked × s.items_told × s.item_not_failed × s.item_swallowed × s.item_told × s.no_list ×
+        s.buffer_held × s.buffer_emptied × s.buffer_changed }
+{}

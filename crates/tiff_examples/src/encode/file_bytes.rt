@@ -1,0 +1,19 @@
+//! Worked files of the writer.
+
+ghost use Rattle.tiff_examples.specs.Encode.FileBytes as s;
+
+/// Headers, entries, padding and rows.
+pub fn parts()
+    ensures { s.classic_header × s.big_header × s.classic_entry × s.big_entry × s.padding_8 × s.padding_199 ×
+        s.padding_201 × s.rows_3 × s.rows_300 × s.rows_long }
+{}
+
+/// Directories.
+pub fn files()
+    ensures { s.two_fields × s.no_field }
+{}
+
+/// Color types, and what a write does.
+pub fn writes()
+    ensures { s.gray_8 × s.gray_16 × s.gray_signed × s.white_8 × s.appended × s.over }
+{}

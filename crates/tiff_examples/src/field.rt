@@ -1,9 +1,0 @@
-//! Worked bytes of fields.
-
-ghost use Rattle.tiff_examples.specs.Fields as s;
-
-/// Bytes that stand in an entry or at the place that it holds, and bytes that don't.
-pub fn fields()
-    ensures { s.inline_shorts × s.inline_front × s.placed_shorts × s.placed_rational × s.placed_big_endian ×
-        s.inline_wide × s.placed_wide × s.no_bytes × s.past_end × s.too_many × s.just_counted }
-{}

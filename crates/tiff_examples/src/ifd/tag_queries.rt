@@ -1,0 +1,28 @@
+//! Worked questions to the tags of a directory: numbers, all tags, and bytes.
+
+ghost use Rattle.tiff_examples.specs.Ifd.TagQueries as s;
+
+/// Numbers of tags.
+pub fn numbers()
+    ensures { s.width_fits × s.width_too_great × s.width_no_number × s.width_none × s.widths_fit ×
+        s.widths_too_great × s.widths_no_number × s.widths_none × s.width_got × s.width_got_not ×
+        s.float_got × s.float_got_not }
+{}
+
+/// Tags of numbers, and all tags of a directory.
+pub fn items()
+    ensures { s.tag_256 × s.tag_42113 × s.tag_531 × s.tag_0 × s.tag_65000 × s.three_items × s.fault_between ×
+        s.no_items }
+{}
+
+/// Raw bytes, and what a buffer holds after a refusal.
+pub fn buffers()
+    ensures { s.raw_longs × s.raw_short × s.raw_limit × s.raw_at_limit × s.raw_past_end × s.raw_limit_first ×
+        s.raw_too_many × s.held × s.not_held }
+{}
+
+/// Parts of a value's bytes.
+pub fn parts()
+    ensures { s.part_at_4 × s.part_at_7 × s.part_at_8 × s.part_inline × s.part_of_cut × s.part_cut ×
+        s.part_of_none × s.part_past_u64 × s.part_at_last × s.part_end_first × s.part_too_many }
+{}

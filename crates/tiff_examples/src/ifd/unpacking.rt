@@ -1,0 +1,25 @@
+//! Worked reads of packed bytes in pieces.
+
+ghost use Rattle.tiff_examples.specs.Ifd.Unpacking as s;
+
+/// What packed bytes at an offset unpack to, and what is left in a block.
+pub fn offsets()
+    ensures { s.at_offset × s.of_length × s.past_end × s.none_past_end × s.in_literal × s.in_run }
+{}
+
+/// Pieces that are read.
+pub fn pieces()
+    ensures { s.two_read × s.one_read × s.one_spills × s.one_passed × s.one_again × s.end_turned × s.none_read ×
+        s.empty_read × s.plain_read × s.broken_read }
+{}
+
+/// Reads that are refused.
+pub fn refusals()
+    ensures { s.broken_told × s.broken_empty × s.plain_told × s.told_early × s.device_told × s.device_untold ×
+        s.device_loses × s.memory_told }
+{}
+
+/// Rows that are filled, and that aren't.
+pub fn filled()
+    ensures { s.row_filled × s.row_short × s.row_short_loses × s.row_enough }
+{}

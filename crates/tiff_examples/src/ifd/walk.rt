@@ -1,0 +1,22 @@
+//! Worked walks along chains of directories.
+
+ghost use Rattle.tiff_examples.specs.Ifd.Walk as s;
+
+/// Accepted links.
+pub fn links()
+    ensures { s.none_linked × s.one_linked × s.two_linked × s.last_linked × s.other_linked × s.not_linked ×
+        s.linked_back }
+{}
+
+/// Steps from one directory to the next.
+pub fn steps()
+    ensures { s.enters_first × s.enters_second × s.enters_in_front × s.enters_other × s.enters_same_link ×
+        s.enters_back × s.back_refused × s.cut_refused × s.second_refused × s.none_refused × s.step_first ×
+        s.step_last × s.step_early × s.step_back × s.step_back_ends }
+{}
+
+/// Walks along a chain, and its end.
+pub fn chains()
+    ensures { s.begins_none × s.begins_one × s.begins_all × s.begins_back × s.begins_second × s.begins_ended ×
+        s.ends_all × s.ends_early × s.ends_back × s.ends_plain }
+{}

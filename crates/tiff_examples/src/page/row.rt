@@ -1,0 +1,18 @@
+//! Worked numbers of a row, undone.
+
+ghost use Rattle.tiff_examples.specs.Page.Row as s;
+
+/// Numbers as they stand, and as sums along a row.
+pub fn sums()
+    ensures { s.little_second × s.big_second × s.eight_bytes × s.first_stays × s.second_summed × s.third_wraps × s.carried }
+{}
+
+/// Numbers of planes.
+pub fn planes()
+    ensures { s.byte_summed × s.byte_first × s.joined_one × s.joined_two }
+{}
+
+/// Rows that became others.
+pub fn rows()
+    ensures { s.row_unturned × s.row_end_changed }
+{}

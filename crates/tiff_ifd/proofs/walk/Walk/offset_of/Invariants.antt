@@ -1,0 +1,18 @@
+use Rattle.std.proofs.Common.{◌≡◌, ℕ, ◌+◌, ◌-◌, ◌<◌, ◌≤◌, List, ◌++◌, length}
+use Rattle.tiff_ifd.specs.Walk.{Begins}
+use Rattle.tiff_ifd.proofs.walk.Walk.offset_of.Given as goal
+
+abbrev pub invariant-loop-alloc : goal.invariant-loop-alloc
+invariant-loop-alloc g l =
+    let bytes = g.R.Source.bytes l.fn.source in
+    record {
+      same_bytes : g.R.Source.bytes l.source ≡ bytes;
+      failures : g.R.Source.failures l.source ≡ g.R.Source.failures l.fn.source;
+      longer : (more : List ℕ) × (l.self.offsets ≡ l.fn.self.offsets ++ more);
+      no_further : length l.fn.self.offsets ≤ l.index → length l.self.offsets ≤ l.index + 1;
+      known : l.index < length l.fn.self.offsets → (l.self ≡ l.fn.self) × (l.source ≡ l.fn.source);
+      begins : (first : ℕ) → Begins l.kind l.order bytes first l.fn.self → Begins l.kind l.order bytes first l.self;
+    }
+
+abbrev pub decreases-loop-alloc : goal.decreases-loop-alloc
+decreases-loop-alloc g l = l.index + 1 - length l.self.offsets

@@ -1,0 +1,31 @@
+-- A row that was read is put into a list.
+use Rattle.std.proofs.Common.{◌≡◌, ℕ, ◌+◌, ◌-◌, ◌≤◌, List, length, Result, Ok, Err, subst, sym}
+use borrow.Rule.Slice.PartMut.{put_mid}
+use Rattle.tiff_base.specs.Answers.{IsCause}
+use Rattle.tiff_base.specs.declared.color.ColorType.{ColorType}
+use Rattle.tiff_base.specs.declared.error.TiffError.{TiffError}
+use Rattle.tiff_base.specs.declared.tags.ByteOrder.{ByteOrder}
+use Rattle.tiff_page.specs.declared.chunk_data.Stored.{Stored}
+use Rattle.tiff_page.specs.NumberBytes.{IsPut}
+use Rattle.tiff_page.specs.Page.{PageRecord}
+use Rattle.tiff_page.specs.RowReads.{needed_of_row, RowRead, TakesRow, PutsRow, RowPut}
+use Rattle.tiff_page.specs.ChunkData.{left_of, IsTooShort}
+use Rattle.tiff_page.proofs.Rects.{copied, holds_put_mid}
+
+-- where it was read into its position
+pub put_in_place : (file : List ℕ) (order : ByteOrder) (p : PageRecord) (color : ColorType) (position : Stored) (failed : Type 0) (at len : ℕ) (old row : List ℕ) (r : Result Stored TiffError)
+    → length row ≡ len → at + len ≤ length old → RowRead file order p color position (Unit {0}) failed row r
+    → RowPut file order p color position failed at len old (put_mid at (at + len - at) old row) r
+put_in_place file order p color position failed at len old row (Ok rest) e fits h = record {
+  row = row;
+  all = e;
+  takes = h;
+  put = copied old row (put_mid at (at + len - at) old row) at (subst (λ (n : ℕ). at + n ≤ length old) (sym e) fits) (holds_put_mid old row at len e);
+}
+put_in_place file order p color position failed at len old row (Err f) e fits h =
+    subst (λ (n : ℕ). IsCause (Unit {0}) failed f (IsTooShort (left_of file position) (needed_of_row p color n) f)) e h
+
+-- where it is put from a room
+pub put_from_room : (order : ByteOrder) (p : PageRecord) (color : ColorType) (left rest : List ℕ) (at len : ℕ) (row old new : List ℕ)
+    → length row ≡ len → TakesRow order p color left rest row → IsPut at row old new → PutsRow order p color left rest at len old new
+put_from_room order p color left rest at len row old new e takes put = record { row = row; all = e; takes = takes; put = put }

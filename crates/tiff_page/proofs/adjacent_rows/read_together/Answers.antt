@@ -1,0 +1,106 @@
+use Rattle.std.proofs.Common.{arith, ◌≡◌, ℕ, ◌<◌, ◌≤◌, ◌∙◌, ◌+◌, ◌*◌, length, refl, ap, subst}
+use Rattle.tiff_page.specs.declared.page.Page.{Page}
+use Rattle.tiff_page.specs.Counts.{all_chunks}
+use Rattle.tiff_page.specs.Laws.{HasSides}
+use Rattle.tiff_page.specs.Layout.{row_bytes}
+use Rattle.tiff_page.specs.BufferPositions.{Writes, IsIn, in_rect, chunk_byte}
+use Rattle.tiff_page.specs.Rect.{rect}
+use Rattle.tiff_page.specs.ChunkData.{left_of}
+use Rattle.tiff_page.specs.PageView as view
+use Rattle.tiff_page.proofs.Bands.{rows_below, band_of_numbers, band_put, band_bytes_are, band_held, next_band, short_band}
+use Rattle.tiff_page.proofs.adjacent_rows.read_together.Goals as goal
+
+abbrev pub sides_of : (p : Page) → HasSides (view.page p)
+sides_of p = record { wide = p.wide; high = p.high; chunk_wide = p.chunk_wide; chunk_high = p.chunk_high }
+
+pub overflow_add-at : goal.overflow_add-at
+overflow_add-at g c =
+    let h = ap (λ z. z.1) c.chunk_data_dimensions-height.ensures.size in
+    let height = (rect (view.page c.args.page.now) c.args.index).height in
+    let f = rows_below c.args.corner.top height c.args.corner.stride ((c.args.corner.top + height) * c.args.corner.stride) c.loop-row.row c.min-more.result c.requires.some (omega arith) (omega (arith, h, c.loop-row-test.true, c.min-more.ensures)) in
+    omega (arith, f.0, c.requires.few)
+
+pub read_band-requires-clause-room : goal.read_band-requires-clause-room
+read_band-requires-clause-room g c =
+    let h = ap (λ z. z.1) c.chunk_data_dimensions-height.ensures.size in
+    let height = (rect (view.page c.args.page.now) c.args.index).height in
+    let size = length (g.W.RowWriter.bytes c.loop-row.buf) in
+    let f = rows_below c.args.corner.top height c.args.corner.stride size c.loop-row.row c.min-more.result c.requires.some (omega (arith, c.requires.rows, c.loop-row.invariant.written.0)) (omega (arith, h, c.loop-row-test.true, c.min-more.ensures)) in
+    omega (arith, f.1)
+
+pub read_band-requires-clause-fits : goal.read_band-requires-clause-fits
+read_band-requires-clause-fits g c =
+    let h = ap (λ z. z.1) c.chunk_data_dimensions-height.ensures.size in
+    let height = (rect (view.page c.args.page.now) c.args.index).height in
+    let f = rows_below c.args.corner.top height c.args.corner.stride ((c.args.corner.top + height) * c.args.corner.stride) c.loop-row.row c.min-more.result c.requires.some (omega arith) (omega (arith, h, c.loop-row-test.true, c.min-more.ensures)) in
+    omega (arith, f.1, c.requires.few)
+
+pub read_band-requires-clause-whole : goal.read_band-requires-clause-whole
+read_band-requires-clause-whole g c =
+    let p = view.page c.args.page.now in
+    let more = c.min-more.result in
+    band_of_numbers p c.args.color (rect p c.args.index).width more _ c.requires.read.stored
+    (ap (λ z. more * z) c.requires.together.in_buffer)
+
+pub returns-in-Err-clause-answer : goal.returns-in-Err-clause-answer
+returns-in-Err-clause-answer g c =
+    let bytes = g.R.Source.bytes c.args.source.now in
+    let p = view.page c.args.page.now in
+    let corner = c.args.corner in
+    let row = c.loop-row.row in
+    let more = c.min-more.result in
+    let h = ap (λ z. z.1) c.chunk_data_dimensions-height.ensures.size in
+    let rl : row + more ≤ (rect p c.args.index).height = omega (arith, h, c.loop-row-test.true, c.min-more.ensures) in
+    let given = rw c.loop-row.invariant.same_bytes at c.in-Err.ensures.row in
+    let listed : c.args.index < all_chunks p = omega (arith, c.requires.listed, c.args.page.now.counted) in
+    short_band bytes c.args.order p c.args.color c.args.index corner.left corner.stride (sides_of c.args.page.now) c.requires.read.stored listed c.requires.together
+    _ _ row more (more * corner.stride) _ c.in-Err.fault (λ z. omega (arith, z, c.loop-row.invariant.count)) (omega (arith, h, c.loop-row-test.true)) rl refl c.loop-row.invariant.position given
+
+pub loop-row-preserved : goal.loop-row-preserved
+loop-row-preserved g c =
+    let bytes = g.R.Source.bytes c.args.source.now in
+    let p = view.page c.args.page.now in
+    let order = c.args.order in
+    let color = c.args.color in
+    let k = c.args.index in
+    let corner = c.args.corner in
+    let row = c.loop-row.row in
+    let more = c.min-more.result in
+    let at = (corner.top + row) * corner.stride in
+    let h = ap (λ z. z.1) c.chunk_data_dimensions-height.ensures.size in
+    let rl : row + more ≤ (rect p k).height = omega (arith, h, c.loop-row-test.true, c.min-more.ensures) in
+    let told = c.in-Ok.ensures.kept.told ∙ c.loop-row.invariant.same_bytes in
+    let given = rw c.loop-row.invariant.same_bytes at c.in-Ok.ensures.row in
+    let listed : k < all_chunks p = omega (arith, c.requires.listed, c.args.page.now.counted) in
+    let out : length given.row ≡ more * corner.stride = given.all in
+    let sides = sides_of c.args.page.now in
+    let stored = c.requires.read.stored in
+    let together = c.requires.together in
+    let ahead = left_of bytes c.loop-row.position in
+    let rest = left_of bytes c.in-Ok.rest in
+    let from = c.loop-row.invariant.position in
+    let len = row_bytes p color (rect p k).width in
+    let old = g.W.RowWriter.bytes c.args.buf.now in
+    let mid = g.W.RowWriter.bytes c.loop-row.buf in
+    let new = g.W.RowWriter.bytes c.read_band.new.out in
+    record {
+      within = rl;
+      same_bytes = told;
+      count = omega (arith, c.in-Ok.ensures.kept.swallowed, c.loop-row.invariant.count);
+      position = next_band bytes order p color k corner.left corner.stride sides stored listed together row more ahead rest given.row out from given.takes;
+      enough = band_held bytes order p color k corner.left corner.stride sides stored listed together row more ahead rest given.row c.requires.some (omega (arith, c.loop-row-test.true, c.min-more.ensures, c.rows_at_once-band.ensures)) out from given.takes;
+      written = band_put (chunk_byte bytes order p color k) corner.stride corner.top row more corner.left len at given.row old mid new c.requires.some
+          together.from_edge together.in_buffer refl out
+          (λ i il. band_bytes_are bytes order p color k corner.left corner.stride sides stored listed together row more i ahead rest given.row c.requires.some rl out from given.takes il)
+          c.loop-row.invariant.written given.put;
+    }
+
+pub returns-clause-ok : goal.returns-clause-ok
+returns-clause-ok g c =
+    let bytes = g.R.Source.bytes c.args.source.now in
+    let p = view.page c.args.page.now in
+    let len = row_bytes p c.args.color (rect p c.args.index).width in
+    let corner = c.args.corner in
+    let h = ap (λ z. z.1) c.chunk_data_dimensions-height.ensures.size in
+    let e : c.loop-row.row ≡ (rect p c.args.index).height = omega (arith, h, c.loop-row-test.false, c.loop-row.invariant.within) in
+    subst (λ (m : ℕ). Writes (IsIn corner.stride corner.top m corner.left len) (in_rect (chunk_byte bytes c.args.order p c.args.color c.args.index) corner.stride corner.top corner.left) (g.W.RowWriter.bytes c.args.buf.now) (g.W.RowWriter.bytes c.loop-row.buf)) e c.loop-row.invariant.written

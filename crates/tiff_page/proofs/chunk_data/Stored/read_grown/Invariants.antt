@@ -1,0 +1,17 @@
+use Rattle.std.proofs.Common.{◌≡◌, ◌-◌, ◌≤◌, length, ◌++◌}
+use Rattle.tiff_page.specs.ChunkData.{left_of}
+use Rattle.tiff_page.proofs.chunk_data.Stored.read_grown.Given as goal
+
+-- what was read, then what is left
+abbrev pub invariant-loop-row : goal.invariant-loop-row
+invariant-loop-row g l =
+    let bytes = g.R.Source.bytes l.fn.source in
+    record {
+      within : length l.row.items ≤ l.fn.len;
+      same_bytes : g.R.Source.bytes l.source ≡ bytes;
+      count : g.R.Source.failures l.source ≡ g.R.Source.failures l.fn.source;
+      read : left_of bytes l.fn.self ≡ l.row.items ++ left_of bytes l.position;
+    }
+
+abbrev pub decreases-loop-row : goal.decreases-loop-row
+decreases-loop-row g l = l.fn.len - length l.row.items

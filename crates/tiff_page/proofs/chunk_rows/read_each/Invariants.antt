@@ -1,0 +1,24 @@
+use Rattle.std.proofs.Common.{◌≡◌, ◌+◌, ◌-◌, ◌*◌, ◌<◌, ◌≤◌, length, drop}
+use Rattle.tiff_page.specs.Layout.{row_bytes}
+use Rattle.tiff_page.specs.Pixels.{chunk_data, stored_row_bytes}
+use Rattle.tiff_page.specs.BufferPositions.{Writes, IsIn, in_rect, chunk_byte}
+use Rattle.tiff_page.specs.RowReads.{needed_of_row}
+use Rattle.tiff_page.specs.Rect.{rect}
+use Rattle.tiff_page.specs.ChunkData.{left_of}
+use Rattle.tiff_page.specs.PageView as view
+use Rattle.tiff_page.proofs.chunk_rows.read_each.Given as goal
+
+-- the rows so far are in the buffer, and the data hold them; the next one stands at the position
+abbrev pub invariant-loop-row : goal.invariant-loop-row
+invariant-loop-row g l =
+    let bytes = g.R.Source.bytes l.fn.source in
+    let p = view.page l.page in
+    let stored = chunk_data bytes l.order p l.index in
+    let len = row_bytes p l.color (rect p l.index).width in
+    record {
+      same_bytes : g.R.Source.bytes l.source ≡ bytes;
+      count : g.R.Source.failures l.source ≡ g.R.Source.failures l.fn.source;
+      position : l.row < (rect p l.index).height → left_of bytes l.position ≡ drop (l.row * stored_row_bytes p) stored;
+      enough : 0 < l.row → (l.row - 1) * stored_row_bytes p + needed_of_row p l.color len ≤ length stored;
+      written : Writes (IsIn l.corner.stride l.corner.top l.row l.corner.left len) (in_rect (chunk_byte bytes l.order p l.color l.index) l.corner.stride l.corner.top l.corner.left) (g.W.RowWriter.bytes l.fn.buf) (g.W.RowWriter.bytes l.buf);
+    }

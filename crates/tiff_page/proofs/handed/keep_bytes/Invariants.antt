@@ -1,5 +1,0 @@
-use Rattle.std.proofs.Common.{◌≡◌, ℕ, ◌+◌, ◌*◌, ◌/◌, ◌%◌, ◌<◌, get_or}
-use Rattle.tiff_page.proofs.handed.keep_bytes.Given as goal
-
-abbrev pub invariant-loop-column : goal.invariant-loop-column
-invariant-loop-column l = (i : ℕ) → i < l.column * l.kept → get_or l.out i 0 ≡ get_or l.row (i / l.kept * l.whole + i % l.kept) 0

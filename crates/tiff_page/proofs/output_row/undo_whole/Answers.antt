@@ -1,0 +1,36 @@
+use Rattle.std.proofs.Common.{◌≡◌, ◌∙◌, ◌*◌, ◌/◌, ℕ, length, subst, sym, ap, inr, arith}
+use Rattle.tiff_page.specs.PageView as view
+use Rattle.tiff_page.specs.Pixels.{stored_samples, is_byte_plane}
+use Rattle.tiff_page.specs.Row.{IsSize, Became, joined_number}
+use Rattle.tiff_page.proofs.OutputRow.{joined_numbers, stored_count, stored_whole, no_byte_plane}
+use Rattle.tiff_page.proofs.output_row.undo_whole.Goals as goal
+
+pub returns-in-FloatingPoint-clause-numbers : goal.returns-in-FloatingPoint-clause-numbers
+returns-in-FloatingPoint-clause-numbers c =
+    let e : c.from.result ≡ c.args.page.now.depth / 8 = c.from.ensures in
+    let s : c.from-in-FloatingPoint.result ≡ stored_samples (view.page c.args.page.now) = c.from-in-FloatingPoint.ensures ∙ c.stored_samples-stored.ensures.count in
+    let b : Became (c.args.page.now.depth / 8) (joined_number (c.args.page.now.depth / 8) c.from-in-FloatingPoint.result (length c.args.row.now / (c.args.page.now.depth / 8)) c.args.row.now)
+    c.args.row.now c.undo_byte_plane.new.row =
+    subst (λ (n : ℕ). Became n (joined_number n c.from-in-FloatingPoint.result (length c.args.row.now / n) c.args.row.now) c.args.row.now c.undo_byte_plane.new.row) e c.undo_byte_plane.ensures in
+    joined_numbers c.args.order (view.page c.args.page.now) c.args.row.now c.undo_byte_plane.new.row c.in-FloatingPoint.is
+    (stored_count (view.page c.args.page.now) (length c.args.row.now) c.requires.size c.requires.deep c.requires.row)
+    (subst (λ (n : ℕ). Became (c.args.page.now.depth / 8) (joined_number (c.args.page.now.depth / 8) n (length c.args.row.now / (c.args.page.now.depth / 8)) c.args.row.now)
+    c.args.row.now c.undo_byte_plane.new.row) s b)
+
+pub undo_byte_plane-requires : goal.undo_byte_plane-requires
+undo_byte_plane-requires c =
+    let e : c.from.result ≡ c.args.page.now.depth / 8 = c.from.ensures in
+    record {
+      size = subst IsSize (sym e) c.requires.size;
+      stored = omega arith;
+      whole = subst (λ (n : ℕ). length c.args.row.now / n * n ≡ length c.args.row.now) (sym e)
+          (stored_whole (view.page c.args.page.now) (length c.args.row.now) c.requires.size c.requires.deep c.requires.row);
+      room = c.requires.room (ap is_byte_plane c.in-FloatingPoint.is);
+    }
+
+pub undo_numbers-requires : goal.undo_numbers-requires
+undo_numbers-requires c = record {
+  sizes = inr c.requires.size;
+  deep = inr c.requires.deep;
+  in_place = no_byte_plane c.args.page.now.predictor c.in_default.not-FloatingPoint;
+}

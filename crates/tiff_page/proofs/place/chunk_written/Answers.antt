@@ -1,5 +1,0 @@
-use Rattle.tiff_page.proofs.Covering.{chunk_written}
-use Rattle.tiff_page.proofs.place.chunk_written.Goals as goal
-
-pub returns : goal.returns
-returns c = chunk_written

@@ -1,5 +1,0 @@
-use Rattle.tiff_page.proofs.Rects.{row_put}
-use Rattle.tiff_page.proofs.place.row_written.Goals as goal
-
-pub returns : goal.returns
-returns c = row_put

@@ -1,5 +1,0 @@
-use Rattle.tiff_page.proofs.Units.{unit_plane_written}
-use Rattle.tiff_page.proofs.place.unit_plane_written.Goals as goal
-
-pub returns : goal.returns
-returns c = unit_plane_written

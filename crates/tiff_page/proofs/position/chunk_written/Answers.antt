@@ -1,0 +1,5 @@
+use Rattle.tiff_page.proofs.Covering.{chunk_written}
+use Rattle.tiff_page.proofs.position.chunk_written.Goals as goal
+
+pub returns : goal.returns
+returns c = chunk_written

@@ -1,8 +1,0 @@
-use Rattle.std.proofs.Common.{arith, ◌∙◌}
-use Rattle.tiff_page.proofs.Rows.{turns_2}
-use Rattle.tiff_page.proofs.undo.turn_u16.Goals as goal
-
-pub returns : goal.returns
-returns c =
-    turns_2 c.args.row.now c.copy_from_slice.new.self c.args.k _ _ (omega arith) c.requires (omega (arith, c.u16_in-number.type_inv))
-    (c.copy_from_slice.ensures.after ∙ c.to_le_bytes.ensures) c.u16_in-number.ensures

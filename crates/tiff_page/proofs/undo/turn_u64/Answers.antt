@@ -1,8 +1,0 @@
-use Rattle.std.proofs.Common.{arith, ◌∙◌}
-use Rattle.tiff_page.proofs.Rows.{turns_8}
-use Rattle.tiff_page.proofs.undo.turn_u64.Goals as goal
-
-pub returns : goal.returns
-returns c =
-    turns_8 c.args.row.now c.copy_from_slice.new.self c.args.k _ _ (omega arith) c.requires (omega (arith, c.u64_in-number.type_inv))
-    (c.copy_from_slice.ensures.after ∙ c.to_le_bytes.ensures) c.u64_in-number.ensures

@@ -1,0 +1,15 @@
+-- Rows of a chunk that lie together.
+use Rattle.std.specs.Prelude.{◌≡◌, ℕ, false}
+use Rattle.tiff_base.specs.declared.color.ColorType.{ColorType}
+use Rattle.tiff_base.specs.declared.tags.Predictor.TheVariants as predictor
+use Rattle.tiff_page.specs.Page.{PageRecord}
+use Rattle.tiff_page.specs.Pixels.{stored_row_bytes, needs_whole_rows}
+
+-- Of each stored row all bytes are handed out, so many, and its rows follow one another in a buffer from its left edge on;
+-- no number is told by others of its row.
+pub record LieTogether (p : PageRecord) (color : ColorType) (len left stride : ℕ) : Type 0 where
+  pub from_edge : left ≡ 0
+  pub in_buffer : stride ≡ len
+  pub in_data : stored_row_bytes p ≡ len
+  pub shown : needs_whole_rows p color ≡ false
+  pub alone : p.predictor ≡ predictor.None

@@ -1,0 +1,94 @@
+-- Which positions of a buffer are written: rows a stride apart, in planes one after another.
+use Rattle.std.specs.Prelude.{◌≡◌, ℕ, ◌+◌, ◌-◌, ◌*◌, ◌/◌, ◌%◌, ◌<◌, ◌≤◌, ◌⊎◌, List, length, slice_index}
+use Rattle.tiff_base.specs.declared.color.ColorType.{ColorType}
+use Rattle.tiff_base.specs.declared.tags.ByteOrder.{ByteOrder}
+use Rattle.tiff_page.specs.Page.{PageRecord}
+use Rattle.tiff_page.specs.Rect.{rect, across, chunks_of_plane}
+use Rattle.tiff_page.specs.Layout.{row_bits, row_bytes}
+use Rattle.tiff_page.specs.Pixels.{chunk_region, region_byte, whole_image}
+
+-- each position with P has its value in new, and each other what it had in old
+abbrev pub Writes : (ℕ → Type 0) → (ℕ → ℕ) → List ℕ → List ℕ → Type 0
+Writes P value old new =
+    (length new ≡ length old)
+    × ((i : ℕ) → i < length old → (P i × (slice_index new i ≡ value i)) ⊎ ((P i → ⊥) × (slice_index new i ≡ slice_index old i)))
+
+-- a position of a rectangle: so many rows from the top one on, and in each so many bytes from the left one on
+pub record IsIn (stride top rows left len i : ℕ) : Type 0 where
+  pub below : top ≤ i / stride
+  pub above : i / stride < top + rows
+  pub right : left ≤ i % stride
+  pub within : i % stride < left + len
+
+-- a value by row and byte of a rectangle
+abbrev pub in_rect : (ℕ → ℕ → ℕ) → ℕ → ℕ → ℕ → ℕ → ℕ
+in_rect value stride top left i = value (i / stride - top) (i % stride - left)
+
+-- a byte of a row of a chunk, as it is handed out
+abbrev pub chunk_byte : List ℕ → ByteOrder → PageRecord → ColorType → ℕ → ℕ → ℕ → ℕ
+chunk_byte file order p color k row b = region_byte file order p color (chunk_region file order p k) (rect p k).plane row b
+
+-- the rows of a chunk stand in a buffer a stride apart, from a row and a byte of it on, and all else of it stays
+abbrev pub WritesChunk : List ℕ → ByteOrder → PageRecord → ColorType → ℕ → ℕ → ℕ → ℕ → List ℕ → List ℕ → Type 0
+WritesChunk file order p color k stride top left old new =
+    Writes (IsIn stride top (rect p k).height left (row_bytes p color (rect p k).width)) (in_rect (chunk_byte file order p color k) stride top left) old new
+
+-- planes of an image in a buffer
+module _ (p : PageRecord) (color : ColorType) (stride : ℕ) where
+  abbrev pub plane_of : ℕ → ℕ
+  plane_of i = i / stride / p.height
+
+  -- the chunk of a plane that a position belongs to
+  abbrev pub chunk_of : ℕ → ℕ
+  chunk_of i = i / stride % p.height / p.chunk_height * across p + i % stride / row_bytes p color p.chunk_width
+
+  -- where the rows of a chunk of a plane begin
+  abbrev pub top_of : ℕ → ℕ → ℕ
+  top_of plane j = plane * p.height + (rect p (plane * chunks_of_plane p + j)).y
+
+  abbrev pub left_of : ℕ → ℕ → ℕ
+  left_of plane j = row_bits p color (rect p (plane * chunks_of_plane p + j)).x / 8
+
+  -- a position of a chunk of a plane
+  abbrev pub IsInChunk : ℕ → ℕ → ℕ → Type 0
+  IsInChunk plane j i =
+      IsIn stride (top_of plane j) (rect p (plane * chunks_of_plane p + j)).height (left_of plane j) (row_bytes p color (rect p (plane * chunks_of_plane p + j)).width) i
+
+  pub record IsOfChunk (plane j i : ℕ) : Type 0 where
+    pub byte : i % stride < row_bytes p color p.width
+    pub of_plane : plane_of i ≡ plane
+    pub of_chunk : chunk_of i ≡ j
+
+  -- a position of a chunk below the j-th of a plane below n, or of the j-th of a plane below another
+  pub record IsBefore (n j plane i : ℕ) : Type 0 where
+    pub byte : i % stride < row_bytes p color p.width
+    pub of_plane : plane_of i < n
+    pub of_chunk : (chunk_of i < j) ⊎ ((chunk_of i ≡ j) × (plane_of i < plane))
+
+  -- the byte of the image at a position
+  abbrev pub image_byte : List ℕ → ByteOrder → ℕ → ℕ
+  image_byte file order i = region_byte file order p color (whole_image file order p) (plane_of i) (i / stride % p.height) (i % stride)
+
+-- Of the image these chunks stand in a buffer that held something before: of each of n planes those below the j-th, and the
+-- j-th of the planes below another; all else of it stays.
+abbrev pub WritesBefore : List ℕ → ByteOrder → PageRecord → ColorType → ℕ → ℕ → ℕ → ℕ → List ℕ → List ℕ → Type 0
+WritesBefore file order p color stride n j plane before new =
+    Writes (IsBefore p color stride n j plane) (image_byte p color stride file order) before new
+
+-- the j-th chunk of each of n planes is put beside those below it
+abbrev pub WritesNext : List ℕ → ByteOrder → PageRecord → ColorType → ℕ → ℕ → ℕ → List ℕ → List ℕ → Type 0
+WritesNext file order p color stride n j old new =
+    (before : List ℕ) → WritesBefore file order p color stride n j 0 before old → WritesBefore file order p color stride n j n before new
+
+-- a chunk in a buffer, and those of further planes behind it, each of so many rows of so many bytes
+pub record IsInPlanes (stride rows len n i : ℕ) : Type 0 where
+  pub byte : i % stride < len
+  pub of_plane : i / stride / rows < n
+
+abbrev pub IsInUnit : PageRecord → ColorType → ℕ → ℕ → ℕ → ℕ → Type 0
+IsInUnit p color stride k n i = IsInPlanes stride (rect p k).height (row_bytes p color (rect p k).width) n i
+
+-- the byte of these chunks at a position
+abbrev pub unit_byte : List ℕ → ByteOrder → PageRecord → ColorType → ℕ → ℕ → ℕ → ℕ
+unit_byte file order p color stride k i =
+    region_byte file order p color (chunk_region file order p k) ((rect p k).plane + i / stride / (rect p k).height) (i / stride % (rect p k).height) (i % stride)

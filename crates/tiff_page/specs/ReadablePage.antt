@@ -1,0 +1,28 @@
+-- Pages whose rows are read: what is known of one that passed the tests of its form.
+use Rattle.std.specs.Prelude.{◌≡◌, ℕ, ◌/◌, ◌%◌, ◌<◌, ◌⊎◌, List, Ok}
+use Rattle.tiff_base.specs.declared.color.ColorType.{ColorType}
+use Rattle.tiff_base.specs.declared.tags.ByteOrder.{ByteOrder}
+use Rattle.tiff_base.specs.declared.tags.Predictor.TheVariants as predictor
+use Rattle.tiff_ifd.specs.declared.limits.Limits.{Limits}
+use Rattle.tiff_page.specs.Page.{PageRecord}
+use Rattle.tiff_page.specs.Layout.{color_of, shown}
+use Rattle.tiff_page.specs.Pixels.{stored_samples}
+use Rattle.tiff_page.specs.PixelFault.{form_fault}
+use Rattle.tiff_page.specs.Row.{IsSize}
+use Rattle.tiff_page.specs.OutputRow.{StoresAllShown, number_in}
+
+-- samples of one, two, four or eight bytes, or of fewer than 8 bits; of these all are shown, and none is predicted
+pub record IsRead (p : PageRecord) (color : ColorType) : Type 0 where
+  pub stored : StoresAllShown p color
+  pub size : (p.depth < 8) ⊎ IsSize (p.depth / 8)
+  pub unpredicted : p.depth < 8 → p.predictor ≡ predictor.None
+  pub all : p.depth < 8 → shown p.planar color ≡ stored_samples p
+
+-- what passes the tests of its form is read
+abbrev pub FormRead : Type 0
+FormRead = (p : PageRecord) (limits : Limits) (color : ColorType) (i : ℕ) → 0 < p.samples → color_of p ≡ Ok color
+    → form_fault p limits color i ≡ Ok tt → IsRead p color
+
+-- number k of a stored row, its predictor undone
+abbrev pub number_of_row : ByteOrder → PageRecord → List ℕ → ℕ → ℕ
+number_of_row order p row k = number_in order p row p.predictor (k / stored_samples p) (k % stored_samples p)

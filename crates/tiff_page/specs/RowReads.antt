@@ -1,0 +1,40 @@
+-- What is read of a row of a chunk.
+use Rattle.std.specs.Prelude.{◌≡◌, ℕ, ◌<◌, ◌≤◌, if◌then◌else◌, List, length, take, drop, slice_index, Result, Ok, Err}
+use Rattle.tiff_base.specs.declared.color.ColorType.{ColorType}
+use Rattle.tiff_base.specs.declared.error.TiffError.{TiffError}
+use Rattle.tiff_base.specs.declared.tags.ByteOrder.{ByteOrder}
+use Rattle.tiff_base.specs.Answers.{IsCause}
+use Rattle.tiff_page.specs.declared.chunk_data.Stored.{Stored}
+use Rattle.tiff_page.specs.NumberBytes.{IsPut}
+use Rattle.tiff_page.specs.Page.{PageRecord}
+use Rattle.tiff_page.specs.Pixels.{stored_row_bytes, needs_whole_rows}
+use Rattle.tiff_page.specs.OutputRow.{handed_byte}
+use Rattle.tiff_page.specs.ChunkData.{left_of, IsTooShort}
+
+-- the bytes that are read of a row of which so many are handed out: with the byte-plane predictor, or where samples are
+-- dropped, all
+abbrev pub needed_of_row : PageRecord → ColorType → ℕ → ℕ
+needed_of_row p color len = if needs_whole_rows p color then stored_row_bytes p else len
+
+-- A row was read and handed out: what is left stands behind it.
+pub record TakesRow (order : ByteOrder) (p : PageRecord) (color : ColorType) (left rest out : List ℕ) : Type 0 where
+  pub enough : needed_of_row p color (length out) ≤ length left
+  pub behind : rest ≡ drop (needed_of_row p color (length out)) left
+  pub handed : (b : ℕ) → b < length out → slice_index out b ≡ handed_byte order p (take (needed_of_row p color (length out)) left) color b
+
+-- the answer of a call that reads a row into a buffer
+abbrev pub RowRead : List ℕ → ByteOrder → PageRecord → ColorType → Stored → Type 0 → Type 0 → List ℕ → Result Stored TiffError → Type 0
+RowRead file order p color position wanting failed out (Ok rest) = TakesRow order p color (left_of file position) (left_of file rest) out
+RowRead file order p color position wanting failed out (Err e) = IsCause wanting failed e (IsTooShort (left_of file position) (needed_of_row p color (length out)) e)
+
+-- A row was read and handed out, and its bytes were put at a position of those of a list.
+pub record PutsRow (order : ByteOrder) (p : PageRecord) (color : ColorType) (left rest : List ℕ) (at len : ℕ) (old new : List ℕ) : Type 0 where
+  pub row : List ℕ
+  pub all : length row ≡ len
+  pub takes : TakesRow order p color left rest row
+  pub put : IsPut at row old new
+
+-- the answer of a call that reads a row of so many bytes into a list
+abbrev pub RowPut : List ℕ → ByteOrder → PageRecord → ColorType → Stored → Type 0 → ℕ → ℕ → List ℕ → List ℕ → Result Stored TiffError → Type 0
+RowPut file order p color position failed at len old new (Ok rest) = PutsRow order p color (left_of file position) (left_of file rest) at len old new
+RowPut file order p color position failed at len old new (Err e) = IsCause (Unit {0}) failed e (IsTooShort (left_of file position) (needed_of_row p color len) e)

@@ -1,0 +1,125 @@
+//! The data of a chunk, read from the front on.
+
+ghost use Rattle.std.specs.Prelude.{◌≡◌, ◌<◌, ◌≤◌, ℕ, List, length, slice_index, Ok};
+ghost use Rattle.tiff_base.specs.Answers.{IsKept};
+ghost use Rattle.tiff_page.specs.PixelFault.{method_fault};
+ghost use Rattle.tiff_page.specs.Pixels.{data_by};
+ghost use Rattle.tiff_page.specs.ChunkData.{left_of, Takes, Passes};
+ghost use Rattle.tiff_page.specs.declared.chunk_data.Stored.TheVariants.{Packed};
+ghost use Rattle.tiff_base.specs.declared.tags.ByteOrder.{ByteOrder};
+ghost use Rattle.tiff_page.specs.Page.{PageRecord};
+
+use tiff_base::error::{TiffError, TiffResult};
+use tiff_base::io::{IoKind, Source};
+use tiff_base::read::read_exact_at;
+use tiff_base::tags::CompressionMethod;
+use tiff_ifd::packbits::PackedPosition;
+
+/// A position in the data of a chunk: in the file, in packed data, or behind the last byte of these.
+#[derive(Clone, Copy, Debug)]
+pub enum Stored {
+    Plain(u64),
+    Packed(PackedPosition),
+    Ended,
+}
+
+// How many bytes are read at once.
+const PIECE: usize = 65536;
+
+// Passes so many bytes of packed data, or all that are left.
+fn pass_packed<R: Source>(source: &mut R, position: PackedPosition, n: u64) -> TiffResult<Stored>
+    ensures kept { IsKept R.bytes R.failures result source.old source.new }
+    ensures passed { Passes (R.bytes source.old) (Packed position) (R.failures source.old < R.failures source.new) n result }
+{
+    let mut piece = [0u8; 512];
+    let mut position = position;
+    let mut left = n;
+    while left > 0 {
+        let len = left.min(512);
+        match position.read_exact(source, &mut piece[..len as usize]) {
+            Ok(()) => {}
+            Err(TiffError::IoError(IoKind::UnexpectedEof)) => return Ok(Stored::Ended),
+            Err(fault) => return Err(fault),
+        }
+        left -= len;
+    }
+    Ok(Stored::Packed(position))
+}
+
+impl Stored {
+    /// The front of data at a position of so many bytes, by a method that is unpacked.
+    #[tactic(auto, using(crate::proofs::Data::unpacked_out))]
+    pub fn new(method: CompressionMethod, at: u64, count: u64) -> Self
+        requires { method_fault method ≡ Ok tt }
+        ensures { (file : List ℕ) (order : ByteOrder) (p : PageRecord) → left_of file result ≡ data_by file order p method at count }
+    {
+        match method {
+            CompressionMethod::PackBits => Stored::Packed(PackedPosition::new(at, count)),
+            _ => Stored::Plain(at),
+        }
+    }
+
+    /// Fills a buffer with the next bytes, and answers the position behind them. Fewer are left: `IoError(UnexpectedEof)`.
+    pub fn read<R: Source>(self, source: &mut R, buf: &mut [u8]) -> TiffResult<Stored>
+        ensures kept { IsKept R.bytes R.failures result source.old source.new }
+        ensures taken { Takes (R.bytes source.old) self ⊥ (R.failures source.old < R.failures source.new) (length buf.old) buf.new result }
+    {
+        match self {
+            Stored::Plain(at) => match read_exact_at(source, at, buf) {
+                Ok(()) => Ok(Stored::Plain(at + buf.len() as u64)),
+                Err(fault) => Err(fault),
+            },
+            Stored::Packed(mut position) => match position.read_exact(source, buf) {
+                Ok(()) => Ok(Stored::Packed(position)),
+                Err(fault) => Err(fault),
+            },
+            Stored::Ended => {
+                if buf.is_empty() {
+                    return Ok(self);
+                }
+                Err(TiffError::IoError(IoKind::UnexpectedEof))
+            }
+        }
+    }
+
+    /// Makes a list the next `len` bytes; it grows as they come. Fewer are left: `IoError(UnexpectedEof)`, and the list holds
+    /// some of them.
+    pub fn read_grown<R: Source>(
+        self,
+        source: &mut R,
+        row: &mut Vec<u8>,
+        len: usize,
+    ) -> TiffResult<Stored>
+        ensures kept { IsKept R.bytes R.failures result source.old source.new }
+        ensures taken { Takes (R.bytes source.old) self (Unit {0}) (R.failures source.old < R.failures source.new) len
+            row.new.items result }
+    {
+        row.clear();
+        let mut position = self;
+        while row.len() < len {
+            let from = row.len();
+            row.resize(from + (len - from).min(PIECE), 0)?;
+            match position.read(source, &mut row[from..]) {
+                Ok(rest) => position = rest,
+                Err(fault) => return Err(fault),
+            }
+        }
+        Ok(position)
+    }
+
+    /// Passes so many bytes, or all that are left where there are fewer.
+    #[tactic(auto, using(crate::proofs::Data::passed_end))]
+    pub fn pass<R: Source>(self, source: &mut R, n: u64) -> TiffResult<Stored>
+        ensures kept { IsKept R.bytes R.failures result source.old source.new }
+        ensures passed { Passes (R.bytes source.old) self (R.failures source.old < R.failures source.new) n result }
+    {
+        match self {
+            Stored::Plain(at) => match at.checked_add(n) {
+                Some(at) => Ok(Stored::Plain(at)),
+                None => Ok(Stored::Ended),
+            },
+            Stored::Packed(position) => pass_packed(source, position, n),
+            Stored::Ended => Ok(self),
+        }
+    }
+}

@@ -1,0 +1,121 @@
+//! Faults that are found before memory is taken for samples.
+
+ghost use Rattle.std.specs.Prelude.{◌≡◌, ◌+◌, ◌-◌, ◌*◌, ◌<◌, ◌≤◌, ◌^◌, length, min, nat_lt};
+ghost use Rattle.std.specs.Int.{div_ceil};
+ghost use Rattle.tiff_base.specs.Answers.{AnswersWithoutMemory, IsKept};
+ghost use Rattle.tiff_base.specs.declared.error.TiffError.TheVariants as tiff;
+ghost use Rattle.tiff_base.specs.declared.io.IoKind.TheVariants as io;
+ghost use Rattle.tiff_page.specs.EarlyFaults as spec;
+ghost use Rattle.tiff_page.specs.PixelFault.{chunk_fault, unless};
+ghost use Rattle.tiff_page.specs.RowReads.{needed_of_row};
+ghost use Rattle.tiff_page.specs.PageView as view;
+
+use crate::faults::form_fault;
+use crate::layout::chunk_data_dimensions;
+use crate::output_row::{needs_whole_rows, row_len, stored_row_bytes};
+use crate::page::Page;
+use tiff_base::color::ColorType;
+use tiff_base::error::{TiffError, TiffResult};
+use tiff_base::io::{IoKind, Source};
+use tiff_base::read::read_exact_at;
+use tiff_base::tags::CompressionMethod;
+use tiff_ifd::limits::Limits;
+
+fn is_packed(method: CompressionMethod) -> bool
+    ensures { result ≡ spec.is_packed method }
+{
+    matches!(method, CompressionMethod::PackBits)
+}
+
+// The bytes that are read of a row of which so many are handed out.
+fn needed_of_row(page: &Page, color: ColorType, len: usize) -> usize
+    requires { len < 2 ^ 56 }
+    ensures value { result ≡ needed_of_row (view.page page.now) color len }
+    ensures few { result < 2 ^ 56 }
+{
+    if needs_whole_rows(page, color) {
+        return stored_row_bytes(page);
+    }
+    len
+}
+
+// The bytes that are needed of a chunk.
+#[tactic(auto, using(crate::proofs::Cut::rows_fit, crate::proofs::Cut::bytes_few))]
+fn needed_bytes(page: &Page, color: ColorType, index: u32) -> u128
+    ensures value { result ≡ spec.needed_bytes (view.page page.now) color index }
+    ensures few { result < 2 ^ 89 }
+{
+    let (width, height) = chunk_data_dimensions(page, index);
+    let row = stored_row_bytes(page) as u128;
+    let last = needed_of_row(page, color, row_len(page, color, width)) as u128;
+    u128::from(height - 1) * row + last
+}
+
+// A source that has fewer than so many bytes from an offset on: `IoError(UnexpectedEof)`. The last of them is read.
+#[tactic(auto, using(crate::proofs::Cut::reached, crate::proofs::Cut::past_all))]
+fn reach<R: Source>(source: &mut R, at: u64, len: u128) -> TiffResult<()>
+    requires few { len < 2 ^ 89 }
+    ensures kept { IsKept R.bytes R.failures result source.old source.new }
+    ensures answer { AnswersWithoutMemory (λ _. tt) result (unless (nat_lt (length (R.bytes source.old) - at) len)
+        (tiff.IoError io.UnexpectedEof)) (R.failures source.old) (R.failures source.new) }
+{
+    if len == 0 {
+        return Ok(());
+    }
+    let Ok(last) = u64::try_from(u128::from(at) + len - 1) else {
+        return Err(TiffError::IoError(IoKind::UnexpectedEof));
+    };
+    read_exact_at(source, last, &mut [0u8; 1])
+}
+
+// The same of packed bytes, of which so many are counted, for so many that they unpack to: two of them give at most 128.
+#[tactic(auto, using(crate::proofs::Cut::counted_few, crate::proofs::Cut::counted_all, crate::proofs::Cut::least_few))]
+fn reach_packed<R: Source>(source: &mut R, at: u64, count: u64, needed: u128) -> TiffResult<()>
+    requires few { needed < 2 ^ 89 }
+    ensures kept { IsKept R.bytes R.failures result source.old source.new }
+    ensures answer { AnswersWithoutMemory (λ _. tt) result (unless
+        (nat_lt (min count (length (R.bytes source.old) - at)) (div_ceil needed 64)) (tiff.IoError io.UnexpectedEof))
+        (R.failures source.old) (R.failures source.new) }
+{
+    let least = needed.div_ceil(64);
+    if u128::from(count) < least {
+        return Err(TiffError::IoError(IoKind::UnexpectedEof));
+    }
+    reach(source, at, least)
+}
+
+// A source that has fewer bytes for a chunk than its data take at least: `IoError(UnexpectedEof)`. One byte is read.
+fn cut_fault<R: Source>(source: &mut R, page: &Page, color: ColorType, index: u32) -> TiffResult<()>
+    requires listed { index < length page.now.offsets }
+    ensures kept { IsKept R.bytes R.failures result source.old source.new }
+    ensures answer { AnswersWithoutMemory (λ _. tt) result (unless
+        (spec.is_cut (R.bytes source.old) (view.page page.now) color index) (tiff.IoError io.UnexpectedEof))
+        (R.failures source.old) (R.failures source.new) }
+{
+    let chunk = index as usize;
+    let at = page.offsets.as_slice()[chunk];
+    let count = page.byte_counts.as_slice()[chunk];
+    let needed = needed_bytes(page, color, index);
+    if is_packed(page.method) {
+        return reach_packed(source, at, count, needed);
+    }
+    reach(source, at, needed)
+}
+
+/// The first fault of a chunk, as far as it is found before memory is taken for its samples: of its form, or too few bytes
+/// in the source for its data, `IoError(UnexpectedEof)`. One byte is read.
+pub(crate) fn early_fault<R: Source>(
+    source: &mut R,
+    page: &Page,
+    limits: &Limits,
+    color: ColorType,
+    index: u32,
+) -> TiffResult<()>
+    ensures kept { IsKept R.bytes R.failures result source.old source.new }
+    ensures answer { AnswersWithoutMemory (λ _. tt) result (chunk_fault (view.page page.now) limits.now
+        (spec.is_cut (R.bytes source.old) (view.page page.now) color) color index) (R.failures source.old)
+        (R.failures source.new) }
+{
+    form_fault(page, limits, color, index as usize)?;
+    cut_fault(source, page, color, index)
+}

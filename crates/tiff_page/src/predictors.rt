@@ -1,0 +1,279 @@
+//! The rows of a chunk, undone in place: numbers to little-endian, predictors, complements.
+
+ghost use Rattle.std.specs.Prelude.{◌≡◌, ℕ, ◌+◌, ◌-◌, ◌*◌, ◌/◌, ◌%◌, ◌<◌, ◌≤◌, length, slice_index, EachIndex};
+ghost use Rattle.tiff_base.specs.declared.tags.ByteOrder.TheVariants.{LittleEndian, BigEndian};
+ghost use Rattle.tiff_page.specs.Row.{IsSize, row_number, summed_number, joined_number, Became, AddsNumber, TurnsNumber};
+
+use tiff_base::read::{u16_in, u32_in, u64_in};
+use tiff_base::tags::ByteOrder;
+
+// Turns the big-endian numbers of two, four and eight bytes at one position.
+#[tactic(auto, using(crate::proofs::Rows::turns_2))]
+fn turn_u16(row: &mut [u8], k: usize)
+    requires { (k + 1) * 2 ≤ length row.old }
+    ensures { TurnsNumber 2 row.old k row.new }
+{
+    let at = k * 2;
+    let number = u16_in(ByteOrder::BigEndian, row, at);
+    row[at..at + 2].copy_from_slice(&number.to_le_bytes());
+}
+
+#[tactic(auto, using(crate::proofs::Rows::turns_4))]
+fn turn_u32(row: &mut [u8], k: usize)
+    requires { (k + 1) * 4 ≤ length row.old }
+    ensures { TurnsNumber 4 row.old k row.new }
+{
+    let at = k * 4;
+    let number = u32_in(ByteOrder::BigEndian, row, at);
+    row[at..at + 4].copy_from_slice(&number.to_le_bytes());
+}
+
+#[tactic(auto, using(crate::proofs::Rows::turns_8))]
+fn turn_u64(row: &mut [u8], k: usize)
+    requires { (k + 1) * 8 ≤ length row.old }
+    ensures { TurnsNumber 8 row.old k row.new }
+{
+    let at = k * 8;
+    let number = u64_in(ByteOrder::BigEndian, row, at);
+    row[at..at + 8].copy_from_slice(&number.to_le_bytes());
+}
+
+// Those of a row. A ragged end stays.
+fn turn_u16s(row: &mut [u8])
+    ensures { Became 2 (row_number BigEndian 2 row.old) row.old row.new }
+{
+    let count = row.len() / 2;
+    for k in 0..count {
+        turn_u16(row, k);
+    }
+}
+
+fn turn_u32s(row: &mut [u8])
+    ensures { Became 4 (row_number BigEndian 4 row.old) row.old row.new }
+{
+    let count = row.len() / 4;
+    for k in 0..count {
+        turn_u32(row, k);
+    }
+}
+
+fn turn_u64s(row: &mut [u8])
+    ensures { Became 8 (row_number BigEndian 8 row.old) row.old row.new }
+{
+    let count = row.len() / 8;
+    for k in 0..count {
+        turn_u64(row, k);
+    }
+}
+
+// Turns the big-endian numbers of a row, of `size` bytes each.
+fn turn_numbers(row: &mut [u8], size: usize)
+    requires { IsSize size }
+    ensures { Became size (row_number BigEndian size row.old) row.old row.new }
+{
+    match size {
+        2 => turn_u16s(row),
+        4 => turn_u32s(row),
+        8 => turn_u64s(row),
+        _ => {}
+    }
+}
+
+/// Turns the numbers of a row, of `size` bytes each, into little-endian ones. A ragged end stays.
+pub fn to_little(row: &mut [u8], order: ByteOrder, size: usize)
+    requires { IsSize size }
+    ensures { Became size (row_number order size row.old) row.old row.new }
+{
+    match order {
+        ByteOrder::LittleEndian => {}
+        ByteOrder::BigEndian => turn_numbers(row, size),
+    }
+}
+
+// The additions of numbers of one, two, four and eight bytes.
+#[tactic(auto, using(crate::proofs::Rows::adds_1))]
+fn add_byte(row: &mut [u8], from: usize, to: usize)
+    requires before { from < to }
+    requires within { (to + 1) * 1 ≤ length row.old }
+    ensures { AddsNumber 1 row.old from to row.new }
+{
+    row[to] = row[from].wrapping_add(row[to]);
+}
+
+#[tactic(auto, using(crate::proofs::Rows::adds_2))]
+fn add_u16(row: &mut [u8], from: usize, to: usize)
+    requires before { from < to }
+    requires within { (to + 1) * 2 ≤ length row.old }
+    ensures { AddsNumber 2 row.old from to row.new }
+{
+    let at = to * 2;
+    let before = u16_in(ByteOrder::LittleEndian, row, from * 2);
+    let sum = before.wrapping_add(u16_in(ByteOrder::LittleEndian, row, at));
+    row[at..at + 2].copy_from_slice(&sum.to_le_bytes());
+}
+
+#[tactic(auto, using(crate::proofs::Rows::adds_4))]
+fn add_u32(row: &mut [u8], from: usize, to: usize)
+    requires before { from < to }
+    requires within { (to + 1) * 4 ≤ length row.old }
+    ensures { AddsNumber 4 row.old from to row.new }
+{
+    let at = to * 4;
+    let before = u32_in(ByteOrder::LittleEndian, row, from * 4);
+    let sum = before.wrapping_add(u32_in(ByteOrder::LittleEndian, row, at));
+    row[at..at + 4].copy_from_slice(&sum.to_le_bytes());
+}
+
+#[tactic(auto, using(crate::proofs::Rows::adds_8))]
+fn add_u64(row: &mut [u8], from: usize, to: usize)
+    requires before { from < to }
+    requires within { (to + 1) * 8 ≤ length row.old }
+    ensures { AddsNumber 8 row.old from to row.new }
+{
+    let at = to * 8;
+    let before = u64_in(ByteOrder::LittleEndian, row, from * 8);
+    let sum = before.wrapping_add(u64_in(ByteOrder::LittleEndian, row, at));
+    row[at..at + 8].copy_from_slice(&sum.to_le_bytes());
+}
+
+// Adds number `from` of a row to number `to`, modulo what their bytes hold.
+fn add_number(row: &mut [u8], from: usize, to: usize, size: usize)
+    requires size { IsSize size }
+    requires before { from < to }
+    requires within { (to + 1) * size ≤ length row.old }
+    ensures { AddsNumber size row.old from to row.new }
+{
+    match size {
+        1 => add_byte(row, from, to),
+        2 => add_u16(row, from, to),
+        4 => add_u32(row, from, to),
+        _ => add_u64(row, from, to),
+    }
+}
+
+// Adds to each number of a row the one before it of the same sample. Where `size` and `stored` are constants, the loop is
+// compiled for these.
+#[inline(always)]
+fn sum_numbers(row: &mut [u8], size: usize, stored: usize)
+    requires size { IsSize size }
+    requires stored { 0 < stored }
+    ensures { Became size (summed_number size stored row.old) row.old row.new }
+{
+    let count = row.len() / size;
+    for k in stored..count {
+        add_number(row, k - stored, k, size);
+    }
+}
+
+// Adds to the bytes of a pixel those of `last`, which becomes the sums.
+#[inline(always)]
+fn sum_pixel<const N: usize>(last: &mut [u8; N], pixel: &mut [u8])
+    requires { length pixel.old ≡ N }
+    ensures sums { EachIndex pixel.new (λ j. slice_index pixel.new j ≡ (slice_index last.old j + slice_index pixel.old j) % 256) }
+    ensures held { EachIndex pixel.new (λ j. slice_index last.new j ≡ slice_index pixel.new j) }
+{
+    for j in 0..N {
+        let sum = last[j].wrapping_add(pixel[j]);
+        last[j] = sum;
+        pixel[j] = sum;
+    }
+}
+
+// Adds to each byte of a row of pixels of N bytes the one before it of the same sample. The sums stay in registers.
+#[inline(always)]
+fn sum_pixels<const N: usize>(row: &mut [u8])
+    requires some { 0 < N }
+    requires whole { length row.old / N * N ≡ length row.old }
+    ensures { Became 1 (summed_number 1 N row.old) row.old row.new }
+{
+    let mut last = [0; N];
+    for k in 0..row.len() / N {
+        let at = k * N;
+        sum_pixel(&mut last, &mut row[at..at + N]);
+    }
+}
+
+/// Undoes the horizontal predictor over a row of little-endian numbers of `size` bytes, of which a pixel has `stored`.
+pub fn undo_horizontal(row: &mut [u8], size: usize, stored: usize)
+    requires size { IsSize size }
+    requires stored { 0 < stored }
+    ensures { Became size (summed_number size stored row.old) row.old row.new }
+{
+    match (size, stored) {
+        (1, 1) => sum_numbers(row, 1, 1),
+        (1, 2) => sum_numbers(row, 1, 2),
+        (1, 3) if row.len() % 3 == 0 => sum_pixels::<3>(row),
+        (1, 4) if row.len() % 4 == 0 => sum_pixels::<4>(row),
+        (2, 1) => sum_numbers(row, 2, 1),
+        (2, 3) => sum_numbers(row, 2, 3),
+        (2, 4) => sum_numbers(row, 2, 4),
+        (4, 1) => sum_numbers(row, 4, 1),
+        _ => sum_numbers(row, size, stored),
+    }
+}
+
+// Puts the bytes of one number together: in planes of `count` bytes, the most significant first, it has number `k`.
+fn join_number(planes: &[u8], count: usize, k: usize, number: &mut [u8])
+    requires k { k < count }
+    requires within { length number.old * count ≤ length planes.now }
+    ensures { EachIndex number.new (λ j. slice_index number.new j ≡ slice_index planes.now ((length number.old - 1 - j) * count + k)) }
+{
+    let size = number.len();
+    for j in 0..size {
+        number[j] = planes[(size - 1 - j) * count + k];
+    }
+}
+
+// Puts the numbers of a row of planes together: the most significant bytes of all numbers stand first. Where `size` is a
+// constant, the loop is compiled for it.
+#[inline(always)]
+fn join_numbers(planes: &[u8], size: usize, row: &mut [u8])
+    requires size { 0 < size }
+    requires same { length planes.now ≡ length row.old }
+    ensures { (k : ℕ) → k < length planes.now / size → (j : ℕ) → j < size
+        → slice_index row.new (k * size + j) ≡ slice_index planes.now ((size - 1 - j) * (length planes.now / size) + k) }
+{
+    let count = planes.len() / size;
+    for k in 0..count {
+        let at = k * size;
+        join_number(planes, count, k, &mut row[at..at + size]);
+    }
+}
+
+// The same, by constants for the sizes of floating-point numbers.
+fn join_planes(planes: &[u8], size: usize, row: &mut [u8])
+    requires size { 0 < size }
+    requires same { length planes.now ≡ length row.old }
+    ensures { (k : ℕ) → k < length planes.now / size → (j : ℕ) → j < size
+        → slice_index row.new (k * size + j) ≡ slice_index planes.now ((size - 1 - j) * (length planes.now / size) + k) }
+{
+    match size {
+        2 => join_numbers(planes, 2, row),
+        4 => join_numbers(planes, 4, row),
+        8 => join_numbers(planes, 8, row),
+        _ => join_numbers(planes, size, row),
+    }
+}
+
+/// Undoes the byte-plane predictor over a row of numbers of `size` bytes, of which a pixel has `stored`, into little-endian
+/// ones. `room` has the row's length; what stands there afterwards is open.
+pub fn undo_byte_plane(row: &mut [u8], room: &mut [u8], size: usize, stored: usize)
+    requires size { IsSize size }
+    requires stored { 0 < stored }
+    requires whole { length row.old / size * size ≡ length row.old }
+    requires room { length room.old ≡ length row.old }
+    ensures { Became size (joined_number size stored (length row.old / size) row.old) row.old row.new }
+{
+    undo_horizontal(row, 1, stored);
+    room.copy_from_slice(row);
+    join_planes(room, size, row);
+}
+
+/// Complements each byte of a row, and so each number of it.
+pub fn invert(row: &mut [u8])
+    ensures { EachIndex row.new (λ i. slice_index row.new i ≡ 255 - slice_index row.old i) }
+{
+    for byte in row.iter_mut() {
+        *byte = 255 - *byte;
+    }
+}

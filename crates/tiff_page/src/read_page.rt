@@ -1,0 +1,469 @@
+//! The checks of a page.
+
+ghost use Rattle.std.specs.Prelude.{◌≡◌, ◌+◌, ◌-◌, ◌*◌, ◌/◌, ◌<◌, ◌≤◌, ◌^◌, ◌==◌, length, map, nat_lt, if◌then◌else◌, IfOk, unwrap_or};
+ghost use Rattle.std.specs.List.{list_all};
+ghost use Rattle.tiff_base.specs.Tags as kinds;
+ghost use Rattle.tiff_base.specs.declared.tags.ExtraSamples.TheVariants as extra_kind;
+ghost use Rattle.tiff_ifd.specs.Fitted.{fitted_numbers};
+ghost use Rattle.tiff_page.specs.Counts.{chunk_count, planes_of};
+ghost use Rattle.tiff_page.specs.PageView as view;
+ghost use Rattle.tiff_base.specs.Answers.{Answers, AnswersWithoutSource, Gives, IsKept};
+ghost use Rattle.tiff_page.specs.Checks as checks;
+
+use crate::lists::{ExtraSampleList, NumberList};
+use crate::page::{ChunkTable, Page};
+use std::alloc::{AllocError, Global};
+use tiff_base::color::ChunkType;
+use tiff_base::error::{TiffFormatError, TiffResult, TiffUnsupportedError};
+use tiff_base::lists::{SampleBits, SampleFormats};
+use tiff_base::tags::{
+    CompressionMethod, ExtraSamples, PhotometricInterpretation, PlanarConfiguration, Predictor,
+    SampleFormat, Tag,
+};
+use tiff_ifd::lookup::{Tags, find_u16, find_u16_vec, find_u32, require_u32, require_u64_vec};
+
+/// The width and the height.
+#[tactic(auto, unfolding(crate::specs::Checks::size_in))]
+pub fn read_size<T: Tags>(tags: &mut T, alloc: Global) -> TiffResult<(u32, u32)>
+    ensures kept { IsKept T.told T.failures result tags.old tags.new }
+    ensures answer { Answers (λ s. s) result (checks.size_in (T.told tags.old).look) (T.failures tags.old) (T.failures tags.new) }
+    ensures some { IfOk result (λ s. (0 < s.0) × (0 < s.1)) }
+{
+    let width = require_u32(tags, alloc, Tag::ImageWidth)?;
+    let height = require_u32(tags, alloc, Tag::ImageLength)?;
+    if width == 0 || height == 0 {
+        return Err(TiffFormatError::InvalidDimensions(width, height).into());
+    }
+    Ok((width, height))
+}
+
+/// What the samples mean.
+#[tactic(auto, unfolding(crate::specs::Checks::interpretation_in))]
+pub fn read_interpretation<T: Tags>(
+    tags: &mut T,
+    alloc: Global,
+) -> TiffResult<PhotometricInterpretation>
+    ensures kept { IsKept T.told T.failures result tags.old tags.new }
+    ensures answer { Answers (λ s. s) result (checks.interpretation_in (T.told tags.old).look) (T.failures tags.old) (T.failures tags.new) }
+{
+    let Some(number) = find_u16(tags, alloc, Tag::PhotometricInterpretation)? else {
+        return Err(TiffUnsupportedError::UnknownInterpretation.into());
+    };
+    match PhotometricInterpretation::from_u16(number) {
+        None => Err(TiffUnsupportedError::UnknownInterpretation.into()),
+        Some(interpretation) => Ok(interpretation),
+    }
+}
+
+/// How chunks are packed.
+#[tactic(auto, unfolding(crate::specs::Checks::method_in))]
+pub fn read_method<T: Tags>(tags: &mut T, alloc: Global) -> TiffResult<CompressionMethod>
+    ensures kept { IsKept T.told T.failures result tags.old tags.new }
+    ensures answer { Answers (λ s. s) result (checks.method_in (T.told tags.old).look) (T.failures tags.old) (T.failures tags.new) }
+{
+    let number = find_u16(tags, alloc, Tag::Compression)?.unwrap_or(1);
+    Ok(CompressionMethod::from_u16_exhaustive(number))
+}
+
+/// How many samples a pixel has.
+#[tactic(auto, unfolding(crate::specs::Checks::samples_in))]
+pub fn read_samples<T: Tags>(tags: &mut T, alloc: Global) -> TiffResult<u16>
+    ensures kept { IsKept T.told T.failures result tags.old tags.new }
+    ensures answer { Answers (λ s. s) result (checks.samples_in (T.told tags.old).look) (T.failures tags.old) (T.failures tags.new) }
+    ensures some { IfOk result (λ n. 0 < n) }
+{
+    let samples = find_u16(tags, alloc, Tag::SamplesPerPixel)?.unwrap_or(1);
+    if samples == 0 {
+        return Err(TiffFormatError::SamplesPerPixelIsZero.into());
+    }
+    Ok(samples)
+}
+
+fn extras(alloc: Global, numbers: &[u16]) -> Result<Vec<ExtraSamples>, AllocError>
+    ensures { IfOk result (λ v. v.items ≡ map (λ n. unwrap_or (kinds.extra_of n) extra_kind.Unspecified) numbers.now) }
+{
+    numbers
+        .iter()
+        .map(|n| ExtraSamples::from_u16(*n).unwrap_or(ExtraSamples::Unspecified))
+        .collect(alloc)
+}
+
+/// What the extra samples are.
+#[tactic(auto, unfolding(crate::specs::Checks::extra_in))]
+pub fn read_extra<T: Tags>(tags: &mut T, alloc: Global, samples: u16) -> TiffResult<ExtraSampleList>
+    ensures kept { IsKept T.told T.failures result tags.old tags.new }
+    ensures answer { Answers (λ s. s) result (checks.extra_in (T.told tags.old).look samples) (T.failures tags.old) (T.failures tags.new) }
+    ensures few { IfOk result (λ e. length e ≤ samples) }
+{
+    let extra = match find_u16_vec(tags, alloc, Tag::ExtraSamples)? {
+        None => Vec::new(alloc),
+        Some(numbers) => extras(alloc, &numbers)?,
+    };
+    if extra.len() > usize::from(samples) {
+        return Err(TiffFormatError::InconsistentSizesEncountered.into());
+    }
+    Ok(ExtraSampleList::from_vec(extra))
+}
+
+// Whether all numbers are this one.
+fn are_all_u16(numbers: &[u16], number: u16) -> bool
+    ensures { result ≡ list_all (λ n. n == number) numbers.now }
+{
+    numbers.iter().all(|n| *n == number)
+}
+
+fn are_all_u8(numbers: &[u8], number: u8) -> bool
+    ensures { result ≡ list_all (λ n. n == number) numbers.now }
+{
+    numbers.iter().all(|n| *n == number)
+}
+
+fn formats(alloc: Global, numbers: &[u16]) -> Result<Vec<SampleFormat>, AllocError>
+    ensures { IfOk result (λ v. v.items ≡ map kinds.format_of numbers.now) }
+{
+    numbers
+        .iter()
+        .map(|n| SampleFormat::from_u16_exhaustive(*n))
+        .collect(alloc)
+}
+
+// The numbers, each below 2^16.
+fn fit_u16s(alloc: Global, tag: Tag, numbers: Vec<u64>) -> TiffResult<Vec<u16>>
+    ensures { AnswersWithoutSource (λ v. v.items) result (fitted_numbers tag (2 ^ 16) numbers.items) }
+{
+    let mut all = Vec::new(alloc);
+    for n in numbers {
+        let Ok(n) = u16::try_from(n) else {
+            return Err(TiffFormatError::InvalidTagValueType(tag).into());
+        };
+        all.push(n)?;
+    }
+    Ok(all)
+}
+
+// The numbers, each below 2^8.
+fn fit_u8s(alloc: Global, tag: Tag, numbers: Vec<u64>) -> TiffResult<Vec<u8>>
+    ensures { AnswersWithoutSource (λ v. v.items) result (fitted_numbers tag (2 ^ 8) numbers.items) }
+{
+    let mut all = Vec::new(alloc);
+    for n in numbers {
+        let Ok(n) = u8::try_from(n) else {
+            return Err(TiffFormatError::InvalidTagValueType(tag).into());
+        };
+        all.push(n)?;
+    }
+    Ok(all)
+}
+
+fn one_format(alloc: Global, numbers: &[u16]) -> TiffResult<SampleFormat>
+    ensures { AnswersWithoutSource (λ f. f) result (checks.one_format numbers.now) }
+{
+    let [first, ..] = numbers else {
+        return Err(TiffFormatError::InvalidTagValueType(Tag::SampleFormat).into());
+    };
+    if !are_all_u16(numbers, *first) {
+        return Err(TiffUnsupportedError::UnsupportedSampleFormat(SampleFormats::from_vec(formats(
+            alloc, numbers,
+        )?)).into());
+    }
+    Ok(SampleFormat::from_u16_exhaustive(*first))
+}
+
+/// What the numbers of samples are.
+#[tactic(auto, unfolding(crate::specs::Checks::format_in))]
+pub fn read_format<T: Tags>(tags: &mut T, alloc: Global) -> TiffResult<SampleFormat>
+    ensures kept { IsKept T.told T.failures result tags.old tags.new }
+    ensures answer { Answers (λ s. s) result (checks.format_in (T.told tags.old).look) (T.failures tags.old) (T.failures tags.new) }
+{
+    match tags.find_u64_vec(alloc, Tag::SampleFormat)? {
+        None => Ok(SampleFormat::Uint),
+        Some(numbers) => {
+            let numbers = fit_u16s(alloc, Tag::SampleFormat, numbers)?;
+            one_format(alloc, &numbers)
+        }
+    }
+}
+
+fn one_depth(samples: u16, bits: Vec<u8>) -> TiffResult<u8>
+    ensures answer { Gives (λ d. d) result (checks.one_depth samples bits.items) }
+    ensures some { IfOk result (λ d. 0 < d) }
+{
+    if bits.len() != usize::from(samples) && bits.len() != 1 {
+        return Err(TiffFormatError::InconsistentSizesEncountered.into());
+    }
+    let Some(first) = bits.first().copied() else {
+        return Err(TiffFormatError::InconsistentSizesEncountered.into());
+    };
+    if first == 0 || !are_all_u8(&bits, first) {
+        return Err(TiffUnsupportedError::InconsistentBitsPerSample(SampleBits::from_vec(
+            bits,
+        )).into());
+    }
+    Ok(first)
+}
+
+/// How many bits a sample has.
+#[tactic(auto, unfolding(crate::specs::Checks::depth_in))]
+pub fn read_depth<T: Tags>(tags: &mut T, alloc: Global, samples: u16) -> TiffResult<u8>
+    ensures kept { IsKept T.told T.failures result tags.old tags.new }
+    ensures answer { Answers (λ s. s) result (checks.depth_in (T.told tags.old).look samples) (T.failures tags.old) (T.failures tags.new) }
+    ensures some { IfOk result (λ d. 0 < d) }
+{
+    match tags.find_u64_vec(alloc, Tag::BitsPerSample)? {
+        None => Ok(1),
+        Some(numbers) => one_depth(samples, fit_u8s(alloc, Tag::BitsPerSample, numbers)?),
+    }
+}
+
+/// How stored samples differ from those before them.
+#[tactic(auto, unfolding(crate::specs::Checks::predictor_in))]
+pub fn read_predictor<T: Tags>(tags: &mut T, alloc: Global) -> TiffResult<Predictor>
+    ensures kept { IsKept T.told T.failures result tags.old tags.new }
+    ensures answer { Answers (λ s. s) result (checks.predictor_in (T.told tags.old).look) (T.failures tags.old) (T.failures tags.new) }
+{
+    let Some(number) = find_u16(tags, alloc, Tag::Predictor)? else {
+        return Ok(Predictor::None);
+    };
+    match Predictor::from_u16(number) {
+        None => Err(TiffFormatError::UnknownPredictor(number).into()),
+        Some(predictor) => Ok(predictor),
+    }
+}
+
+/// Whether each plane of samples has its chunks.
+#[tactic(auto, unfolding(crate::specs::Checks::planar_in))]
+pub fn read_planar<T: Tags>(tags: &mut T, alloc: Global) -> TiffResult<PlanarConfiguration>
+    ensures kept { IsKept T.told T.failures result tags.old tags.new }
+    ensures answer { Answers (λ s. s) result (checks.planar_in (T.told tags.old).look) (T.failures tags.old) (T.failures tags.new) }
+{
+    let Some(number) = find_u16(tags, alloc, Tag::PlanarConfiguration)? else {
+        return Ok(PlanarConfiguration::Chunky);
+    };
+    match PlanarConfiguration::from_u16(number) {
+        None => Err(TiffFormatError::UnknownPlanarConfiguration(number).into()),
+        Some(planar) => Ok(planar),
+    }
+}
+
+fn two(sizes: &[u16]) -> TiffResult<(u16, u16)>
+    ensures { Gives (λ s. s) result (checks.number_pair sizes.now) }
+{
+    match sizes {
+        [across, down] => Ok((*across, *down)),
+        _ => Err(TiffFormatError::InvalidCountForTag(Tag::ChromaSubsampling, sizes.len()).into()),
+    }
+}
+
+/// How many pixels share a chroma sample.
+#[tactic(auto, unfolding(crate::specs::Checks::subsampling_in))]
+pub fn read_subsampling<T: Tags>(tags: &mut T, alloc: Global) -> TiffResult<(u16, u16)>
+    ensures kept { IsKept T.told T.failures result tags.old tags.new }
+    ensures answer { Answers (λ s. s) result (checks.subsampling_in (T.told tags.old).look) (T.failures tags.old) (T.failures tags.new) }
+{
+    match tags.find_u64_vec(alloc, Tag::ChromaSubsampling)? {
+        None => Ok((2, 2)),
+        Some(numbers) => {
+            let sizes = fit_u16s(alloc, Tag::ChromaSubsampling, numbers)?;
+            two(&sizes)
+        }
+    }
+}
+
+/// Whether chunks are strips or tiles.
+#[tactic(auto, unfolding(crate::specs::Checks::chunk_type_in))]
+pub fn chunk_type<T: Tags>(tags: &T) -> TiffResult<ChunkType>
+    ensures { Gives (λ s. s) result (checks.chunk_type_in (T.told tags.now).look) }
+{
+    match (
+        tags.contains(Tag::StripOffsets),
+        tags.contains(Tag::StripByteCounts),
+        tags.contains(Tag::TileOffsets),
+        tags.contains(Tag::TileByteCounts),
+    ) {
+        (true, true, false, false) => Ok(ChunkType::Strip),
+        (false, false, true, true) => Ok(ChunkType::Tile),
+        _ => Err(TiffFormatError::StripTileTagConflict.into()),
+    }
+}
+
+// How many chunks there are, below 2^32.
+fn chunk_count(
+    width: u32,
+    height: u32,
+    chunk_width: u32,
+    chunk_height: u32,
+    planes: u16,
+) -> Option<u32>
+    requires wide { 0 < chunk_width }
+    requires high { 0 < chunk_height }
+    ensures { let count = chunk_count width height chunk_width chunk_height planes in
+        result ≡ (if nat_lt count (2 ^ 32) then Some count else None) }
+{
+    let across = (u64::from(width) + u64::from(chunk_width) - 1) / u64::from(chunk_width);
+    let down = (u64::from(height) + u64::from(chunk_height) - 1) / u64::from(chunk_height);
+    let count = across.checked_mul(down)?.checked_mul(u64::from(planes))?;
+    u32::try_from(count).ok()
+}
+
+#[tactic(auto, unfolding(crate::specs::Checks::chunks_counted))]
+fn counted(width: u32, height: u32, planes: u16, chunks: ChunkTable) -> TiffResult<ChunkTable>
+    requires wide { 0 < chunks.chunk_width }
+    requires high { 0 < chunks.chunk_height }
+    ensures answer { Gives view.chunks result (checks.chunks_counted width height planes (view.chunks chunks)) }
+    ensures wide { IfOk result (λ c. 0 < c.chunk_width) }
+    ensures high { IfOk result (λ c. 0 < c.chunk_height) }
+    ensures same { IfOk result (λ c. length c.byte_counts ≡ length c.offsets) }
+    ensures count { IfOk result (λ c. length c.offsets ≡ chunk_count width height c.chunk_width c.chunk_height planes) }
+    ensures few { IfOk result (λ c. length c.offsets < 2 ^ 32) }
+{
+    let count = chunk_count(
+        width,
+        height,
+        chunks.chunk_width,
+        chunks.chunk_height,
+        planes,
+    );
+    let Some(count) = count else {
+        return Err(TiffFormatError::InconsistentSizesEncountered.into());
+    };
+    if chunks.offsets.len() != chunks.byte_counts.len() || chunks.offsets.len() != count as usize {
+        return Err(TiffFormatError::InconsistentSizesEncountered.into());
+    }
+    Ok(chunks)
+}
+
+/// The strips of a page.
+#[tactic(auto, unfolding(crate::specs::Checks::strips_in))]
+pub fn read_strips<T: Tags>(
+    tags: &mut T,
+    alloc: Global,
+    width: u32,
+    height: u32,
+    planes: u16,
+) -> TiffResult<ChunkTable>
+    requires wide { 0 < width }
+    ensures kept { IsKept T.told T.failures result tags.old tags.new }
+    ensures answer { Answers view.chunks result (checks.strips_in (T.told tags.old).look width height planes)
+        (T.failures tags.old) (T.failures tags.new) }
+    ensures wide { IfOk result (λ c. 0 < c.chunk_width) }
+    ensures high { IfOk result (λ c. 0 < c.chunk_height) }
+    ensures same { IfOk result (λ c. length c.byte_counts ≡ length c.offsets) }
+    ensures count { IfOk result (λ c. length c.offsets ≡ chunk_count width height c.chunk_width c.chunk_height planes) }
+    ensures few { IfOk result (λ c. length c.offsets < 2 ^ 32) }
+{
+    let offsets = NumberList::from_vec(require_u64_vec(tags, alloc, Tag::StripOffsets)?);
+    let byte_counts = NumberList::from_vec(require_u64_vec(tags, alloc, Tag::StripByteCounts)?);
+    let rows = find_u32(tags, alloc, Tag::RowsPerStrip)?.unwrap_or(height);
+    if rows == 0 {
+        return Err(TiffFormatError::InconsistentSizesEncountered.into());
+    }
+    counted(
+        width,
+        height,
+        planes,
+        ChunkTable {
+            chunk_width: width,
+            chunk_height: rows,
+            offsets,
+            byte_counts,
+        },
+    )
+}
+
+/// The tiles of a page.
+#[tactic(auto, unfolding(crate::specs::Checks::tiles_in))]
+pub fn read_tiles<T: Tags>(
+    tags: &mut T,
+    alloc: Global,
+    width: u32,
+    height: u32,
+    planes: u16,
+) -> TiffResult<ChunkTable>
+    ensures kept { IsKept T.told T.failures result tags.old tags.new }
+    ensures answer { Answers view.chunks result (checks.tiles_in (T.told tags.old).look width height planes)
+        (T.failures tags.old) (T.failures tags.new) }
+    ensures wide { IfOk result (λ c. 0 < c.chunk_width) }
+    ensures high { IfOk result (λ c. 0 < c.chunk_height) }
+    ensures same { IfOk result (λ c. length c.byte_counts ≡ length c.offsets) }
+    ensures count { IfOk result (λ c. length c.offsets ≡ chunk_count width height c.chunk_width c.chunk_height planes) }
+    ensures few { IfOk result (λ c. length c.offsets < 2 ^ 32) }
+{
+    let chunk_width = require_u32(tags, alloc, Tag::TileWidth)?;
+    let chunk_height = require_u32(tags, alloc, Tag::TileLength)?;
+    if chunk_width == 0 {
+        return Err(TiffFormatError::InvalidTagValueType(Tag::TileWidth).into());
+    }
+    if chunk_height == 0 {
+        return Err(TiffFormatError::InvalidTagValueType(Tag::TileLength).into());
+    }
+    let offsets = NumberList::from_vec(require_u64_vec(tags, alloc, Tag::TileOffsets)?);
+    let byte_counts = NumberList::from_vec(require_u64_vec(tags, alloc, Tag::TileByteCounts)?);
+    counted(
+        width,
+        height,
+        planes,
+        ChunkTable {
+            chunk_width,
+            chunk_height,
+            offsets,
+            byte_counts,
+        },
+    )
+}
+
+fn planes_of(planar: PlanarConfiguration, samples: u16) -> u16
+    ensures { result ≡ planes_of planar samples }
+{
+    match planar {
+        PlanarConfiguration::Chunky => 1,
+        _ => samples,
+    }
+}
+
+/// The page that the tags tell.
+#[tactic(auto, unfolding(crate::specs::Checks::page_of))]
+pub fn read_page<T: Tags>(tags: &mut T, alloc: Global) -> TiffResult<Page>
+    ensures kept { IsKept T.told T.failures result tags.old tags.new }
+    ensures answer { Answers view.page result (checks.page_of (T.told tags.old).look) (T.failures tags.old) (T.failures tags.new) }
+{
+    let (width, height) = read_size(tags, alloc)?;
+    let interpretation = read_interpretation(tags, alloc)?;
+    let method = read_method(tags, alloc)?;
+    let samples = read_samples(tags, alloc)?;
+    let extra = read_extra(tags, alloc, samples)?;
+    let format = read_format(tags, alloc)?;
+    let depth = read_depth(tags, alloc, samples)?;
+    let predictor = read_predictor(tags, alloc)?;
+    let planar = read_planar(tags, alloc)?;
+    let subsampling = read_subsampling(tags, alloc)?;
+    let chunk_type = chunk_type(tags)?;
+    let planes = planes_of(planar, samples);
+    let chunks = match chunk_type {
+        ChunkType::Strip => read_strips(tags, alloc, width, height, planes)?,
+        ChunkType::Tile => read_tiles(tags, alloc, width, height, planes)?,
+    };
+    let ChunkTable {
+        chunk_width,
+        chunk_height,
+        offsets,
+        byte_counts,
+    } = chunks;
+    Ok(Page {
+        width,
+        height,
+        interpretation,
+        method,
+        samples,
+        extra,
+        format,
+        depth,
+        predictor,
+        planar,
+        subsampling,
+        chunk_type,
+        chunk_width,
+        chunk_height,
+        offsets,
+        byte_counts,
+    })
+}

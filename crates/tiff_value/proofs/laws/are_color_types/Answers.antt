@@ -1,0 +1,5 @@
+use Rattle.tiff_value.proofs.ColorTypes.{are_color_types}
+use Rattle.tiff_value.proofs.laws.are_color_types.Goals as goal
+
+pub returns : goal.returns
+returns c = are_color_types

@@ -1,0 +1,308 @@
+//! Gray color types beside `Gray8`, named as in the Rust crate.
+
+ghost use Rattle.std.proofs.Common.{refl, lit<};
+ghost use Rattle.tiff_base.specs.declared.tags.PhotometricInterpretation.TheVariants as interpretation;
+ghost use Rattle.tiff_base.specs.declared.tags.SampleFormat.TheVariants as format;
+ghost use Rattle.tiff_value.specs.declared.encoder.colortype.ColorTypeName.TheVariants as name;
+ghost use Rattle.tiff_value.specs.ColorLaws.{samples_alike};
+ghost use Rattle.tiff_value.specs.ColorTypes.{color_type, inner_type, samples_of};
+
+use super::colortype::{ColorType, NamedColorType};
+use tiff_base::tags::{Bits32, Bits64, PhotometricInterpretation, SampleFormat};
+
+/// Gray, of 16 bits.
+pub struct Gray16;
+
+impl ColorType for Gray16 {
+    type Inner = u16;
+
+    ghost described = { samples_of interpretation.BlackIsZero 1 16 format.Uint };
+
+    ghost TIFF_VALUE = { interpretation.BlackIsZero };
+
+    const TIFF_VALUE: PhotometricInterpretation = PhotometricInterpretation::BlackIsZero;
+
+    fn bits_per_sample() -> &'static [u16] {
+        &[16]
+    }
+
+    fn sample_format() -> &'static [SampleFormat] {
+        &[SampleFormat::Uint]
+    }
+
+    ghost interpreted = { refl };
+
+    ghost lawful = { samples_alike interpretation.BlackIsZero 1 2 format.Uint (lit< tt) (lit< tt) };
+}
+
+impl NamedColorType for Gray16 {
+    ghost name = { name.Gray16 };
+
+    ghost named = { unfold color_type in refl };
+
+    ghost in_memory = { unfold inner_type in refl };
+}
+
+/// Gray, of 32 bits.
+pub struct Gray32;
+
+impl ColorType for Gray32 {
+    type Inner = u32;
+
+    ghost described = { samples_of interpretation.BlackIsZero 1 32 format.Uint };
+
+    ghost TIFF_VALUE = { interpretation.BlackIsZero };
+
+    const TIFF_VALUE: PhotometricInterpretation = PhotometricInterpretation::BlackIsZero;
+
+    fn bits_per_sample() -> &'static [u16] {
+        &[32]
+    }
+
+    fn sample_format() -> &'static [SampleFormat] {
+        &[SampleFormat::Uint]
+    }
+
+    ghost interpreted = { refl };
+
+    ghost lawful = { samples_alike interpretation.BlackIsZero 1 4 format.Uint (lit< tt) (lit< tt) };
+}
+
+impl NamedColorType for Gray32 {
+    ghost name = { name.Gray32 };
+
+    ghost named = { unfold color_type in refl };
+
+    ghost in_memory = { unfold inner_type in refl };
+}
+
+/// Gray, of 64 bits.
+pub struct Gray64;
+
+impl ColorType for Gray64 {
+    type Inner = u64;
+
+    ghost described = { samples_of interpretation.BlackIsZero 1 64 format.Uint };
+
+    ghost TIFF_VALUE = { interpretation.BlackIsZero };
+
+    const TIFF_VALUE: PhotometricInterpretation = PhotometricInterpretation::BlackIsZero;
+
+    fn bits_per_sample() -> &'static [u16] {
+        &[64]
+    }
+
+    fn sample_format() -> &'static [SampleFormat] {
+        &[SampleFormat::Uint]
+    }
+
+    ghost interpreted = { refl };
+
+    ghost lawful = { samples_alike interpretation.BlackIsZero 1 8 format.Uint (lit< tt) (lit< tt) };
+}
+
+impl NamedColorType for Gray64 {
+    ghost name = { name.Gray64 };
+
+    ghost named = { unfold color_type in refl };
+
+    ghost in_memory = { unfold inner_type in refl };
+}
+
+/// Gray, of signed numbers of 8 bits.
+pub struct GrayI8;
+
+impl ColorType for GrayI8 {
+    type Inner = i8;
+
+    ghost described = { samples_of interpretation.BlackIsZero 1 8 format.Int };
+
+    ghost TIFF_VALUE = { interpretation.BlackIsZero };
+
+    const TIFF_VALUE: PhotometricInterpretation = PhotometricInterpretation::BlackIsZero;
+
+    fn bits_per_sample() -> &'static [u16] {
+        &[8]
+    }
+
+    fn sample_format() -> &'static [SampleFormat] {
+        &[SampleFormat::Int]
+    }
+
+    ghost interpreted = { refl };
+
+    ghost lawful = { samples_alike interpretation.BlackIsZero 1 1 format.Int (lit< tt) (lit< tt) };
+}
+
+impl NamedColorType for GrayI8 {
+    ghost name = { name.GrayI8 };
+
+    ghost named = { unfold color_type in refl };
+
+    ghost in_memory = { unfold inner_type in refl };
+}
+
+/// Gray, of signed numbers of 16 bits.
+pub struct GrayI16;
+
+impl ColorType for GrayI16 {
+    type Inner = i16;
+
+    ghost described = { samples_of interpretation.BlackIsZero 1 16 format.Int };
+
+    ghost TIFF_VALUE = { interpretation.BlackIsZero };
+
+    const TIFF_VALUE: PhotometricInterpretation = PhotometricInterpretation::BlackIsZero;
+
+    fn bits_per_sample() -> &'static [u16] {
+        &[16]
+    }
+
+    fn sample_format() -> &'static [SampleFormat] {
+        &[SampleFormat::Int]
+    }
+
+    ghost interpreted = { refl };
+
+    ghost lawful = { samples_alike interpretation.BlackIsZero 1 2 format.Int (lit< tt) (lit< tt) };
+}
+
+impl NamedColorType for GrayI16 {
+    ghost name = { name.GrayI16 };
+
+    ghost named = { unfold color_type in refl };
+
+    ghost in_memory = { unfold inner_type in refl };
+}
+
+/// Gray, of signed numbers of 32 bits.
+pub struct GrayI32;
+
+impl ColorType for GrayI32 {
+    type Inner = i32;
+
+    ghost described = { samples_of interpretation.BlackIsZero 1 32 format.Int };
+
+    ghost TIFF_VALUE = { interpretation.BlackIsZero };
+
+    const TIFF_VALUE: PhotometricInterpretation = PhotometricInterpretation::BlackIsZero;
+
+    fn bits_per_sample() -> &'static [u16] {
+        &[32]
+    }
+
+    fn sample_format() -> &'static [SampleFormat] {
+        &[SampleFormat::Int]
+    }
+
+    ghost interpreted = { refl };
+
+    ghost lawful = { samples_alike interpretation.BlackIsZero 1 4 format.Int (lit< tt) (lit< tt) };
+}
+
+impl NamedColorType for GrayI32 {
+    ghost name = { name.GrayI32 };
+
+    ghost named = { unfold color_type in refl };
+
+    ghost in_memory = { unfold inner_type in refl };
+}
+
+/// Gray, of signed numbers of 64 bits.
+pub struct GrayI64;
+
+impl ColorType for GrayI64 {
+    type Inner = i64;
+
+    ghost described = { samples_of interpretation.BlackIsZero 1 64 format.Int };
+
+    ghost TIFF_VALUE = { interpretation.BlackIsZero };
+
+    const TIFF_VALUE: PhotometricInterpretation = PhotometricInterpretation::BlackIsZero;
+
+    fn bits_per_sample() -> &'static [u16] {
+        &[64]
+    }
+
+    fn sample_format() -> &'static [SampleFormat] {
+        &[SampleFormat::Int]
+    }
+
+    ghost interpreted = { refl };
+
+    ghost lawful = { samples_alike interpretation.BlackIsZero 1 8 format.Int (lit< tt) (lit< tt) };
+}
+
+impl NamedColorType for GrayI64 {
+    ghost name = { name.GrayI64 };
+
+    ghost named = { unfold color_type in refl };
+
+    ghost in_memory = { unfold inner_type in refl };
+}
+
+/// Gray, of floating numbers of 32 bits.
+pub struct Gray32Float;
+
+impl ColorType for Gray32Float {
+    type Inner = Bits32;
+
+    ghost described = { samples_of interpretation.BlackIsZero 1 32 format.IEEEFP };
+
+    ghost TIFF_VALUE = { interpretation.BlackIsZero };
+
+    const TIFF_VALUE: PhotometricInterpretation = PhotometricInterpretation::BlackIsZero;
+
+    fn bits_per_sample() -> &'static [u16] {
+        &[32]
+    }
+
+    fn sample_format() -> &'static [SampleFormat] {
+        &[SampleFormat::IEEEFP]
+    }
+
+    ghost interpreted = { refl };
+
+    ghost lawful = { samples_alike interpretation.BlackIsZero 1 4 format.IEEEFP (lit< tt) (lit< tt) };
+}
+
+impl NamedColorType for Gray32Float {
+    ghost name = { name.Gray32Float };
+
+    ghost named = { unfold color_type in refl };
+
+    ghost in_memory = { unfold inner_type in refl };
+}
+
+/// Gray, of floating numbers of 64 bits.
+pub struct Gray64Float;
+
+impl ColorType for Gray64Float {
+    type Inner = Bits64;
+
+    ghost described = { samples_of interpretation.BlackIsZero 1 64 format.IEEEFP };
+
+    ghost TIFF_VALUE = { interpretation.BlackIsZero };
+
+    const TIFF_VALUE: PhotometricInterpretation = PhotometricInterpretation::BlackIsZero;
+
+    fn bits_per_sample() -> &'static [u16] {
+        &[64]
+    }
+
+    fn sample_format() -> &'static [SampleFormat] {
+        &[SampleFormat::IEEEFP]
+    }
+
+    ghost interpreted = { refl };
+
+    ghost lawful = { samples_alike interpretation.BlackIsZero 1 8 format.IEEEFP (lit< tt) (lit< tt) };
+}
+
+impl NamedColorType for Gray64Float {
+    ghost name = { name.Gray64Float };
+
+    ghost named = { unfold color_type in refl };
+
+    ghost in_memory = { unfold inner_type in refl };
+}
