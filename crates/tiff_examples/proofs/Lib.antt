@@ -1,8 +1,8 @@
 pub mod Maps
-pub mod Base
-pub mod Ifd
-pub mod Page
-pub mod Decode
-pub mod Encode
-pub mod Value
+pub mod OfBase
+pub mod OfIfd
+pub mod OfPage
+pub mod OfDecode
+pub mod OfEncode
+pub mod OfValue
 pub mod OnePixel

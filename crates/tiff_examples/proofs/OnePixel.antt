@@ -43,10 +43,10 @@ use Rattle.tiff_examples.specs.Files.{gray_file}
 use Rattle.tiff_examples.specs.Encode.Chunks.{all_fields, new_pixel, pixel_in_file, resolutions}
 use Rattle.tiff_examples.specs.OneValue.{short_field, long_field, one_to_one}
 use Rattle.tiff_examples.specs.Encode.ImageJobs as tasks
-use Rattle.tiff_examples.proofs.Encode.Calls.{finish_told, finish_told_by}
-use Rattle.tiff_examples.proofs.Encode.Chunks as images
+use Rattle.tiff_examples.proofs.OfEncode.Calls.{finish_told, finish_told_by}
+use Rattle.tiff_examples.proofs.OfEncode.Chunks as images
 use Rattle.tiff_examples.proofs.Maps.{puts, entries_puts, len_puts}
-use Rattle.tiff_examples.proofs.Encode.FileBytes.{directory_by}
+use Rattle.tiff_examples.proofs.OfEncode.FileBytes.{directory_by}
 
 -- one number that is handed in
 abbrev pub handed_short : ℕ → HandedField

@@ -1,5 +1,5 @@
--- Each example is proved in proofs/Base/Answers.antt.
-use Rattle.tiff_examples.proofs.Base.Answers as p
+-- Each example is proved in proofs/OfBase/Answers.antt.
+use Rattle.tiff_examples.proofs.OfBase.Answers as p
 use Rattle.tiff_examples.proofs.base.answers.color_types.Goals as goal
 
 pub returns : goal.returns

@@ -1,5 +1,5 @@
--- Each example is proved in proofs/Base/Directory.antt.
-use Rattle.tiff_examples.proofs.Base.Directory as p
+-- Each example is proved in proofs/OfBase/Directory.antt.
+use Rattle.tiff_examples.proofs.OfBase.Directory as p
 use Rattle.tiff_examples.proofs.base.directory.directories.Goals as goal
 
 pub returns : goal.returns

@@ -1,5 +1,5 @@
--- Each example is proved in proofs/Base/FieldBytes.antt.
-use Rattle.tiff_examples.proofs.Base.FieldBytes as p
+-- Each example is proved in proofs/OfBase/FieldBytes.antt.
+use Rattle.tiff_examples.proofs.OfBase.FieldBytes as p
 use Rattle.tiff_examples.proofs.base.field_bytes.fields.Goals as goal
 
 pub returns : goal.returns

@@ -1,5 +1,5 @@
--- Each example is proved in proofs/Base/Header.antt.
-use Rattle.tiff_examples.proofs.Base.Header as p
+-- Each example is proved in proofs/OfBase/Header.antt.
+use Rattle.tiff_examples.proofs.OfBase.Header as p
 use Rattle.tiff_examples.proofs.base.header.headers.Goals as goal
 
 pub returns : goal.returns

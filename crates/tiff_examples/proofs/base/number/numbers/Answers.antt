@@ -1,5 +1,5 @@
--- Each example is proved in proofs/Base/Number.antt.
-use Rattle.tiff_examples.proofs.Base.Number as p
+-- Each example is proved in proofs/OfBase/Number.antt.
+use Rattle.tiff_examples.proofs.OfBase.Number as p
 use Rattle.tiff_examples.proofs.base.number.numbers.Goals as goal
 
 pub returns : goal.returns

@@ -1,5 +1,5 @@
--- Each example is proved in proofs/Base/Runs.antt.
-use Rattle.tiff_examples.proofs.Base.Runs as p
+-- Each example is proved in proofs/OfBase/Runs.antt.
+use Rattle.tiff_examples.proofs.OfBase.Runs as p
 use Rattle.tiff_examples.proofs.base.runs.runs.Goals as goal
 
 pub returns : goal.returns

@@ -1,5 +1,5 @@
--- Each example is proved in proofs/Base/SourceAndSink.antt.
-use Rattle.tiff_examples.proofs.Base.SourceAndSink as p
+-- Each example is proved in proofs/OfBase/SourceAndSink.antt.
+use Rattle.tiff_examples.proofs.OfBase.SourceAndSink as p
 use Rattle.tiff_examples.proofs.base.source_and_sink.look_ups.Goals as goal
 
 pub returns : goal.returns

@@ -1,5 +1,5 @@
--- Each example is proved in proofs/Base/Tags.antt.
-use Rattle.tiff_examples.proofs.Base.Tags as p
+-- Each example is proved in proofs/OfBase/Tags.antt.
+use Rattle.tiff_examples.proofs.OfBase.Tags as p
 use Rattle.tiff_examples.proofs.base.tags.numbers.Goals as goal
 
 pub returns : goal.returns

@@ -1,5 +1,5 @@
--- Each example is proved in proofs/Decode/Machine.antt.
-use Rattle.tiff_examples.proofs.Decode.Machine as p
+-- Each example is proved in proofs/OfDecode/Machine.antt.
+use Rattle.tiff_examples.proofs.OfDecode.Machine as p
 use Rattle.tiff_examples.proofs.decode.machine.numbers.Goals as goal
 
 pub returns : goal.returns

@@ -1,5 +1,5 @@
--- Each example is proved in proofs/Decode/Outcome.antt.
-use Rattle.tiff_examples.proofs.Decode.Outcome as p
+-- Each example is proved in proofs/OfDecode/Outcome.antt.
+use Rattle.tiff_examples.proofs.OfDecode.Outcome as p
 use Rattle.tiff_examples.proofs.decode.outcome.forms.Goals as goal
 
 pub returns : goal.returns

@@ -1,5 +1,5 @@
--- Each example is proved in proofs/Decode/OutcomeQueries.antt.
-use Rattle.tiff_examples.proofs.Decode.OutcomeQueries as p
+-- Each example is proved in proofs/OfDecode/OutcomeQueries.antt.
+use Rattle.tiff_examples.proofs.OfDecode.OutcomeQueries as p
 use Rattle.tiff_examples.proofs.decode.outcome_queries.pixels.Goals as goal
 
 pub returns : goal.returns

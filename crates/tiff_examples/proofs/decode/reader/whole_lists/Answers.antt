@@ -1,5 +1,5 @@
--- Each example is proved in proofs/Decode/Reader.antt.
-use Rattle.tiff_examples.proofs.Decode.Reader as p
+-- Each example is proved in proofs/OfDecode/Reader.antt.
+use Rattle.tiff_examples.proofs.OfDecode.Reader as p
 use Rattle.tiff_examples.proofs.decode.reader.whole_lists.Goals as goal
 
 pub returns : goal.returns

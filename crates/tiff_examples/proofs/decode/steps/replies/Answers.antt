@@ -1,5 +1,5 @@
--- Each example is proved in proofs/Decode/Steps.antt.
-use Rattle.tiff_examples.proofs.Decode.Steps as p
+-- Each example is proved in proofs/OfDecode/Steps.antt.
+use Rattle.tiff_examples.proofs.OfDecode.Steps as p
 use Rattle.tiff_examples.proofs.decode.steps.replies.Goals as goal
 
 pub returns : goal.returns

@@ -1,5 +1,5 @@
--- Each example is proved in proofs/Encode/Calls.antt.
-use Rattle.tiff_examples.proofs.Encode.Calls as p
+-- Each example is proved in proofs/OfEncode/Calls.antt.
+use Rattle.tiff_examples.proofs.OfEncode.Calls as p
 use Rattle.tiff_examples.proofs.encode.calls.values.Goals as goal
 
 pub returns : goal.returns

@@ -1,5 +1,5 @@
--- Each example is proved in proofs/Encode/Causes.antt.
-use Rattle.tiff_examples.proofs.Encode.Causes as p
+-- Each example is proved in proofs/OfEncode/Causes.antt.
+use Rattle.tiff_examples.proofs.OfEncode.Causes as p
 use Rattle.tiff_examples.proofs.encode.causes.tiles.Goals as goal
 
 pub returns : goal.returns

@@ -1,5 +1,5 @@
--- Each example is proved in proofs/Encode/Chunks.antt.
-use Rattle.tiff_examples.proofs.Encode.Chunks as p
+-- Each example is proved in proofs/OfEncode/Chunks.antt.
+use Rattle.tiff_examples.proofs.OfEncode.Chunks as p
 use Rattle.tiff_examples.proofs.encode.chunks.begins.Goals as goal
 
 pub returns : goal.returns

@@ -1,5 +1,5 @@
--- Each example is proved in proofs/Encode/Encoder.antt.
-use Rattle.tiff_examples.proofs.Encode.Encoder as p
+-- Each example is proved in proofs/OfEncode/Encoder.antt.
+use Rattle.tiff_examples.proofs.OfEncode.Encoder as p
 use Rattle.tiff_examples.proofs.encode.encoder.faults.Goals as goal
 
 pub returns : goal.returns

@@ -1,5 +1,5 @@
--- Each example is proved in proofs/Encode/FileBytes.antt.
-use Rattle.tiff_examples.proofs.Encode.FileBytes as p
+-- Each example is proved in proofs/OfEncode/FileBytes.antt.
+use Rattle.tiff_examples.proofs.OfEncode.FileBytes as p
 use Rattle.tiff_examples.proofs.encode.file_bytes.writes.Goals as goal
 
 pub returns : goal.returns

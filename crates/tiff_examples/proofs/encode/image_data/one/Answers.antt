@@ -1,5 +1,5 @@
--- Each example is proved in proofs/Encode/ImageData.antt.
-use Rattle.tiff_examples.proofs.Encode.ImageData as p
+-- Each example is proved in proofs/OfEncode/ImageData.antt.
+use Rattle.tiff_examples.proofs.OfEncode.ImageData as p
 use Rattle.tiff_examples.proofs.encode.image_data.one.Goals as goal
 
 pub returns : goal.returns

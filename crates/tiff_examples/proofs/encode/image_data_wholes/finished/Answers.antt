@@ -1,5 +1,5 @@
--- Each example is proved in proofs/Encode/ImageDataWholes.antt.
-use Rattle.tiff_examples.proofs.Encode.ImageDataWholes as p
+-- Each example is proved in proofs/OfEncode/ImageDataWholes.antt.
+use Rattle.tiff_examples.proofs.OfEncode.ImageDataWholes as p
 use Rattle.tiff_examples.proofs.encode.image_data_wholes.finished.Goals as goal
 
 pub returns : goal.returns

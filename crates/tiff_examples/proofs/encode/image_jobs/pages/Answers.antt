@@ -1,5 +1,5 @@
--- Each example is proved in proofs/Encode/ImageJobs.antt.
-use Rattle.tiff_examples.proofs.Encode.ImageJobs as p
+-- Each example is proved in proofs/OfEncode/ImageJobs.antt.
+use Rattle.tiff_examples.proofs.OfEncode.ImageJobs as p
 use Rattle.tiff_examples.proofs.encode.image_jobs.pages.Goals as goal
 
 pub returns : goal.returns

@@ -1,5 +1,5 @@
--- Each example is proved in proofs/Encode/JobLists.antt.
-use Rattle.tiff_examples.proofs.Encode.JobLists as p
+-- Each example is proved in proofs/OfEncode/JobLists.antt.
+use Rattle.tiff_examples.proofs.OfEncode.JobLists as p
 use Rattle.tiff_examples.proofs.encode.job_lists.called.Goals as goal
 
 pub returns : goal.returns

@@ -1,5 +1,5 @@
--- Each example is proved in proofs/Encode/Jobs.antt.
-use Rattle.tiff_examples.proofs.Encode.Jobs as p
+-- Each example is proved in proofs/OfEncode/Jobs.antt.
+use Rattle.tiff_examples.proofs.OfEncode.Jobs as p
 use Rattle.tiff_examples.proofs.encode.jobs.jobs.Goals as goal
 
 pub returns : goal.returns

@@ -1,5 +1,5 @@
--- Each example is proved in proofs/Encode/Leaves.antt.
-use Rattle.tiff_examples.proofs.Encode.Leaves as p
+-- Each example is proved in proofs/OfEncode/Leaves.antt.
+use Rattle.tiff_examples.proofs.OfEncode.Leaves as p
 use Rattle.tiff_examples.proofs.encode.leaves.parts.Goals as goal
 
 pub returns : goal.returns

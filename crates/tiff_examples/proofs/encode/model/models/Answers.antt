@@ -1,5 +1,5 @@
--- Each example is proved in proofs/Encode/Model.antt.
-use Rattle.tiff_examples.proofs.Encode.Model as p
+-- Each example is proved in proofs/OfEncode/Model.antt.
+use Rattle.tiff_examples.proofs.OfEncode.Model as p
 use Rattle.tiff_examples.proofs.encode.model.models.Goals as goal
 
 pub returns : goal.returns

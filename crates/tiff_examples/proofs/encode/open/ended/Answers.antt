@@ -1,5 +1,5 @@
--- Each example is proved in proofs/Encode/Open.antt.
-use Rattle.tiff_examples.proofs.Encode.Open as p
+-- Each example is proved in proofs/OfEncode/Open.antt.
+use Rattle.tiff_examples.proofs.OfEncode.Open as p
 use Rattle.tiff_examples.proofs.encode.open.ended.Goals as goal
 
 pub returns : goal.returns

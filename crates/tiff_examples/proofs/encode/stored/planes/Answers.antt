@@ -1,5 +1,5 @@
--- Each example is proved in proofs/Encode/Stored.antt.
-use Rattle.tiff_examples.proofs.Encode.Stored as p
+-- Each example is proved in proofs/OfEncode/Stored.antt.
+use Rattle.tiff_examples.proofs.OfEncode.Stored as p
 use Rattle.tiff_examples.proofs.encode.stored.planes.Goals as goal
 
 pub returns : goal.returns

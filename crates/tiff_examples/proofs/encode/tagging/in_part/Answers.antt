@@ -1,5 +1,5 @@
--- Each example is proved in proofs/Encode/Tagging.antt.
-use Rattle.tiff_examples.proofs.Encode.Tagging as p
+-- Each example is proved in proofs/OfEncode/Tagging.antt.
+use Rattle.tiff_examples.proofs.OfEncode.Tagging as p
 use Rattle.tiff_examples.proofs.encode.tagging.in_part.Goals as goal
 
 pub returns : goal.returns

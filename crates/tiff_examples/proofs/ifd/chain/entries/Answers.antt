@@ -1,5 +1,5 @@
--- Each example is proved in proofs/Ifd/Chain.antt.
-use Rattle.tiff_examples.proofs.Ifd.Chain as p
+-- Each example is proved in proofs/OfIfd/Chain.antt.
+use Rattle.tiff_examples.proofs.OfIfd.Chain as p
 use Rattle.tiff_examples.proofs.ifd.chain.entries.Goals as goal
 
 pub returns : goal.returns

@@ -1,5 +1,5 @@
--- Each example is proved in proofs/Ifd/FieldValue.antt.
-use Rattle.tiff_examples.proofs.Ifd.FieldValue as p
+-- Each example is proved in proofs/OfIfd/FieldValue.antt.
+use Rattle.tiff_examples.proofs.OfIfd.FieldValue as p
 use Rattle.tiff_examples.proofs.ifd.field_value.numbers.Goals as goal
 
 pub returns : goal.returns

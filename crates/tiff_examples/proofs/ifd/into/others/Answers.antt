@@ -1,5 +1,5 @@
--- Each example is proved in proofs/Ifd/Into.antt.
-use Rattle.tiff_examples.proofs.Ifd.Into as p
+-- Each example is proved in proofs/OfIfd/Into.antt.
+use Rattle.tiff_examples.proofs.OfIfd.Into as p
 use Rattle.tiff_examples.proofs.ifd.into.others.Goals as goal
 
 pub returns : goal.returns

@@ -1,5 +1,5 @@
--- Each example is proved in proofs/Ifd/Look.antt.
-use Rattle.tiff_examples.proofs.Ifd.Look as p
+-- Each example is proved in proofs/OfIfd/Look.antt.
+use Rattle.tiff_examples.proofs.OfIfd.Look as p
 use Rattle.tiff_examples.proofs.ifd.look.look_ups.Goals as goal
 
 pub returns : goal.returns

@@ -1,5 +1,5 @@
--- Each example is proved in proofs/Ifd/Stream.antt.
-use Rattle.tiff_examples.proofs.Ifd.Stream as p
+-- Each example is proved in proofs/OfIfd/Stream.antt.
+use Rattle.tiff_examples.proofs.OfIfd.Stream as p
 use Rattle.tiff_examples.proofs.ifd.stream.numbers.Goals as goal
 
 pub returns : goal.returns

@@ -1,5 +1,5 @@
--- Each example is proved in proofs/Ifd/TagQueries.antt.
-use Rattle.tiff_examples.proofs.Ifd.TagQueries as p
+-- Each example is proved in proofs/OfIfd/TagQueries.antt.
+use Rattle.tiff_examples.proofs.OfIfd.TagQueries as p
 use Rattle.tiff_examples.proofs.ifd.tag_queries.buffers.Goals as goal
 
 pub returns : goal.returns

@@ -1,5 +1,5 @@
--- Each example is proved in proofs/Ifd/Unpacking.antt.
-use Rattle.tiff_examples.proofs.Ifd.Unpacking as p
+-- Each example is proved in proofs/OfIfd/Unpacking.antt.
+use Rattle.tiff_examples.proofs.OfIfd.Unpacking as p
 use Rattle.tiff_examples.proofs.ifd.unpacking.filled.Goals as goal
 
 pub returns : goal.returns

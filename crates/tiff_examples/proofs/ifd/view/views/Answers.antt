@@ -1,5 +1,5 @@
--- Each example is proved in proofs/Ifd/View.antt.
-use Rattle.tiff_examples.proofs.Ifd.View as p
+-- Each example is proved in proofs/OfIfd/View.antt.
+use Rattle.tiff_examples.proofs.OfIfd.View as p
 use Rattle.tiff_examples.proofs.ifd.view.views.Goals as goal
 
 pub returns : goal.returns

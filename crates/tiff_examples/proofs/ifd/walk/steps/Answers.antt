@@ -1,5 +1,5 @@
--- Each example is proved in proofs/Ifd/Walk.antt.
-use Rattle.tiff_examples.proofs.Ifd.Walk as p
+-- Each example is proved in proofs/OfIfd/Walk.antt.
+use Rattle.tiff_examples.proofs.OfIfd.Walk as p
 use Rattle.tiff_examples.proofs.ifd.walk.steps.Goals as goal
 
 pub returns : goal.returns

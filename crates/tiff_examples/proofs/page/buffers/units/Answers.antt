@@ -1,5 +1,5 @@
--- Each example is proved in proofs/Page/Buffers.antt.
-use Rattle.tiff_examples.proofs.Page.Buffers as p
+-- Each example is proved in proofs/OfPage/Buffers.antt.
+use Rattle.tiff_examples.proofs.OfPage.Buffers as p
 use Rattle.tiff_examples.proofs.page.buffers.units.Goals as goal
 
 pub returns : goal.returns

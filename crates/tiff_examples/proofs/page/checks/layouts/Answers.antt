@@ -1,5 +1,5 @@
--- Each example is proved in proofs/Page/Checks.antt.
-use Rattle.tiff_examples.proofs.Page.Checks as p
+-- Each example is proved in proofs/OfPage/Checks.antt.
+use Rattle.tiff_examples.proofs.OfPage.Checks as p
 use Rattle.tiff_examples.proofs.page.checks.layouts.Goals as goal
 
 pub returns : goal.returns

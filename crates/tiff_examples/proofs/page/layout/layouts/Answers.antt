@@ -1,5 +1,5 @@
--- Each example is proved in proofs/Page/Layout.antt.
-use Rattle.tiff_examples.proofs.Page.Layout as p
+-- Each example is proved in proofs/OfPage/Layout.antt.
+use Rattle.tiff_examples.proofs.OfPage.Layout as p
 use Rattle.tiff_examples.proofs.page.layout.layouts.Goals as goal
 
 pub returns : goal.returns

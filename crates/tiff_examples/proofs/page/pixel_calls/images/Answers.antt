@@ -1,5 +1,5 @@
--- Each example is proved in proofs/Page/PixelCalls.antt.
-use Rattle.tiff_examples.proofs.Page.PixelCalls as p
+-- Each example is proved in proofs/OfPage/PixelCalls.antt.
+use Rattle.tiff_examples.proofs.OfPage.PixelCalls as p
 use Rattle.tiff_examples.proofs.page.pixel_calls.images.Goals as goal
 
 pub returns : goal.returns

@@ -1,5 +1,5 @@
--- Each example is proved in proofs/Page/Pixels.antt.
-use Rattle.tiff_examples.proofs.Page.Pixels as p
+-- Each example is proved in proofs/OfPage/Pixels.antt.
+use Rattle.tiff_examples.proofs.OfPage.Pixels as p
 use Rattle.tiff_examples.proofs.page.pixels.samples.Goals as goal
 
 pub returns : goal.returns

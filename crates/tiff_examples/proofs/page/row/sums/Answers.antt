@@ -1,5 +1,5 @@
--- Each example is proved in proofs/Page/Row.antt.
-use Rattle.tiff_examples.proofs.Page.Row as p
+-- Each example is proved in proofs/OfPage/Row.antt.
+use Rattle.tiff_examples.proofs.OfPage.Row as p
 use Rattle.tiff_examples.proofs.page.row.sums.Goals as goal
 
 pub returns : goal.returns

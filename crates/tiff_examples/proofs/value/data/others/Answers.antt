@@ -1,5 +1,5 @@
--- Each example is proved in proofs/Value/Data.antt.
-use Rattle.tiff_examples.proofs.Value.Data as p
+-- Each example is proved in proofs/OfValue/Data.antt.
+use Rattle.tiff_examples.proofs.OfValue.Data as p
 use Rattle.tiff_examples.proofs.value.data.others.Goals as goal
 
 pub returns : goal.returns

@@ -1,5 +1,5 @@
--- Each example is proved in proofs/Value/Packed.antt.
-use Rattle.tiff_examples.proofs.Value.Packed as p
+-- Each example is proved in proofs/OfValue/Packed.antt.
+use Rattle.tiff_examples.proofs.OfValue.Packed as p
 use Rattle.tiff_examples.proofs.value.packed.colors.Goals as goal
 
 pub returns : goal.returns

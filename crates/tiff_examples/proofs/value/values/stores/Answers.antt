@@ -1,5 +1,5 @@
--- Each example is proved in proofs/Value/Values.antt.
-use Rattle.tiff_examples.proofs.Value.Values as p
+-- Each example is proved in proofs/OfValue/Values.antt.
+use Rattle.tiff_examples.proofs.OfValue.Values as p
 use Rattle.tiff_examples.proofs.value.values.stores.Goals as goal
 
 pub returns : goal.returns

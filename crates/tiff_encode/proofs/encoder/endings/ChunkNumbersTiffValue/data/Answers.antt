@@ -6,4 +6,4 @@ use Rattle.tiff_encode.proofs.encoder.endings.ChunkNumbersTiffValue.data.Goals a
 pub returns : goal.returns
 returns g c =
     ap Ok (offsets_bytes g.K.TiffKind.kind c.file_kind-kind.result (map (number_of_part c.args.self.now.part) c.args.self.now.chunks.now)
-    c.in_ok-out.out.items c.push_places.new.out.items c.file_kind-kind.ensures c.in_ok-out.ensures.items c.in_ok-push_places.ensures)
+    c.in_ok-out.out.items c.push_offsets.new.out.items c.file_kind-kind.ensures c.in_ok-out.ensures.items c.in_ok-push_offsets.ensures)

@@ -16,10 +16,10 @@ use Rattle.tiff_examples.specs.Encode.Calls.{with_fields}
 use Rattle.tiff_examples.specs.Encode.Causes.{new_file}
 use Rattle.tiff_examples.specs.Encode.Tagging as s
 use Rattle.tiff_examples.specs.Encode.Tagging.{three_fields, none_set, unit_set, x_set, all_set}
-use Rattle.tiff_examples.proofs.Encode.Causes.{resolutions_far}
-use Rattle.tiff_examples.proofs.Encode.Jobs.{some_none}
+use Rattle.tiff_examples.proofs.OfEncode.Causes.{resolutions_far}
+use Rattle.tiff_examples.proofs.OfEncode.Jobs.{some_none}
 use Rattle.tiff_examples.proofs.Maps.{entries_puts, len_puts}
-use Rattle.tiff_examples.proofs.Encode.Model.{unequal}
+use Rattle.tiff_examples.proofs.OfEncode.Model.{unequal}
 
 -- how many fields a directory has, and the tag of the first
 abbrev count_of : OpenDirectory → ℕ

@@ -13,8 +13,8 @@ use Rattle.tiff_encode.specs.Causes.{begin_cause, end_of, finish_cause, offset_c
 use Rattle.tiff_encode.specs.Calls.{Offsets, chain_after, extend_from, extra_directory, finish, image_directory, links_to, new_offset, offsets_of, new_directory, set_parent, write_data, write_data_buf, write_entry, write_entry_buf, write_entry_bytes, write_tag, write_tag_buf}
 use Rattle.tiff_examples.specs.OneValue.{long_field}
 use Rattle.tiff_examples.proofs.Maps.{entries_puts, len_puts}
-use Rattle.tiff_examples.proofs.Encode.FileBytes.{bytes_by}
-use Rattle.tiff_examples.proofs.Encode.Causes.{finish_cause_by}
+use Rattle.tiff_examples.proofs.OfEncode.FileBytes.{bytes_by}
+use Rattle.tiff_examples.proofs.OfEncode.Causes.{finish_cause_by}
 use Rattle.tiff_examples.specs.Encode.Calls as s
 use Rattle.tiff_examples.specs.Encode.Causes.{new_file, file_with}
 

@@ -30,10 +30,10 @@ use Rattle.tiff_examples.specs.Encode.Chunks.{new_pixel, pixel_in_file, page_fil
 use Rattle.tiff_examples.specs.Encode.ImageJobs.{after_begin, after_strip, after_end, after_data, page_offset}
 use Rattle.tiff_examples.specs.Encode.ImageDataWholes as s
 use Rattle.tiff_examples.specs.Encode.ImageDataWholes.{changed_file}
-use Rattle.tiff_examples.proofs.Encode.Chunks as images
-use Rattle.tiff_examples.proofs.Encode.Jobs.{some_none}
-use Rattle.tiff_examples.proofs.Encode.Model as models
-use Rattle.tiff_examples.proofs.Encode.Model.{err_ok, unequal}
+use Rattle.tiff_examples.proofs.OfEncode.Chunks as images
+use Rattle.tiff_examples.proofs.OfEncode.Jobs.{some_none}
+use Rattle.tiff_examples.proofs.OfEncode.Model as models
+use Rattle.tiff_examples.proofs.OfEncode.Model.{err_ok, unequal}
 use Rattle.tiff_examples.proofs.OnePixel.{begin_held, begun_stands, finishes, gray_shown, sample_alike}
 
 -- ---- samples of an image that was begun

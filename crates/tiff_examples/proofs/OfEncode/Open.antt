@@ -17,8 +17,8 @@ use Rattle.tiff_examples.specs.Encode.Causes.{new_file, gray}
 use Rattle.tiff_examples.specs.Encode.Chunks.{new_pixel}
 use Rattle.tiff_examples.specs.Encode.ImageJobs as tasks
 use Rattle.tiff_examples.specs.Encode.Open as s
-use Rattle.tiff_examples.proofs.Encode.Chunks as images
-use Rattle.tiff_examples.proofs.Encode.Model.{err_ok, unequal}
+use Rattle.tiff_examples.proofs.OfEncode.Chunks as images
+use Rattle.tiff_examples.proofs.OfEncode.Model.{err_ok, unequal}
 use Rattle.tiff_examples.proofs.OnePixel.{end_held}
 
 pub second_pixel : s.second_pixel

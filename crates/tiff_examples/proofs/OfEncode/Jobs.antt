@@ -29,14 +29,14 @@ use Rattle.tiff_encode.proofs.Header as its_header
 use Rattle.tiff_encode.proofs.Slices.{ok_inj}
 use Rattle.tiff_examples.specs.OneValue.{long_field}
 use Rattle.tiff_examples.proofs.Maps.{entries_puts, len_puts}
-use Rattle.tiff_examples.proofs.Encode.Calls.{finish_told, finish_told_by}
+use Rattle.tiff_examples.proofs.OfEncode.Calls.{finish_told, finish_told_by}
 use Rattle.tiff_encode.specs.declared.encoder.script.DirectoryStep.{DirectoryStep}
 use Rattle.tiff_encode.specs.declared.encoder.script.DirectoryEnd.{DirectoryEnd}
 use Rattle.tiff_encode.specs.declared.encoder.script.DirectoryEnd.TheVariants as end
 use Rattle.tiff_encode.specs.declared.encoder.script.EndReply.{EndReply}
 use Rattle.tiff_encode.specs.declared.encoder.script.EndReply.TheVariants as last
 use Rattle.tiff_encode.specs.Model.{header_model, relinked, with_directory, with_region}
-use Rattle.tiff_examples.proofs.Encode.Model.{unequal, err_ok, stood_of}
+use Rattle.tiff_examples.proofs.OfEncode.Model.{unequal, err_ok, stood_of}
 use Rattle.tiff_examples.specs.Encode.Jobs as s
 use Rattle.tiff_examples.specs.Encode.Jobs.{first}
 use Rattle.tiff_examples.specs.Encode.Causes.{new_file, pixel}

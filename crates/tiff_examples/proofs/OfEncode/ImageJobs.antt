@@ -36,15 +36,15 @@ use Rattle.tiff_encode.specs.Shows.{Shows}
 use Rattle.tiff_encode.specs.JobValues.{cut_to}
 use Rattle.tiff_encode.specs.Jobs as jobs
 use Rattle.tiff_encode.specs.Jobs.{Standing, Run, FinishedImage, IsDone}
-use Rattle.tiff_examples.proofs.Encode.Chunks as images
-use Rattle.tiff_examples.proofs.Encode.Jobs.{ok_err, size_memory, sink_size, some_none}
-use Rattle.tiff_examples.proofs.Encode.Model.{unequal}
+use Rattle.tiff_examples.proofs.OfEncode.Chunks as images
+use Rattle.tiff_examples.proofs.OfEncode.Jobs.{ok_err, size_memory, sink_size, some_none}
+use Rattle.tiff_examples.proofs.OfEncode.Model.{unequal}
 use Rattle.tiff_examples.proofs.OnePixel.{pixel_image, gray_shown}
 use Rattle.tiff_examples.specs.Encode.Causes.{new_file, gray, pixel}
 use Rattle.tiff_examples.specs.Encode.Chunks.{new_pixel, pixel_in_file, resolutions, all_fields}
 use Rattle.tiff_examples.specs.Encode.Calls.{header, with_fields}
 use Rattle.tiff_examples.proofs.Maps.{puts, entries_puts, len_puts}
-use Rattle.tiff_examples.proofs.Encode.Calls.{finish_told}
+use Rattle.tiff_examples.proofs.OfEncode.Calls.{finish_told}
 use Rattle.tiff_examples.specs.Encode.Jobs.{first, run_begun}
 use Rattle.tiff_examples.specs.Encode.ImageJobs as s
 use Rattle.tiff_examples.specs.Encode.ImageJobs.{after_begin, after_strip, after_end, page_offset, page_run, drawn_new, drawn_strip}

@@ -11,8 +11,8 @@ use Rattle.tiff_base.specs.declared.tags.FileKind.TheVariants.{Classic}
 use Rattle.tiff_base.specs.SourceAndSink.{sink_error}
 use Rattle.tiff_encode.specs.Machine.{FileState}
 use Rattle.tiff_encode.proofs.Header as its_header
-use Rattle.tiff_examples.proofs.Encode.Jobs.{true_false}
-use Rattle.tiff_examples.proofs.Encode.Model as models
+use Rattle.tiff_examples.proofs.OfEncode.Jobs.{true_false}
+use Rattle.tiff_examples.proofs.OfEncode.Model as models
 use Rattle.tiff_examples.specs.Encode.FileBytes.{at_end}
 use Rattle.tiff_examples.specs.Encode.Calls.{header}
 use Rattle.tiff_examples.specs.Encode.Encoder as s

@@ -23,7 +23,7 @@ use Rattle.tiff_decode.specs.DefaultLimits.{default_limits}
 use Rattle.tiff_examples.specs.Files.{gray_file, gray_entries}
 use Rattle.tiff_examples.specs.Decoders.{at, gray_state, gray_fields, gray_decoder, two_decoder, two_file, three_decoder, three_file}
 use Rattle.tiff_examples.specs.Decode.Machine as s
-use Rattle.tiff_examples.proofs.Decode.Outcome.{looked_by}
+use Rattle.tiff_examples.proofs.OfDecode.Outcome.{looked_by}
 
 pub gray_begins : s.gray_begins
 unfolding decoder_of first_directory header_at chain directory_at number entries_from entry_of type_of last_of_each look_in field_value page_of size_in require look.find interpretation_in

@@ -18,9 +18,9 @@ use Rattle.tiff_ifd.proofs.Chain.{equal_numbers}
 use Rattle.tiff_ifd.proofs.Links.{either}
 use Rattle.tiff_examples.specs.Ifd.Chain.{accepted}
 use Rattle.tiff_examples.specs.Decoders.{three_file}
-use Rattle.tiff_examples.proofs.Ifd.Chain.{looked, stuck}
-use Rattle.tiff_examples.proofs.Encode.Jobs.{true_false}
-use Rattle.tiff_examples.proofs.Encode.Model.{err_ok}
+use Rattle.tiff_examples.proofs.OfIfd.Chain.{looked, stuck}
+use Rattle.tiff_examples.proofs.OfEncode.Jobs.{true_false}
+use Rattle.tiff_examples.proofs.OfEncode.Model.{err_ok}
 use Rattle.tiff_examples.specs.Ifd.Walk as s
 
 abbrev offset_of : Option ℕ → ℕ

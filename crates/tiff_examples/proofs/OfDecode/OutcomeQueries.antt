@@ -34,7 +34,7 @@ use Rattle.tiff_decode.specs.DefaultLimits.{default_limits}
 use Rattle.tiff_examples.specs.Files.{gray_file, one_short}
 use Rattle.tiff_examples.specs.Decoders as dec
 use Rattle.tiff_examples.specs.Decode.OutcomeQueries as s
-use Rattle.tiff_examples.proofs.Decode.Outcome.{looked_by}
+use Rattle.tiff_examples.proofs.OfDecode.Outcome.{looked_by}
 
 pub value_found : s.value_found
 unfolding outcome.find_tag look_in look.find require find_unsigned find_unsigned_vec get_unsigned field_value field_bytes number is_utf8 chars encode

@@ -29,8 +29,8 @@ use Rattle.tiff_examples.specs.Encode.Causes.{new_file, pixel}
 use Rattle.tiff_examples.specs.Encode.Chunks.{two_strips}
 use Rattle.tiff_examples.specs.Encode.ImageData as s
 use Rattle.tiff_examples.specs.Encode.ImageData.{two_parts, more_parts, first_file, both_file, more_file, first_counted, both_counted}
-use Rattle.tiff_examples.proofs.Encode.Jobs.{ok_err, some_none}
-use Rattle.tiff_examples.proofs.Encode.Model.{err_ok, unequal}
+use Rattle.tiff_examples.proofs.OfEncode.Jobs.{ok_err, some_none}
+use Rattle.tiff_examples.proofs.OfEncode.Model.{err_ok, unequal}
 
 -- bytes that are refused are no fault of the sink, and no want of memory
 data_memory : let a : TiffError = IoError InvalidData in a ≡ OutOfMemory → ⊥

@@ -4,7 +4,7 @@ use Rattle.std.proofs.Common.{◌≡◌, ℕ, ◌≤◌, List, [], ◌∷◌, �
 use Rattle.std.specs.Prelude.{length, get_or}
 use Rattle.tiff_base.specs.Number.{number}
 use Rattle.tiff_encode.proofs.Slices.{ok_inj}
-use Rattle.tiff_examples.proofs.Encode.Model.{unequal}
+use Rattle.tiff_examples.proofs.OfEncode.Model.{unequal}
 use Rattle.tiff_base.specs.declared.io.SinkFault.TheVariants as fault
 use Rattle.tiff_base.specs.declared.tags.FileKind.TheVariants.{Classic}
 use Rattle.tiff_encode.specs.Model.{Model, Stands, header_model, relinked}

@@ -18,7 +18,7 @@ use Rattle.tiff_encode.specs.Chunks.{next_chunk_sample_count, parts_left}
 use Rattle.tiff_encode.specs.Stored.{unpacked_chunk}
 use Rattle.tiff_examples.specs.OneValue.{short_field, long_field, rational_field}
 use Rattle.tiff_examples.proofs.Maps.{puts, entries_puts, len_puts}
-use Rattle.tiff_examples.proofs.Encode.Calls.{finish_told}
+use Rattle.tiff_examples.proofs.OfEncode.Calls.{finish_told}
 use Rattle.tiff_examples.specs.Encode.Chunks as s
 use Rattle.tiff_examples.specs.Files.{gray_file}
 use Rattle.tiff_examples.specs.Encode.Calls.{header, with_fields}

@@ -51,13 +51,13 @@ use Rattle.tiff_examples.specs.Encode.JobLists.{three_file}
 use Rattle.tiff_examples.specs.Encode.Chunks.{new_pixel, resolutions}
 use Rattle.tiff_examples.specs.Encode.Jobs.{first, run_begun}
 use Rattle.tiff_examples.specs.Encode.ImageJobs as tasks
-use Rattle.tiff_examples.proofs.Encode.Calls.{finish_told, finish_told_by}
-use Rattle.tiff_examples.proofs.Encode.Jobs.{device_other, ok_err, size_memory, sink_size, some_inj}
+use Rattle.tiff_examples.proofs.OfEncode.Calls.{finish_told, finish_told_by}
+use Rattle.tiff_examples.proofs.OfEncode.Jobs.{device_other, ok_err, size_memory, sink_size, some_inj}
 use Rattle.tiff_examples.proofs.Maps.{entries_puts, len_puts}
-use Rattle.tiff_examples.proofs.Encode.Model.{unequal}
+use Rattle.tiff_examples.proofs.OfEncode.Model.{unequal}
 use Rattle.tiff_examples.proofs.OnePixel.{handed_short, handed_long, image_deeds, image_file, finishes, listable, image_model, image_stands, pixel_shown, shown_alike}
-use Rattle.tiff_examples.proofs.Encode.ImageJobs.{begins_by, data_is_done, data_ran}
-use Rattle.tiff_examples.proofs.Encode.FileBytes.{directory_by}
+use Rattle.tiff_examples.proofs.OfEncode.ImageJobs.{begins_by, data_is_done, data_ran}
+use Rattle.tiff_examples.proofs.OfEncode.FileBytes.{directory_by}
 
 -- ---- what the image does
 
