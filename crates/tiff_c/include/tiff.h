@@ -102,8 +102,9 @@ struct tiff_sides {
     uint32_t height;
 };
 
-/* How many pages a file has. A page that can't be read, or a chain of directories that is cut or leads back: its fault. */
-tiff_status tiff_page_count(const uint8_t *file, size_t len, uint32_t *pages);
+/* How many pages a file has, along its chain of directories. A page that tiff_page_sides refuses: the fault of the first one. Where
+   none is refused, a chain that is cut or leads back behind them: the fault by which it ends. Whether pixels can be read isn't asked. */
+tiff_status tiff_page_count(const uint8_t *file, size_t len, size_t *pages);
 
 /* The sides of a page. */
 tiff_status tiff_page_sides(const uint8_t *file, size_t len, size_t page, struct tiff_sides *sides);

@@ -1,4 +1,5 @@
 pub mod Slices
+pub mod Counting
 pub mod StatusTells
 pub mod Octets
 pub mod PieceNumbers

@@ -1,41 +1,52 @@
 -- A decoder whose reads never fail: its answers are those that the file gives, but for want of memory.
-use Rattle.std.proofs.Common.{◌≡◌, ℕ, ◌<◌, List, Option, None, Result, Ok, Err, sym, subst, arith, OnOk}
+use Rattle.std.proofs.Common.{◌≡◌, ℕ, ◌<◌, List, Option, None, true, Result, Ok, Err, sym, subst, arith, OnOk}
 use Rattle.tiff_base.specs.declared.error.TiffError.{TiffError}
 use Rattle.tiff_base.specs.declared.error.TiffError.TheVariants.{FormatError, UnsupportedError, IoError, UsageError, LimitsExceeded, IntSizeError, OutOfMemory}
 use Rattle.tiff_base.specs.declared.io.IoKind.TheVariants.{UnexpectedEof, InvalidData, InvalidInput, WriteZero, Device}
 use Rattle.tiff_base.specs.Answers.{Answers, AnswersWithoutMemory, AnswersWithoutSource}
 use Rattle.tiff_base.specs.declared.tags.Tag.{Tag}
 use Rattle.tiff_base.specs.Field.{DirectoryRecord}
-use Rattle.tiff_decode.specs.Outcome.{find_tag_bytes}
+use Rattle.tiff_decode.specs.Outcome.{find_tag_bytes, next_image}
 use Rattle.tiff_decode.specs.Reader.{TagsRead, reader_of}
-use Rattle.tiff_decode.specs.Machine.{Decoding, Follows, Outcome, Refused}
+use Rattle.tiff_decode.specs.Machine.{Decoding, Follows, FollowsBut, Outcome, Refused}
 
 not_more : (m n : ℕ) → m ≡ 0 → n ≡ 0 → m < n → ⊥
 not_more m n a b h = omega (arith, a, b, h)
 
-refused : {X Y : Type 0} → (view : X → Y) → (o : Outcome Y) → (e : TiffError) → (old new : Decoding) → Refused (Unit {0}) e o old new
+refused : {X Y : Type 0} → (wanting : Type 0) (view : X → Y) → (o : Outcome Y) → (e : TiffError) → (old new : Decoding) → Refused wanting e o old new
     → old.failures ≡ 0 → new.failures ≡ 0 → AnswersWithoutSource view (Err e) o.answer
-refused view o OutOfMemory old new r a b = tt
-refused view o (IoError Device) old new r a b = not_more old.failures new.failures a b r.grew
-refused view o (IoError UnexpectedEof) old new r a b = r.answer
-refused view o (IoError InvalidData) old new r a b = r.answer
-refused view o (IoError InvalidInput) old new r a b = r.answer
-refused view o (IoError WriteZero) old new r a b = r.answer
-refused view o (FormatError x) old new r a b = r.answer
-refused view o (UnsupportedError x) old new r a b = r.answer
-refused view o (UsageError x) old new r a b = r.answer
-refused view o LimitsExceeded old new r a b = r.answer
-refused view o IntSizeError old new r a b = r.answer
+refused wanting view o OutOfMemory old new r a b = tt
+refused wanting view o (IoError Device) old new r a b = not_more old.failures new.failures a b r.grew
+refused wanting view o (IoError UnexpectedEof) old new r a b = r.answer
+refused wanting view o (IoError InvalidData) old new r a b = r.answer
+refused wanting view o (IoError InvalidInput) old new r a b = r.answer
+refused wanting view o (IoError WriteZero) old new r a b = r.answer
+refused wanting view o (FormatError x) old new r a b = r.answer
+refused wanting view o (UnsupportedError x) old new r a b = r.answer
+refused wanting view o (UsageError x) old new r a b = r.answer
+refused wanting view o LimitsExceeded old new r a b = r.answer
+refused wanting view o IntSizeError old new r a b = r.answer
 
 pub here : {X Y : Type 0} → (view : X → Y) → (o : Outcome Y) → (result : Result X TiffError) → (old new : Decoding) → Follows view o result old new
     → old.failures ≡ 0 → new.failures ≡ 0 → AnswersWithoutSource view result o.answer
 here view o (Ok x) old new f a b = f.answer
-here view o (Err e) old new f a b = refused view o e old new f a b
+here view o (Err e) old new f a b = refused (Unit {0}) view o e old new f a b
 
 pub gone : {X Y : Type 0} → (view : X → Y) → (o : Outcome Y) → (result : Result X TiffError) → (old new : Decoding) → Follows view o result old new
     → old.failures ≡ 0 → new.failures ≡ 0 → OnOk result (new ≡ record old { state = o.next })
 gone view o (Ok x) old new f a b = f.at
 gone view o (Err e) old new f a b = tt
+
+-- the same of a call that takes memory only where a page is next
+pub next_here : (result : Result (Unit {0}) TiffError) → (old new : Decoding) → FollowsBut (old.state.more ≡ true) (λ x. x) (next_image old) result old new
+    → old.failures ≡ 0 → new.failures ≡ 0 → AnswersWithoutSource (λ x. x) result (next_image old).answer
+next_here (Ok x) old new f a b = f.answer
+next_here (Err e) old new f a b = refused (old.state.more ≡ true) (λ x. x) (next_image old) e old new f a b
+
+pub next_gone : (result : Result (Unit {0}) TiffError) → (old new : Decoding) → FollowsBut (old.state.more ≡ true) (λ x. x) (next_image old) result old new
+    → old.failures ≡ 0 → new.failures ≡ 0 → OnOk result (new ≡ record old { state = (next_image old).next })
+next_gone (Ok x) old new f a b = f.at
+next_gone (Err e) old new f a b = tt
 
 tag_refused : {X Y : Type 0} → (view : X → Y) → (given : Result Y TiffError) → (e : TiffError) → (m n : ℕ) → Answers view (Err e) given m n
     → m ≡ 0 → n ≡ 0 → AnswersWithoutSource view (Err e) given

@@ -19,7 +19,7 @@ use Rattle.tiff_encode.specs.Model.{Model, IsLink, Stands, header_link, header_m
 use Rattle.tiff_encode.specs.Machine.{FileState, begun_file}
 use Rattle.tiff_encode.specs.Calls.{with_compression, with_predictor}
 use Rattle.tiff_encode.specs.Shows.{ShowsFirst}
-use Rattle.tiff_encode.specs.ImageData.{WritesImage, LeavesImage, LeavesNewImage, whole_image}
+use Rattle.tiff_encode.specs.ImageData.{WritesImage, LeavesImage, LeavesNewImage, image_of_samples}
 use Rattle.tiff_encode.proofs.Data.Begun.{new_is}
 use Rattle.tiff_encode.proofs.Shown.Gray.{first_shown}
 use Rattle.tiff_encode.proofs.Header.{header_stands}
@@ -68,7 +68,7 @@ module _ (s : Settings) (width height failures : ℕ) (samples : List ℕ) (last
       → ShowsFirst s.kind last.bytes (image_by s width height samples)
   shown l =
       let n = new_is (color_type s.color) (inner_size s.color) width height old l.image l.begun.answer in
-      subst (λ i. ShowsFirst s.kind last.bytes (whole_image i samples)) (sym n.1.0)
+      subst (λ i. ShowsFirst s.kind last.bytes (image_of_samples i samples)) (sym n.1.0)
       (first_shown (color_type s.color) (inner_size s.color) width height samples old last (header_model s.kind) (chain_of s.kind) (some_header s.kind) l s.color refl refl)
 
   -- what it answers, and leaves on a header

@@ -1,5 +1,5 @@
 -- What the pages of a file answer, by the outcomes of a decoder's calls.
-use Rattle.std.specs.Prelude.{ℕ, List, Result, Ok}
+use Rattle.std.specs.Prelude.{ℕ, List, length, Option, None, Some, Result, Ok, Err}
 use Rattle.tiff_base.specs.declared.color.ChunkType.{ChunkType}
 use Rattle.tiff_base.specs.declared.color.ChunkType.TheVariants.{Strip, Tile}
 use Rattle.tiff_base.specs.declared.color.ColorType.{ColorType}
@@ -16,6 +16,7 @@ use Rattle.tiff_base.specs.declared.tags.ByteOrder.TheVariants.{LittleEndian, Bi
 use Rattle.tiff_base.specs.declared.tags.Tag.{Tag}
 use Rattle.tiff_base.specs.Tags.{tag_of, type_number}
 use Rattle.tiff_ifd.specs.Look.{ok_or_fault}
+use Rattle.tiff_page.specs.PixelFault.{each_below}
 use Rattle.tiff_c.specs.declared.calls.FieldSize.{FieldSize}
 use Rattle.tiff_c.specs.declared.calls.Sides.{Sides}
 use Rattle.tiff_c.specs.declared.calls.Layout.{Layout}
@@ -77,13 +78,13 @@ color_number (Lab b) = 8
 color_number (Multiband b n) = 9
 
 -- the color of a page
-abbrev pub color_of : Decoding → Result Color TiffError
-color_of d = do
+abbrev pub color_of_page : Decoding → Result Color TiffError
+color_of_page d = do
   color ← (outcome.colortype d).answer
   Ok (record { kind = color_number color; bits = bit_depth color; samples = num_samples color })
 
 abbrev pub page_color : List ℕ → ℕ → Result Color TiffError
-page_color file page = decoder_at_page file page >>= color_of
+page_color file page = decoder_at_page file page >>= color_of_page
 
 -- strips are 0, tiles 1
 abbrev pub chunk_number : ChunkType → ℕ
@@ -119,6 +120,20 @@ abbrev pub tag_field : List ℕ → ℕ → ℕ → Result FieldSize TiffError
 tag_field file page number = do
   d ← decoder_at_page file page
   field_size d (tag_of number)
+
+-- the fault by which a chain ends, if it ends by one
+abbrev pub plain_end : Option TiffError → Result (Unit {0}) TiffError
+plain_end None = Ok tt
+plain_end (Some e) = Err e
+
+-- how many pages a file has: one for each offset of its chain; or the first fault: of its pages in their order, and then of
+-- the chain's end
+abbrev pub page_count : List ℕ → Result ℕ TiffError
+page_count file = do
+  d ← outcome.decoder_of file 0
+  _ ← each_below (λ page. (outcome.seek_to_image d page).answer) (length (outcome.chain_of d).offsets)
+  _ ← plain_end (outcome.chain_of d).end
+  Ok (length (outcome.chain_of d).offsets)
 
 -- the number of a tag of a page
 abbrev pub tag_number_at : List ℕ → ℕ → ℕ → Result ℕ TiffError

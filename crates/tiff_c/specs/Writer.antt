@@ -22,15 +22,11 @@ use Rattle.tiff_encode.specs.Machine as machine
 use Rattle.tiff_encode.specs.Machine.{FileState, begun_file}
 use Rattle.tiff_encode.specs.Calls.{image_in, new_directory}
 use Rattle.tiff_encode.specs.Shows.{Image, ShowsFirst}
-use Rattle.tiff_encode.specs.ImageData.{WritesImage, whole_image}
+use Rattle.tiff_encode.specs.ImageData.{WritesImage, image_of_samples}
 use Rattle.tiff_c.specs.declared.writer.NewImage.{NewImage}
 use Rattle.tiff_c.specs.declared.writer.Settings.{Settings}
+use Rattle.tiff_decode.specs.NextState.{view_of_result}
 use Rattle.tiff_c.specs.Status.{fault_number}
-
--- an answer, seen by view
-abbrev pub view_of_result : {X Y : Type 0} → (X → Y) → Result X TiffError → Result Y TiffError
-view_of_result view (Ok x) = Ok (view x)
-view_of_result view (Err e) = Err e
 
 -- ---- what is asked for
 
@@ -78,7 +74,7 @@ IsBegun s file = (failures : ℕ) × (file ≡ file_by s failures)
 -- the image of these samples, row by row and pixel by pixel, in strips
 abbrev pub image_by : Settings → ℕ → ℕ → List ℕ → Image
 image_by s width height samples =
-    whole_image (image_in (file_by s 0) (new_directory None false) (color_type s.color) (inner_size s.color) width height) samples
+    image_of_samples (image_in (file_by s 0) (new_directory None false) (color_type s.color) (inner_size s.color) width height) samples
 
 -- The answer is what an encoder's `write_image` gives over a sink that fails for want of memory alone: the file, whose first
 -- page shows the image; or the fault.

@@ -1,7 +1,7 @@
 //! The calls of a decoder on a page of a file that lies in a slice. No read of it fails, so a fault is the file's, the
 //! caller's, or want of memory.
 
-ghost use Rattle.std.specs.Prelude.{◌≡◌, IfOk, OnOk};
+ghost use Rattle.std.specs.Prelude.{◌≡◌, ◌^◌, ◌<◌, length, IfOk, Ok, OnOk};
 ghost use Rattle.tiff_base.specs.Answers.{AnswersWithoutMemory, AnswersWithoutSource, Gives};
 ghost use Rattle.tiff_base.specs.declared.error.TiffError.TheVariants.{FormatError};
 ghost use Rattle.tiff_base.specs.declared.error.TiffFormatError.TheVariants.{RequiredTagNotFound};
@@ -71,13 +71,9 @@ fn never_failed(decoder: &Decoder<SliceSource<'_>>)
 fn open_first(alloc: Global, file: &[u8]) -> TiffResult<Decoder<SliceSource<'_>>>
     ensures { AnswersWithoutSource (λ d. d) result (outcome.decoder_of file.now 0) }
 {
-    match Decoder::new(alloc, SliceSource::new(file)) {
-        Ok(decoder) => {
-            never_failed(&decoder);
-            Ok(decoder)
-        }
-        Err(fault) => Err(fault),
-    }
+    let decoder = Decoder::new(alloc, SliceSource::new(file))?;
+    never_failed(&decoder);
+    Ok(decoder)
 }
 
 // Goes to a page.
@@ -221,7 +217,7 @@ fn color_number(color: ColorType) -> u32
 // The color of a decoder's page.
 #[tactic(auto, unfolding(tiff_decode::specs::Outcome::colortype))]
 fn color_here(decoder: &mut Decoder<SliceSource<'_>>) -> TiffResult<Color>
-    ensures { AnswersWithoutSource (λ c. c) result (calls.color_of decoder.old) }
+    ensures { AnswersWithoutSource (λ c. c) result (calls.color_of_page decoder.old) }
 {
     let color = decoder.colortype()?;
     Ok(Color {
@@ -286,22 +282,46 @@ pub fn tag_field(alloc: Global, file: &[u8], page: usize, number: u16) -> TiffRe
     )
 }
 
-// How many pages a decoder's file has, from its first page on.
-fn count_pages(decoder: &mut Decoder<SliceSource<'_>>) -> TiffResult<u32> {
+// A file has fewer than 2^64 bytes.
+fn bytes_fit<R: Source>(decoder: &Decoder<R>)
+    ensures { length decoder.now.bytes < 2 ^ 64 }
+{
+    let _source = decoder.inner();
+}
+
+// Goes to the next page.
+#[tactic(auto, using(crate::proofs::Slices::next_here, crate::proofs::Slices::next_gone))]
+fn advance(decoder: &mut Decoder<SliceSource<'_>>) -> TiffResult<()>
+    ensures answer { AnswersWithoutSource (λ x. x) result (outcome.next_image decoder.old).answer }
+    ensures gone { OnOk result (decoder.new ≡ record decoder.old { state = (outcome.next_image decoder.old).next }) }
+{
+    never_failed(decoder);
+    let answer = decoder.next_image();
+    never_failed(decoder);
+    answer
+}
+
+// How many pages the file of a decoder at its first page has.
+fn count_pages(decoder: &mut Decoder<SliceSource<'_>>) -> TiffResult<usize>
+    // It was opened on its file, and no call moved it since.
+    requires { outcome.decoder_of decoder.old.bytes 0 ≡ Ok decoder.old }
+    ensures { AnswersWithoutSource (λ n. n) result (calls.page_count decoder.old.bytes) }
+{
+    bytes_fit(decoder);
     let mut count = 1;
-    for _ in 0..u32::MAX {
-        if !decoder.more_images() {
-            break;
-        }
-        decoder.next_image()?;
-        count = u32::wrapping_add(count, 1);
+    'pages: while decoder.more_images() {
+        advance(decoder)?;
+        count += 1;
     }
     Ok(count)
 }
 
-/// How many pages a file has.
-pub fn page_count(alloc: Global, file: &[u8]) -> TiffResult<u32> {
-    count_pages(&mut open_first(alloc, file)?)
+/// How many pages a file has. It ends since the file's chain does.
+pub fn page_count(alloc: Global, file: &[u8]) -> TiffResult<usize>
+    ensures { AnswersWithoutSource (λ n. n) result (calls.page_count file.now) }
+{
+    let mut decoder = open_first(alloc, file)?;
+    count_pages(&mut decoder)
 }
 
 // The number of a tag of a decoder's page.

@@ -170,7 +170,10 @@ pub extern "C" fn tiff_byte_order(alloc: Global, file: &[u8], order: &mut u32) -
 
 /// How many pages a file has.
 #[unsafe(no_mangle)]
-pub extern "C" fn tiff_page_count(alloc: Global, file: &[u8], pages: &mut u32) -> u32 {
+#[tactic(auto, using(crate::proofs::StatusTells::tells_left))]
+pub extern "C" fn tiff_page_count(alloc: Global, file: &[u8], pages: &mut usize) -> u32
+    ensures { StatusTells (calls.page_count file.now) result pages.new }
+{
     given(page_count(alloc, file), pages)
 }
 

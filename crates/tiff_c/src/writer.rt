@@ -4,8 +4,9 @@ ghost use Rattle.std.specs.Prelude.{◌≡◌, ◌<◌, map, slice_get, MatchRes
 ghost use Rattle.tiff_base.specs.Types.{type_size};
 ghost use Rattle.tiff_value.specs.ColorType.{sample_number};
 ghost use Rattle.tiff_page.specs.Pixels.{numbers_in};
+ghost use Rattle.tiff_decode.specs.NextState.{view_of_result};
 ghost use Rattle.tiff_c.specs.Writer as writer;
-ghost use Rattle.tiff_c.specs.Writer.{Delivers, IsBegun, Puts, WritesImageFile, WritesBytes, WritesNew, view_of_result};
+ghost use Rattle.tiff_c.specs.Writer.{Delivers, IsBegun, Puts, WritesImageFile, WritesBytes, WritesNew};
 
 use crate::samples::{Number, samples_of};
 use crate::status::{Status, fault_number};
@@ -153,13 +154,9 @@ fn begin<K: TiffKind>(
     let Ok(bytes) = Vec::with_capacity(alloc, room) else {
         return Err(TiffError::OutOfMemory);
     };
-    match TiffEncoder::<MemorySink, K>::new_generic(alloc, MemorySink::new(bytes)) {
-        Ok(encoder) => {
-            let predicted = encoder.with_predictor(settings.predictor);
-            return Ok(predicted.with_compression(settings.compression));
-        }
-        Err(fault) => return Err(fault),
-    }
+    let encoder = TiffEncoder::<MemorySink, K>::new_generic(alloc, MemorySink::new(bytes))?;
+    let predicted = encoder.with_predictor(settings.predictor);
+    Ok(predicted.with_compression(settings.compression))
 }
 
 // A file of one image of a color type.
@@ -178,16 +175,11 @@ fn write_samples<K: TiffKind, C: NamedColorType>(
 {
     let size = usize::from(C::Inner::byte_len());
     let room = samples.len().saturating_mul(size).saturating_add(FRAME);
-    let mut encoder = match begin::<K>(alloc, settings, room) {
-        Ok(encoder) => encoder,
-        Err(fault) => return Err(fault),
-    };
+    let mut encoder = begin::<K>(alloc, settings, room)?;
     let answer = encoder.write_image::<C>(width, height, samples);
     let file = encoder.into_inner().into_vec();
-    match answer {
-        Ok(()) => return Ok(file),
-        Err(fault) => return Err(fault),
-    }
+    answer?;
+    Ok(file)
 }
 
 // The same of little-endian samples of so many bytes each.
@@ -291,10 +283,7 @@ fn write_named<K: TiffKind>(
 pub fn write_new(alloc: Global, image: &NewImage, bytes: &[u8]) -> TiffResult<Vec<u8>>
     ensures { WritesNew image.now bytes.now (view_of_result (λ v. v.items) result) }
 {
-    let settings = match settings_of(image) {
-        Ok(settings) => settings,
-        Err(fault) => return Err(fault),
-    };
+    let settings = settings_of(image)?;
     let (width, height) = (image.width, image.height);
     match settings.kind {
         FileKind::Classic => write_named::<TiffKindStandard>(

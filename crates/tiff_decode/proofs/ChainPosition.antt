@@ -15,11 +15,11 @@ use Rattle.tiff_base.specs.Answers.{IsCause, NoneSwallowed}
 use Rattle.tiff_base.specs.Directory.{directory_at}
 use Rattle.tiff_base.specs.Field.{DirectoryRecord}
 use Rattle.tiff_ifd.specs.Chain.{Chain, chain}
-use Rattle.tiff_ifd.specs.Walk.{Walked, Begins, Ends}
+use Rattle.tiff_ifd.specs.Walk.{Walked, ChainBegins, ChainEnds}
 use Rattle.tiff_ifd.proofs.Chain.{apart_chain}
 use Rattle.tiff_ifd.proofs.Begun.{offset_begun}
 use Rattle.tiff_decode.specs.ChainPosition.{IsAt, IsInChain}
-use Rattle.tiff_decode.specs.Machine.{State, Decoding, Outcome, Gives, FollowsBut, Follows, keeps_state}
+use Rattle.tiff_decode.specs.Machine.{State, Decoding, Outcome, GivesOutcome, FollowsBut, Follows, keeps_state}
 use Rattle.tiff_decode.specs.Outcome.{chain_of, offset_after, next_offset, next_outcome, next_image, enter, entry_outcome, seek_to_image, seek_outcome, end_outcome, end_fault, not_found}
 
 -- ---- where the pointer is
@@ -139,7 +139,7 @@ enters_read r o offset d old mid new e h k f =
 
 -- ---- faults
 
-gives_by : (e : TiffError) (o : Call) (s : State) (old new : Decoding) → o ≡ record { answer = Err e; next = s } → new ≡ record old { state = s } → Gives (Err e) o old new
+gives_by : (e : TiffError) (o : Call) (s : State) (old new : Decoding) → o ≡ record { answer = Err e; next = s } → new ≡ record old { state = s } → GivesOutcome (Err e) o old new
 gives_by e o s old new h a = record {
   answer = ap (λ (x : Call). x.answer) h;
   at = a ∙ ap (λ (x : Call). record old { state = x.next }) (sym h);
@@ -217,7 +217,7 @@ shown_open r seen old new e m h =
     subst P e (open_wanting (next_image seen) r seen new m h)
 
 pub along_on : (kind kind' : FileKind) (order order' : ByteOrder) (bytes bytes' : List ℕ) (first : ℕ) (walk : Walked) (pointer : Option IfdPointer) (at : ℕ) (more : Bool)
-    → kind' ≡ kind → order' ≡ order → bytes' ≡ bytes → Begins kind order bytes first walk → IsAt walk.offsets pointer at more
+    → kind' ≡ kind → order' ≡ order → bytes' ≡ bytes → ChainBegins kind order bytes first walk → IsAt walk.offsets pointer at more
     → IsInChain kind' order' bytes' first walk pointer at more
 along_on kind kind' order order' bytes bytes' first walk pointer at more k o b w s =
     let K : FileKind → Type 0 = λ x. IsInChain x order' bytes' first walk pointer at more in
@@ -231,7 +231,7 @@ abbrev Along : Decoding → Walked → ℕ → Type 0
 Along d walk at = IsInChain d.kind d.order d.bytes d.first walk d.state.pointer at d.state.more
 
 -- the offset behind the pointer, once it is entered
-behind : (d : Decoding) (walk longer : Walked) (at k offset : ℕ) → Along d walk at → d.state.more ≡ true → k ≡ at + 1 → Begins d.kind d.order d.bytes d.first longer
+behind : (d : Decoding) (walk longer : Walked) (at k offset : ℕ) → Along d walk at → d.state.more ≡ true → k ≡ at + 1 → ChainBegins d.kind d.order d.bytes d.first longer
     → slice_get longer.offsets k ≡ Some offset → next_image d ≡ enter d offset
 behind d walk longer at k offset a m e b h =
     next_by d (Some offset) m
@@ -253,7 +253,7 @@ added_at offsets longer k p e l m =
     ap (λ (ps : List ℕ). slice_get ps k) e ∙ ap (slice_get (offsets ++ p ∷ [])) n ∙ at_end offsets p
 
 pub next_read : (r : Result (Unit {0}) TiffError) (d mid new : Decoding) (walk longer : Walked) (at k offset : ℕ) (directory : DirectoryRecord)
-    → Along d walk at → d.state.more ≡ true → k ≡ at + 1 → Begins d.kind d.order d.bytes d.first longer
+    → Along d walk at → d.state.more ≡ true → k ≡ at + 1 → ChainBegins d.kind d.order d.bytes d.first longer
     → slice_get longer.offsets k ≡ Some offset → directory_at d.kind d.order d.bytes offset ≡ Ok directory
     → mid ≡ d
     → Follows (λ x. x) (entry_outcome mid offset (Ok directory)) r mid new → Follows (λ x. x) (next_image d) r d new
@@ -267,7 +267,7 @@ past_end (x ∷ xs) zero h = absurd (cc)
 past_end (x ∷ xs) (suc k) h = (let l : length xs ≤ k = past_end xs k h in omega (arith, l))
 
 pub next_closed : (d : Decoding) (walk : Walked) (at k : ℕ) (end : Option TiffError) → Along d walk at → d.state.more ≡ true → k ≡ at + 1 → length walk.offsets ≤ k
-    → Ends d.kind d.order d.bytes d.first walk end
+    → ChainEnds d.kind d.order d.bytes d.first walk end
     → next_image d ≡ record { answer = Err (end_fault end); next = record d.state { more = false } }
 next_closed d walk at k end a m e l h =
     next_by d None m

@@ -11,7 +11,7 @@ use Rattle.tiff_base.proofs.Causes.{cause_along}
 use Rattle.tiff_ifd.specs.declared.limits.Limits.{Limits}
 use Rattle.tiff_ifd.specs.Chain.{Chain, chain, walk, onto, entered, link_from}
 use Rattle.tiff_ifd.specs.Look.{ok_or_fault}
-use Rattle.tiff_ifd.specs.Walk.{Walked, Enters, IsRefused, Steps}
+use Rattle.tiff_ifd.specs.Walk.{Walked, Enters, NextIsRefused, WalkSteps}
 use Rattle.tiff_page.specs.Page.{PageRecord}
 use Rattle.tiff_decode.specs.Machine.{Decoding}
 use Rattle.tiff_decode.specs.Outcome.{decoder_of, chain_from, first_directory, first_state, page_in, end_fault}
@@ -69,14 +69,14 @@ same_offset header offset h = cc
 -- the first offset isn't entered, of bytes that tell the same
 pub unentered : (failed failed' : Type 0) (bytes told : List ℕ) (header : Header) (before after : Walked) (e : TiffError) → (failed → failed') → told ≡ bytes
     → header_at bytes ≡ Ok header → before ≡ begun_at header
-    → IsCause (after ≡ before) (failed × (after ≡ before)) e (Steps header.kind header.order told before (Err e) after)
+    → IsCause (after ≡ before) (failed × (after ≡ before)) e (WalkSteps header.kind header.order told before (Err e) after)
     → IsCause (Unit {0}) failed' e (first_directory bytes ≡ Err e)
 unfolding rest
 unentered failed failed' bytes told header before after e f same h b c =
     cause_along e (λ _. tt) (λ x. f x.0)
-    (λ s. (let P : List ℕ → Type 0 = λ k. IsRefused header.kind header.order k before e in
-    let Q : Walked → Type 0 = λ w. IsRefused header.kind header.order bytes w e in
-    let r : IsRefused header.kind header.order bytes (begun_at header) e = subst Q b (subst P same s.0) in
+    (λ s. (let P : List ℕ → Type 0 = λ k. NextIsRefused header.kind header.order k before e in
+    let Q : Walked → Type 0 = λ w. NextIsRefused header.kind header.order bytes w e in
+    let r : NextIsRefused header.kind header.order bytes (begun_at header) e = subst Q b (subst P same s.0) in
     let E : ℕ → Type 0 = λ p. entered (link_from header.kind header.order bytes) [] p ≡ Err e in
     let at_first : entered (link_from header.kind header.order bytes) [] header.first ≡ Err e = subst E (same_offset header r.offset r.next) r.refused in
     with_header header bytes h
@@ -85,7 +85,7 @@ unentered failed failed' bytes told header before after e f same h b c =
 
 -- it is entered
 pub first_entered : (bytes told : List ℕ) (header : Header) (before after : Walked) (d : DirectoryRecord) → told ≡ bytes
-    → header_at bytes ≡ Ok header → before ≡ begun_at header → Steps header.kind header.order told before (Ok (Some d)) after
+    → header_at bytes ≡ Ok header → before ≡ begun_at header → WalkSteps header.kind header.order told before (Ok (Some d)) after
     → first_directory bytes ≡ Ok (header, header.first, d)
 unfolding rest
 first_entered bytes told header before after d same h b s =

@@ -4,7 +4,7 @@ use Rattle.std.specs.List.{slice_get}
 use Rattle.tiff_base.specs.declared.tags.ByteOrder.{ByteOrder}
 use Rattle.tiff_base.specs.declared.tags.FileKind.{FileKind}
 use Rattle.tiff_base.specs.declared.tags.IfdPointer.{IfdPointer}
-use Rattle.tiff_ifd.specs.Walk.{Walked, Begins}
+use Rattle.tiff_ifd.specs.Walk.{Walked, ChainBegins}
 
 -- the pointer is the offset of this number; only a decoder that isn't open may have none
 abbrev pub IsAt : List ℕ → Option IfdPointer → ℕ → Bool → Type 0
@@ -13,5 +13,5 @@ IsAt offsets None at more = more ≡ false
 
 -- The offsets that were entered are a beginning of the file's chain, and the pointer is one of them.
 pub record IsInChain (kind : FileKind) (order : ByteOrder) (bytes : List ℕ) (first : ℕ) (walk : Walked) (pointer : Option IfdPointer) (at : ℕ) (more : Bool) : Type 0 where
-  pub begins : Begins kind order bytes first walk
+  pub begins : ChainBegins kind order bytes first walk
   pub stands : IsAt walk.offsets pointer at more

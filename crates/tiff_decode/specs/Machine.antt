@@ -58,7 +58,7 @@ pub record StandsAt (state : State) (old new : Decoding) : Type 0 where
   pub failures : old.failures ≤ new.failures
 
 -- The answer that the file gives, with the state that it leaves; no read failed.
-pub record Gives {Y : Type 0} (result : Result Y TiffError) (outcome : Outcome Y) (old new : Decoding) : Type 0 where
+pub record GivesOutcome {Y : Type 0} (result : Result Y TiffError) (outcome : Outcome Y) (old new : Decoding) : Type 0 where
   pub answer : outcome.answer ≡ result
   pub at : new ≡ record old { state = outcome.next }
 
@@ -77,11 +77,11 @@ keeps_state e = false
 abbrev pub Refused : {Y : Type 0} → Type 0 → TiffError → Outcome Y → Decoding → Decoding → Type 0
 Refused wanting OutOfMemory outcome old new = wanting × (new ≡ old)
 Refused wanting (IoError Device) outcome old new = ReadFailed old new
-Refused wanting e outcome old new = Gives (Err e) outcome old new
+Refused wanting e outcome old new = GivesOutcome (Err e) outcome old new
 
 -- the result of a call that reads the source, seen by view, and the decoder before and after it
 abbrev pub FollowsBut : {X Y : Type 0} → Type 0 → (X → Y) → Outcome Y → Result X TiffError → Decoding → Decoding → Type 0
-FollowsBut wanting view outcome (Ok x) old new = Gives (Ok (view x)) outcome old new
+FollowsBut wanting view outcome (Ok x) old new = GivesOutcome (Ok (view x)) outcome old new
 FollowsBut wanting view outcome (Err e) old new = Refused wanting e outcome old new
 
 -- of a call that takes memory

@@ -7,7 +7,7 @@ ghost use Rattle.tiff_base.specs.Directory.{directory_at};
 ghost use Rattle.tiff_base.specs.declared.color.ColorType.{ColorType};
 ghost use Rattle.tiff_page.specs.Layout.{color_of};
 ghost use Rattle.tiff_page.specs.PageView.{page as page_record};
-ghost use Rattle.tiff_ifd.specs.Walk.{Begins, Ends};
+ghost use Rattle.tiff_ifd.specs.Walk.{ChainBegins, ChainEnds};
 ghost use Rattle.tiff_decode.specs.ChainPosition.{IsInChain, IsAt};
 ghost use Rattle.tiff_decode.specs.Machine.{Decoding, Follows, FollowsBut, FollowsOrFaults, FollowsWithoutEither, Tells, decoding, keeps_state};
 ghost use Rattle.tiff_decode.specs.Outcome as outcome;
@@ -255,15 +255,15 @@ fn enter_behind<R: Source>(
     order: ByteOrder,
 ) -> TiffResult<Option<(u64, Directory)>>
     ensures kept { IsKept R.bytes R.failures result source.old source.new }
-    ensures begins { (first : ℕ) → Begins kind order (R.bytes source.old) first walk.old → Begins kind order (R.bytes source.old)
+    ensures begins { (first : ℕ) → ChainBegins kind order (R.bytes source.old) first walk.old → ChainBegins kind order (R.bytes source.old)
         first walk.new }
     ensures entered { IfOk result (λ found. IfSome found (λ f. (walk.new.offsets ≡ walk.old.offsets ++ f.0 ∷ []) ×
         (directory_at kind order (R.bytes source.old) f.0 ≡ Ok f.1))) }
-    ensures end { IfOk result (λ found. IfNone found ((walk.new ≡ walk.old) × ((first : ℕ) → Begins kind order (R.bytes source.old) first walk.old
-        → Ends kind order (R.bytes source.old) first walk.old None))) }
+    ensures end { IfOk result (λ found. IfNone found ((walk.new ≡ walk.old) × ((first : ℕ) → ChainBegins kind order (R.bytes source.old) first walk.old
+        → ChainEnds kind order (R.bytes source.old) first walk.old None))) }
     ensures stays { OnErr result (walk.new ≡ walk.old) }
     ensures cut { IfErr result (λ e. IsCause (Unit {0}) (R.failures source.old < R.failures source.new) e
-        ((first : ℕ) → Begins kind order (R.bytes source.old) first walk.old → Ends kind order (R.bytes source.old) first walk.old (Some e))) }
+        ((first : ℕ) → ChainBegins kind order (R.bytes source.old) first walk.old → ChainEnds kind order (R.bytes source.old) first walk.old (Some e))) }
 {
     let Some(offset) = walk.next() else {
         return Ok(None);

@@ -14,7 +14,7 @@ use Rattle.tiff_base.specs.FieldBytes.{field_offset}
 use Rattle.tiff_base.specs.Number.{number, le}
 use Rattle.tiff_value.specs.Data.{FieldData, IsWhole}
 use Rattle.tiff_encode.specs.FileBytes.{offset_len}
-use Rattle.tiff_encode.specs.Model.{Region, Model, IsLink}
+use Rattle.tiff_encode.specs.Model.{ByteRegion, Model, IsLink}
 use Rattle.tiff_encode.specs.Deeds.{Deed, Appended, Handed, Listed, bytes_after, model_after}
 use Rattle.tiff_encode.specs.Laws.{AreListable, DeedsFit}
 use Rattle.tiff_encode.specs.Value.{is_long, filled_field}
@@ -93,7 +93,7 @@ handed_fits : (kind : FileKind) (bytes : List ℕ) (m : Model) (value : FieldDat
     → DeedsFit kind bytes m (deeds_by long (length bytes) value)
 handed_fits kind bytes m value true t w s p =
     let n : ℕ = length bytes in
-    let r : Region = record { offset = n; bytes = value.bytes } in
+    let r : ByteRegion = record { offset = n; bytes = value.bytes } in
     let above = ltb-true (offset_len kind) (length value.bytes) t in (
       tt,
       (

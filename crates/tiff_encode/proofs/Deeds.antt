@@ -5,7 +5,7 @@ use Rattle.tiff_base.specs.declared.tags.FileKind.{FileKind}
 use Rattle.tiff_base.specs.SourceAndSink.{put}
 use Rattle.tiff_base.specs.Number.{le}
 use Rattle.tiff_encode.specs.FileBytes.{offset_len, directory_bytes}
-use Rattle.tiff_encode.specs.Model.{Region, Model, Stands, relinked, with_handed, IsLink, Grows}
+use Rattle.tiff_encode.specs.Model.{ByteRegion, Model, Stands, relinked, with_handed, IsLink, Grows}
 use Rattle.tiff_encode.specs.Deeds.{Deed, Appended, Handed, Listed, Linked, after_deed, bytes_after, all_appended, model_after_deed, model_after}
 use Rattle.tiff_encode.specs.Laws.{DeedFits, DeedsFit, DeedsStand, DeedsGrow, DeedsBegun, DeedsTorn, DeedsJoin, DeedsAppend}
 use Rattle.tiff_encode.proofs.Slices.{length-le}
@@ -71,7 +71,7 @@ deed_stands kind bytes m (Handed handed) h f =
     let P : List ℕ → Type 0 = λ b. Stands kind bytes (with_handed m (record { field = handed.field; bytes = b })) in
     elim f as (λ _. Stands kind bytes (with_handed m handed)) [
       | inl x ↦ subst P (sym x.bytes) (grown_by_inline kind m bytes handed.field x.short h)
-      | inr y ↦ (let r : Region = y.0 in let a = y.1.1 in
+      | inr y ↦ (let r : ByteRegion = y.0 in let a = y.1.1 in
           subst P (sym a.bytes)
           (grown_by_placed kind m bytes handed.field r y.1.0 a.offset a.whole a.long a.short h))
     ]

@@ -18,7 +18,7 @@ use Rattle.tiff_encode.specs.Calls.{with_field, placed_field, appends, write_ent
 use Rattle.tiff_encode.specs.Value.{buffer_data}
 use Rattle.tiff_encode.specs.Ends.{IsTold, CallFails}
 use Rattle.tiff_encode.specs.JobValues.{buffer_in, value_data}
-use Rattle.tiff_encode.specs.Jobs.{Standing, Changes, Replies, Extends, DirectoryStepped, AllStepped}
+use Rattle.tiff_encode.specs.Jobs.{Standing, Changes, Replies, ExtendStep, DirectoryStepped, AllStepped}
 use Rattle.tiff_encode.specs.Stepping.{Moves}
 use Rattle.tiff_encode.proofs.Joining.{Adds, adding, bind_adds, answers_adding, refusal_adds, caused_adds, appends_adds, placed_adds}
 use Rattle.tiff_encode.proofs.Leaving.{ok_err}

@@ -15,7 +15,7 @@ use Rattle.tiff_base.specs.SourceAndSink.{exactly_at}
 use Rattle.tiff_base.specs.Number.{number_at, le}
 use Rattle.tiff_base.specs.Directory.{count_width, offset_width, entry_len, entries_from, last_of_each, link, first_entry, directory_at}
 use Rattle.tiff_encode.specs.FileBytes.{offset_len, count_len, entry_bytes, directory_bytes}
-use Rattle.tiff_encode.specs.Model.{BytesAreApart, In, FinishedDirectory, HandedField, Region, Model, header_link, own_link, IsLink, IsClear, body_len, whole_len, IsApart, Stands, with_directory, with_handed}
+use Rattle.tiff_encode.specs.Model.{BytesAreApart, In, FinishedDirectory, HandedField, ByteRegion, Model, header_link, own_link, IsLink, IsClear, body_len, whole_len, IsApart, Stands, with_directory, with_handed}
 use Rattle.tiff_encode.specs.Laws.{GrownByRegion, GrownByInline, GrownByPlaced, GrownByListing, FinishStep}
 use Rattle.tiff_encode.specs.Deeds.{standing_fields}
 use Rattle.tiff_encode.proofs.Slices.{is_exact, exact_end, length-le, number_mid, is_offset_width, is_count_width}
@@ -30,8 +30,8 @@ use Rattle.tiff_encode.proofs.Standing.{len_standing, bytes_standing, standing_w
 pub grown_by_region : GrownByRegion
 grown_by_region kind m file more h =
     let g = kept_by_appending kind m file more h in
-    let new : Region = record { offset = length file; bytes = more } in
-    let behind : (r : Region) → In r m.regions → r.offset + length r.bytes ≤ length file = h.within in
+    let new : ByteRegion = record { offset = length file; bytes = more } in
+    let behind : (r : ByteRegion) → In r m.regions → r.offset + length r.bytes ≤ length file = h.within in
     record {
       header = g.header;
       first = g.first;
@@ -39,24 +39,24 @@ grown_by_region kind m file more h =
       counts = g.counts;
       handed = g.handed;
       regions = λ r i. elim i [
-        | inl e ↦ (let P : Region → Type 0 = λ x. exactly_at (file ++ more) x.offset (length x.bytes) ≡ Ok x.bytes in
+        | inl e ↦ (let P : ByteRegion → Type 0 = λ x. exactly_at (file ++ more) x.offset (length x.bytes) ≡ Ok x.bytes in
             subst P (sym e) (exact_end file more))
         | inr j ↦ g.regions r j
       ];
       within = λ r i. elim i [
-        | inl e ↦ (let P : Region → Type 0 = λ x. x.offset + length x.bytes ≤ length (file ++ more) in
+        | inl e ↦ (let P : ByteRegion → Type 0 = λ x. x.offset + length x.bytes ≤ length (file ++ more) in
             subst P (sym e) (omega (arith, length-append file more)))
         | inr j ↦ g.within r j
       ];
       disjoint = λ r s i j. elim i [
         | inl e ↦ elim j [
           | inl f ↦ inl (e ∙ sym f)
-          | inr b ↦ (let P : Region → Type 0 =
+          | inr b ↦ (let P : ByteRegion → Type 0 =
               λ x. (x ≡ s) ⊎ BytesAreApart x.offset (length x.bytes) s.offset (length s.bytes) in
               subst P (sym e) (inr (inr (behind s b))))
         ]
         | inr a ↦ elim j [
-          | inl f ↦ (let P : Region → Type 0 =
+          | inl f ↦ (let P : ByteRegion → Type 0 =
               λ x. (r ≡ x) ⊎ BytesAreApart r.offset (length r.bytes) x.offset (length x.bytes) in
               subst P (sym f) (inr (inl (behind r a))))
           | inr b ↦ h.disjoint r s a b
@@ -65,7 +65,7 @@ grown_by_region kind m file more h =
       directories_within = g.directories_within;
       directories_apart = h.directories_apart;
       regions_apart = λ d r i j. elim j [
-        | inl e ↦ (let P : Region → Type 0 = λ x. BytesAreApart d.offset (whole_len kind d) x.offset (length x.bytes) in
+        | inl e ↦ (let P : ByteRegion → Type 0 = λ x. BytesAreApart d.offset (whole_len kind d) x.offset (length x.bytes) in
             subst P (sym e) (inl (h.directories_within d i)))
         | inr b ↦ h.regions_apart d r i b
       ];
@@ -78,7 +78,7 @@ grown_by_region kind m file more h =
             directories = a.directories;
             handed = a.handed;
             regions = λ r i. elim i [
-              | inl e ↦ (let P : Region → Type 0 = λ x. IsClear kind q x.offset (length x.bytes) in
+              | inl e ↦ (let P : ByteRegion → Type 0 = λ x. IsClear kind q x.offset (length x.bytes) in
                   subst P (sym e) (inr f))
               | inr j ↦ a.regions r j
             ];
@@ -374,7 +374,7 @@ module _ (kind : FileKind) (m : Model) (file : List ℕ) (fields : FinMap nat_cm
   ]
 
   -- nor does one overlap a region
-  all_apart_of_regions : (d : FinishedDirectory) (r : Region) → In d (with_directory kind m fresh).directories
+  all_apart_of_regions : (d : FinishedDirectory) (r : ByteRegion) → In d (with_directory kind m fresh).directories
       → In r m.regions
       → BytesAreApart d.offset (whole_len kind d) r.offset (length r.bytes)
   all_apart_of_regions d r i j = elim i [

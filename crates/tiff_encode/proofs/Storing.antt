@@ -16,7 +16,7 @@ use Rattle.tiff_encode.specs.Encoder.{AppendIsStopped, AppendIsCut}
 use Rattle.tiff_encode.specs.Ends.{IsTold, IsCutOff}
 use Rattle.tiff_encode.specs.FileWrites.{file_with_bytes}
 use Rattle.tiff_encode.specs.Stored.{unpacked_chunk}
-use Rattle.tiff_encode.specs.Storing.{AppendsChunk, StoresChunk, WritesChunk}
+use Rattle.tiff_encode.specs.Storing.{AppendsChunk, StoresChunk, WritesStoredChunk}
 use Rattle.tiff_encode.proofs.Calling.{none_some, cut_off}
 
 -- ---- a chunk is whole rows
@@ -113,7 +113,7 @@ module _ (old : FileState) (i : OpenImage) (samples : List ℕ) (n count : ℕ) 
   -- the call fails once they are packed
   pub chunk_fails : write_chunk_cause old i n 0 ≡ None → count ≡ length samples → IsStored i.method stored (unpacked_chunk i samples)
       → (let r : Result (Unit {0}) TiffError = Err e in AppendsChunk (write_chunk i count stored old) i r old new next)
-      → (let r : Result (Unit {0}) TiffError = Err e in WritesChunk write_chunk (write_chunk_cause old i n 0) i samples r old new next)
+      → (let r : Result (Unit {0}) TiffError = Err e in WritesStoredChunk write_chunk (write_chunk_cause old i n 0) i samples r old new next)
   chunk_fails uncaused counted is_stored h =
       let r : Result (Unit {0}) TiffError = Err e in
       let same : write_chunk i count stored old ≡ told = ap (λ k. write_chunk i k stored old) counted in
@@ -127,4 +127,4 @@ module _ (old : FileState) (i : OpenImage) (samples : List ℕ) (n count : ℕ) 
           ]
         ],
       ) in
-      subst (λ cause. WritesChunk write_chunk cause i samples r old new next) (sym uncaused) ends
+      subst (λ cause. WritesStoredChunk write_chunk cause i samples r old new next) (sym uncaused) ends

@@ -13,7 +13,7 @@ use Rattle.tiff_encode.specs.Calls.{appends, appends_chunk, with_chunk, write_ch
 use Rattle.tiff_encode.specs.Ends.{IsTold, IsCutOff, CallFails}
 use Rattle.tiff_encode.specs.CallLaws.{CallFits}
 use Rattle.tiff_encode.specs.ImageData.{LeavesChunk}
-use Rattle.tiff_encode.specs.Storing.{WritesChunk}
+use Rattle.tiff_encode.specs.Storing.{WritesStoredChunk}
 use Rattle.tiff_encode.proofs.Calling.{stopped_cause, fresh_cause}
 use Rattle.tiff_encode.proofs.Image.Fits.{chunks_fit}
 use Rattle.tiff_encode.proofs.Joining.{Adds, IsAdding, adding, answers_adding, bind_adds, appends_adds, caused_adds}
@@ -24,7 +24,7 @@ use Rattle.tiff_encode.proofs.Keeping.{left_so}
 -- one call in place of another that is told alike
 module _ {A : Type 0} (call other : OpenImage → ℕ → List ℕ → Writing OpenImage) (i : OpenImage) (samples : List ℕ) (old new : FileState) (next : OpenImage)
     (same : (stored : List ℕ) → call i (length samples) stored old ≡ other i (length samples) stored old) where
-  writes_alike : (cause : Option TiffError) (r : Result A TiffError) → WritesChunk call cause i samples r old new next → WritesChunk other cause i samples r old new next
+  writes_alike : (cause : Option TiffError) (r : Result A TiffError) → WritesStoredChunk call cause i samples r old new next → WritesStoredChunk other cause i samples r old new next
   writes_alike (Some c) r h = h
   writes_alike None (Ok x) h = (h.0, (h.1.0, subst (λ t. IsTold t (Ok next) new) (same h.0) h.1.1))
   writes_alike None (Err e) h = (
@@ -58,13 +58,13 @@ module _ (old : FileState) (i : OpenImage) where
 
   module _ (samples : List ℕ) (n : ℕ) where
     abbrev Written : Option TiffError → Result (Unit {0}) TiffError → FileState → OpenImage → Type 0
-    Written cause r new next = WritesChunk write_strip cause i samples r old new next
+    Written cause r new next = WritesStoredChunk write_strip cause i samples r old new next
 
     pub strip_written : (r : Result (Unit {0}) TiffError) (new : FileState) (next : OpenImage) → i.form.chunk_type ≡ Strip
-        → WritesChunk write_chunk (write_chunk_cause old i n 0) i samples r old new next → Written (write_strip_cause old i n 0) r new next
+        → WritesStoredChunk write_chunk (write_chunk_cause old i n 0) i samples r old new next → Written (write_strip_cause old i n 0) r new next
     strip_written r new next s h =
         writes_alike write_chunk write_strip i samples old new next (λ stored. told_as_chunk (length samples) stored s) (write_strip_cause old i n 0) r
-        (subst (λ c. WritesChunk write_chunk c i samples r old new next) (as_chunk n 0 s) h)
+        (subst (λ c. WritesStoredChunk write_chunk c i samples r old new next) (as_chunk n 0 s) h)
 
     refused_so : (e : TiffError) → write_strip_cause old i n 0 ≡ Some e → Written (write_strip_cause old i n 0) (Err e) old i
     refused_so e c = subst (λ x. Written x (Err e) old i) (sym c) (refl, (refl, refl))
@@ -92,7 +92,7 @@ module _ (call : OpenImage → ℕ → List ℕ → Writing OpenImage) (i : Open
     (adds : (stored : List ℕ) → IsAdding (call i (length samples) stored old) old)
     (fits : (stored : List ℕ) → CallFits (λ i. call i (length samples) stored))
     (entries : AreEntries i.directory.fields) (short : end_of new < 2 ^ 64) (s : Stands old.kind old.bytes m) where
-  left_by : {A : Type 0} (cause : Option TiffError) (r : Result A TiffError) → WritesChunk call cause i samples r old new next
+  left_by : {A : Type 0} (cause : Option TiffError) (r : Result A TiffError) → WritesStoredChunk call cause i samples r old new next
       → LeavesChunk call i samples r old new next m
   left_by (Some c) (Ok x) h = absurd cc
   left_by (Some c) (Err e) h = subst (λ f. Stands old.kind f.bytes m) (sym h.1.1) s
@@ -126,14 +126,14 @@ module _ (call : OpenImage → ℕ → List ℕ → Writing OpenImage) (i : Open
 -- of a chunk, and of a strip
 module _ {A : Type 0} (i : OpenImage) (samples : List ℕ) (old new : FileState) (next : OpenImage) (m : Model) (cause : Option TiffError) (r : Result A TiffError)
     (entries : AreEntries i.directory.fields) (short : end_of new < 2 ^ 64) (s : Stands old.kind old.bytes m) where
-  pub chunk_left : WritesChunk write_chunk cause i samples r old new next → LeavesChunk write_chunk i samples r old new next m
+  pub chunk_left : WritesStoredChunk write_chunk cause i samples r old new next → LeavesChunk write_chunk i samples r old new next m
   unfolding write_chunk
   chunk_left h =
       left_by write_chunk i samples old new next m
       (λ stored. adding (write_chunk i (length samples) stored old) old (appending_adds (write_chunk_cause old i (length samples) (length stored)) i stored old))
       (λ stored. (chunks_fit (length samples) stored).1) entries short s cause r h
 
-  pub strip_left : WritesChunk write_strip cause i samples r old new next → LeavesChunk write_strip i samples r old new next m
+  pub strip_left : WritesStoredChunk write_strip cause i samples r old new next → LeavesChunk write_strip i samples r old new next m
   unfolding write_strip
   strip_left h =
       left_by write_strip i samples old new next m

@@ -34,13 +34,13 @@ file_with_bytes file xs = record file { bytes = file.bytes ++ xs }
 
 module _ {A : Type 0} where
   -- the bytes were appended; or an earlier write failed; or the sink failed
-  abbrev pub Appends : List ℕ → FileState → FileState → Result A TiffError → Type 0
-  Appends xs old new r =
+  abbrev pub AppendsToFile : List ℕ → FileState → FileState → Result A TiffError → Type 0
+  AppendsToFile xs old new r =
       MatchResult r (λ _. (old.fault ≡ None) × (new ≡ file_with_bytes old xs)) (λ e. AppendIsStopped e old new ⊎ AppendIsCut xs e old new)
 
   -- the link at an offset points to a directory; or an earlier write failed; or the sink failed
-  abbrev pub Links : ℕ → ℕ → FileState → FileState → Result A TiffError → Type 0
-  Links parent directory old new r =
+  abbrev pub PointsLink : ℕ → ℕ → FileState → FileState → Result A TiffError → Type 0
+  PointsLink parent directory old new r =
       MatchResult r
       (λ _. (old.fault ≡ None) × (new ≡ record old { bytes = put old.bytes parent (le (offset_len old.kind) directory) }))
       (λ e. AppendIsStopped e old new ⊎ IsTorn [] parent directory e old new)

@@ -25,8 +25,8 @@ use Rattle.tiff_encode.specs.Held.{image_with}
 use Rattle.tiff_encode.specs.Open.{HoldsOpen, model_by}
 
 -- an image of these samples, row by row and pixel by pixel
-abbrev pub whole_image : OpenImage → List ℕ → Image
-whole_image i samples = record {
+abbrev pub image_of_samples : OpenImage → List ℕ → Image
+image_of_samples i samples = record {
   page = image_page i;
   sample_at = λ x y sample. slice_index samples ((y * i.width + x) * all_samples i + sample);
 }
@@ -128,7 +128,7 @@ pub record LeavesImage (color : ColorTypeRecord) (size width height : ℕ) (samp
   pub after_is : after ≡ model_by mid (model_by old m (calls.new_image color size width height old)) (calls.write_image_data image samples stored mid)
   pub stands : Stands old.kind new.bytes after
   pub shows : (name : ColorTypeName) → color ≡ color_type name → size ≡ inner_size name
-      → Shows old.kind new.bytes offsets.pointer (whole_image image samples)
+      → Shows old.kind new.bytes offsets.pointer (image_of_samples image samples)
   pub placed : end_of old ≤ offsets.pointer
   pub linked : after.links old.chain ≡ offsets.pointer
   pub next : IsLink old.kind after new.chain
@@ -164,14 +164,14 @@ abbrev pub PartsShow : Type 0
 PartsShow = (i : OpenImage) (samples : List ℕ) (x y sample : ℕ)
     → IsDrawn i.width i.height (length i.color.bits) (length i.extra) i.form → i.chunks ≡ []
     → x < i.width → y < i.height → sample < all_samples i
-    → sample_in (image_page i) (parts_left i samples) x y sample ≡ (whole_image i samples).sample_at x y sample
+    → sample_in (image_page i) (parts_left i samples) x y sample ≡ (image_of_samples i samples).sample_at x y sample
 
 -- an image that was written behind a header alone is the first page of its file, which shows its samples
 abbrev pub FirstShown : Type 0
 FirstShown = (color : ColorTypeRecord) (size width height : ℕ) (samples : List ℕ) (old new : FileState) (m : Model)
     → old.chain ≡ header_link old.kind → 0 < end_of old → (l : LeavesImage color size width height samples old new m)
     → (name : ColorTypeName) → color ≡ color_type name → size ≡ inner_size name
-    → ShowsFirst old.kind new.bytes (whole_image l.image samples)
+    → ShowsFirst old.kind new.bytes (image_of_samples l.image samples)
 
 -- so is one of gray samples of 8 bits in a classic file, neither packed nor differenced
 abbrev pub GrayShown : Type 0

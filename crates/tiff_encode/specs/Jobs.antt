@@ -102,10 +102,10 @@ Replies {A = A} view call s (Ok r) old new t = Stays s t × ((x : A) × ((r ≡ 
 Replies view call s (Err e) old new t = Stays s t × Refuses (call old.file) e old new
 
 -- fields that are given to a directory: after want of memory the first ones of them
-abbrev pub Extends : List (ℕ × Field) → OpenDirectory → Result StepReply TiffError → Standing → Standing → OpenDirectory → Type 0
-Extends fields d (Ok reply.Nothing) old new e = (e ≡ calls.extend_from d fields) × (new ≡ old)
-Extends fields d (Ok _) old new e = ⊥
-Extends fields d (Err fault) old new e = (fault ≡ OutOfMemory) × ((k : ℕ) × ((e ≡ calls.extend_from d (take k fields)) × (new ≡ old)))
+abbrev pub ExtendStep : List (ℕ × Field) → OpenDirectory → Result StepReply TiffError → Standing → Standing → OpenDirectory → Type 0
+ExtendStep fields d (Ok reply.Nothing) old new e = (e ≡ calls.extend_from d fields) × (new ≡ old)
+ExtendStep fields d (Ok _) old new e = ⊥
+ExtendStep fields d (Err fault) old new e = (fault ≡ OutOfMemory) × ((k : ℕ) × ((e ≡ calls.extend_from d (take k fields)) × (new ≡ old)))
 
 -- one step of a directory
 abbrev pub DirectoryStepped : Standing → OpenDirectory → DirectoryStep → Result StepReply TiffError → Standing → OpenDirectory → Type 0
@@ -116,7 +116,7 @@ DirectoryStepped old d (step.WriteDataBuf b) r new e = Replies reply.Number (cal
 DirectoryStepped old d (step.WriteEntry value) r new e = Replies reply.Written (calls.write_entry (value_data value)) d r old new e
 DirectoryStepped old d (step.WriteEntryBuf b) r new e = Replies reply.Written (calls.write_entry_buf (buffer_in b)) d r old new e
 DirectoryStepped old d (step.WriteEntryBytes type bytes) r new e = Replies reply.Written (calls.write_entry_bytes type bytes.items) d r old new e
-DirectoryStepped old d (step.ExtendFrom given) r new e = Extends (entries given.entries) d r old new e
+DirectoryStepped old d (step.ExtendFrom given) r new e = ExtendStep (entries given.entries) d r old new e
 
 -- an open image, and the samples that each of its chunks was handed: no encoder keeps them
 pub record Drawn : Type 0 where
@@ -144,12 +144,12 @@ Resolves i u value (Err e) old new t =
 module _ (call : OpenImage → ℕ → List ℕ → Writing OpenImage) where
   -- A chunk that may be written is: it is stored as some bytes that it may be stored as, or the sink fails; or there is no
   -- memory for them, and nothing is done.
-  abbrev pub Stores : OpenImage → List ℕ → Result StepReply TiffError → Standing → Standing → OpenImage → Type 0
-  Stores i samples (Ok reply.Nothing) old new t =
+  abbrev pub StoreStep : OpenImage → List ℕ → Result StepReply TiffError → Standing → Standing → OpenImage → Type 0
+  StoreStep i samples (Ok reply.Nothing) old new t =
       (stored : List ℕ) × (IsStored i.method stored (unpacked_chunk i samples)
       × IsDone (call i (length samples) stored old.file) (Ok t) old new)
-  Stores i samples (Ok _) old new t = ⊥
-  Stores i samples (Err e) old new t =
+  StoreStep i samples (Ok _) old new t = ⊥
+  StoreStep i samples (Err e) old new t =
       Stays i t × (IsNotCalled e old new
       ⊎ ((stored : List ℕ) × (IsStored i.method stored (unpacked_chunk i samples)
       × (IsRefused (call i (length samples) stored old.file) e old new
@@ -158,7 +158,7 @@ module _ (call : OpenImage → ℕ → List ℕ → Writing OpenImage) where
   -- it is refused for a cause that no packing changes, or stored
   abbrev pub StoresBy : Option TiffError → OpenImage → List ℕ → Result StepReply TiffError → Standing → Standing → OpenImage → Type 0
   StoresBy (Some cause) i samples r old new t = (r ≡ Err cause) × (Stays i t × (new ≡ old))
-  StoresBy None i samples r old new t = Stores i samples r old new t
+  StoresBy None i samples r old new t = StoreStep i samples r old new t
 
 abbrev pub StripStep : OpenImage → List ℕ → Result StepReply TiffError → Standing → Standing → OpenImage → Type 0
 StripStep i samples r old new t = StoresBy calls.write_strip (write_strip_cause old.file i (length samples) 0) i samples r old new t

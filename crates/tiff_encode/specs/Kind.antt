@@ -3,13 +3,13 @@ use Rattle.std.specs.Prelude.{◌≡◌, ℕ, ◌⊎◌, Bool, true, false, List
 use Rattle.tiff_base.specs.declared.error.TiffError.{TiffError}
 use Rattle.tiff_base.specs.declared.error.TiffError.TheVariants.{IntSizeError}
 use Rattle.tiff_base.specs.declared.tags.FileKind.{FileKind}
-use Rattle.tiff_value.specs.Written.{Written, Writes, writer_after, IsStopped, IsCut}
+use Rattle.tiff_value.specs.Written.{Written, WritesCounted, writer_after, IsStopped, IsCut}
 use Rattle.tiff_encode.specs.FileBytes.{offset_len, header_bytes}
 
 -- a number goes out in these bytes, or where it is past them it is refused and nothing is done
 abbrev pub WritesWithin : {A : Type 0} → Bool → List ℕ → Written → Written → Result A TiffError → Type 0
 WritesWithin true bytes old new result = (result ≡ Err IntSizeError) × (new ≡ old)
-WritesWithin false bytes old new result = Writes bytes old new result
+WritesWithin false bytes old new result = WritesCounted bytes old new result
 
 -- a header goes out, whose link is 0 and is the last write
 abbrev pub WritesHeader : {A : Type 0} → FileKind → Written → Written → Result A TiffError → Type 0

@@ -11,7 +11,7 @@ use Rattle.tiff_base.specs.Number.{le}
 use Rattle.tiff_base.specs.FieldBytes.{field_len, field_offset}
 use Rattle.tiff_encode.specs.FileBytes.{offset_len, count_len, header_bytes, directory_bytes}
 use Rattle.tiff_encode.specs.Deeds.{Deed, Appended, Handed, Listed, Linked, after_deed, bytes_after, all_appended, standing_fields, model_after_deed, model_after}
-use Rattle.tiff_encode.specs.Model.{In, FinishedDirectory, HandedField, Region, Model, header_link, own_link, IsLink, Stands, header_model, relinked, with_directory, with_region, with_handed, Grows}
+use Rattle.tiff_encode.specs.Model.{In, FinishedDirectory, HandedField, ByteRegion, Model, header_link, own_link, IsLink, Stands, header_model, relinked, with_directory, with_region, with_handed, Grows}
 
 -- a field that can be an entry
 pub record IsListable (kind : FileKind) (tag : ℕ) (f : Field) : Type 0 where
@@ -51,7 +51,7 @@ GrownByInline = (kind : FileKind) (m : Model) (file : List ℕ) (f : Field) → 
 
 -- a field whose bytes are a region
 abbrev pub GrownByPlaced : Type 0
-GrownByPlaced = (kind : FileKind) (m : Model) (file : List ℕ) (f : Field) (r : Region) → In r m.regions
+GrownByPlaced = (kind : FileKind) (m : Model) (file : List ℕ) (f : Field) (r : ByteRegion) → In r m.regions
     → field_offset kind LittleEndian f ≡ r.offset → field_len f ≡ length r.bytes → offset_len kind < field_len f → field_len f < 2 ^ 64
     → Stands kind file m → Stands kind file (with_handed m (record { field = f; bytes = r.bytes }))
 
@@ -75,7 +75,7 @@ pub record InEntry (kind : FileKind) (h : HandedField) : Type 0 where
   pub bytes : h.bytes ≡ take (field_len h.field) h.field.value
 
 -- or are a region, at the offset that its value field holds
-pub record AtRegion (kind : FileKind) (h : HandedField) (r : Region) : Type 0 where
+pub record AtRegion (kind : FileKind) (h : HandedField) (r : ByteRegion) : Type 0 where
   pub offset : field_offset kind LittleEndian h.field ≡ r.offset
   pub whole : field_len h.field ≡ length r.bytes
   pub long : offset_len kind < field_len h.field
@@ -85,7 +85,7 @@ pub record AtRegion (kind : FileKind) (h : HandedField) (r : Region) : Type 0 wh
 -- a deed that can be done to a file in which a model stands
 abbrev pub DeedFits : FileKind → Model → Deed → Type 0
 DeedFits kind m (Appended more) = Unit {0}
-DeedFits kind m (Handed handed) = InEntry kind handed ⊎ ((r : Region) × (In r m.regions × AtRegion kind handed r))
+DeedFits kind m (Handed handed) = InEntry kind handed ⊎ ((r : ByteRegion) × (In r m.regions × AtRegion kind handed r))
 DeedFits kind m (Listed fields) = AreListable kind fields
 DeedFits kind m (Linked offset target) = IsLink kind m offset × (target < 256 ^ offset_len kind)
 

@@ -27,7 +27,7 @@ pub record HandedField : Type 0 where
   pub bytes : List ℕ
 
 -- bytes that were appended
-pub record Region : Type 0 where
+pub record ByteRegion : Type 0 where
   pub offset : ℕ
   pub bytes : List ℕ
 
@@ -35,7 +35,7 @@ pub record Region : Type 0 where
 pub record Model : Type 0 where
   pub directories : List FinishedDirectory
   pub handed : List HandedField
-  pub regions : List Region
+  pub regions : List ByteRegion
   pub links : ℕ → ℕ
 
 module _ (kind : FileKind) where
@@ -68,7 +68,7 @@ module _ (kind : FileKind) where
     pub within : q + offset_len kind ≤ length file
     pub directories : (d : FinishedDirectory) → In d m.directories → IsClear q d.offset (body_len d)
     pub handed : (h : HandedField) → In h m.handed → (field_len h.field ≤ offset_len kind) ⊎ IsClear q (field_offset kind LittleEndian h.field) (field_len h.field)
-    pub regions : (r : Region) → In r m.regions → IsClear q r.offset (length r.bytes)
+    pub regions : (r : ByteRegion) → In r m.regions → IsClear q r.offset (length r.bytes)
     pub links : (p : ℕ) → IsLink m p → (p ≡ q) ⊎ IsClear q p (offset_len kind)
 
   -- The model stands in the file: the header, with the target of its link; each finished directory, whose entries are
@@ -81,14 +81,14 @@ module _ (kind : FileKind) where
         → directory_at kind LittleEndian file d.offset ≡ Ok (record { entries = d.fields; next = link (m.links (own_link d)) })
     pub counts : (d : FinishedDirectory) → In d m.directories → number_at LittleEndian (count_width kind) file d.offset ≡ Ok (len d.fields)
     pub handed : (h : HandedField) → In h m.handed → field_bytes kind LittleEndian file h.field ≡ Ok h.bytes
-    pub regions : (r : Region) → In r m.regions → exactly_at file r.offset (length r.bytes) ≡ Ok r.bytes
-    pub within : (r : Region) → In r m.regions → r.offset + length r.bytes ≤ length file
-    pub disjoint : (r s : Region) → In r m.regions → In s m.regions
+    pub regions : (r : ByteRegion) → In r m.regions → exactly_at file r.offset (length r.bytes) ≡ Ok r.bytes
+    pub within : (r : ByteRegion) → In r m.regions → r.offset + length r.bytes ≤ length file
+    pub disjoint : (r s : ByteRegion) → In r m.regions → In s m.regions
         → (r ≡ s) ⊎ BytesAreApart r.offset (length r.bytes) s.offset (length s.bytes)
     pub directories_within : (d : FinishedDirectory) → In d m.directories → d.offset + whole_len d ≤ length file
     pub directories_apart : (d e : FinishedDirectory) → In d m.directories → In e m.directories
         → (d ≡ e) ⊎ BytesAreApart d.offset (whole_len d) e.offset (whole_len e)
-    pub regions_apart : (d : FinishedDirectory) (r : Region) → In d m.directories → In r m.regions
+    pub regions_apart : (d : FinishedDirectory) (r : ByteRegion) → In d m.directories → In r m.regions
         → BytesAreApart d.offset (whole_len d) r.offset (length r.bytes)
     pub apart : (q : ℕ) → IsLink m q → IsApart file m q
 
@@ -105,7 +105,7 @@ module _ (kind : FileKind) where
   with_directory m d = record m { directories = d ∷ m.directories; links = λ p. if p == own_link d then 0 else m.links p }
 
 -- the model with bytes that were appended
-abbrev pub with_region : Model → Region → Model
+abbrev pub with_region : Model → ByteRegion → Model
 with_region m r = record m { regions = r ∷ m.regions }
 
 -- the model with a field and the bytes handed in for it
@@ -116,4 +116,4 @@ with_handed m h = record m { handed = h ∷ m.handed }
 pub record Grows (m n : Model) : Type 0 where
   pub directories : (d : FinishedDirectory) → In d m.directories → In d n.directories
   pub handed : (h : HandedField) → In h m.handed → In h n.handed
-  pub regions : (r : Region) → In r m.regions → In r n.regions
+  pub regions : (r : ByteRegion) → In r m.regions → In r n.regions

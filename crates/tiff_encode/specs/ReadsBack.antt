@@ -16,7 +16,7 @@ use Rattle.tiff_encode.specs.Machine.{OpenImage}
 use Rattle.tiff_encode.specs.Chunks.{all_samples, image_page}
 use Rattle.tiff_encode.specs.Held.{IsWholeImage}
 use Rattle.tiff_encode.specs.Shows.{Image, Shows}
-use Rattle.tiff_encode.specs.ImageData.{whole_image}
+use Rattle.tiff_encode.specs.ImageData.{image_of_samples}
 
 -- the samples of an image in its order, as far as a plane shows them: pixel by pixel those of a color, of a planar page
 -- those of the first plane
@@ -29,7 +29,7 @@ samples_shown i p color =
 -- were handed in
 abbrev pub ShownInOrder : Type 0
 ShownInOrder = (i : OpenImage) (samples : List ℕ) (p : PageRecord) (color : ColorType) → p.width ≡ i.width → shown p.planar color ≡ all_samples i
-    → length samples ≡ p.height * p.width * all_samples i → samples_shown (whole_image i samples) p color ≡ samples
+    → length samples ≡ p.height * p.width * all_samples i → samples_shown (image_of_samples i samples) p color ≡ samples
 
 -- Each sample of an image has so many bytes, and is a number of these.
 pub record HasSamplesOf (i : Image) (size : ℕ) : Type 0 where

@@ -40,6 +40,6 @@ module _ {A : Type 0} (call : OpenImage → ℕ → List ℕ → Writing OpenIma
       × (IsTold (call i (length samples) stored old) (Err e) new ⊎ IsCutOff (call i (length samples) stored old).deeds e old new))))
 
   -- a chunk is refused for a cause that no packing changes, and nothing is done; or it is stored
-  abbrev pub WritesChunk : Option TiffError → OpenImage → List ℕ → Result A TiffError → FileState → FileState → OpenImage → Type 0
-  WritesChunk (Some cause) i samples r old new next = (r ≡ Err cause) × ((next ≡ i) × (new ≡ old))
-  WritesChunk None i samples r old new next = StoresChunk i samples r old new next
+  abbrev pub WritesStoredChunk : Option TiffError → OpenImage → List ℕ → Result A TiffError → FileState → FileState → OpenImage → Type 0
+  WritesStoredChunk (Some cause) i samples r old new next = (r ≡ Err cause) × ((next ≡ i) × (new ≡ old))
+  WritesStoredChunk None i samples r old new next = StoresChunk i samples r old new next

@@ -36,7 +36,7 @@ ghost use Rattle.tiff_encode.specs.Causes.{is_past};
 ghost use Rattle.tiff_encode.specs.Encoder.{HeaderFails};
 ghost use Rattle.tiff_encode.specs.Machine.{begun_file};
 ghost use Rattle.tiff_encode.specs.Shows.{LeavesHeader};
-ghost use Rattle.tiff_encode.specs.FileWrites.{Appends, Links};
+ghost use Rattle.tiff_encode.specs.FileWrites.{AppendsToFile, PointsLink};
 
 pub use self::directory_encoder::DirectoryEncoder;
 pub use self::image_encoder::ImageEncoder;
@@ -181,7 +181,7 @@ impl<W: Sink, K: TiffKind> TiffEncoder<W, K> {
 
     // Bytes at the end.
     fn append(&mut self, bytes: &[u8]) -> TiffResult<()>
-        ensures { Appends bytes.now self.old self.new result }
+        ensures { AppendsToFile bytes.now self.old self.new result }
     {
         match self.writer.write_plain(bytes) {
             Ok(()) => return Ok(()),
@@ -191,7 +191,7 @@ impl<W: Sink, K: TiffKind> TiffEncoder<W, K> {
 
     // Zeros up to a multiple of 4.
     fn pad(&mut self) -> TiffResult<()>
-        ensures { Appends (padding (length self.old.bytes)) self.old self.new result }
+        ensures { AppendsToFile (padding (length self.old.bytes)) self.old self.new result }
     {
         match self.writer.pad_word_boundary() {
             Ok(()) => return Ok(()),
@@ -203,7 +203,7 @@ impl<W: Sink, K: TiffKind> TiffEncoder<W, K> {
     fn link(&mut self, parent: u64, directory: u64) -> TiffResult<()>
         requires within { parent + offset_len K.kind ≤ length self.old.bytes }
         requires near { is_past K.kind directory ≡ false }
-        ensures { Links parent directory self.old self.new result }
+        ensures { PointsLink parent directory self.old self.new result }
     {
         let end = self.writer.offset();
         match self.writer.goto_offset(parent) {

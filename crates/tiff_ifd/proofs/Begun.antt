@@ -19,7 +19,7 @@ use Rattle.tiff_base.specs.Number.{number_at}
 use Rattle.tiff_base.proofs.Causes.{cause_along}
 use Rattle.tiff_ifd.specs.Chain.{link_from, unless_met, entered, IsChain, Chain, chain}
 use Rattle.tiff_ifd.specs.Links.{Links, link_target, Goes, Closes, HasAnother, IsClosing, IsNew, Inserts}
-use Rattle.tiff_ifd.specs.Walk.{Walked, AreLinked, Enters, IsRefused, Steps, Begins, Ends}
+use Rattle.tiff_ifd.specs.Walk.{Walked, AreLinked, Enters, NextIsRefused, WalkSteps, ChainBegins, ChainEnds}
 use Rattle.tiff_ifd.proofs.Chain.{IsFalseBit, equal_numbers, not_both, same_ok, same_err, the_chain}
 use Rattle.tiff_ifd.proofs.Links.{equal_order, In, here, more, either, itself}
 use Rattle.tiff_ifd.proofs.Followed.{no_link_and_link}
@@ -185,7 +185,7 @@ now_linked links after offsets longer before to next p b w at e f h g =
 
 -- ---- the chain
 
-pub none_begun : (kind : FileKind) (order : ByteOrder) (bytes : List ℕ) (first : ℕ) → Begins kind order bytes first (record { offsets = []; next = Some first })
+pub none_begun : (kind : FileKind) (order : ByteOrder) (bytes : List ℕ) (first : ℕ) → ChainBegins kind order bytes first (record { offsets = []; next = Some first })
 none_begun kind order bytes first = record { rest = (chain kind order bytes first).offsets; offsets = refl; goes_on = the_chain kind order bytes first }
 
 module _ (kind : FileKind) (order : ByteOrder) (bytes : List ℕ) where
@@ -194,11 +194,11 @@ module _ (kind : FileKind) (order : ByteOrder) (bytes : List ℕ) where
       → entered (link_from kind order bytes) met offset ≡ (r >>= (λ d. Ok d.next) >>= unless_met (offset ∷ met))
   told met offset r h = ap (λ (x : Result DirectoryRecord TiffError). x >>= (λ d. Ok d.next) >>= unless_met (offset ∷ met)) h
 
-  pub unread : (before : Walked) (offset : ℕ) (e : TiffError) → before.next ≡ Some offset → directory_at kind order bytes offset ≡ Err e → IsRefused kind order bytes before e
+  pub unread : (before : Walked) (offset : ℕ) (e : TiffError) → before.next ≡ Some offset → directory_at kind order bytes offset ≡ Err e → NextIsRefused kind order bytes before e
   unread before offset e n h = record { offset = offset; next = n; refused = told (reverse before.offsets) offset (Err e) h }
 
   pub unentered : (before : Walked) (offset : ℕ) (d : DirectoryRecord) (e : TiffError) → before.next ≡ Some offset → directory_at kind order bytes offset ≡ Ok d
-      → unless_met (offset ∷ reverse before.offsets) d.next ≡ Err e → IsRefused kind order bytes before e
+      → unless_met (offset ∷ reverse before.offsets) d.next ≡ Err e → NextIsRefused kind order bytes before e
   unentered before offset d e n h m = record { offset = offset; next = n; refused = told (reverse before.offsets) offset (Ok d) h ∙ m }
 
   pub one_entered : (before after : Walked) (offset : ℕ) (d : DirectoryRecord) → before.next ≡ Some offset → directory_at kind order bytes offset ≡ Ok d
@@ -230,7 +230,7 @@ module _ (kind : FileKind) (order : ByteOrder) (bytes : List ℕ) where
   module _ (first : ℕ) where
     begins_by : (offsets : List ℕ) (offset : ℕ) (after : Option ℕ) (rest left : List ℕ) → (chain kind order bytes first).offsets ≡ offsets ++ rest → rest ≡ offset ∷ left
         → IsChain (link_from kind order bytes) (offset ∷ reverse offsets) after left (chain kind order bytes first).end
-        → Begins kind order bytes first (record { offsets = offsets ++ offset ∷ []; next = after })
+        → ChainBegins kind order bytes first (record { offsets = offsets ++ offset ∷ []; next = after })
     begins_by offsets offset after rest left e f c =
         let P : List ℕ → Type 0 = λ met. IsChain (link_from kind order bytes) met after left (chain kind order bytes first).end in
         record {
@@ -239,28 +239,28 @@ module _ (kind : FileKind) (order : ByteOrder) (bytes : List ℕ) where
           goes_on = subst P (sym (reverse-append offsets (offset ∷ []))) c;
         }
 
-    begins_on : (before after : Walked) (d : DirectoryRecord) → Enters kind order bytes before d after → Begins kind order bytes first before → Begins kind order bytes first after
+    begins_on : (before after : Walked) (d : DirectoryRecord) → Enters kind order bytes before d after → ChainBegins kind order bytes first before → ChainBegins kind order bytes first after
     begins_on before after d h b =
         let P : Option ℕ → Type 0 = λ n. IsChain (link_from kind order bytes) (reverse before.offsets) n b.rest (chain kind order bytes first).end in
         let r = rest_on (reverse before.offsets) h.offset d.next b.rest (chain kind order bytes first).end h.entered (subst P h.next b.goes_on) in
-        let Q : Walked → Type 0 = λ w. Begins kind order bytes first w in
+        let Q : Walked → Type 0 = λ w. ChainBegins kind order bytes first w in
         subst Q (sym h.walked) (begins_by before.offsets h.offset d.next b.rest r.0 b.offsets r.1 r.2)
 
     ends_by : (walk : Walked) (rest : List ℕ) (end : Option TiffError) → (chain kind order bytes first).offsets ≡ walk.offsets ++ rest → rest ≡ []
-        → (chain kind order bytes first).end ≡ end → Ends kind order bytes first walk end
+        → (chain kind order bytes first).end ≡ end → ChainEnds kind order bytes first walk end
     ends_by walk rest end e f g =
         let all : (chain kind order bytes first).offsets ≡ walk.offsets = e ∙ ap (λ (xs : List ℕ). walk.offsets ++ xs) f ∙ append-nil walk.offsets in
         let P : List ℕ → Chain = λ ps. record { offsets = ps; end = (chain kind order bytes first).end } in
         let Q : Option TiffError → Chain = λ x. record { offsets = walk.offsets; end = x } in
         ap P all ∙ ap Q g
 
-    pub ends_none : (walk : Walked) → walk.next ≡ None → Begins kind order bytes first walk → Ends kind order bytes first walk None
+    pub ends_none : (walk : Walked) → walk.next ≡ None → ChainBegins kind order bytes first walk → ChainEnds kind order bytes first walk None
     ends_none walk n b =
         let P : Option ℕ → Type 0 = λ x. IsChain (link_from kind order bytes) (reverse walk.offsets) x b.rest (chain kind order bytes first).end in
         let r = rest_none (reverse walk.offsets) b.rest (chain kind order bytes first).end (subst P n b.goes_on) in
         ends_by walk b.rest None b.offsets r.0 r.1
 
-    pub ends_cut : (walk : Walked) (e : TiffError) → IsRefused kind order bytes walk e → Begins kind order bytes first walk → Ends kind order bytes first walk (Some e)
+    pub ends_cut : (walk : Walked) (e : TiffError) → NextIsRefused kind order bytes walk e → ChainBegins kind order bytes first walk → ChainEnds kind order bytes first walk (Some e)
     ends_cut walk e h b =
         let P : Option ℕ → Type 0 = λ n. IsChain (link_from kind order bytes) (reverse walk.offsets) n b.rest (chain kind order bytes first).end in
         let r = rest_cut (reverse walk.offsets) h.offset e b.rest (chain kind order bytes first).end h.refused (subst P h.next b.goes_on) in
@@ -270,7 +270,7 @@ module _ (kind : FileKind) (order : ByteOrder) (bytes : List ℕ) where
 
 pub begins_entered : (kind : FileKind) (order : ByteOrder) (bytes : List ℕ) (first : ℕ) (before after : Walked) (offset : ℕ) (d : DirectoryRecord) (next : Option ℕ)
     → before.next ≡ Some offset → directory_at kind order bytes offset ≡ Ok d → next ≡ d.next → unless_met (offset ∷ reverse before.offsets) next ≡ Ok next
-    → after ≡ record { offsets = before.offsets ++ offset ∷ []; next = next } → Begins kind order bytes first before → Begins kind order bytes first after
+    → after ≡ record { offsets = before.offsets ++ offset ∷ []; next = next } → ChainBegins kind order bytes first before → ChainBegins kind order bytes first after
 begins_entered kind order bytes first before after offset d next n h e m w b =
     let P : Option ℕ → Type 0 = λ x. unless_met (offset ∷ reverse before.offsets) x ≡ Ok x in
     let Q : Option ℕ → Type 0 = λ x. after ≡ record { offsets = before.offsets ++ offset ∷ []; next = x } in
@@ -278,14 +278,14 @@ begins_entered kind order bytes first before after offset d next n h e m w b =
 
 pub cut_unread : (kind : FileKind) (order : ByteOrder) (bytes : List ℕ) (failed : Type 0) (walk : Walked) (offset : ℕ) (e : TiffError) → walk.next ≡ Some offset
     → IsCause (Unit {0}) failed e (directory_at kind order bytes offset ≡ Err e)
-    → IsCause (Unit {0}) failed e ((first : ℕ) → Begins kind order bytes first walk → Ends kind order bytes first walk (Some e))
+    → IsCause (Unit {0}) failed e ((first : ℕ) → ChainBegins kind order bytes first walk → ChainEnds kind order bytes first walk (Some e))
 cut_unread kind order bytes failed walk offset e n h =
     cause_along e (λ w. w) (λ f. f) (λ g first b. ends_cut kind order bytes first walk e (unread kind order bytes walk offset e n g) b) h
 
 pub cut_unentered : (kind : FileKind) (order : ByteOrder) (bytes : List ℕ) (failed : Type 0) (walk : Walked) (offset : ℕ) (d : DirectoryRecord) (next : Option ℕ) (e : TiffError)
     → walk.next ≡ Some offset → directory_at kind order bytes offset ≡ Ok d → next ≡ d.next
     → IsCause (Unit {0}) ⊥ e (unless_met (offset ∷ reverse walk.offsets) next ≡ Err e)
-    → IsCause (Unit {0}) failed e ((first : ℕ) → Begins kind order bytes first walk → Ends kind order bytes first walk (Some e))
+    → IsCause (Unit {0}) failed e ((first : ℕ) → ChainBegins kind order bytes first walk → ChainEnds kind order bytes first walk (Some e))
 cut_unentered kind order bytes failed walk offset d next e n h s c =
     let P : Option ℕ → Type 0 = λ x. unless_met (offset ∷ reverse walk.offsets) x ≡ Err e in
     cause_along e (λ w. w) (λ f. absurd f) (λ g first b. ends_cut kind order bytes first walk e (unentered kind order bytes walk offset d e n h (subst P s g)) b) c
@@ -298,19 +298,19 @@ front (x ∷ xs) ys zero h = refl
 front (x ∷ xs) ys (suc k) h = front xs ys k (omega (arith, h))
 
 pub offset_begun : (kind : FileKind) (order : ByteOrder) (bytes : List ℕ) (first : ℕ) (walk : Walked) (index : ℕ) → index < length walk.offsets
-    → Begins kind order bytes first walk → slice_get (chain kind order bytes first).offsets index ≡ slice_get walk.offsets index
+    → ChainBegins kind order bytes first walk → slice_get (chain kind order bytes first).offsets index ≡ slice_get walk.offsets index
 offset_begun kind order bytes first walk index h b =
     ap (λ (ps : List ℕ). slice_get ps index) b.offsets ∙ front walk.offsets b.rest index h
 
 -- one more offset
 pub grown : (kind : FileKind) (order : ByteOrder) (bytes old : List ℕ) (before after : Walked) (found : Option DirectoryRecord) → is_some found ≡ true
-    → Steps kind order bytes before (Ok found) after → (more : List ℕ) × (before.offsets ≡ old ++ more) → (more : List ℕ) × (after.offsets ≡ old ++ more)
+    → WalkSteps kind order bytes before (Ok found) after → (more : List ℕ) × (before.offsets ≡ old ++ more) → (more : List ℕ) × (after.offsets ≡ old ++ more)
 grown kind order bytes old before after None f h m = absurd (subst IsFalseBit f tt)
 grown kind order bytes old before after (Some d) f h m =
     (m.0 ++ h.offset ∷ [], ap (λ (w : Walked). w.offsets) h.walked ∙ ap (λ (ps : List ℕ). ps ++ h.offset ∷ []) m.1 ∙ append_assoc old m.0 (h.offset ∷ []))
 
 pub one_longer : (kind : FileKind) (order : ByteOrder) (bytes : List ℕ) (before after : Walked) (found : Option DirectoryRecord) → is_some found ≡ true
-    → Steps kind order bytes before (Ok found) after → length after.offsets ≡ length before.offsets + 1
+    → WalkSteps kind order bytes before (Ok found) after → length after.offsets ≡ length before.offsets + 1
 one_longer kind order bytes before after None f h = absurd (subst IsFalseBit f tt)
 one_longer kind order bytes before after (Some d) f h =
     ap (λ (w : Walked). length w.offsets) h.walked ∙ length-append before.offsets (h.offset ∷ [])

@@ -32,25 +32,25 @@ module _ (kind : FileKind) (order : ByteOrder) (bytes : List ℕ) where
     pub walked : after ≡ record { offsets = before.offsets ++ offset ∷ []; next = directory.next }
 
   -- The next offset isn't entered, for this fault.
-  pub record IsRefused (before : Walked) (fault : TiffError) : Type 0 where
+  pub record NextIsRefused (before : Walked) (fault : TiffError) : Type 0 where
     pub offset : ℕ
     pub next : before.next ≡ Some offset
     pub refused : entered (link_from kind order bytes) (reverse before.offsets) offset ≡ Err fault
 
   -- What a step answers, with the walk after it: the directory that was entered, none where there is no next offset, or why
   -- the next offset isn't entered.
-  abbrev pub Steps : Walked → Result (Option DirectoryRecord) TiffError → Walked → Type 0
-  Steps before (Ok (Some directory)) after = Enters before directory after
-  Steps before (Ok None) after = (before.next ≡ None) × (after ≡ before)
-  Steps before (Err e) after = IsRefused before e × (after ≡ before)
+  abbrev pub WalkSteps : Walked → Result (Option DirectoryRecord) TiffError → Walked → Type 0
+  WalkSteps before (Ok (Some directory)) after = Enters before directory after
+  WalkSteps before (Ok None) after = (before.next ≡ None) × (after ≡ before)
+  WalkSteps before (Err e) after = NextIsRefused before e × (after ≡ before)
 
   module _ (first : ℕ) where
     -- The chain from a first offset begins with these offsets, and goes on from the link behind them.
-    pub record Begins (walk : Walked) : Type 0 where
+    pub record ChainBegins (walk : Walked) : Type 0 where
       pub rest : List ℕ
       pub offsets : (chain kind order bytes first).offsets ≡ walk.offsets ++ rest
       pub goes_on : IsChain (link_from kind order bytes) (reverse walk.offsets) walk.next rest (chain kind order bytes first).end
 
     -- The chain is these offsets and no more, with this end.
-    abbrev pub Ends : Walked → Option TiffError → Type 0
-    Ends walk end = chain kind order bytes first ≡ record { offsets = walk.offsets; end = end }
+    abbrev pub ChainEnds : Walked → Option TiffError → Type 0
+    ChainEnds walk end = chain kind order bytes first ≡ record { offsets = walk.offsets; end = end }

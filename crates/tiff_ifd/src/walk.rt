@@ -7,7 +7,7 @@ ghost use Rattle.tiff_base.specs.declared.tags.ByteOrder.{ByteOrder};
 ghost use Rattle.tiff_base.specs.declared.tags.FileKind.{FileKind};
 ghost use Rattle.tiff_ifd.specs.Chain.{unless_met, chain};
 ghost use Rattle.tiff_ifd.specs.Links.{link_target};
-ghost use Rattle.tiff_ifd.specs.Walk.{Steps, Begins, Ends};
+ghost use Rattle.tiff_ifd.specs.Walk.{WalkSteps, ChainBegins, ChainEnds};
 
 use crate::cycles::IfdCycles;
 use crate::decode::read_directory;
@@ -56,7 +56,7 @@ impl Walk {
     #[tactic(auto, using(crate::proofs::Begun::none_linked, crate::proofs::Begun::none_begun))]
     pub fn new(alloc: Global, first: u64) -> Self
         ensures walked { result ≡ record { offsets = []; next = Some first } }
-        ensures begins { (kind : FileKind) (order : ByteOrder) (bytes : List ℕ) → Begins kind order bytes first result }
+        ensures begins { (kind : FileKind) (order : ByteOrder) (bytes : List ℕ) → ChainBegins kind order bytes first result }
     {
         Walk {
             offsets: Vec::new(alloc),
@@ -131,14 +131,14 @@ impl Walk {
         order: ByteOrder,
     ) -> TiffResult<Option<Directory>>
         ensures kept { IsKept R.bytes R.failures result source.old source.new }
-        ensures ok { IfOk result (λ entered. Steps kind order (R.bytes source.old) self.old (Ok entered) self.new) }
+        ensures ok { IfOk result (λ entered. WalkSteps kind order (R.bytes source.old) self.old (Ok entered) self.new) }
         ensures err { IfErr result (λ e. IsCause (self.new ≡ self.old) ((R.failures source.old < R.failures source.new) × (self.new ≡ self.old)) e
-            (Steps kind order (R.bytes source.old) self.old (Err e) self.new)) }
-        ensures begins { (first : ℕ) → Begins kind order (R.bytes source.old) first self.old → Begins kind order (R.bytes source.old) first self.new }
-        ensures end { IfOk result (λ entered. IfNone entered ((first : ℕ) → Begins kind order (R.bytes source.old) first self.old
-            → Ends kind order (R.bytes source.old) first self.old None)) }
+            (WalkSteps kind order (R.bytes source.old) self.old (Err e) self.new)) }
+        ensures begins { (first : ℕ) → ChainBegins kind order (R.bytes source.old) first self.old → ChainBegins kind order (R.bytes source.old) first self.new }
+        ensures end { IfOk result (λ entered. IfNone entered ((first : ℕ) → ChainBegins kind order (R.bytes source.old) first self.old
+            → ChainEnds kind order (R.bytes source.old) first self.old None)) }
         ensures cut { IfErr result (λ e. IsCause (Unit {0}) (R.failures source.old < R.failures source.new) e
-            ((first : ℕ) → Begins kind order (R.bytes source.old) first self.old → Ends kind order (R.bytes source.old) first self.old (Some e))) }
+            ((first : ℕ) → ChainBegins kind order (R.bytes source.old) first self.old → ChainEnds kind order (R.bytes source.old) first self.old (Some e))) }
     {
         let Some(offset) = self.next else {
             return Ok(None);
@@ -165,14 +165,14 @@ impl Walk {
         ensures no_further { length self.old.offsets ≤ index → length self.new.offsets ≤ index + 1 }
         ensures longer { (more : List ℕ) × (self.new.offsets ≡ self.old.offsets ++ more) }
         ensures known { index < length self.old.offsets → (self.new ≡ self.old) × (source.new ≡ source.old) }
-        ensures begins { (first : ℕ) → Begins kind order (R.bytes source.old) first self.old → Begins kind order (R.bytes source.old) first self.new }
-        ensures offset { IfOk result (λ offset. (first : ℕ) → Begins kind order (R.bytes source.old) first self.old
+        ensures begins { (first : ℕ) → ChainBegins kind order (R.bytes source.old) first self.old → ChainBegins kind order (R.bytes source.old) first self.new }
+        ensures offset { IfOk result (λ offset. (first : ℕ) → ChainBegins kind order (R.bytes source.old) first self.old
             → slice_get (chain kind order (R.bytes source.old) first).offsets index ≡ offset) }
-        ensures end { IfOk result (λ offset. IfNone offset ((first : ℕ) → Begins kind order (R.bytes source.old) first self.old
-            → Ends kind order (R.bytes source.old) first self.new None)) }
+        ensures end { IfOk result (λ offset. IfNone offset ((first : ℕ) → ChainBegins kind order (R.bytes source.old) first self.old
+            → ChainEnds kind order (R.bytes source.old) first self.new None)) }
         ensures cut { IfErr result (λ e. IsCause (Unit {0}) (R.failures source.old < R.failures source.new) e
-            ((first : ℕ) → Begins kind order (R.bytes source.old) first self.old
-            → (slice_get (chain kind order (R.bytes source.old) first).offsets index ≡ None) × Ends kind order (R.bytes source.old) first self.new (Some e))) }
+            ((first : ℕ) → ChainBegins kind order (R.bytes source.old) first self.old
+            → (slice_get (chain kind order (R.bytes source.old) first).offsets index ≡ None) × ChainEnds kind order (R.bytes source.old) first self.new (Some e))) }
     {
         while self.len() <= index {
             if self.enter_next(alloc, source, kind, order)?.is_none() {

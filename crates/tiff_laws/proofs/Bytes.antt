@@ -7,7 +7,7 @@ use Rattle.tiff_page.specs.Rect.{rect, across, chunks_of_plane}
 use Rattle.tiff_page.specs.Layout.{LayoutRecord, row_bits, row_bytes, shown}
 use Rattle.tiff_page.specs.Laws.{HasSides, ChunkIsWithin, ChunksWithin}
 use Rattle.tiff_page.proofs.Chunks.{start_is, none_before}
-use Rattle.tiff_laws.specs.Whole.{IsOfChunk, PlanesCovered, chunk_row, at_image}
+use Rattle.tiff_laws.specs.Whole.{ByteIsOfChunk, PlanesCovered, chunk_row, at_image}
 use Rattle.tiff_laws.specs.Bytes.{plane_of_byte, line_of_byte, column_of_byte, full_row, chunk_of_byte, row_of_byte, byte_in_row, IsByteAt, IsFoundAt, OneByte}
 use Rattle.tiff_laws.proofs.Laid.{IsLaid, laid}
 use Rattle.tiff_laws.proofs.Whole as whole
@@ -150,7 +150,7 @@ module _ (chunks_within : ChunksWithin) (planes_covered : PlanesCovered) (p : Pa
   unfolding rect
   plane_below i h = whole.plane_of i planes (chunks_of_plane p) h
 
-  pub by_find : IsOfChunk p l planes at → IsFoundAt p l planes plane chunk row byte at → IsByteAt p l planes plane chunk row byte at
+  pub by_find : ByteIsOfChunk p l planes at → IsFoundAt p l planes plane chunk row byte at → IsByteAt p l planes plane chunk row byte at
   by_find of h =
       let nl : (rect p of.chunk).plane < planes = plane_below of.chunk of.used in
       let a : IsFoundAt p l planes (rect p of.chunk).plane of.chunk of.row of.byte at = subst (λ (z : ℕ). IsFoundAt p l planes (rect p of.chunk).plane of.chunk of.row of.byte z) (sym of.here)

@@ -14,7 +14,7 @@ use Rattle.tiff_page.specs.Rect.{rect, across, chunks_of_plane}
 use Rattle.tiff_page.specs.Layout.{LayoutRecord, row_bits, shown, aligned}
 use Rattle.tiff_page.specs.Pixels.{chunk_at}
 use Rattle.tiff_page.specs.Laws.{HasSides, HasPixel, OneChunk}
-use Rattle.tiff_laws.specs.Whole.{IsOfChunk, PlanesCovered, chunk_row}
+use Rattle.tiff_laws.specs.Whole.{ByteIsOfChunk, PlanesCovered, chunk_row}
 use Rattle.tiff_laws.proofs.Laid.{IsLaid, laid}
 use Rattle.tiff_laws.proofs.Whole.{some_chunk, plane_of}
 
@@ -139,7 +139,7 @@ module _ (one_chunk : OneChunk) (p : PageRecord) (l : LayoutRecord) (sides : Has
   columns =
       in_columns k bits x (rect p i).x (rect p i).width has.left has.right (div-mul-le_self (8 * k) bits) (lt-div-mul-add {a = 8 * k} {b = bits} some_bits) whole_left
 
-  pub covered : IsOfChunk p l n at
+  pub covered : ByteIsOfChunk p l n at
   covered =
       let start : ℕ = row_bits p l.color (rect p i).x / 8 in
       let b : start ≡ (rect p i).x * bits / 8 = ap (λ (z : ℕ). z / 8) (bits_of (rect p i).x) in

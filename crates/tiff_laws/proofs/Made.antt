@@ -9,13 +9,13 @@ use Rattle.tiff_base.specs.declared.tags.ByteOrder.{ByteOrder}
 use Rattle.tiff_ifd.specs.declared.limits.Limits.{Limits}
 use Rattle.tiff_page.specs.Page.{PageRecord}
 use Rattle.tiff_page.specs.Layout.{LayoutRecord, layout_of, row_bytes}
-use Rattle.tiff_page.specs.Pixels.{Region, byte_at, region_byte, whole_image}
+use Rattle.tiff_page.specs.Pixels.{Region, byte_at, region_byte, image_region}
 use Rattle.tiff_page.specs.PixelCalls as pixels
 use Rattle.tiff_page.specs.PixelCalls.{Part, image_part, planes_used, placed}
 use Rattle.tiff_page.specs.Laws.{HasSides, PlacedEach}
 use Rattle.tiff_decode.specs.Machine.{Decoding}
 use Rattle.tiff_decode.specs.Outcome as outcome
-use Rattle.tiff_laws.specs.Whole.{EachUsed, HasRoom, IsChunkRead, IsLayout, IsMadeOfChunks, IsOfChunk, ImageIsItsChunks, PlaneOfChunks, PlanesCovered, ReadWhereChunks, at_image, chunk_byte_count}
+use Rattle.tiff_laws.specs.Whole.{EachUsed, HasRoom, IsChunkRead, IsLayout, IsMadeOfChunks, ByteIsOfChunk, ImageIsItsChunks, PlaneOfChunks, PlanesCovered, ReadWhereChunks, at_image, chunk_byte_count}
 use Rattle.tiff_laws.proofs.Laid.{IsLaid, IsReadInto, laid, planes_laid, read_gives, good, ok_is}
 use Rattle.tiff_laws.proofs.WhereChunks.{ok_or, is_good}
 
@@ -56,10 +56,10 @@ module _ (placed_each : PlacedEach) (file : List ℕ) (order : ByteOrder) (p : P
 
   module _ (read : IsReadInto file order p limits p.width p.height into buf image l) where
     abbrev all : List ℕ
-    all = placed file order p l.color (whole_image file order p) l.row_bytes count buf
+    all = placed file order p l.color (image_region file order p) l.row_bytes count buf
 
     pub as_long : length image ≡ length buf
-    as_long = ap length read.filled.bytes ∙ (placed_each file order p l.color (whole_image file order p) l.row_bytes count buf).0
+    as_long = ap length read.filled.bytes ∙ (placed_each file order p l.color (image_region file order p) l.row_bytes count buf).0
 
     pub stays : (at : ℕ) → count * l.plane_stride ≤ at → at < length buf → slice_index image at ≡ slice_index buf at
     stays at above below =
@@ -67,8 +67,8 @@ module _ (placed_each : PlacedEach) (file : List ℕ) (order : ByteOrder) (p : P
         let stride : l.plane_stride ≡ l.row_bytes * p.height = is.stride ∙ ap (λ (z : ℕ). z * p.height) (sym is.rows) in
         let over : count * (l.row_bytes * p.height) ≤ at = subst (λ (z : ℕ). count * z ≤ at) stride above in
         ap (λ (z : List ℕ). slice_index z at) read.filled.bytes
-        ∙ (placed_each file order p l.color (whole_image file order p) l.row_bytes count buf).1 at below
-        ∙ none_at file order p l.color (whole_image file order p) l.row_bytes count at (slice_index buf at)
+        ∙ (placed_each file order p l.color (image_region file order p) l.row_bytes count buf).1 at below
+        ∙ none_at file order p l.color (image_region file order p) l.row_bytes count at (slice_index buf at)
         (past l.row_bytes p.height count at (row_bytes p l.color p.width) sides.high is.rows over)
 
 module _ (placed_each : PlacedEach) (plane_of_chunks : PlaneOfChunks) (planes_covered : PlanesCovered) where
@@ -77,7 +77,7 @@ module _ (placed_each : PlacedEach) (plane_of_chunks : PlaneOfChunks) (planes_co
       → (at : ℕ) → at < planes_used d.state.page l (length buf) * l.plane_stride → slice_index made at ≡ slice_index image at
   image_byte d l buf image made sides given read is at below =
       let p : PageRecord = d.state.page in
-      let of : IsOfChunk p l (planes_used p l (length buf)) at = planes_covered p l (planes_used p l (length buf)) at sides given below in
+      let of : ByteIsOfChunk p l (planes_used p l (length buf)) at = planes_covered p l (planes_used p l (length buf)) at sides given below in
       let one = is.placed of.chunk of.used in
       let e : slice_index image (at_image p l of.chunk of.row of.byte) ≡ slice_index made (at_image p l of.chunk of.row of.byte) =
       (plane_of_chunks d l buf image one.0 one.1 of.chunk sides given of.used read one.2.0).each of.row of.byte of.in_chunk of.in_row

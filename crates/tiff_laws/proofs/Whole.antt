@@ -16,7 +16,7 @@ use Rattle.tiff_page.specs.Page.{PageRecord}
 use Rattle.tiff_page.specs.Rect.{rect, chunks_of_plane}
 use Rattle.tiff_page.specs.Layout.{LayoutRecord, layout_of, planes, row_bits, row_bytes, shown}
 use Rattle.tiff_page.specs.PixelFault.{unless, depth_fault, predictor_fault, method_fault, white_fault, form_fault, chunk_fault}
-use Rattle.tiff_page.specs.Pixels.{Region, is_short, byte_at, region_byte, whole_image, chunk_region}
+use Rattle.tiff_page.specs.Pixels.{Region, is_short, byte_at, region_byte, image_region, chunk_region}
 use Rattle.tiff_page.specs.PixelCalls as pixels
 use Rattle.tiff_page.specs.PixelCalls.{Part, image_part, chunk_part, planes_used, placed}
 use Rattle.tiff_page.specs.Laws.{HasSides, ChunkIsWithin, HasWholeRows, ChunksWithin, PlacedEach, WholeRows, ImageOfChunks}
@@ -132,9 +132,9 @@ module _ (within_image : ChunksWithin) (placed_each : PlacedEach) (whole_rows : 
     image_byte : (buf image : List ℕ) (r b : ℕ) → IsImageRead buf image l → i < chunks_used p l (length buf)
         → r < (rect p i).height → b < chunk_row p l i
         → slice_index image (at_image p l i r b)
-        ≡ region_byte file order p l.color (whole_image file order p) (rect p i).plane ((rect p i).y + r) (row_bits p l.color (rect p i).x / 8 + b)
+        ≡ region_byte file order p l.color (image_region file order p) (rect p i).plane ((rect p i).y + r) (row_bits p l.color (rect p i).x / 8 + b)
     image_byte buf image r b read used rl bl =
-        let region : Region file order p = whole_image file order p in
+        let region : Region file order p = image_region file order p in
         let s : ℕ = l.row_bytes in
         let n : ℕ = (rect p i).plane in
         let y : ℕ = (rect p i).y + r in

@@ -54,7 +54,7 @@ PlaneOfChunks = (d : Decoding) (layout : LayoutRecord) (buf image part chunk : L
     → IsPlacedIn d.state.page layout i chunk image
 
 -- a byte of so many planes is of a row of one of their chunks
-pub record IsOfChunk (p : PageRecord) (layout : LayoutRecord) (planes at : ℕ) : Type 0 where
+pub record ByteIsOfChunk (p : PageRecord) (layout : LayoutRecord) (planes at : ℕ) : Type 0 where
   pub chunk : ℕ
   pub row : ℕ
   pub byte : ℕ
@@ -66,7 +66,7 @@ pub record IsOfChunk (p : PageRecord) (layout : LayoutRecord) (planes at : ℕ) 
 -- each of them is
 abbrev pub PlanesCovered : Type 0
 PlanesCovered = (p : PageRecord) (layout : LayoutRecord) (planes at : ℕ) → HasSides p → IsLayout p layout → at < planes * layout.plane_stride
-    → IsOfChunk p layout planes at
+    → ByteIsOfChunk p layout planes at
 
 -- a chunk was read alone, into a slice of its own, and placed
 abbrev pub IsReadAndPlaced : Decoding → LayoutRecord → List ℕ → ℕ → Type 0

@@ -9,7 +9,7 @@ use Rattle.tiff_base.specs.declared.tags.ByteOrder.{ByteOrder}
 use Rattle.tiff_page.specs.Page.{PageRecord}
 use Rattle.tiff_page.specs.Rect.{rect, across, chunks_of_plane}
 use Rattle.tiff_page.specs.Layout.{row_bits, row_bytes, shown}
-use Rattle.tiff_page.specs.Pixels.{packed_byte, number_byte, region_byte, whole_image, chunk_region, stored_byte, inverted, shown_sample, planar_or}
+use Rattle.tiff_page.specs.Pixels.{packed_byte, number_byte, region_byte, image_region, chunk_region, stored_byte, inverted, shown_sample, planar_or}
 use Rattle.tiff_page.specs.Laws as law
 use Rattle.tiff_page.specs.Laws.{HasSides, HasWholeRows}
 use Rattle.tiff_page.proofs.Sizes.{parts_some}
@@ -103,7 +103,7 @@ module _ (file : List ℕ) (order : ByteOrder) (p : PageRecord) (color : ColorTy
     pub in_rows : row < p.chunk_height
     in_rows = omega (arith, rl)
 
-    pub packed_same : packed_byte file order p color (whole_image file order p) (i / chunks_of_plane p) (line * p.chunk_height + row) (start + k)
+    pub packed_same : packed_byte file order p color (image_region file order p) (i / chunks_of_plane p) (line * p.chunk_height + row) (start + k)
         ≡ packed_byte file order p color (chunk_region file order p i) (i / chunks_of_plane p) row k
     unfolding rect
     packed_same =
@@ -121,7 +121,7 @@ module _ (file : List ℕ) (order : ByteOrder) (p : PageRecord) (color : ColorTy
         ∙ (λ t. inverted file order p p.interpretation 256 (stored_byte file order p (first + j) (sym inner t) (sym o t)))
 
     pub number_same : 8 ≤ p.depth → p.depth ≡ p.depth / 8 * 8
-        → number_byte file order p color (whole_image file order p) (i / chunks_of_plane p) (line * p.chunk_height + row) (start + k)
+        → number_byte file order p color (image_region file order p) (i / chunks_of_plane p) (line * p.chunk_height + row) (start + k)
         ≡ number_byte file order p color (chunk_region file order p i) (i / chunks_of_plane p) row k
     unfolding rect row_bits
     number_same big e =
@@ -139,7 +139,7 @@ module _ (file : List ℕ) (order : ByteOrder) (p : PageRecord) (color : ColorTy
         let y : 0 + (line * p.chunk_height + row) ≡ line * p.chunk_height + row = from_0 (line * p.chunk_height + row) in
         λ t. shown_sample file order p (h t) (y t) (planar_or p.planar (i / chunks_of_plane p) (g t)) / 256 ^ m t % 256
 
-    pub byte_same : region_byte file order p color (whole_image file order p) (i / chunks_of_plane p) (line * p.chunk_height + row) (start + k)
+    pub byte_same : region_byte file order p color (image_region file order p) (i / chunks_of_plane p) (line * p.chunk_height + row) (start + k)
         ≡ region_byte file order p color (chunk_region file order p i) (i / chunks_of_plane p) row k
     byte_same =
         ⊎_elim

@@ -28,7 +28,7 @@ use Rattle.tiff_page.specs.Rect.{chunks_of_plane}
 use Rattle.tiff_page.specs.Layout.{sample_type_of, size_of}
 use Rattle.tiff_page.specs.PixelFault.{unless, form_fault, chunk_fault, samples_fault, each_below}
 use Rattle.tiff_page.specs.PixelCalls.{Part, part_fault, filled, samples, image_part, chunk_part}
-use Rattle.tiff_page.specs.Pixels.{data_by, chunk_data, is_short}
+use Rattle.tiff_page.specs.Pixels.{data_by_method, chunk_data, is_short}
 use Rattle.tiff_page.specs.EarlyFaults.{needed_bytes, least_stored, bytes_held, is_cut, early_fault}
 use Rattle.tiff_page.proofs.Sizes.{plane_some}
 use Rattle.tiff_page.proofs.PositionLaws.{cases_fault}
@@ -114,7 +114,7 @@ packed_short file position count n early h =
     omega (arith, h, few, ceil.1, length-take count (drop position file), length-drop position file)
 
 cut_short : (file : List ℕ) (order : ByteOrder) (p : PageRecord) (m : CompressionMethod) (position count n : ℕ) → bytes_held file m position count < least_stored m n
-    → length (data_by file order p m position count) < n
+    → length (data_by_method file order p m position count) < n
 cut_short file order p method.None position count n h = omega (arith, h, length-drop position file)
 cut_short file order p method.PackBits position count n h = packed_short file position count n (nat_lt (length file - position) count) h
 cut_short file order p m position count n h = omega (arith, h)

@@ -14,7 +14,7 @@ use Rattle.tiff_base.proofs.Causes.{cause_along}
 use Rattle.tiff_ifd.specs.declared.limits.Limits.{Limits}
 use Rattle.tiff_page.specs.Layout.{LayoutRecord, layout_of, color_of, row_bytes}
 use Rattle.tiff_page.specs.PixelFault.{unless, form_fault, chunk_fault, each_below}
-use Rattle.tiff_page.specs.Pixels.{is_short, whole_image, chunk_region}
+use Rattle.tiff_page.specs.Pixels.{is_short, image_region, chunk_region}
 use Rattle.tiff_page.specs.BufferPositions.{Writes, IsIn, in_rect, chunk_byte, top_of, left_of, IsBefore, image_byte, IsInUnit, unit_byte}
 use Rattle.tiff_page.specs.ReadablePage.{IsRead}
 use Rattle.tiff_page.proofs.Planes.{layout_gives, some_bytes, whole_rows}
@@ -183,7 +183,7 @@ module _ (file : List ℕ) (order : ByteOrder) (p : PageRecord) (limits : Limits
       let fault = all_ok (λ plane. chunk_fault p limits (is_short file order p l.color) l.color (plane * chunks_of_plane p + (0 + 0))) planes first 0 some in
       let form = form_of (0 * chunks_of_plane p + (0 + 0)) fault in
       let whole = is_whole file order p limits l sides samples deep laid (0 * chunks_of_plane p + (0 + 0)) form in
-      let e : new ≡ placed file order p l.color (whole_image file order p) l.row_bytes planes old =
+      let e : new ≡ placed file order p l.color (image_region file order p) l.row_bytes planes old =
       image_written file order p l.color l.row_bytes planes old new sides whole (omega (arith, row_is file order p limits l sides samples deep laid)) w in
       rw none (ap (λ (z : List ℕ). Ok z) (sym e))
 

@@ -27,7 +27,7 @@ use Rattle.tiff_page.specs.Page.{PageRecord}
 use Rattle.tiff_page.specs.Rect.{chunks_of_plane}
 use Rattle.tiff_page.specs.Layout.{LayoutRecord, layout_of, color_of, color_from, no_color, gray, lab, photometric, first_is_alpha, row_bits, row_bytes, shown, planes, wide, aligned, whole_chroma, sample_type_of, size_of}
 use Rattle.tiff_page.specs.PixelFault.{is_whole, depth_fault, each_below, chunk_fault, samples_fault}
-use Rattle.tiff_page.specs.Pixels.{is_short, byte_at, image_bytes, whole_image}
+use Rattle.tiff_page.specs.Pixels.{is_short, byte_at, image_bytes, image_region}
 use Rattle.tiff_page.specs.Image.{decoded_samples, chunks_read, image_of}
 use Rattle.tiff_page.specs.Buffers.{planes_layout}
 use Rattle.tiff_page.specs.PixelCalls.{placed, filled, samples, image_part, part_fault}
@@ -188,14 +188,14 @@ pub from_0 : (i : ℕ) → 0 + i ≡ i
 from_0 i = omega arith
 
 pub bytes_placed : (file : List ℕ) (order : ByteOrder) (p : PageRecord) (color : ColorType) (s n : ℕ) → s ≡ row_bytes p color p.width → n ≡ s * p.height
-    → image_bytes file order p color ≡ placed file order p color (whole_image file order p) s 1 (replicate n 0)
+    → image_bytes file order p color ≡ placed file order p color (image_region file order p) s 1 (replicate n 0)
 unfolding image_bytes placed
 bytes_placed file order p color s n es en =
     let l : length (replicate n 0) ≡ n = length-replicate n 0 in
     let r : ℕ = row_bytes p color p.width in
-    let at : ℕ → ℕ = λ i. unwrap_or (byte_at file order p color (whole_image file order p) r 1 i) 0 in
-    let to : ℕ → ℕ = λ i. unwrap_or (byte_at file order p color (whole_image file order p) s 1 i) (slice_index (replicate n 0) i) in
-    ext_get_or 0 (image_bytes file order p color) (placed file order p color (whole_image file order p) s 1 (replicate n 0))
+    let at : ℕ → ℕ = λ i. unwrap_or (byte_at file order p color (image_region file order p) r 1 i) 0 in
+    let to : ℕ → ℕ = λ i. unwrap_or (byte_at file order p color (image_region file order p) s 1 i) (slice_index (replicate n 0) i) in
+    ext_get_or 0 (image_bytes file order p color) (placed file order p color (image_region file order p) s 1 (replicate n 0))
     (length-map-range_with_len at 0 (r * p.height) ∙ rw (sym es, sym en) (sym l) ∙ sym (length-map-range_with_len to 0 (length (replicate n 0))))
     (λ i k.
     let b : i < n = rw (length-map-range_with_len at 0 (r * p.height), sym es, sym en) at k in
@@ -225,7 +225,7 @@ module _ (file : List ℕ) (order : ByteOrder) (p : PageRecord) (limits : Limits
       let n : l.plane_stride ≡ l.row_bytes * p.height = g.0.1 ∙ ap (λ z. z * p.height) (sym g.0.0) in
       let f : ℕ → Result (Unit {0}) TiffError = chunk_fault p limits (is_short file order p l.color) l.color in
       finish (each_below f (chunks_of_plane p)) (part_fault file order p limits l.color (image_part file order p 1 l.row_bytes))
-      (image_bytes file order p l.color) (placed file order p l.color (whole_image file order p) l.row_bytes 1 (replicate l.plane_stride 0)) type
+      (image_bytes file order p l.color) (placed file order p l.color (image_region file order p) l.row_bytes 1 (replicate l.plane_stride 0)) type
       (each_same f (λ j. each_below (λ plane. f (plane * chunks_of_plane p + (0 + j))) 1) (chunks_of_plane p) (one_plane f (chunks_of_plane p)))
       (bytes_placed file order p l.color l.row_bytes l.plane_stride g.0.0 n)
 

@@ -9,7 +9,7 @@ use Rattle.tiff_page.specs.declared.chunk_data.Stored.{Stored}
 use Rattle.tiff_page.specs.NumberBytes.{IsPut}
 use Rattle.tiff_page.specs.Page.{PageRecord}
 use Rattle.tiff_page.specs.RowReads.{needed_of_row, RowRead, TakesRow, PutsRow, RowPut}
-use Rattle.tiff_page.specs.ChunkData.{left_of, IsTooShort}
+use Rattle.tiff_page.specs.ChunkData.{bytes_left, IsTooShort}
 use Rattle.tiff_page.proofs.Rects.{copied, holds_put_mid}
 
 -- where it was read into its position
@@ -23,7 +23,7 @@ put_in_place file order p color position failed at len old row (Ok rest) e fits 
   put = copied old row (put_mid at (at + len - at) old row) at (subst (λ (n : ℕ). at + n ≤ length old) (sym e) fits) (holds_put_mid old row at len e);
 }
 put_in_place file order p color position failed at len old row (Err f) e fits h =
-    subst (λ (n : ℕ). IsCause (Unit {0}) failed f (IsTooShort (left_of file position) (needed_of_row p color n) f)) e h
+    subst (λ (n : ℕ). IsCause (Unit {0}) failed f (IsTooShort (bytes_left file position) (needed_of_row p color n) f)) e h
 
 -- where it is put from a room
 pub put_from_room : (order : ByteOrder) (p : PageRecord) (color : ColorType) (left rest : List ℕ) (at len : ℕ) (row old new : List ℕ)

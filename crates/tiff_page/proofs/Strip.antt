@@ -23,7 +23,7 @@ use Rattle.tiff_page.specs.Page.{PageRecord}
 use Rattle.tiff_page.specs.Counts.{parts}
 use Rattle.tiff_page.specs.Rect.{chunks_of_plane}
 use Rattle.tiff_page.specs.Layout.{row_bits}
-use Rattle.tiff_page.specs.Pixels.{each_to, raw_number, shown_sample, number_byte, whole_image, byte_at, image_bytes, numbers_in}
+use Rattle.tiff_page.specs.Pixels.{each_to, raw_number, shown_sample, number_byte, image_region, byte_at, image_bytes, numbers_in}
 
 -- a page of one gray strip
 abbrev pub gray_page : ℕ → ℕ → List ExtraSamples → ℕ × ℕ → ChunkType → ℕ → List ℕ → List ℕ → PageRecord
@@ -85,7 +85,7 @@ shown_is file order w h extra sub type rows offsets counts x y in_row in_strip =
 -- byte k of a row
 pub row_byte : (file : List ℕ) (order : ByteOrder) (w h : ℕ) (extra : List ExtraSamples) (sub : ℕ × ℕ) (type : ChunkType) (rows : ℕ) (offsets counts : List ℕ) (row k : ℕ)
     → k < w → row < rows
-    → number_byte file order (gray_page w h extra sub type rows offsets counts) (Gray 8) (whole_image file order (gray_page w h extra sub type rows offsets counts)) 0 row k
+    → number_byte file order (gray_page w h extra sub type rows offsets counts) (Gray 8) (image_region file order (gray_page w h extra sub type rows offsets counts)) 0 row k
     ≡ slice_index (drop (slice_index offsets 0) file) (row * w + k) % 256
 row_byte file order w h extra sub type rows offsets counts row k in_row in_strip =
     let p = gray_page w h extra sub type rows offsets counts in
@@ -100,7 +100,7 @@ row_byte file order w h extra sub type rows offsets counts row k in_row in_strip
 -- the byte at a position of the image
 byte_is : (file : List ℕ) (order : ByteOrder) (w h : ℕ) (extra : List ExtraSamples) (sub : ℕ × ℕ) (type : ChunkType) (rows : ℕ) (offsets counts : List ℕ) (i : ℕ)
     → 0 < w → h ≤ rows → i < w * h
-    → byte_at file order (gray_page w h extra sub type rows offsets counts) (Gray 8) (whole_image file order (gray_page w h extra sub type rows offsets counts)) w 1 i
+    → byte_at file order (gray_page w h extra sub type rows offsets counts) (Gray 8) (image_region file order (gray_page w h extra sub type rows offsets counts)) w 1 i
     ≡ Some (slice_index (drop (slice_index offsets 0) file) i % 256)
 unfolding byte_at row_bits
 byte_is file order w h extra sub type rows offsets counts i some tall within =
@@ -112,7 +112,7 @@ byte_is file order w h extra sub type rows offsets counts i some tall within =
     let in_strip : i / w < rows = omega (arith, div_below i w h some (subst (λ (n : ℕ). i < n) (mul_comm w h) within)) in
     let tested : nat_lt (i % w) ((w * 8 * 1 + 7) / 8) ≡ true = lt-ltb (i % w) ((w * 8 * 1 + 7) / 8) (omega (arith, row_of w)) in
     let whole : i / w * w + i % w ≡ i = div-add-mod' i w in
-    (λ j. cond (nat_lt (plane j) 1 && tested j) (Some (number_byte file order p (Gray 8) (whole_image file order p) (0 + plane j) (rest j / w) (i % w))) None)
+    (λ j. cond (nat_lt (plane j) 1 && tested j) (Some (number_byte file order p (Gray 8) (image_region file order p) (0 + plane j) (rest j / w) (i % w))) None)
     ∙ ap (λ (v : ℕ). Some v) (row_byte file order w h extra sub type rows offsets counts (i / w) (i % w) in_row in_strip)
     ∙ ap (λ (n : ℕ). Some (slice_index here n % 256)) whole
 
@@ -137,7 +137,7 @@ pub image_is : (file : List ℕ) (order : ByteOrder) (w h : ℕ) (extra : List E
 unfolding image_bytes row_bits
 image_is file order w h extra sub type rows offsets counts v some tall read bytes =
     let p = gray_page w h extra sub type rows offsets counts in
-    let at : ℕ → ℕ → ℕ = λ s i. unwrap_or (byte_at file order p (Gray 8) (whole_image file order p) s 1 i) 0 in
+    let at : ℕ → ℕ → ℕ = λ s i. unwrap_or (byte_at file order p (Gray 8) (image_region file order p) s 1 i) 0 in
     let found : (take (w * h) (drop (slice_index offsets 0) file) ≡ v) × (w * h ≤ length file - slice_index offsets 0) = read_is file (slice_index offsets 0) (w * h) v read in
     let long : length v ≡ w * h = ap length (sym found.0) ∙ length-take-le (w * h) (drop (slice_index offsets 0) file) (omega (arith, length-drop (slice_index offsets 0) file, found.1)) in
     ap (λ (s : ℕ). each_to (s * h) (at s)) (row_of w)

@@ -5,7 +5,7 @@ use Rattle.tiff_base.specs.declared.tags.ByteOrder.{ByteOrder}
 use Rattle.tiff_page.specs.Page.{PageRecord}
 use Rattle.tiff_page.specs.Rect.{rect, across, chunks_of_plane}
 use Rattle.tiff_page.specs.Layout.{row_bits, row_bytes}
-use Rattle.tiff_page.specs.Pixels.{chunk_region, region_byte, whole_image}
+use Rattle.tiff_page.specs.Pixels.{chunk_region, region_byte, image_region}
 
 -- each position with P has its value in new, and each other what it had in old
 abbrev pub Writes : (ℕ → Type 0) → (ℕ → ℕ) → List ℕ → List ℕ → Type 0
@@ -67,7 +67,7 @@ module _ (p : PageRecord) (color : ColorType) (stride : ℕ) where
 
   -- the byte of the image at a position
   abbrev pub image_byte : List ℕ → ByteOrder → ℕ → ℕ
-  image_byte file order i = region_byte file order p color (whole_image file order p) (plane_of i) (i / stride % p.height) (i % stride)
+  image_byte file order i = region_byte file order p color (image_region file order p) (plane_of i) (i / stride % p.height) (i % stride)
 
 -- Of the image these chunks stand in a buffer that held something before: of each of n planes those below the j-th, and the
 -- j-th of the planes below another; all else of it stays.

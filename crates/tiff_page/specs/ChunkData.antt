@@ -9,10 +9,10 @@ use Rattle.tiff_page.specs.declared.chunk_data.Stored.{Stored}
 use Rattle.tiff_page.specs.declared.chunk_data.Stored.TheVariants.{Plain, Packed, Ended}
 
 -- the bytes that a position in a chunk still gives
-abbrev pub left_of : List ℕ → Stored → List ℕ
-left_of bytes (Plain at) = drop at bytes
-left_of bytes (Packed position) = (left_at bytes position).out
-left_of bytes Ended = []
+abbrev pub bytes_left : List ℕ → Stored → List ℕ
+bytes_left bytes (Plain at) = drop at bytes
+bytes_left bytes (Packed position) = (left_at bytes position).out
+bytes_left bytes Ended = []
 
 -- fewer bytes are left than are asked for
 pub record IsTooShort (left : List ℕ) (wanted : ℕ) (e : TiffError) : Type 0 where
@@ -21,10 +21,10 @@ pub record IsTooShort (left : List ℕ) (wanted : ℕ) (e : TiffError) : Type 0 
 
 -- a buffer was filled with the next bytes, or there are fewer
 abbrev pub Takes : List ℕ → Stored → Type 0 → Type 0 → ℕ → List ℕ → Result Stored TiffError → Type 0
-Takes bytes stored wanting failed len filled (Ok rest) = (left_of bytes stored ≡ filled ++ left_of bytes rest) × (length filled ≡ len)
-Takes bytes stored wanting failed len filled (Err e) = IsCause wanting failed e (IsTooShort (left_of bytes stored) len e)
+Takes bytes stored wanting failed len filled (Ok rest) = (bytes_left bytes stored ≡ filled ++ bytes_left bytes rest) × (length filled ≡ len)
+Takes bytes stored wanting failed len filled (Err e) = IsCause wanting failed e (IsTooShort (bytes_left bytes stored) len e)
 
 -- so many bytes were passed, or all that are left where there are fewer
 abbrev pub Passes : List ℕ → Stored → Type 0 → ℕ → Result Stored TiffError → Type 0
-Passes bytes stored failed n (Ok rest) = left_of bytes rest ≡ drop n (left_of bytes stored)
+Passes bytes stored failed n (Ok rest) = bytes_left bytes rest ≡ drop n (bytes_left bytes stored)
 Passes bytes stored failed n (Err e) = IsCause ⊥ failed e ⊥

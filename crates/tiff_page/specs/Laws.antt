@@ -11,7 +11,7 @@ use Rattle.tiff_page.specs.Page.{PageRecord}
 use Rattle.tiff_page.specs.Rect.{rect, across, chunks_of_plane}
 use Rattle.tiff_page.specs.Layout.{LayoutRecord, layout_of, row_bits, row_bytes}
 use Rattle.tiff_page.specs.PixelFault.{depth_fault, each_below}
-use Rattle.tiff_page.specs.Pixels.{Region, byte_at, chunk_at, region_byte, whole_image, chunk_region}
+use Rattle.tiff_page.specs.Pixels.{Region, byte_at, chunk_at, region_byte, image_region, chunk_region}
 use Rattle.tiff_page.specs.Image.{Decoded, image_of}
 use Rattle.tiff_page.specs.Buffers.{planes_layout}
 use Rattle.tiff_page.specs.PixelCalls.{placed, image_part, samples}
@@ -97,7 +97,7 @@ pub record HasWholeRows (p : PageRecord) (color : ColorType) : Type 0 where
 abbrev pub ImageOfChunks : Type 0
 ImageOfChunks = (file : List ℕ) (order : ByteOrder) (p : PageRecord) (color : ColorType) (i row k : ℕ) → HasSides p → HasWholeRows p color
     → row < (rect p i).height → k < row_bytes p color (rect p i).width
-    → region_byte file order p color (whole_image file order p) (rect p i).plane ((rect p i).y + row) (row_bits p color (rect p i).x / 8 + k)
+    → region_byte file order p color (image_region file order p) (rect p i).plane ((rect p i).y + row) (row_bits p color (rect p i).x / 8 + k)
     ≡ region_byte file order p color (chunk_region file order p i) (rect p i).plane row k
 
 -- a page whose image has a layout, and whose depth and color are read, has such rows

@@ -12,7 +12,7 @@ use Rattle.tiff_page.specs.Page.{PageRecord}
 use Rattle.tiff_page.specs.Rect.{rect, chunks_of_plane}
 use Rattle.tiff_page.specs.Layout.{LayoutRecord, planes, wide, sample_type_of, size_of}
 use Rattle.tiff_page.specs.PixelFault.{unless, samples_fault, each_below, chunk_fault}
-use Rattle.tiff_page.specs.Pixels.{each_to, Region, whole_image, chunk_region, byte_at, is_short}
+use Rattle.tiff_page.specs.Pixels.{each_to, Region, image_region, chunk_region, byte_at, is_short}
 use Rattle.tiff_page.specs.Image.{Decoded, decoded_samples}
 use Rattle.tiff_page.specs.Buffers.{planes_layout, all_planes, unit_fault}
 
@@ -42,7 +42,7 @@ module _ (file : List ℕ) (order : ByteOrder) (p : PageRecord) where
   -- all chunks of an image
   abbrev pub image_part : ℕ → ℕ → Part
   image_part planes stride =
-      record { first = 0; count = chunks_of_plane p; planes = planes; region = whole_image file order p; stride = stride }
+      record { first = 0; count = chunks_of_plane p; planes = planes; region = image_region file order p; stride = stride }
 
   -- one chunk
   abbrev pub chunk_part : ℕ → ℕ → ℕ → Part

@@ -50,14 +50,14 @@ needs_whole_rows p color = is_byte_plane p.predictor || nat_lt (shown p.planar c
 -- a file, its byte order, and a page of it
 module _ (file : List ℕ) (order : ByteOrder) (p : PageRecord) where
   -- the data at an offset: the file from there on, or what the bytes unpack to; other methods are not unpacked
-  abbrev pub data_by : CompressionMethod → ℕ → ℕ → List ℕ
-  data_by method.None offset count = drop offset file
-  data_by method.PackBits offset count = (runs (nat_lt (length file - offset) count) (take count (drop offset file))).out
-  data_by _ offset count = []
+  abbrev pub data_by_method : CompressionMethod → ℕ → ℕ → List ℕ
+  data_by_method method.None offset count = drop offset file
+  data_by_method method.PackBits offset count = (runs (nat_lt (length file - offset) count) (take count (drop offset file))).out
+  data_by_method _ offset count = []
 
   -- the data of a chunk
   abbrev pub chunk_data : ℕ → List ℕ
-  chunk_data i = data_by p.method (slice_index p.offsets i) (slice_index p.byte_counts i)
+  chunk_data i = data_by_method p.method (slice_index p.offsets i) (slice_index p.byte_counts i)
 
   -- a byte of a row of a chunk
   abbrev pub stored_byte : ℕ → ℕ → ℕ → ℕ
@@ -131,8 +131,8 @@ module _ (file : List ℕ) (order : ByteOrder) (p : PageRecord) where
     pub plane : ℕ
     pub chunk : Option ℕ
 
-  abbrev pub whole_image : Region
-  whole_image = record { x = 0; y = 0; width = p.width; height = p.height; plane = 0; chunk = None }
+  abbrev pub image_region : Region
+  image_region = record { x = 0; y = 0; width = p.width; height = p.height; plane = 0; chunk = None }
 
   abbrev pub chunk_region : ℕ → Region
   chunk_region i =
@@ -169,7 +169,7 @@ module _ (file : List ℕ) (order : ByteOrder) (p : PageRecord) where
   unfoldable pub image_bytes : ColorType → List ℕ
   image_bytes color =
       let stride = row_bytes p color p.width in
-      each_to (stride * p.height) (λ i. unwrap_or (byte_at color whole_image stride 1 i) 0)
+      each_to (stride * p.height) (λ i. unwrap_or (byte_at color image_region stride 1 i) 0)
 
 -- the little-endian numbers of so many bytes each that a list of bytes holds, the last filled up by zeros
 unfoldable pub numbers_in : ℕ → List ℕ → List ℕ

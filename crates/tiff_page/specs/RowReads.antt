@@ -9,7 +9,7 @@ use Rattle.tiff_page.specs.NumberBytes.{IsPut}
 use Rattle.tiff_page.specs.Page.{PageRecord}
 use Rattle.tiff_page.specs.Pixels.{stored_row_bytes, needs_whole_rows}
 use Rattle.tiff_page.specs.OutputRow.{handed_byte}
-use Rattle.tiff_page.specs.ChunkData.{left_of, IsTooShort}
+use Rattle.tiff_page.specs.ChunkData.{bytes_left, IsTooShort}
 
 -- the bytes that are read of a row of which so many are handed out: with the byte-plane predictor, or where samples are
 -- dropped, all
@@ -24,8 +24,8 @@ pub record TakesRow (order : ByteOrder) (p : PageRecord) (color : ColorType) (le
 
 -- the answer of a call that reads a row into a buffer
 abbrev pub RowRead : List ℕ → ByteOrder → PageRecord → ColorType → Stored → Type 0 → Type 0 → List ℕ → Result Stored TiffError → Type 0
-RowRead file order p color position wanting failed out (Ok rest) = TakesRow order p color (left_of file position) (left_of file rest) out
-RowRead file order p color position wanting failed out (Err e) = IsCause wanting failed e (IsTooShort (left_of file position) (needed_of_row p color (length out)) e)
+RowRead file order p color position wanting failed out (Ok rest) = TakesRow order p color (bytes_left file position) (bytes_left file rest) out
+RowRead file order p color position wanting failed out (Err e) = IsCause wanting failed e (IsTooShort (bytes_left file position) (needed_of_row p color (length out)) e)
 
 -- A row was read and handed out, and its bytes were put at a position of those of a list.
 pub record PutsRow (order : ByteOrder) (p : PageRecord) (color : ColorType) (left rest : List ℕ) (at len : ℕ) (old new : List ℕ) : Type 0 where
@@ -36,5 +36,5 @@ pub record PutsRow (order : ByteOrder) (p : PageRecord) (color : ColorType) (lef
 
 -- the answer of a call that reads a row of so many bytes into a list
 abbrev pub RowPut : List ℕ → ByteOrder → PageRecord → ColorType → Stored → Type 0 → ℕ → ℕ → List ℕ → List ℕ → Result Stored TiffError → Type 0
-RowPut file order p color position failed at len old new (Ok rest) = PutsRow order p color (left_of file position) (left_of file rest) at len old new
-RowPut file order p color position failed at len old new (Err e) = IsCause (Unit {0}) failed e (IsTooShort (left_of file position) (needed_of_row p color len) e)
+RowPut file order p color position failed at len old new (Ok rest) = PutsRow order p color (bytes_left file position) (bytes_left file rest) at len old new
+RowPut file order p color position failed at len old new (Err e) = IsCause (Unit {0}) failed e (IsTooShort (bytes_left file position) (needed_of_row p color len) e)

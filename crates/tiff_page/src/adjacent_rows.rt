@@ -10,7 +10,7 @@ ghost use Rattle.tiff_page.specs.Pixels.{chunk_data, is_short, needs_whole_rows}
 ghost use Rattle.tiff_page.specs.BufferPositions.{WritesChunk};
 ghost use Rattle.tiff_page.specs.ReadablePage.{IsRead};
 ghost use Rattle.tiff_page.specs.Rect.{rect};
-ghost use Rattle.tiff_page.specs.ChunkData.{left_of};
+ghost use Rattle.tiff_page.specs.ChunkData.{bytes_left};
 ghost use Rattle.tiff_page.specs.AdjacentRows.{LieTogether};
 ghost use Rattle.tiff_page.specs.PageView as view;
 
@@ -70,7 +70,7 @@ pub(crate) fn read_together<R: Source, T, W: RowWriter<T>>(
 ) -> TiffResult<()>
     requires read { IsRead (view.page page.now) color }
     requires listed { index < length page.now.offsets }
-    requires front { left_of (R.bytes source.old) front ≡ chunk_data (R.bytes source.old) order (view.page page.now) index }
+    requires front { bytes_left (R.bytes source.old) front ≡ chunk_data (R.bytes source.old) order (view.page page.now) index }
     requires some { 0 < corner.stride }
     requires together { LieTogether (view.page page.now) color
         (row_bytes (view.page page.now) color (rect (view.page page.now) index).width) corner.left corner.stride }

@@ -3,8 +3,8 @@
 ghost use Rattle.std.specs.Prelude.{◌≡◌, ◌<◌, ◌≤◌, ℕ, List, length, slice_index, Ok};
 ghost use Rattle.tiff_base.specs.Answers.{IsKept};
 ghost use Rattle.tiff_page.specs.PixelFault.{method_fault};
-ghost use Rattle.tiff_page.specs.Pixels.{data_by};
-ghost use Rattle.tiff_page.specs.ChunkData.{left_of, Takes, Passes};
+ghost use Rattle.tiff_page.specs.Pixels.{data_by_method};
+ghost use Rattle.tiff_page.specs.ChunkData.{bytes_left, Takes, Passes};
 ghost use Rattle.tiff_page.specs.declared.chunk_data.Stored.TheVariants.{Packed};
 ghost use Rattle.tiff_base.specs.declared.tags.ByteOrder.{ByteOrder};
 ghost use Rattle.tiff_page.specs.Page.{PageRecord};
@@ -51,7 +51,7 @@ impl Stored {
     #[tactic(auto, using(crate::proofs::Data::unpacked_out))]
     pub fn new(method: CompressionMethod, at: u64, count: u64) -> Self
         requires { method_fault method ≡ Ok tt }
-        ensures { (file : List ℕ) (order : ByteOrder) (p : PageRecord) → left_of file result ≡ data_by file order p method at count }
+        ensures { (file : List ℕ) (order : ByteOrder) (p : PageRecord) → bytes_left file result ≡ data_by_method file order p method at count }
     {
         match method {
             CompressionMethod::PackBits => Stored::Packed(PackedPosition::new(at, count)),

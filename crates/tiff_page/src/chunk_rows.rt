@@ -12,7 +12,7 @@ ghost use Rattle.tiff_page.specs.BufferPositions.{WritesChunk};
 ghost use Rattle.tiff_page.specs.ReadablePage.{IsRead};
 ghost use Rattle.tiff_page.specs.RowReads.{RowRead, needed_of_row};
 ghost use Rattle.tiff_page.specs.Rect.{rect};
-ghost use Rattle.tiff_page.specs.ChunkData.{left_of};
+ghost use Rattle.tiff_page.specs.ChunkData.{bytes_left};
 ghost use Rattle.tiff_page.specs.PageView as view;
 
 use crate::adjacent_rows::{lies_together, read_together};
@@ -163,7 +163,7 @@ fn gap_behind(gap: u64, row: usize, rows: usize) -> u64
 fn front_of(page: &Page, index: u32) -> Stored
     requires formed { method_fault page.now.method ≡ Ok tt }
     requires listed { index < length page.now.offsets }
-    ensures { (file : List ℕ) (order : ByteOrder) → left_of file result ≡ chunk_data file order (view.page page.now) index }
+    ensures { (file : List ℕ) (order : ByteOrder) → bytes_left file result ≡ chunk_data file order (view.page page.now) index }
 {
     let chunk = index as usize;
     Stored::new(
@@ -188,7 +188,7 @@ fn read_each<R: Source, T, W: RowWriter<T>>(
 ) -> TiffResult<()>
     requires read { IsRead (view.page page.now) color }
     requires listed { index < length page.now.offsets }
-    requires front { left_of (R.bytes source.old) front ≡ chunk_data (R.bytes source.old) order (view.page page.now) index }
+    requires front { bytes_left (R.bytes source.old) front ≡ chunk_data (R.bytes source.old) order (view.page page.now) index }
     requires some { 0 < corner.stride }
     requires columns { corner.left + row_bytes (view.page page.now) color (rect (view.page page.now) index).width ≤ corner.stride }
     requires rows { (corner.top + (rect (view.page page.now) index).height) * corner.stride ≤ length (W.bytes buf.old) }

@@ -83,10 +83,8 @@ pub fn reply_to_one<R: Source>(
         (λ e. (e ≡ TiffError.OutOfMemory) × (decoder.new ≡ decoder.old)) }
 {
     let calls = [call];
-    match replies_to_calls(alloc, decoder, &calls) {
-        Ok(replies) => Ok(only(replies)),
-        Err(fault) => Err(fault),
-    }
+    let replies = replies_to_calls(alloc, decoder, &calls)?;
+    Ok(only(replies))
 }
 
 /// Makes two calls, and answers both replies.
@@ -101,8 +99,6 @@ pub fn replies_to_both<R: Source>(
         (λ e. (e ≡ TiffError.OutOfMemory) × (decoder.new ≡ decoder.old)) }
 {
     let calls = [first, second];
-    match replies_to_calls(alloc, decoder, &calls) {
-        Ok(replies) => Ok(both(replies)),
-        Err(fault) => Err(fault),
-    }
+    let replies = replies_to_calls(alloc, decoder, &calls)?;
+    Ok(both(replies))
 }

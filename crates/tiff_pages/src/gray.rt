@@ -43,10 +43,8 @@ fn end_of(reply: JobReply) -> TiffResult<()>
 {
     let JobReply { steps, last } = reply;
     let_go(steps);
-    match last {
-        Ok(_) => Ok(()),
-        Err(fault) => Err(fault),
-    }
+    last?;
+    Ok(())
 }
 
 /// A file of one gray page, which shows the samples.

@@ -116,10 +116,7 @@ fn list_tags<R: Source>(
     ensures kept { decoder.new ≡ record decoder.old { failures = decoder.new.failures } }
     ensures failures { decoder.old.failures ≤ decoder.new.failures }
 {
-    let mut replies = match find_all(alloc, decoder, numbers) {
-        Ok(replies) => replies.into_iter(),
-        Err(fault) => return Err(fault),
-    };
+    let mut replies = find_all(alloc, decoder, numbers)?.into_iter();
     let mut text = String::new(alloc);
     for number in numbers {
         let (found, values) = field_found(next_of(&mut replies));
@@ -156,10 +153,8 @@ fn read_directory<R: Source>(
     ensures kept { decoder.new ≡ record decoder.old { failures = decoder.new.failures } }
     ensures failures { decoder.old.failures ≤ decoder.new.failures }
 {
-    match reply_to_one(alloc, decoder, Call::ReadDirectory(pointer)) {
-        Ok(reply) => directory_read(reply),
-        Err(fault) => Err(fault),
-    }
+    let reply = reply_to_one(alloc, decoder, Call::ReadDirectory(pointer))?;
+    directory_read(reply)
 }
 
 // The tag numbers of the directory at a pointer, in ascending order.
@@ -201,10 +196,13 @@ fn page_pointer<R: Source>(
 ) -> TiffResult<Option<IfdPointer>>
     ensures { VisitsPage (λ p. p) page_pointer result page decoder.old decoder.new }
 {
-    match replies_to_both(alloc, decoder, Call::SeekToImage(page), Call::IfdPointer) {
-        Ok((seek, pointer)) => sought(seek).and(Ok(pointer_told(pointer))),
-        Err(fault) => Err(fault),
-    }
+    let (seek, pointer) = replies_to_both(
+        alloc,
+        decoder,
+        Call::SeekToImage(page),
+        Call::IfdPointer,
+    )?;
+    sought(seek).and(Ok(pointer_told(pointer)))
 }
 
 /// A line for each entry of a page's directory, in ascending tag number: the numbers of its tag and its type, how many values it

@@ -21,10 +21,8 @@ fn read_page<R: Source>(
 ) -> TiffResult<DecodingResult>
     ensures { VisitsPage decoded_as page_image result page decoder.old decoder.new }
 {
-    match replies_to_both(alloc, decoder, Call::SeekToImage(page), Call::ReadImage) {
-        Ok((seek, image)) => sought(seek).and(image_read(image)),
-        Err(fault) => Err(fault),
-    }
+    let (seek, image) = replies_to_both(alloc, decoder, Call::SeekToImage(page), Call::ReadImage)?;
+    sought(seek).and(image_read(image))
 }
 
 /// The samples of the image of a page as bytes, the lowest of each first; or the fault of the seek to the page, or of the image.

@@ -14,7 +14,7 @@ use Rattle.tiff_ifd.specs.Chain.{IsChain, entered as entered_offset, link_from}
 use Rattle.tiff_ifd.specs.Look.{ok_or_fault}
 use Rattle.tiff_ifd.proofs.Chain.{the_chain, apart_chain}
 use Rattle.tiff_page.specs.Page.{PageRecord}
-use Rattle.tiff_decode.specs.Machine.{State, Decoding, FollowsWithoutEither, Gives}
+use Rattle.tiff_decode.specs.Machine.{State, Decoding, FollowsWithoutEither, GivesOutcome}
 use Rattle.tiff_decode.specs.Outcome.{decoder_of, chain_from, chain_of, dimensions, first_directory, first_state, page_in, end_fault, offset_after, next_offset, next_outcome, next_image, enter, entry_outcome, with_page}
 use Rattle.tiff_decode.proofs.ChainPosition.{next_by}
 use Rattle.tiff_decode.specs.DefaultLimits.{default_limits}
@@ -268,7 +268,7 @@ grows opened new sides before r e h =
 
 -- a decoder that entered the offset behind it
 stands_behind : (file : List ℕ) (sides : List (ℕ × ℕ)) (old new : Decoding) (s : Standing file sides old) (r : ℕ) (rs : List ℕ) → s.rest ≡ r ∷ rs
-    → Gives (Ok tt) (entry_outcome old r (directory_at old.kind old.order old.bytes r)) old new
+    → GivesOutcome (Ok tt) (entry_outcome old r (directory_at old.kind old.order old.bytes r)) old new
     → Standing file (sides ++ (new.state.page.width, new.state.page.height) ∷ []) new
 stands_behind file sides old new s r rs e g =
     let i = was_entered old r (directory_at old.kind old.order old.bytes r) g.answer in
@@ -291,21 +291,21 @@ stands_behind file sides old new s r rs e g =
           (sides_by s.opened r i.directory i.page is_directory is_page ∙ ap (λ (x : State). Ok (x.page.width, x.page.height)) (sym state));
     }
 
-not_closed : (A : Type 0) (old new : Decoding) → Gives (Ok tt) (next_outcome old None) old new → A
+not_closed : (A : Type 0) (old new : Decoding) → GivesOutcome (Ok tt) (next_outcome old None) old new → A
 not_closed A old new g = (let a = g.answer in absurd (cc))
 
 stands_by : (file : List ℕ) (sides : List (ℕ × ℕ)) (old new : Decoding) (s : Standing file sides old) (rest : List ℕ) → s.rest ≡ rest
-    → Gives (Ok tt) (next_outcome old (slice_get rest 0)) old new
+    → GivesOutcome (Ok tt) (next_outcome old (slice_get rest 0)) old new
     → Standing file (sides ++ (new.state.page.width, new.state.page.height) ∷ []) new
 unfolding enter
 stands_by file sides old new s [] e g = not_closed _ old new g
 stands_by file sides old new s (r ∷ rs) e g = stands_behind file sides old new s r rs e g
 
 -- a decoder that went on stands at the next offset
-pub stands_next : (file : List ℕ) (sides : List (ℕ × ℕ)) (old new : Decoding) → Standing file sides old → old.state.more ≡ true → Gives (Ok tt) (next_image old) old new
+pub stands_next : (file : List ℕ) (sides : List (ℕ × ℕ)) (old new : Decoding) → Standing file sides old → old.state.more ≡ true → GivesOutcome (Ok tt) (next_image old) old new
     → Standing file (sides ++ (new.state.page.width, new.state.page.height) ∷ []) new
 stands_next file sides old new s m g =
-    let P : _ → Type 0 = λ o. Gives (Ok tt) o old new in
+    let P : _ → Type 0 = λ o. GivesOutcome (Ok tt) o old new in
     stands_by file sides old new s s.rest refl (subst P (next_at file sides old s m) g)
 
 -- past the last page
@@ -353,7 +353,7 @@ first_listed file bytes d new s none sides b h f n e =
 
 -- the next page was entered, and its sides were listed
 pub next_listed : (file : List ℕ) (old mid new : Decoding) (s : ℕ × ℕ) (before sides : List (ℕ × ℕ)) → Standing file before old → old.state.more ≡ true
-    → Gives (Ok tt) (next_image old) old mid → FollowsWithoutEither (λ x. x) (dimensions mid) (Ok s) mid new → sides ≡ before ++ s ∷ []
+    → GivesOutcome (Ok tt) (next_image old) old mid → FollowsWithoutEither (λ x. x) (dimensions mid) (Ok s) mid new → sides ≡ before ++ s ∷ []
     → Standing file sides new
 unfolding dimensions
 next_listed file old mid new s before sides st m g f e =
@@ -367,7 +367,7 @@ next_listed file old mid new s before sides st m g f e =
 
 -- fewer offsets are left
 pub fewer_left : (file : List ℕ) (old mid new : Decoding) (s : ℕ × ℕ) (before sides : List (ℕ × ℕ)) → Standing file before old → old.state.more ≡ true
-    → Gives (Ok tt) (next_image old) old mid → FollowsWithoutEither (λ x. x) (dimensions mid) (Ok s) mid new → sides ≡ before ++ s ∷ []
+    → GivesOutcome (Ok tt) (next_image old) old mid → FollowsWithoutEither (λ x. x) (dimensions mid) (Ok s) mid new → sides ≡ before ++ s ∷ []
     → length (chain_of new).offsets - length sides < length (chain_of old).offsets - length before
 unfolding dimensions
 fewer_left file old mid new s before sides st m g f e =

@@ -5,7 +5,7 @@ use Rattle.tiff_base.specs.declared.error.TiffError.TheVariants.{UsageError, Out
 use Rattle.tiff_base.specs.declared.error.UsageError.TheVariants.{WriterFailed}
 use Rattle.tiff_base.specs.declared.tags.«Type».{«Type»}
 use Rattle.tiff_value.specs.Data.{FieldData}
-use Rattle.tiff_value.specs.Written.{Written, Writes}
+use Rattle.tiff_value.specs.Written.{Written, WritesCounted}
 use Rattle.tiff_value.specs.Values.{values_in, IsWritable, WritesValue}
 
 -- what is not there is nothing
@@ -14,13 +14,13 @@ nothing None h = refl
 nothing (Some x) h = absurd (cc)
 
 module _ {A : Type 0} where
-  bytes_written : (d : FieldData) (old new : Written) (r : Result A TiffError) → Writes d.bytes old new r → WritesValue (Ok d) old new r
+  bytes_written : (d : FieldData) (old new : Written) (r : Result A TiffError) → WritesCounted d.bytes old new r → WritesValue (Ok d) old new r
   bytes_written d old new (Ok x) h = h
   bytes_written d old new (Err e) h = elim h as (λ _. WritesValue {A = A} (Ok d) old new (Err e)) [ inl s ↦ inl s | inr c ↦ inr (inr c) ]
 
   -- the bytes of a value went out as the writer says
   pub value_written : (given : Result FieldData TiffError) (type : «Type») (count : ℕ) (xs : List ℕ) (old new : Written) (r : Result A TiffError)
-      → given ≡ Ok (values_in type count xs) → Writes xs old new r → WritesValue given old new r
+      → given ≡ Ok (values_in type count xs) → WritesCounted xs old new r → WritesValue given old new r
   value_written given type count xs old new r is h =
       subst (λ (g : Result FieldData TiffError). WritesValue g old new r) (sym is) (bytes_written (values_in type count xs) old new r h)
 

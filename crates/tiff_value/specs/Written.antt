@@ -64,6 +64,6 @@ module _ {A : Type 0} where
       MatchResult r (λ _. (old.fault ≡ None) × (new ≡ writer_after old xs)) (λ e. IsStopped e old new ⊎ IsCut xs e old new)
 
   -- the same, with the count kept for `last_written`
-  abbrev pub Writes : List ℕ → Written → Written → Result A TiffError → Type 0
-  Writes xs old new r =
+  abbrev pub WritesCounted : List ℕ → Written → Written → Result A TiffError → Type 0
+  WritesCounted xs old new r =
       MatchResult r (λ _. (old.fault ≡ None) × (new ≡ writer_after_counted old xs)) (λ e. IsStopped e old new ⊎ IsCut xs e old new)

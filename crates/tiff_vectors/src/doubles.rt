@@ -1,4 +1,4 @@
-//! Sources and sinks that answer a byte at a time, and that fail.
+//! Sources and sinks that answer a byte at a time, and that fail once: a call that is made again is answered.
 
 ghost use Rattle.std.specs.Prelude.{◌≡◌, ◌+◌};
 
@@ -45,11 +45,34 @@ impl Failures {
     }
 }
 
-/// A source in memory that gives one byte at a time, and fails from its `left`th read on.
+// How many calls are answered before the one that fails, where that is still to come.
+#[derive(Drop)]
+struct Countdown {
+    left: Option<u64>,
+}
+
+impl Countdown {
+    // Counts a call, and whether it is the one that fails.
+    fn is_over(&mut self) -> bool {
+        match self.left {
+            Some(0) => {
+                self.left = None;
+                true
+            }
+            Some(left) => {
+                self.left = Some(left - 1);
+                false
+            }
+            None => false,
+        }
+    }
+}
+
+/// A source in memory that gives one byte at a time, and fails once, after `left` reads.
 #[derive(Drop)]
 pub struct FailingSource {
     inner: MemorySource,
-    left: u64,
+    countdown: Countdown,
     failed: Failures,
 }
 
@@ -58,7 +81,7 @@ impl FailingSource {
     pub fn new(inner: MemorySource, left: u64) -> Self {
         FailingSource {
             inner,
-            left,
+            countdown: Countdown { left: Some(left) },
             failed: Failures::none(),
         }
     }
@@ -74,21 +97,20 @@ impl Source for FailingSource {
     ghost octets = { λ s. s.inner.octets };
 
     fn read_at(&mut self, at: u64, buf: &mut [u8]) -> Result<usize, DeviceFault> {
-        if self.left == 0 {
+        if self.countdown.is_over() {
             self.failed.add();
             return Err(DeviceFault);
         }
-        self.left -= 1;
         let n = buf.len().min(1);
         self.inner.read_at(at, &mut buf[..n])
     }
 }
 
-/// A sink in memory that takes one byte at a time, and fails from its `left`th write on.
+/// A sink in memory that takes one byte at a time, and fails once, after `left` writes.
 #[derive(Drop)]
 pub struct FailingSink {
     inner: MemorySink,
-    left: u64,
+    countdown: Countdown,
     failed: Failures,
     last: Option<SinkFault>,
 }
@@ -98,7 +120,7 @@ impl FailingSink {
     pub fn new(inner: MemorySink, left: u64) -> Self {
         FailingSink {
             inner,
-            left,
+            countdown: Countdown { left: Some(left) },
             failed: Failures::none(),
             last: None,
         }
@@ -108,7 +130,7 @@ impl FailingSink {
     pub fn into_vec(self) -> Vec<u8> {
         let FailingSink {
             inner,
-            left: _,
+            countdown: _,
             failed: _,
             last: _,
         } = self;
@@ -132,24 +154,22 @@ impl Sink for FailingSink {
     }
 
     fn append(&mut self, bytes: &[u8]) -> Result<usize, SinkFault> {
-        if self.left == 0 {
+        if self.countdown.is_over() {
             self.failed.add();
             self.last = Some(SinkFault::Device);
             return Err(SinkFault::Device);
         }
-        self.left -= 1;
         let answer = self.inner.append(&bytes[..bytes.len().min(1)]);
         self.last = answer.err();
         answer
     }
 
     fn overwrite(&mut self, at: u64, bytes: &[u8]) -> Result<usize, SinkFault> {
-        if self.left == 0 {
+        if self.countdown.is_over() {
             self.failed.add();
             self.last = Some(SinkFault::Device);
             return Err(SinkFault::Device);
         }
-        self.left -= 1;
         let answer = self.inner.overwrite(at, &bytes[..bytes.len().min(1)]);
         self.last = answer.err();
         answer

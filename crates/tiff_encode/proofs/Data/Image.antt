@@ -28,7 +28,7 @@ use Rattle.tiff_encode.specs.Ends.{IsTold, IsTornOff}
 use Rattle.tiff_encode.specs.Shows.{Shows}
 use Rattle.tiff_encode.specs.Held.{image_with}
 use Rattle.tiff_encode.specs.Open.{HoldsOpen, model_by}
-use Rattle.tiff_encode.specs.ImageData.{whole_image, WritesImageData, WritesImage, IsShortFile, AreNumbers, LeavesImage, LeavesNewImage, PartsShow, ImageLeaves}
+use Rattle.tiff_encode.specs.ImageData.{image_of_samples, WritesImageData, WritesImage, IsShortFile, AreNumbers, LeavesImage, LeavesNewImage, PartsShow, ImageLeaves}
 use Rattle.tiff_encode.proofs.Slices.{ok_inj}
 use Rattle.tiff_encode.proofs.Deeds.{deeds_stand, deeds_grow, link_kept}
 use Rattle.tiff_encode.proofs.Open.Begun.{begins_open}
@@ -65,7 +65,7 @@ few_shown i c offsets byte_counts color h =
 -- the parts show the samples
 pub shown_whole : PartsShow → (kind : FileKind) (file : List ℕ) (offset : ℕ) (i : OpenImage) (samples : List ℕ) (m : Model)
     → HoldsOpen kind m i [] → i.chunks ≡ [] → Shows kind file offset (image_with i (parts_left i samples))
-    → Shows kind file offset (whole_image i samples)
+    → Shows kind file offset (image_of_samples i samples)
 shown_whole show kind file offset i samples m h none s =
     let o = h.open_so in
     let drawn : IsDrawn i.width i.height (length i.color.bits) (length i.extra) i.form =
@@ -232,7 +232,7 @@ module _ (parts_show : PartsShow) (color : ColorTypeRecord) (size width height :
 
     -- the page shows them
     image_shown : (name : ColorTypeName) → color ≡ color_type name → size ≡ inner_size name
-        → Shows old.kind new.bytes w.offsets.pointer (whole_image i samples)
+        → Shows old.kind new.bytes w.offsets.pointer (image_of_samples i samples)
     image_shown name c s =
         let P : ColorTypeRecord → ℕ → Type 0 = λ x n. (new_image x n width height old).answer ≡ Ok i
         → HoldsOpen old.kind (model_by old m (new_image x n width height old)) i [] in

@@ -69,7 +69,7 @@ module _ (i : OpenImage) (s t : Standing) (samples : List (List ℕ)) (g : Grows
       (fields_keep_open s.file.kind s.model i samples fields h a)
 
   extended_with : (fields : List (ℕ × Field)) (r : Result StepReply TiffError) (d : OpenDirectory)
-      → list_any (λ entry. is_page_tag entry.0) fields ≡ false → jobs.Extends fields i.directory r s t d → With d
+      → list_any (λ entry. is_page_tag entry.0) fields ≡ false → jobs.ExtendStep fields i.directory r s t d → With d
   extended_with fields (Ok reply.Nothing) d a c = subst With (sym c.0) (fields_with fields a c.1)
   extended_with fields (Ok (reply.Number x)) d a c = absurd c
   extended_with fields (Ok (reply.Written x)) d a c = absurd c

@@ -12,7 +12,7 @@ use Rattle.tiff_encode.specs.Ends.{IsTold, IsCutOff}
 use Rattle.tiff_encode.specs.ImageData.{LeavesChunk}
 use Rattle.tiff_encode.specs.Open.{HoldsOpen, model_by}
 use Rattle.tiff_encode.specs.Stored.{unpacked_chunk}
-use Rattle.tiff_encode.specs.Storing.{WritesChunk}
+use Rattle.tiff_encode.specs.Storing.{WritesStoredChunk}
 use Rattle.tiff_encode.specs.JobValues.{cut_to}
 use Rattle.tiff_encode.specs.Jobs as jobs
 use Rattle.tiff_encode.specs.Jobs.{Standing, Drawn}
@@ -165,14 +165,14 @@ module _ (call : OpenImage → ℕ → List ℕ → Writing OpenImage) (c : IsSt
 
   -- where the model is known to stand, the bytes are those with which it does
   stored_by : (x : Unit {0}) (known : Bool) (s : Standing) (before : List (List ℕ)) → StandsIfKnown known s → end_of s.file < 2 ^ 64
-      → (let r : Result (Unit {0}) TiffError = Ok x in WritesChunk call None i numbers r s.file new j
+      → (let r : Result (Unit {0}) TiffError = Ok x in WritesStoredChunk call None i numbers r s.file new j
       → ((m : Model) → Stands s.file.kind s.file.bytes m → LeavesChunk call i numbers r s.file new j m) → Stored None r known s before)
   stored_by x true s before k near w l =
       let a = l s.model (k refl) in stored_so x true s before a.0 near a.1.0 a.1.1.0 (λ _. a.1.1.1)
   stored_by x false s before k near w l = stored_so x false s before w.0 near w.1.0 w.1.1 (λ q. absurd cc)
 
   written : (cause : Option TiffError) (r : Result (Unit {0}) TiffError) (known : Bool) (s : Standing) (before : List (List ℕ))
-      → StandsIfKnown known s → end_of s.file < 2 ^ 64 → WritesChunk call cause i numbers r s.file new j
+      → StandsIfKnown known s → end_of s.file < 2 ^ 64 → WritesStoredChunk call cause i numbers r s.file new j
       → ((m : Model) → Stands s.file.kind s.file.bytes m → LeavesChunk call i numbers r s.file new j m) → Stored cause r known s before
   written (Some e) r known s before k near w l =
       let said : reply_to r ≡ Err e = ap reply_to w.0 in
@@ -199,11 +199,11 @@ StoresCut call cause given r s before t after = StoresAll call cause (cut_to bef
 storing_draws : (call : OpenImage → ℕ → List ℕ → Writing OpenImage) (cause : FileState → OpenImage → ℕ → Option TiffError) → IsStoring call
     → (i j : OpenImage) (numbers : List ℕ) (r : Result (Unit {0}) TiffError) (old new : FileState)
     → ((n : ℕ) → get_or numbers n 0 < 256 ^ i.size) → length numbers < 2 ^ 64 - 1 → end_of old < 2 ^ 64 → end_of new < 2 ^ 64
-    → WritesChunk call (cause old i (length numbers)) i numbers r old new j
+    → WritesStoredChunk call (cause old i (length numbers)) i numbers r old new j
     → ((m : Model) → Stands old.kind old.bytes m → LeavesChunk call i numbers r old new j m)
     → DrawMoves i (StoresAll call cause numbers (reply_to r)) true old new j
 storing_draws call cause c i j numbers r old new small few near short w l known s before q k =
-    let P : FileState → Type 0 = λ old. end_of old < 2 ^ 64 → WritesChunk call (cause old i (length numbers)) i numbers r old new j
+    let P : FileState → Type 0 = λ old. end_of old < 2 ^ 64 → WritesStoredChunk call (cause old i (length numbers)) i numbers r old new j
     → ((m : Model) → Stands old.kind old.bytes m → LeavesChunk call i numbers r old new j m)
     → Stored call c i j numbers new small few short (cause s.file i (length numbers)) r known s before in
     subst P q (λ near w l. written call c i j numbers new small few short (cause s.file i (length numbers)) r known s before k near w l) near w l
@@ -227,7 +227,7 @@ module _ (i j : OpenImage) (given numbers : List ℕ) (n : ℕ) (r : Result (Uni
     (cut : cut_to i.size given ≡ numbers) (count : n ≡ length numbers)
     (small : (k : ℕ) → get_or numbers k 0 < 256 ^ i.size) (few : n < 2 ^ 64 - 1) (near : end_of old < 2 ^ 64) (short : end_of new < 2 ^ 64) where
   drawn_by : (call : OpenImage → ℕ → List ℕ → Writing OpenImage) (cause : FileState → OpenImage → ℕ → Option TiffError) → IsStoring call
-      → WritesChunk call (cause old i n) i numbers r old new j
+      → WritesStoredChunk call (cause old i n) i numbers r old new j
       → ((m : Model) → Stands old.kind old.bytes m → LeavesChunk call i numbers r old new j m)
       → DrawMoves i (StoresCut call cause given (reply_to r)) true old new j
   drawn_by call cause c w l =
@@ -235,14 +235,14 @@ module _ (i j : OpenImage) (given numbers : List ℕ) (n : ℕ) (r : Result (Uni
       let P : List ℕ → Type 0 = λ xs. DrawMoves i (λ s before t after. StoresIfFound call (cause s.file i (length xs)) before xs (reply_to r) s t after) true old new j in
       subst P (sym cut)
       (storing_draws call cause c i j numbers r old new small few near short
-      (subst (λ k. WritesChunk call (cause old i k) i numbers r old new j) count w) l)
+      (subst (λ k. WritesStoredChunk call (cause old i k) i numbers r old new j) count w) l)
 
-  pub strip_draws : WritesChunk write_strip (write_strip_cause old i n 0) i numbers r old new j
+  pub strip_draws : WritesStoredChunk write_strip (write_strip_cause old i n 0) i numbers r old new j
       → ((m : Model) → Stands old.kind old.bytes m → LeavesChunk write_strip i numbers r old new j m)
       → StripDraws i given (reply_to r) old new j
   strip_draws w l = drawn_by write_strip (λ file i k. write_strip_cause file i k 0) strips_store w l
 
-  pub chunk_draws : WritesChunk write_chunk (write_chunk_cause old i n 0) i numbers r old new j
+  pub chunk_draws : WritesStoredChunk write_chunk (write_chunk_cause old i n 0) i numbers r old new j
       → ((m : Model) → Stands old.kind old.bytes m → LeavesChunk write_chunk i numbers r old new j m)
       → ChunkDraws i given (reply_to r) old new j
   chunk_draws w l = drawn_by write_chunk (λ file i k. write_chunk_cause file i k 0) chunks_store w l

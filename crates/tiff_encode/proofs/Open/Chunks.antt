@@ -9,7 +9,7 @@ use Rattle.tiff_value.specs.Packed.{IsStored}
 use Rattle.tiff_page.specs.Counts.{all_chunks}
 use Rattle.tiff_page.specs.Rect.{rect}
 use Rattle.tiff_encode.specs.FileBytes.{offset_len}
-use Rattle.tiff_encode.specs.Model.{In, Region, Model, with_region}
+use Rattle.tiff_encode.specs.Model.{In, ByteRegion, Model, with_region}
 use Rattle.tiff_encode.specs.Machine.{FileState, Chunk, OpenImage}
 use Rattle.tiff_encode.specs.Chunks.{image_page, chunk_samples, is_left, next_chunk_sample_count}
 use Rattle.tiff_encode.specs.Causes.{end_of, is_past, chunk_cause, write_chunk_cause, write_strip_cause}
@@ -118,7 +118,7 @@ Standing m i offset count samples =
 
 module _ (file : FileState) (m : Model) (i : OpenImage) (samples : List (List ℕ)) (numbers stored : List ℕ) where
   -- the region, the chunk, the model, the image and the samples then
-  abbrev region : Region
+  abbrev region : ByteRegion
   region = record { offset = end_of file; bytes = stored }
 
   abbrev chunk : Chunk

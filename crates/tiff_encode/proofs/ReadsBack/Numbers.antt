@@ -15,7 +15,7 @@ use Rattle.tiff_base.specs.Number.{number}
 use Rattle.tiff_page.specs.Page.{PageRecord}
 use Rattle.tiff_page.specs.Layout.{row_bits, row_bytes, shown}
 use Rattle.tiff_page.specs.Row.{IsSize}
-use Rattle.tiff_page.specs.Pixels.{each_to, width_of, planar_or, shown_sample, number_byte, region_byte, whole_image, byte_at, image_bytes, numbers_in}
+use Rattle.tiff_page.specs.Pixels.{each_to, width_of, planar_or, shown_sample, number_byte, region_byte, image_region, byte_at, image_bytes, numbers_in}
 use Rattle.tiff_page.proofs.ChunkRows.{bits_are}
 use Rattle.tiff_page.proofs.Rows.{each_same, digits, little_digits, some_size}
 
@@ -163,7 +163,7 @@ module _ (file : List ℕ) (p : PageRecord) (color : ColorType) (size : ℕ) (de
       abbrev x : ℕ
       x = shown_sample file LittleEndian p (n / s % p.width) (n / s / p.width) (n % s)
 
-      number_byte_is : number_byte file LittleEndian p color (whole_image file LittleEndian p) (0 + 0) (n / s / p.width) k ≡ x / 256 ^ j % 256
+      number_byte_is : number_byte file LittleEndian p color (image_region file LittleEndian p) (0 + 0) (n / s / p.width) k ≡ x / 256 ^ j % 256
       number_byte_is =
           let a : 0 + k / (p.depth / 8) / s ≡ n / s % p.width = ap (λ (m : ℕ). 0 + m / s) number_is ∙ omega (arith, column_is) in
           let b : 0 + n / s / p.width ≡ n / s / p.width = omega arith in
@@ -173,7 +173,7 @@ module _ (file : List ℕ) (p : PageRecord) (color : ColorType) (size : ℕ) (de
           ∙ first_plane p.planar n color in
           λ t. shown_sample file LittleEndian p (a t) (b t) (d t) / 256 ^ offset_is t % 256
 
-      byte_is : byte_at file LittleEndian p color (whole_image file LittleEndian p) stride 1 i ≡ Some (x / 256 ^ j % 256)
+      byte_is : byte_at file LittleEndian p color (image_region file LittleEndian p) stride 1 i ≡ Some (x / 256 ^ j % 256)
       unfolding byte_at
       byte_is =
           let first : i / (stride * p.height) ≡ 0 = div-eq_of_lt i_within in
@@ -181,13 +181,13 @@ module _ (file : List ℕ) (p : PageRecord) (color : ColorType) (size : ℕ) (de
           let row : i % (stride * p.height) / stride ≡ n / s / p.width = ap (λ (m : ℕ). m / stride) rest ∙ row_is in
           let tested : nat_lt k stride ≡ true = lt-ltb k stride (omega (arith, k_within, stride_is)) in
           let deep_enough : nat_lt p.depth 8 ≡ false = le-ltb p.depth 8 (omega (arith, deep, some_size size is_size)) in
-          let P : ℕ → Type 0 = λ m. cond (nat_lt (i / (stride * p.height)) 1 && nat_lt m stride) (Some (region_byte file LittleEndian p color (whole_image file LittleEndian p) (0 + i / (stride * p.height)) (i % (stride * p.height) / stride) m)) None ≡ Some (x / 256 ^ j % 256) in
+          let P : ℕ → Type 0 = λ m. cond (nat_lt (i / (stride * p.height)) 1 && nat_lt m stride) (Some (region_byte file LittleEndian p color (image_region file LittleEndian p) (0 + i / (stride * p.height)) (i % (stride * p.height) / stride) m)) None ≡ Some (x / 256 ^ j % 256) in
           subst P (sym rest_is) (rw (first, tested, deep_enough, row) (ap (λ (m : ℕ). Some m) number_byte_is))
 
       pub byte_there : slice_index bytes i ≡ x / 256 ^ j % 256
       unfolding image_bytes
       byte_there =
-          let at : ℕ → ℕ = λ m. unwrap_or (byte_at file LittleEndian p color (whole_image file LittleEndian p) stride 1 m) 0 in
+          let at : ℕ → ℕ = λ m. unwrap_or (byte_at file LittleEndian p color (image_region file LittleEndian p) stride 1 m) 0 in
           get_or-map-range_with_len at 0 (stride * p.height) i i 0 i_within (omega arith)
           ∙ ap (λ o. unwrap_or o 0) byte_is
 
@@ -206,7 +206,7 @@ module _ (file : List ℕ) (p : PageRecord) (color : ColorType) (size : ℕ) (de
   count_is : div_ceil (length bytes) size ≡ p.height * p.width * s
   unfolding image_bytes
   count_is =
-      let at : ℕ → ℕ = λ m. unwrap_or (byte_at file LittleEndian p color (whole_image file LittleEndian p) stride 1 m) 0 in
+      let at : ℕ → ℕ = λ m. unwrap_or (byte_at file LittleEndian p color (image_region file LittleEndian p) stride 1 m) 0 in
       let l : length bytes ≡ stride * p.height = length-map-range_with_len at 0 (stride * p.height) in
       let n : ℕ = p.height * p.width * s in
       let e : n * size ≡ n * size + 0 = omega arith in

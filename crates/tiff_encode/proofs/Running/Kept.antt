@@ -13,7 +13,7 @@ use Rattle.tiff_encode.specs.Machine.{FileState, OpenDirectory, WriteOutcome, Wr
 use Rattle.tiff_encode.specs.Causes.{write_buf_cause, write_data_cause, write_data_buf_cause}
 use Rattle.tiff_encode.specs.Calls.{with_field, placed_field, appends, write_entry, write_entry_buf, write_entry_bytes, write_tag, write_tag_buf, write_data, write_data_buf, extend_from}
 use Rattle.tiff_encode.specs.JobValues.{value_data, buffer_in}
-use Rattle.tiff_encode.specs.Jobs.{Standing, IsDone, Refuses, Changes, Replies, Extends, DirectoryStepped, AllStepped}
+use Rattle.tiff_encode.specs.Jobs.{Standing, IsDone, Refuses, Changes, Replies, ExtendStep, DirectoryStepped, AllStepped}
 use Rattle.tiff_encode.proofs.Slices.{ok_inj}
 use Rattle.tiff_encode.proofs.Joining.{IsAdding, Adds, adding, refusal_adds, caused_adds, bind_adds, answers_adding, appends_adds, placed_adds, entry_adds, entry_bytes_adds}
 use Rattle.tiff_encode.proofs.Data.Calls.{bind_answered}
@@ -154,7 +154,7 @@ pub record IsKept (old : Standing) (d : OpenDirectory) (new : Standing) (e : Ope
   pub parent : HasParentOf d e
 
 extends_kept : (fields : List _) (d : OpenDirectory) (r : Result StepReply TiffError) (old new : Standing) (e : OpenDirectory)
-    → Extends fields d r old new e → IsKept old d new e
+    → ExtendStep fields d r old new e → IsKept old d new e
 extends_kept fields d (Ok reply.Nothing) old new e h = record {
   file = same_by old.file new.file (ap (λ s. s.file) h.1);
   parent = ap (λ x. x.parent) h.0 ∙ extend_parent d fields;

@@ -16,7 +16,7 @@ use Rattle.tiff_encode.specs.Causes.{extra_samples_cause, rows_per_strip_cause, 
 use Rattle.tiff_encode.specs.Calls as calls
 use Rattle.tiff_encode.specs.Calls.{strips_of, tiles_of, without_field, with_directory_of, with_chunk, with_tags, write_tag, write_tags, appends, appends_chunk, resolution_tags}
 use Rattle.tiff_encode.specs.JobValues.{cut_to}
-use Rattle.tiff_encode.specs.Jobs.{Standing, Drawn, IsDone, Changes, ImageStepped, AllStepped, ResolvesInPart, Resolves, Stores, StoresBy}
+use Rattle.tiff_encode.specs.Jobs.{Standing, Drawn, IsDone, Changes, ImageStepped, AllStepped, ResolvesInPart, Resolves, StoreStep, StoresBy}
 use Rattle.tiff_encode.proofs.Image.StepsStored.{StoresIfFound}
 use Rattle.tiff_encode.proofs.Slices.{ok_inj}
 use Rattle.tiff_encode.proofs.Joining.{IsAdding, adding, answers_adding, bind_adding, appends_adds, tag_adds}
@@ -223,7 +223,7 @@ resolves_kept i u value (Err e) old new j h = elim h as (λ _. IsKeptImage old i
 
 module _ (call : OpenImage → ℕ → List ℕ → Writing OpenImage) (keeps : StoringKeeps call) where
   stores_kept : (i : OpenImage) (samples : List ℕ) (r : Result StepReply TiffError) (old new : Standing) (j : OpenImage)
-      → Stores call i samples r old new j → IsKeptImage old i new j
+      → StoreStep call i samples r old new j → IsKeptImage old i new j
   stores_kept i samples (Ok reply.Nothing) old new j h =
       let k = keeps (length samples) h.0 in record {
         file = done_same (call i (length samples) h.0 old.file) old new (k.adding i old.file) (Ok j) h.1.1;

@@ -21,7 +21,7 @@ use Rattle.tiff_encode.specs.Model.{Model, IsLink, header_link, header_model}
 use Rattle.tiff_encode.specs.Machine.{FileState, OpenDirectory, OpenImage}
 use Rattle.tiff_encode.specs.Calls.{image_in}
 use Rattle.tiff_encode.specs.Shows.{Shows, ShowsGray, gray_page, gray_image}
-use Rattle.tiff_encode.specs.ImageData.{whole_image, LeavesImage, FirstShown, GrayShown}
+use Rattle.tiff_encode.specs.ImageData.{image_of_samples, LeavesImage, FirstShown, GrayShown}
 use Rattle.tiff_encode.proofs.Slices.{ok_inj}
 use Rattle.tiff_encode.proofs.Header.{only_link}
 use Rattle.tiff_encode.proofs.Data.Begun.{new_is}
@@ -49,7 +49,7 @@ module _ (width height : ℕ) (samples file : List ℕ) (kind : FileKind) (offse
   abbrev image : OpenImage
   image = image_in state d (color_type Gray8) (inner_size Gray8) width height
 
-  shown_gray : Shows kind file offset (whole_image image samples) → Shows kind file offset (gray_image width height samples)
+  shown_gray : Shows kind file offset (image_of_samples image samples) → Shows kind file offset (gray_image width height samples)
   shown_gray s =
       let placed : PageRecord → PageRecord = λ p. record p { offsets = s.page.offsets; byte_counts = s.page.byte_counts } in
       let is : s.page ≡ record (gray_page width height) { offsets = s.page.offsets; byte_counts = s.page.byte_counts } =
@@ -73,7 +73,7 @@ gray_shown width height samples old new m k chain some packed predicted l =
       offset = first.offset;
       first = subst (λ kind. header_at new.bytes ≡ Ok (record { order = LittleEndian; kind = kind; first = first.offset })) k first.first;
       shows = shown_gray width height samples new.bytes Classic first.offset old n.0 packed predicted
-          (subst (λ i. Shows Classic new.bytes first.offset (whole_image i samples)) (sym n.1.0) (subst (λ kind. Shows kind new.bytes first.offset (whole_image l.image samples)) k first.shows));
+          (subst (λ i. Shows Classic new.bytes first.offset (image_of_samples i samples)) (sym n.1.0) (subst (λ kind. Shows kind new.bytes first.offset (image_of_samples l.image samples)) k first.shows));
     }
 
 -- a header's link is its only one

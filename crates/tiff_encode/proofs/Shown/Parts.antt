@@ -26,7 +26,7 @@ use Rattle.tiff_encode.specs.Machine.{FileState, OpenDirectory}
 use Rattle.tiff_encode.specs.Chunks.{all_samples, image_page, is_tile, is_planar, row_samples, chunk_samples, cut_out, chunks_left, part, parts_left, sample_in}
 use Rattle.tiff_encode.specs.Calls.{default_rows, image_in}
 use Rattle.tiff_encode.specs.Shows.{gray_page}
-use Rattle.tiff_encode.specs.ImageData.{whole_image, PartsShow}
+use Rattle.tiff_encode.specs.ImageData.{image_of_samples, PartsShow}
 use Rattle.tiff_encode.proofs.Shown.Offsets.{plane_within, sample_within, chunk_listed, offset_within, offset_same}
 use Rattle.tiff_encode.proofs.Drawing.{one_part}
 
@@ -212,7 +212,7 @@ gray_page_is file d width height m q =
 
 -- its samples are those of the pixels, row by row
 pub gray_sample_is : (file : FileState) (d : OpenDirectory) (width height : ℕ) (samples : List ℕ) (x y sample : ℕ) → sample < 1
-    → (whole_image (image_in file d (color_type Gray8) (inner_size Gray8) width height) samples).sample_at x y sample
+    → (image_of_samples (image_in file d (color_type Gray8) (inner_size Gray8) width height) samples).sample_at x y sample
     ≡ slice_index samples (y * width + x)
 unfolding color_type
 gray_sample_is file d width height samples x y sample l = ap (λ n. slice_index samples n) (omega (arith, l))

@@ -11,7 +11,7 @@ ghost use Rattle.tiff_encode.specs.ImageData.{LeavesChunk, LeavesData, LeavesNew
 ghost use Rattle.tiff_encode.specs.Leaves.{LeavesLinked};
 ghost use Rattle.tiff_encode.specs.Model.{IsLink, Model, Stands};
 ghost use Rattle.tiff_encode.specs.Open.{HoldsOpen, model_by};
-ghost use Rattle.tiff_encode.specs.Storing.{WritesChunk};
+ghost use Rattle.tiff_encode.specs.Storing.{WritesStoredChunk};
 
 use crate::encoder::TiffEncoder;
 use crate::encoder::directory_encoder::DirectoryEncoder;
@@ -119,7 +119,7 @@ impl<'a, W: Sink, K: TiffKind, C: ColorType> DirectoryEncoder<'a, W, K, Drawing<
     /// still the next.
     pub fn write_chunk(&mut self, samples: &[C::Inner]) -> TiffResult<()>
         ensures same_reference { self.new.encoder.ghost_name ≡ self.old.encoder.ghost_name }
-        ensures answer { WritesChunk calls.write_chunk (write_chunk_cause self.old.encoder.now self.old.state
+        ensures answer { WritesStoredChunk calls.write_chunk (write_chunk_cause self.old.encoder.now self.old.state
             (length samples.now) 0) self.old.state (map (sample_number (type_size C.Inner.value_type) C.Inner.bits) samples.now)
             result self.old.encoder.now self.new.encoder.now self.new.state }
 
@@ -144,7 +144,7 @@ impl<'a, W: Sink, K: TiffKind, C: ColorType> DirectoryEncoder<'a, W, K, Drawing<
     /// tiles: `UsageError(InvalidChunkType(Strip, Tile))`.
     pub fn write_strip(&mut self, samples: &[C::Inner]) -> TiffResult<()>
         ensures same_reference { self.new.encoder.ghost_name ≡ self.old.encoder.ghost_name }
-        ensures answer { WritesChunk calls.write_strip (write_strip_cause self.old.encoder.now self.old.state
+        ensures answer { WritesStoredChunk calls.write_strip (write_strip_cause self.old.encoder.now self.old.state
             (length samples.now) 0) self.old.state (map (sample_number (type_size C.Inner.value_type) C.Inner.bits) samples.now)
             result self.old.encoder.now self.new.encoder.now self.new.state }
 

@@ -9,7 +9,7 @@ ghost use Rattle.tiff_encode.specs.Causes.{end_of, write_chunk_cause, write_stri
 ghost use Rattle.tiff_encode.specs.Chunks.{next_chunk_sample_count};
 ghost use Rattle.tiff_encode.specs.Machine.{compression_method};
 ghost use Rattle.tiff_encode.specs.Placing.{Checks};
-ghost use Rattle.tiff_encode.specs.Storing.{chunk_test, AppendsChunk, WritesChunk};
+ghost use Rattle.tiff_encode.specs.Storing.{chunk_test, AppendsChunk, WritesStoredChunk};
 ghost use Rattle.tiff_encode.specs.Stored as stored;
 
 use crate::encoder::TiffEncoder;
@@ -146,7 +146,7 @@ impl<W: Sink, K: TiffKind> TiffEncoder<W, K> {
         image: &mut Drawing<C>,
         samples: &[C::Inner],
     ) -> TiffResult<()>
-        ensures { WritesChunk calls.write_chunk (write_chunk_cause self.old image.old (length samples.now) 0) image.old
+        ensures { WritesStoredChunk calls.write_chunk (write_chunk_cause self.old image.old (length samples.now) 0) image.old
             (map (sample_number (type_size C.Inner.value_type) C.Inner.bits) samples.now) result self.old self.new image.new }
     {
         match self.chunk_offset(image, samples.len(), 0) {
@@ -169,7 +169,7 @@ impl<W: Sink, K: TiffKind> TiffEncoder<W, K> {
         image: &mut Drawing<C>,
         samples: &[C::Inner],
     ) -> TiffResult<()>
-        ensures { WritesChunk calls.write_strip (write_strip_cause self.old image.old (length samples.now) 0) image.old
+        ensures { WritesStoredChunk calls.write_strip (write_strip_cause self.old image.old (length samples.now) 0) image.old
             (map (sample_number (type_size C.Inner.value_type) C.Inner.bits) samples.now) result self.old self.new image.new }
     {
         match self.end() {

@@ -197,7 +197,7 @@ answered : (stored : List ℕ) → stored ≡ 7 ∷ [] → jobs.IsRefused (write
 unfolding write_strip write_strip_cause next_chunk_sample_count rect
 answered stored p d = ok_err (subst (λ x. (write_strip new_pixel 1 x after_begin.file).answer ≡ Err OutOfMemory) p d.1.answer)
 
-half_cases : jobs.Stores write_strip new_pixel (7 ∷ []) (Err OutOfMemory) after_begin after_strip new_pixel → ⊥
+half_cases : jobs.StoreStep write_strip new_pixel (7 ∷ []) (Err OutOfMemory) after_begin after_strip new_pixel → ⊥
 unfolding unpacked_chunk differences
 half_cases (st, inl n) = unequal 24 25 (lit< tt) (sym (ap (λ (x : Standing). length x.file.bytes) n.1))
 half_cases (st, inr (stored, (p, inl d))) = answered stored p d

@@ -17,7 +17,7 @@ use Rattle.tiff_base.specs.Field.{Field, In, IsEntry, AreEntries}
 use Rattle.tiff_base.specs.SourceAndSink.{sink_error}
 use Rattle.tiff_base.specs.Tags.{named_tag, named_method, named_format, unit_of}
 use Rattle.tiff_value.specs.ColorType.{ColorTypeRecord, IsColorType, is_gray_8}
-use Rattle.tiff_value.specs.Written.{Written, new_writer, writer_after, writer_after_counted, SinkFails, IsStopped, IsCut, WritesRaw, Writes}
+use Rattle.tiff_value.specs.Written.{Written, new_writer, writer_after, writer_after_counted, SinkFails, IsStopped, IsCut, WritesRaw, WritesCounted}
 
 abbrev pub Never : Type 0 → Type 0
 Never A = A → ⊥
@@ -203,11 +203,11 @@ cut_twice = Never (IsCut (8 ∷ 9 ∷ []) (IoError Device) three (record broken 
 abbrev pub writes : Type 0
 writes =
     WritesRaw {A = ℕ} (9 ∷ []) three (record three { bytes = 1 ∷ 9 ∷ 3 ∷ []; at = 2 }) (Ok 0)
-    × Writes {A = ℕ} (9 ∷ []) three (record three { bytes = 1 ∷ 9 ∷ 3 ∷ []; at = 2; last = 1 }) (Ok 0)
+    × WritesCounted {A = ℕ} (9 ∷ []) three (record three { bytes = 1 ∷ 9 ∷ 3 ∷ []; at = 2; last = 1 }) (Ok 0)
 
 -- none after a failed write
 abbrev pub writes_not : Type 0
-writes_not = Never (Writes {A = ℕ} [] broken broken (Ok 0))
+writes_not = Never (WritesCounted {A = ℕ} [] broken broken (Ok 0))
 
 -- ---- names and color types
 

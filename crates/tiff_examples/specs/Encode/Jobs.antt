@@ -212,13 +212,13 @@ changes_uncaused = (new : Standing) (t : OpenDirectory)
 
 -- fields that are given, of which want of memory may leave some out
 abbrev pub extends_all : Type 0
-extends_all = jobs.Extends ((256, long_field 5) ∷ []) (new_directory None false) (Ok reply.Nothing) first first (with_fields (new_directory None false) ((256, long_field 5) ∷ []))
+extends_all = jobs.ExtendStep ((256, long_field 5) ∷ []) (new_directory None false) (Ok reply.Nothing) first first (with_fields (new_directory None false) ((256, long_field 5) ∷ []))
 
 abbrev pub extends_none : Type 0
-extends_none = jobs.Extends ((256, long_field 5) ∷ []) (new_directory None false) (Err OutOfMemory) first first (new_directory None false)
+extends_none = jobs.ExtendStep ((256, long_field 5) ∷ []) (new_directory None false) (Err OutOfMemory) first first (new_directory None false)
 
 abbrev pub extends_fault : Type 0
-extends_fault = (d : OpenDirectory) → jobs.Extends [] (new_directory None false) (Err IntSizeError) first first d → ⊥
+extends_fault = (d : OpenDirectory) → jobs.ExtendStep [] (new_directory None false) (Err IntSizeError) first first d → ⊥
 
 -- one pixel, with no chunk yet, and with its strip
 abbrev pub drawn : Drawn

@@ -11,7 +11,7 @@ use Rattle.tiff_encode.specs.Laws.{IsListable}
 use Rattle.tiff_encode.specs.Machine.{FileState, does}
 use Rattle.tiff_encode.specs.Leaves.{Leaves, LeavesLinked, LeavesTorn, IsGiven}
 use Rattle.tiff_encode.specs.Deeds.{Deed, Appended, Linked}
-use Rattle.tiff_encode.specs.FileWrites.{StandsAtEnd, Appends, Links}
+use Rattle.tiff_encode.specs.FileWrites.{StandsAtEnd, AppendsToFile, PointsLink}
 use Rattle.tiff_encode.specs.Kind.{WritesHeader}
 use Rattle.tiff_examples.specs.OneValue.{long_field}
 use Rattle.tiff_examples.specs.Encode.FileBytes.{begun, fresh, at_end}
@@ -70,10 +70,10 @@ link_past = StandsAtEnd Classic (record at_end { bytes = header; at = 8 }) 5 →
 
 -- a byte is appended, and not forgotten
 abbrev pub appends_one : Type 0
-appends_one = Appends {A = ℕ} (7 ∷ []) fresh (begun (header ++ (7 ∷ []))) (Ok 0)
+appends_one = AppendsToFile {A = ℕ} (7 ∷ []) fresh (begun (header ++ (7 ∷ []))) (Ok 0)
 
 abbrev pub appends_none : Type 0
-appends_none = Appends {A = ℕ} (7 ∷ []) fresh fresh (Ok 0) → ⊥
+appends_none = AppendsToFile {A = ℕ} (7 ∷ []) fresh fresh (Ok 0) → ⊥
 
 -- a BigTIFF header goes out behind two bytes; of a classic one the link is the last write
 abbrev pub header_goes : Type 0
@@ -84,7 +84,7 @@ header_counted = WritesHeader {A = ℕ} Classic at_end (record at_end { bytes = 
 
 -- the header's link points to 25
 abbrev pub links_25 : Type 0
-links_25 = Links {A = ℕ} 4 25 fresh (record fresh { bytes = 0x49 ∷ 0x49 ∷ 0x2a ∷ 0 ∷ 25 ∷ 0 ∷ 0 ∷ 0 ∷ [] }) (Ok 0)
+links_25 = PointsLink {A = ℕ} 4 25 fresh (record fresh { bytes = 0x49 ∷ 0x49 ∷ 0x2a ∷ 0 ∷ 25 ∷ 0 ∷ 0 ∷ 0 ∷ [] }) (Ok 0)
 
 abbrev pub links_stay : Type 0
-links_stay = Links {A = ℕ} 4 25 fresh fresh (Ok 0) → ⊥
+links_stay = PointsLink {A = ℕ} 4 25 fresh fresh (Ok 0) → ⊥

@@ -9,7 +9,7 @@ use Rattle.tiff_base.specs.declared.tags.«Type».TheVariants.{SHORT}
 use Rattle.tiff_base.specs.Field.{Field}
 use Rattle.tiff_base.specs.Directory.{directory_at}
 use Rattle.tiff_encode.specs.Laws.{DeedFits, DeedsFit, AreAppending}
-use Rattle.tiff_encode.specs.Model.{BytesAreApart, In, FinishedDirectory, HandedField, Region, Model, IsLink, IsClear, IsApart, own_link, whole_len, Stands, header_model, relinked, with_directory, with_region, with_handed, Grows}
+use Rattle.tiff_encode.specs.Model.{BytesAreApart, In, FinishedDirectory, HandedField, ByteRegion, Model, IsLink, IsClear, IsApart, own_link, whole_len, Stands, header_model, relinked, with_directory, with_region, with_handed, Grows}
 use Rattle.tiff_encode.specs.Shows.{Image, Shows, ShowsFirst, ShowsGray, gray_image}
 use Rattle.tiff_encode.specs.Deeds.{Appended, Handed, Listed, Linked, after_deed, bytes_after, all_appended, standing_field, model_after}
 use Rattle.tiff_encode.specs.Machine.{begun_file, answers, gives, does, by_cause, ◌>>=◌}
@@ -108,7 +108,7 @@ abbrev pub new_link : Type 0
 new_link = (with_directory Classic (relinked Classic (header_model Classic) 22 5) directory_8).links 22 ≡ 0
 
 -- the model with more has what the model had
-abbrev pub one_region : Region
+abbrev pub one_region : ByteRegion
 one_region = record { offset = 8; bytes = 7 ∷ [] }
 
 abbrev pub grows : Type 0

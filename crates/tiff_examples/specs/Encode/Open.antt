@@ -10,7 +10,7 @@ use Rattle.tiff_encode.specs.Model.{Model, header_model}
 use Rattle.tiff_encode.specs.Machine.{FileState, OpenImage}
 use Rattle.tiff_encode.specs.Calls as calls
 use Rattle.tiff_encode.specs.Calls.{strips_of}
-use Rattle.tiff_encode.specs.ImageData.{whole_image, WritesDataBy, WritesImageData, ImageIsNotBegun, WritesImage}
+use Rattle.tiff_encode.specs.ImageData.{image_of_samples, WritesDataBy, WritesImageData, ImageIsNotBegun, WritesImage}
 use Rattle.tiff_encode.specs.Open.{HoldsEnded}
 use Rattle.tiff_examples.specs.Encode.Calls.{header}
 use Rattle.tiff_examples.specs.Encode.Causes.{new_file, file_with, gray, rgb, pixel}
@@ -28,17 +28,17 @@ twelve = 1 ∷ 2 ∷ 3 ∷ 4 ∷ 5 ∷ 6 ∷ 7 ∷ 8 ∷ 9 ∷ 10 ∷ 11 ∷ 12 
 
 -- the second pixel of the first row, the first of the second, and the last sample of all
 abbrev pub second_pixel : Type 0
-second_pixel = (whole_image four_pixels twelve).sample_at 1 0 0 ≡ 4
+second_pixel = (image_of_samples four_pixels twelve).sample_at 1 0 0 ≡ 4
 
 abbrev pub second_row : Type 0
-second_row = (whole_image four_pixels twelve).sample_at 0 1 0 ≡ 7
+second_row = (image_of_samples four_pixels twelve).sample_at 0 1 0 ≡ 7
 
 abbrev pub last_sample : Type 0
-last_sample = (whole_image four_pixels twelve).sample_at 1 1 2 ≡ 12
+last_sample = (image_of_samples four_pixels twelve).sample_at 1 1 2 ≡ 12
 
 -- extra samples are counted
 abbrev pub behind_extra : Type 0
-behind_extra = (whole_image (record four_pixels { extra = Unspecified ∷ [] }) twelve).sample_at 1 0 0 ≡ 5
+behind_extra = (image_of_samples (record four_pixels { extra = Unspecified ∷ [] }) twelve).sample_at 1 0 0 ≡ 5
 
 -- ---- how they are written
 

@@ -69,7 +69,7 @@ linked_back = AreLinked (accepted ((8, Some 8) ∷ [])) (8 ∷ []) (Some 8) → 
 
 -- the walk along a file goes so from one to the other, with this answer
 abbrev pub Steps : List ℕ → Walked → Result (Option DirectoryRecord) TiffError → Walked → Type 0
-Steps bytes before answer after = walk.Steps Classic LittleEndian bytes before answer after
+Steps bytes before answer after = walk.WalkSteps Classic LittleEndian bytes before answer after
 
 -- the first offset is entered, and then the second, behind it
 abbrev pub enters_first : Type 0
@@ -95,17 +95,17 @@ abbrev pub enters_back : Type 0
 enters_back = (directory : DirectoryRecord) (after : Walked) → walk.Enters Classic LittleEndian back_file one_entered directory after → ⊥
 
 abbrev pub back_refused : Type 0
-back_refused = walk.IsRefused Classic LittleEndian back_file one_entered (FormatError CycleInOffsets)
+back_refused = walk.NextIsRefused Classic LittleEndian back_file one_entered (FormatError CycleInOffsets)
 
 abbrev pub cut_refused : Type 0
-cut_refused = walk.IsRefused Classic LittleEndian cut_file two_entered (IoError UnexpectedEof)
+cut_refused = walk.NextIsRefused Classic LittleEndian cut_file two_entered (IoError UnexpectedEof)
 
 -- the second of three is, and where there is no next offset none is refused
 abbrev pub second_refused : Type 0
-second_refused = (e : TiffError) → walk.IsRefused Classic LittleEndian three_file one_entered e → ⊥
+second_refused = (e : TiffError) → walk.NextIsRefused Classic LittleEndian three_file one_entered e → ⊥
 
 abbrev pub none_refused : Type 0
-none_refused = (e : TiffError) → walk.IsRefused Classic LittleEndian three_file all_entered e → ⊥
+none_refused = (e : TiffError) → walk.NextIsRefused Classic LittleEndian three_file all_entered e → ⊥
 
 -- a step enters the next offset
 abbrev pub step_first : Type 0
@@ -129,10 +129,10 @@ step_back_ends = Steps back_file one_entered (Err (FormatError CycleInOffsets)) 
 
 -- the chain of a file from 8 on begins with this walk
 abbrev pub Begins : List ℕ → Walked → Type 0
-Begins bytes so_far = walk.Begins Classic LittleEndian bytes 8 so_far
+Begins bytes so_far = walk.ChainBegins Classic LittleEndian bytes 8 so_far
 
 abbrev pub Ends : List ℕ → Walked → Option TiffError → Type 0
-Ends bytes so_far end = walk.Ends Classic LittleEndian bytes 8 so_far end
+Ends bytes so_far end = walk.ChainEnds Classic LittleEndian bytes 8 so_far end
 
 abbrev pub begins_none : Type 0
 begins_none = Begins three_file none_entered

@@ -18,7 +18,7 @@ use Rattle.tiff_base.specs.declared.tags.SampleFormat.TheVariants as format
 use Rattle.tiff_ifd.specs.Limits.{unlimited}
 use Rattle.tiff_page.specs.declared.layout.DecodingSampleType.TheVariants as type
 use Rattle.tiff_page.specs.Page.{PageRecord}
-use Rattle.tiff_page.specs.Pixels.{whole_image, chunk_region}
+use Rattle.tiff_page.specs.Pixels.{image_region, chunk_region}
 use Rattle.tiff_page.specs.Image.{Decoded, image_of}
 use Rattle.tiff_page.specs.PixelCalls.{placed, read_image_bytes, read_image_to_buffer, read_chunk, read_chunk_bytes, read_chunk_to_buffer, read_coding_unit_bytes}
 use Rattle.tiff_examples.specs.Files.{gray_file}
@@ -138,7 +138,7 @@ tile_placed =
 
 abbrev pub image_placed : Type 0
 image_placed =
-    placed tiled_file LittleEndian tiled_page (color.Gray 8) (whole_image tiled_file LittleEndian tiled_page) 4 1
+    placed tiled_file LittleEndian tiled_page (color.Gray 8) (image_region tiled_file LittleEndian tiled_page) 4 1
     (replicate 13 170)
     ≡ (1 ∷ 2 ∷ 3 ∷ 170 ∷ 4 ∷ 5 ∷ 6 ∷ 170 ∷ 7 ∷ 8 ∷ 9 ∷ 170 ∷ 170 ∷ [])
 

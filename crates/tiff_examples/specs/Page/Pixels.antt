@@ -18,7 +18,7 @@ use Rattle.tiff_ifd.specs.Limits.{unlimited}
 use Rattle.tiff_page.specs.declared.layout.DecodingSampleType.TheVariants as type
 use Rattle.tiff_page.specs.Page.{PageRecord}
 use Rattle.tiff_page.specs.PixelFault.{form_fault}
-use Rattle.tiff_page.specs.Pixels.{shown_sample, byte_at, image_bytes, numbers_in, whole_image, chunk_region}
+use Rattle.tiff_page.specs.Pixels.{shown_sample, byte_at, image_bytes, numbers_in, image_region, chunk_region}
 use Rattle.tiff_page.specs.Image.{image_of}
 use Rattle.tiff_examples.specs.Files.{gray_file}
 use Rattle.tiff_examples.specs.Page.Layout.{gray_page}
@@ -176,18 +176,18 @@ tiled_bytes =
 -- a buffer of rows 4 apart: position 4 is the second row's first pixel, and position 3 a gap
 abbrev pub second_row : Type 0
 second_row =
-    byte_at tiled_file LittleEndian tiled_page (color.Gray 8) (whole_image tiled_file LittleEndian tiled_page) 4 1 4
+    byte_at tiled_file LittleEndian tiled_page (color.Gray 8) (image_region tiled_file LittleEndian tiled_page) 4 1 4
     ≡ Some 4
 
 abbrev pub in_gap : Type 0
 in_gap =
-    byte_at tiled_file LittleEndian tiled_page (color.Gray 8) (whole_image tiled_file LittleEndian tiled_page) 4 1 3
+    byte_at tiled_file LittleEndian tiled_page (color.Gray 8) (image_region tiled_file LittleEndian tiled_page) 4 1 3
     ≡ None
 
 -- past the only plane
 abbrev pub past_plane : Type 0
 past_plane =
-    byte_at tiled_file LittleEndian tiled_page (color.Gray 8) (whole_image tiled_file LittleEndian tiled_page) 4 1 12
+    byte_at tiled_file LittleEndian tiled_page (color.Gray 8) (image_region tiled_file LittleEndian tiled_page) 4 1 12
     ≡ None
 
 -- of the tile in the lower right corner there is one pixel
@@ -214,7 +214,7 @@ first_plane = image_bytes (0x01 ∷ 0x04 ∷ 0x02 ∷ 0x05 ∷ 0x03 ∷ 0x06 ∷
 abbrev pub third_plane : Type 0
 third_plane =
     byte_at (0x01 ∷ 0x04 ∷ 0x02 ∷ 0x05 ∷ 0x03 ∷ 0x06 ∷ []) LittleEndian planar_row (color.RGB 8)
-    (whole_image (0x01 ∷ 0x04 ∷ 0x02 ∷ 0x05 ∷ 0x03 ∷ 0x06 ∷ []) LittleEndian planar_row) 2 3 5
+    (image_region (0x01 ∷ 0x04 ∷ 0x02 ∷ 0x05 ∷ 0x03 ∷ 0x06 ∷ []) LittleEndian planar_row) 2 3 5
     ≡ Some 6
 
 -- numbers of two bytes each; the last is filled up by zeros
@@ -459,7 +459,7 @@ planar_4_page = record (row_page 2) {
 abbrev pub planar_4_bits : Type 0
 planar_4_bits =
     byte_at (0x12 ∷ 0x34 ∷ []) LittleEndian planar_4_page (color.Multiband 4 2)
-    (whole_image (0x12 ∷ 0x34 ∷ []) LittleEndian planar_4_page) 1 2 1
+    (image_region (0x12 ∷ 0x34 ∷ []) LittleEndian planar_4_page) 1 2 1
     ≡ Some 0x34
 
 -- a packed strip is cut at its byte count

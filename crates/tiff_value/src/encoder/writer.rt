@@ -7,7 +7,7 @@ ghost use Rattle.tiff_base.specs.declared.tags.CompressionMethod.TheVariants as 
 ghost use Rattle.tiff_value.specs.Compressors.{compressor_method};
 ghost use Rattle.tiff_value.specs.Data.{signed_le};
 ghost use Rattle.tiff_value.specs.Stored.{StoresBytes};
-ghost use Rattle.tiff_value.specs.Written.{writer_after, new_writer, SinkFails, Writes, WritesRaw};
+ghost use Rattle.tiff_value.specs.Written.{writer_after, new_writer, SinkFails, WritesCounted, WritesRaw};
 
 use crate::encoder::compression::{CompressionAlgorithm, Compressor, Uncompressed};
 use std::alloc::Global;
@@ -184,7 +184,7 @@ impl<W: Sink> TiffWriter<W> {
     /// Writes bytes as they are (this project's). After an earlier fault: `UsageError(WriterFailed)`, and nothing is
     /// done. A fault of the sink: `IoError(Device)` or `OutOfMemory`, and a beginning of the bytes is written.
     pub fn write_plain(&mut self, bytes: &[u8]) -> TiffResult<()>
-        ensures { Writes bytes.now self.old self.new result }
+        ensures { WritesCounted bytes.now self.old self.new result }
     {
         match self.write_raw(bytes) {
             Ok(()) => {
@@ -197,70 +197,70 @@ impl<W: Sink> TiffWriter<W> {
 
     /// Writes a byte. Errors are those of `write_plain`.
     pub fn write_u8(&mut self, n: u8) -> TiffResult<()>
-        ensures { Writes (le 1 n) self.old self.new result }
+        ensures { WritesCounted (le 1 n) self.old self.new result }
     {
         self.write_plain(&n.to_le_bytes())
     }
 
     /// Writes a signed byte. Errors are those of `write_plain`.
     pub fn write_i8(&mut self, n: i8) -> TiffResult<()>
-        ensures { Writes (signed_le w8 n) self.old self.new result }
+        ensures { WritesCounted (signed_le w8 n) self.old self.new result }
     {
         self.write_plain(&n.to_le_bytes())
     }
 
     /// Writes 2 bytes, the least first. Errors are those of `write_plain`.
     pub fn write_u16(&mut self, n: u16) -> TiffResult<()>
-        ensures { Writes (le 2 n) self.old self.new result }
+        ensures { WritesCounted (le 2 n) self.old self.new result }
     {
         self.write_plain(&n.to_le_bytes())
     }
 
     /// Writes a signed number of 2 bytes, the least byte first. Errors are those of `write_plain`.
     pub fn write_i16(&mut self, n: i16) -> TiffResult<()>
-        ensures { Writes (signed_le w16 n) self.old self.new result }
+        ensures { WritesCounted (signed_le w16 n) self.old self.new result }
     {
         self.write_plain(&n.to_le_bytes())
     }
 
     /// Writes 4 bytes, the least first. Errors are those of `write_plain`.
     pub fn write_u32(&mut self, n: u32) -> TiffResult<()>
-        ensures { Writes (le 4 n) self.old self.new result }
+        ensures { WritesCounted (le 4 n) self.old self.new result }
     {
         self.write_plain(&n.to_le_bytes())
     }
 
     /// Writes a signed number of 4 bytes, the least byte first. Errors are those of `write_plain`.
     pub fn write_i32(&mut self, n: i32) -> TiffResult<()>
-        ensures { Writes (signed_le w32 n) self.old self.new result }
+        ensures { WritesCounted (signed_le w32 n) self.old self.new result }
     {
         self.write_plain(&n.to_le_bytes())
     }
 
     /// Writes 8 bytes, the least first. Errors are those of `write_plain`.
     pub fn write_u64(&mut self, n: u64) -> TiffResult<()>
-        ensures { Writes (le 8 n) self.old self.new result }
+        ensures { WritesCounted (le 8 n) self.old self.new result }
     {
         self.write_plain(&n.to_le_bytes())
     }
 
     /// Writes a signed number of 8 bytes, the least byte first. Errors are those of `write_plain`.
     pub fn write_i64(&mut self, n: i64) -> TiffResult<()>
-        ensures { Writes (signed_le w64 n) self.old self.new result }
+        ensures { WritesCounted (signed_le w64 n) self.old self.new result }
     {
         self.write_plain(&n.to_le_bytes())
     }
 
     /// Writes the bits of a floating number of 4 bytes, the least byte first. Errors are those of `write_plain`.
     pub fn write_f32(&mut self, n: Bits32) -> TiffResult<()>
-        ensures { Writes (le 4 n.0) self.old self.new result }
+        ensures { WritesCounted (le 4 n.0) self.old self.new result }
     {
         self.write_plain(&n.0.to_le_bytes())
     }
 
     /// Writes the bits of a floating number of 8 bytes, the least byte first. Errors are those of `write_plain`.
     pub fn write_f64(&mut self, n: Bits64) -> TiffResult<()>
-        ensures { Writes (le 8 n.0) self.old self.new result }
+        ensures { WritesCounted (le 8 n.0) self.old self.new result }
     {
         self.write_plain(&n.0.to_le_bytes())
     }

@@ -5,7 +5,7 @@ use Rattle.tiff_page.specs.Laws.{HasSides}
 use Rattle.tiff_page.specs.Layout.{row_bytes}
 use Rattle.tiff_page.specs.BufferPositions.{Writes, IsIn, in_rect, chunk_byte}
 use Rattle.tiff_page.specs.Rect.{rect}
-use Rattle.tiff_page.specs.ChunkData.{left_of}
+use Rattle.tiff_page.specs.ChunkData.{bytes_left}
 use Rattle.tiff_page.specs.PageView as view
 use Rattle.tiff_page.proofs.Bands.{rows_below, band_of_numbers, band_put, band_bytes_are, band_held, next_band, short_band}
 use Rattle.tiff_page.proofs.adjacent_rows.read_together.Goals as goal
@@ -76,8 +76,8 @@ loop-row-preserved g c =
     let sides = sides_of c.args.page.now in
     let stored = c.requires.read.stored in
     let together = c.requires.together in
-    let ahead = left_of bytes c.loop-row.position in
-    let rest = left_of bytes c.in-Ok.rest in
+    let ahead = bytes_left bytes c.loop-row.position in
+    let rest = bytes_left bytes c.in-Ok.rest in
     let from = c.loop-row.invariant.position in
     let len = row_bytes p color (rect p k).width in
     let old = g.W.RowWriter.bytes c.args.buf.now in

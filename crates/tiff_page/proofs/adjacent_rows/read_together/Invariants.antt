@@ -3,7 +3,7 @@ use Rattle.tiff_page.specs.Layout.{row_bytes}
 use Rattle.tiff_page.specs.Pixels.{chunk_data}
 use Rattle.tiff_page.specs.BufferPositions.{Writes, IsIn, in_rect, chunk_byte}
 use Rattle.tiff_page.specs.Rect.{rect}
-use Rattle.tiff_page.specs.ChunkData.{left_of}
+use Rattle.tiff_page.specs.ChunkData.{bytes_left}
 use Rattle.tiff_page.specs.PageView as view
 use Rattle.tiff_page.proofs.adjacent_rows.read_together.Given as goal
 
@@ -18,7 +18,7 @@ invariant-loop-row g l =
       within : l.row ≤ (rect p l.index).height;
       same_bytes : g.R.Source.bytes l.source ≡ bytes;
       count : g.R.Source.failures l.source ≡ g.R.Source.failures l.fn.source;
-      position : left_of bytes l.position ≡ drop (l.row * corner.stride) stored;
+      position : bytes_left bytes l.position ≡ drop (l.row * corner.stride) stored;
       enough : l.row * corner.stride ≤ length stored;
       written : Writes (IsIn corner.stride corner.top l.row corner.left (row_bytes p l.color (rect p l.index).width)) (in_rect (chunk_byte bytes l.order p l.color l.index) corner.stride corner.top corner.left) (g.W.RowWriter.bytes l.fn.buf) (g.W.RowWriter.bytes l.buf);
     }

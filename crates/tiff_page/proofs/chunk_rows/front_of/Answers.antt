@@ -1,6 +1,6 @@
 use Rattle.std.proofs.Common.{◌∙◌}
 use Rattle.std.specs.Prelude.{slice_index}
-use Rattle.tiff_page.specs.Pixels.{data_by}
+use Rattle.tiff_page.specs.Pixels.{data_by_method}
 use Rattle.tiff_page.specs.PageView as view
 use Rattle.tiff_page.proofs.chunk_rows.front_of.Goals as goal
 
@@ -8,4 +8,4 @@ pub returns : goal.returns
 returns c = λ file order.
     let p = view.page c.args.page.now in
     c.new.ensures file order p
-    ∙ (λ t. data_by file order p c.args.page.now.method (slice_index (c.as_slice.ensures t) c.args.index) (slice_index (c.as_slice-2.ensures t) c.args.index))
+    ∙ (λ t. data_by_method file order p c.args.page.now.method (slice_index (c.as_slice.ensures t) c.args.index) (slice_index (c.as_slice-2.ensures t) c.args.index))

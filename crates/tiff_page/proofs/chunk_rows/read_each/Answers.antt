@@ -7,7 +7,7 @@ use Rattle.tiff_page.specs.Layout.{row_bytes}
 use Rattle.tiff_page.specs.Rect.{rect}
 use Rattle.tiff_page.specs.BufferPositions.{Writes, IsIn, in_rect, chunk_byte}
 use Rattle.tiff_page.specs.RowReads.{needed_of_row}
-use Rattle.tiff_page.specs.ChunkData.{left_of}
+use Rattle.tiff_page.specs.ChunkData.{bytes_left}
 use Rattle.tiff_page.specs.PageView as view
 use Rattle.tiff_page.proofs.ChunkRead.{row_below, width_within, row_some, row_bytes_are, row_held, next_row, too_short}
 use Rattle.tiff_page.proofs.Rects.{no_row, row_put_there, row_room}
@@ -102,9 +102,9 @@ loop-row-preserved g c =
     let stored = c.requires.read.stored in
     let wide : 0 < (rect p k).width = omega (arith, c.chunk_data_dimensions-width.ensures.wide, w) in
     let some : 0 < len = row_some p color (rect p k).width wide c.args.page.now.deep stored.shows in
-    let left = left_of bytes c.loop-row.position in
-    let rest = left_of bytes c.in-Ok.rest in
-    let next = left_of bytes c.in-Ok-pass.next in
+    let left = bytes_left bytes c.loop-row.position in
+    let rest = bytes_left bytes c.in-Ok.rest in
+    let next = bytes_left bytes c.in-Ok-pass.next in
     let from = c.loop-row.invariant.position rl in
     let held = row_held bytes order p color k sides stored listed row left rest given.row some rl (out ∙ n) from given.takes in
     let now : (row + 1 - 1) * stored_row_bytes p ≡ row * stored_row_bytes p = ap (λ (m : ℕ). m * stored_row_bytes p) (omega arith) in

@@ -4,7 +4,7 @@ use Rattle.tiff_page.specs.Pixels.{chunk_data, stored_row_bytes}
 use Rattle.tiff_page.specs.BufferPositions.{Writes, IsIn, in_rect, chunk_byte}
 use Rattle.tiff_page.specs.RowReads.{needed_of_row}
 use Rattle.tiff_page.specs.Rect.{rect}
-use Rattle.tiff_page.specs.ChunkData.{left_of}
+use Rattle.tiff_page.specs.ChunkData.{bytes_left}
 use Rattle.tiff_page.specs.PageView as view
 use Rattle.tiff_page.proofs.chunk_rows.read_each.Given as goal
 
@@ -18,7 +18,7 @@ invariant-loop-row g l =
     record {
       same_bytes : g.R.Source.bytes l.source ≡ bytes;
       count : g.R.Source.failures l.source ≡ g.R.Source.failures l.fn.source;
-      position : l.row < (rect p l.index).height → left_of bytes l.position ≡ drop (l.row * stored_row_bytes p) stored;
+      position : l.row < (rect p l.index).height → bytes_left bytes l.position ≡ drop (l.row * stored_row_bytes p) stored;
       enough : 0 < l.row → (l.row - 1) * stored_row_bytes p + needed_of_row p l.color len ≤ length stored;
       written : Writes (IsIn l.corner.stride l.corner.top l.row l.corner.left len) (in_rect (chunk_byte bytes l.order p l.color l.index) l.corner.stride l.corner.top l.corner.left) (g.W.RowWriter.bytes l.fn.buf) (g.W.RowWriter.bytes l.buf);
     }

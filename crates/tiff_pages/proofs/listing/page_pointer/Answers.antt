@@ -9,10 +9,10 @@ use Rattle.tiff_pages.proofs.Visits.{pointer_visit}
 use Rattle.tiff_pages.proofs.listing.page_pointer.Goals as goal
 
 pub pointer_told-requires : goal.pointer_told-requires
-pointer_told-requires g c = pointer_second c.args.decoder.now c.replies_to_both.new.decoder (call.SeekToImage c.args.page) c.in-Ok.seek c.in-Ok.pointer c.in-Ok.ensures
+pointer_told-requires g c = pointer_second c.args.decoder.now c.replies_to_both.new.decoder (call.SeekToImage c.args.page) c.in_ok-seek.seek c.in_ok-seek.pointer c.in_ok-seek.ensures
 
-pub returns-in-Ok : goal.returns-in-Ok
-returns-in-Ok g c =
+pub returns : goal.returns
+returns g c =
     let P : Result (Option IfdPointer) TiffError → Type 0 = λ r. VisitsPage (λ p. p) page_pointer r c.args.page c.args.decoder.now c.replies_to_both.new.decoder in
     subst P (sym c.and.ensures)
-    (pointer_visit c.args.decoder.now c.replies_to_both.new.decoder c.args.page c.in-Ok.seek c.in-Ok.pointer c.sought.result c.pointer_told.result c.in-Ok.ensures c.sought.ensures c.pointer_told.ensures)
+    (pointer_visit c.args.decoder.now c.replies_to_both.new.decoder c.args.page c.in_ok-seek.seek c.in_ok-seek.pointer c.sought.result c.pointer_told.result c.in_ok-seek.ensures c.sought.ensures c.pointer_told.ensures)

@@ -10,10 +10,10 @@ use Rattle.tiff_pages.proofs.Visits.{image_visit}
 use Rattle.tiff_pages.proofs.samples.read_page.Goals as goal
 
 pub image_read-requires : goal.image_read-requires
-image_read-requires g c = image_second c.args.decoder.now c.replies_to_both.new.decoder (call.SeekToImage c.args.page) c.in-Ok.seek c.in-Ok.image c.in-Ok.ensures
+image_read-requires g c = image_second c.args.decoder.now c.replies_to_both.new.decoder (call.SeekToImage c.args.page) c.in_ok-seek.seek c.in_ok-seek.image c.in_ok-seek.ensures
 
-pub returns-in-Ok : goal.returns-in-Ok
-returns-in-Ok g c =
+pub returns : goal.returns
+returns g c =
     let P : Result DecodingResult TiffError → Type 0 = λ r. VisitsPage decoded_as page_image r c.args.page c.args.decoder.now c.replies_to_both.new.decoder in
     subst P (sym c.and.ensures)
-    (image_visit c.args.decoder.now c.replies_to_both.new.decoder c.args.page c.in-Ok.seek c.in-Ok.image c.sought.result c.image_read.result c.in-Ok.ensures c.sought.ensures c.image_read.ensures)
+    (image_visit c.args.decoder.now c.replies_to_both.new.decoder c.args.page c.in_ok-seek.seek c.in_ok-seek.image c.sought.result c.image_read.result c.in_ok-seek.ensures c.sought.ensures c.image_read.ensures)

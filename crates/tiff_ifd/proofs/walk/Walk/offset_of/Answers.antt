@@ -1,6 +1,6 @@
 use Rattle.std.proofs.Common.{arith, ap, sym, ◌∙◌, subst, length, List, ℕ, not}
 use Rattle.std.proofs.lemmas.List.{length-append}
-use Rattle.tiff_ifd.specs.Walk.{Begins}
+use Rattle.tiff_ifd.specs.Walk.{ChainBegins}
 use Rattle.tiff_ifd.proofs.Begun.{grown, one_longer, offset_begun, is_there}
 use Rattle.tiff_ifd.proofs.walk.Walk.offset_of.Goals as goal
 
@@ -20,8 +20,8 @@ loop-alloc-preserved g c =
           omega (arith, one, c.loop-alloc-test.true, c.len.ensures));
       known = λ h. absurd (omega (arith, h, longer, both, c.loop-alloc-test.true, c.len.ensures));
       begins = λ first b.
-          (let P : List ℕ → Type 0 = λ bytes. Begins c.args.kind c.args.order bytes first c.enter_next.new.self in
-          let Q : List ℕ → Type 0 = λ bytes. Begins c.args.kind c.args.order bytes first c.loop-alloc.self in
+          (let P : List ℕ → Type 0 = λ bytes. ChainBegins c.args.kind c.args.order bytes first c.enter_next.new.self in
+          let Q : List ℕ → Type 0 = λ bytes. ChainBegins c.args.kind c.args.order bytes first c.loop-alloc.self in
           subst P i.same_bytes (c.enter_next.ensures.begins first (subst Q (sym i.same_bytes) (i.begins first b))));
     }
 

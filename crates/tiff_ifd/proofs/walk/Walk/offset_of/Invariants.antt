@@ -1,5 +1,5 @@
 use Rattle.std.proofs.Common.{◌≡◌, ℕ, ◌+◌, ◌-◌, ◌<◌, ◌≤◌, List, ◌++◌, length}
-use Rattle.tiff_ifd.specs.Walk.{Begins}
+use Rattle.tiff_ifd.specs.Walk.{ChainBegins}
 use Rattle.tiff_ifd.proofs.walk.Walk.offset_of.Given as goal
 
 abbrev pub invariant-loop-alloc : goal.invariant-loop-alloc
@@ -11,7 +11,7 @@ invariant-loop-alloc g l =
       longer : (more : List ℕ) × (l.self.offsets ≡ l.fn.self.offsets ++ more);
       no_further : length l.fn.self.offsets ≤ l.index → length l.self.offsets ≤ l.index + 1;
       known : l.index < length l.fn.self.offsets → (l.self ≡ l.fn.self) × (l.source ≡ l.fn.source);
-      begins : (first : ℕ) → Begins l.kind l.order bytes first l.fn.self → Begins l.kind l.order bytes first l.self;
+      begins : (first : ℕ) → ChainBegins l.kind l.order bytes first l.fn.self → ChainBegins l.kind l.order bytes first l.self;
     }
 
 abbrev pub decreases-loop-alloc : goal.decreases-loop-alloc

@@ -1,5 +1,5 @@
 use Rattle.std.proofs.Common.{◌≡◌, ◌-◌, ◌≤◌, length, ◌++◌}
-use Rattle.tiff_page.specs.ChunkData.{left_of}
+use Rattle.tiff_page.specs.ChunkData.{bytes_left}
 use Rattle.tiff_page.proofs.chunk_data.Stored.read_grown.Given as goal
 
 -- what was read, then what is left
@@ -10,7 +10,7 @@ invariant-loop-row g l =
       within : length l.row.items ≤ l.fn.len;
       same_bytes : g.R.Source.bytes l.source ≡ bytes;
       count : g.R.Source.failures l.source ≡ g.R.Source.failures l.fn.source;
-      read : left_of bytes l.fn.self ≡ l.row.items ++ left_of bytes l.position;
+      read : bytes_left bytes l.fn.self ≡ l.row.items ++ bytes_left bytes l.position;
     }
 
 abbrev pub decreases-loop-row : goal.decreases-loop-row
