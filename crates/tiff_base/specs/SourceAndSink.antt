@@ -26,6 +26,11 @@ pub record Reads (bytes : List ℕ) (at : ℕ) (old : List ℕ) (n : ℕ) (new :
   pub some : 0 < length old → at < length bytes → 0 < n
   pub next : new ≡ bytes_at bytes at n ++ drop n old
 
+-- No byte was asked for that lies at this offset or behind it, but those that had been asked for before: `before` and `after`
+-- are the offsets behind the furthest byte that was asked for.
+abbrev pub ReachesTo : ℕ → ℕ → ℕ → Type 0
+ReachesTo end before after = (n : ℕ) → before ≤ n → end ≤ n → after ≤ n
+
 -- So many bytes from an offset on have the one at another offset, where there is one.
 pub record HoldsByte (bytes : List ℕ) (from : ℕ) (count : ℕ) (at : ℕ) : Type 0 where
   pub before : from ≤ at

@@ -1,7 +1,7 @@
 //! Where bytes come from and go to.
 
 ghost use Rattle.std.specs.Prelude.{◌≡◌, ℕ, ◌+◌, ◌^◌, ◌≤◌, ◌<◌, List, length, Option, None, Some, IfErr, IfOk, OnOk, OnErr, take, true};
-ghost use Rattle.tiff_base.specs.SourceAndSink.{AreOctets, bytes_at, HoldsByte, Reads, Appends, Overwrites};
+ghost use Rattle.tiff_base.specs.SourceAndSink.{AreOctets, bytes_at, HoldsByte, Reads, ReachesTo, Appends, Overwrites};
 ghost use Rattle.tiff_base.specs.declared.io.SinkFault.{SinkFault};
 
 use crate::count::Count;
@@ -52,12 +52,16 @@ pub trait Source {
     /// How many reads failed so far.
     ghost failures: { Self → ℕ };
 
+    /// The offset behind the furthest byte that it was asked for, where it keeps that; else 0.
+    ghost reach: { Self → ℕ };
+
     /// Reads the bytes from `at` on, as many as it gives, but none only at the end or for an empty buffer.
     fn read_at(&mut self, at: u64, buf: &mut [u8]) -> Result<usize, DeviceFault>
         ensures bytes { bytes self.new ≡ bytes self.old }
         ensures ok { IfOk result (λ n. Reads (bytes self.old) at buf.old n buf.new) }
         ensures answered { OnOk result (failures self.new ≡ failures self.old) }
-        ensures failed { OnErr result (failures self.old < failures self.new) };
+        ensures failed { OnErr result (failures self.old < failures self.new) }
+        ensures asked { ReachesTo (at + length buf.old) (reach self.old) (reach self.new) };
 
     /// Every offset is below 2^64.
     ghost offsets: { (s : Self) → length (bytes s) < 2 ^ 64 };
@@ -142,6 +146,8 @@ impl Source for MemorySource {
 
     ghost failures = { λ _. 0 };
 
+    ghost reach = { λ _. 0 };
+
     ghost offsets = { λ s. s.offsets };
 
     ghost octets = { λ s. s.octets };
@@ -177,6 +183,8 @@ impl Source for SliceSource<'_> {
     ghost bytes = { slice_bytes };
 
     ghost failures = { λ _. 0 };
+
+    ghost reach = { λ _. 0 };
 
     ghost offsets = { λ s. s.offsets };
 
@@ -277,6 +285,8 @@ impl<S: Source> Source for BufferedSource<S> {
     ghost bytes = { λ s. S.bytes s.source };
 
     ghost failures = { λ s. S.failures s.source };
+
+    ghost reach = { λ _. 0 };
 
     ghost offsets = { λ s. S.offsets s.source };
 

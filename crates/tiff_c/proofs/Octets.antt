@@ -3,7 +3,7 @@ use Rattle.std.proofs.Common.{◌≡◌, ℕ, suc, ◌%◌, ◌^◌, ◌<◌, Li
 use Rattle.std.proofs.Math.Nat.{mod-eq_of_lt}
 use Rattle.tiff_value.specs.ColorType.{sample_number}
 use Rattle.tiff_page.specs.Pixels.{numbers_in}
-use Rattle.tiff_page.proofs.Strip.{numbers_are}
+use Rattle.tiff_page.proofs.NumberBytes.{numbers_are}
 
 -- a number that is cut to as many bytes as it has
 pub cut_whole : (k n m s : ℕ) → s ≡ n % 256 ^ k → m ≡ n → n < 256 ^ k → s ≡ m

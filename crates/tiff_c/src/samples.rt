@@ -84,10 +84,10 @@ pub fn samples_of<S: Sample, U: Number<N>, const N: usize>(
     requires whole { length bytes.now % N ≡ 0 }
     ensures { IfOk result (λ v. map (sample_number (type_size S.value_type) S.bits) v.items ≡ numbers_in N bytes.now) }
 {
-    let mut samples = Vec::with_capacity(alloc, bytes.len() / N)?;
     let (pieces, _) = bytes.as_chunks::<N>();
+    let mut samples = Vec::with_capacity(alloc, pieces.len())?;
     for piece in pieces {
-        samples.push(sample_of::<S, U, N>(*piece))?;
+        samples.push_reserved(sample_of::<S, U, N>(*piece));
     }
     Ok(samples)
 }

@@ -36,7 +36,8 @@ use Rattle.tiff_page.specs.Layout.{color_of}
 use Rattle.tiff_page.specs.Counts as counts
 use Rattle.tiff_page.specs.Rect as rects
 use Rattle.tiff_page.specs.Buffers as layouts
-use Rattle.tiff_page.specs.Image.{Decoded, image_of}
+use Rattle.tiff_page.specs.PixelCalls.{image_of}
+use Rattle.tiff_page.specs.Image.{Decoded}
 use Rattle.tiff_page.specs.PixelCalls as pixels
 use Rattle.tiff_decode.specs.DefaultLimits.{default_limits}
 use Rattle.tiff_decode.specs.Machine.{State, Decoding, Outcome, stays}

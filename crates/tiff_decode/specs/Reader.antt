@@ -1,5 +1,5 @@
 -- A decoder that reads the tags of a directory (as in the Rust crate).
-use Rattle.std.specs.Prelude.{◌≡◌, ◌⊎◌, ℕ, ◌≤◌, List, [], ◌∷◌, ◌++◌, Option, None, Some, Result, Ok, Err, Vec}
+use Rattle.std.specs.Prelude.{◌≡◌, ◌⊎◌, ℕ, ◌≤◌, List, [], ◌∷◌, ◌++◌, Option, None, Some, option_map, Result, Ok, Err, Vec}
 use Rattle.std.specs.declared.alloc.Global.{Global}
 use Rattle.std.specs.Borrow.{MutBor}
 use Rattle.tiff_base.specs.declared.error.TiffError.{TiffError}
@@ -8,6 +8,7 @@ use Rattle.tiff_base.specs.declared.error.TiffFormatError.TheVariants.{InvalidTa
 use Rattle.tiff_base.specs.declared.tags.Tag.{Tag}
 use Rattle.tiff_base.specs.Answers.{Answers, IsCause, NoneSwallowed}
 use Rattle.tiff_base.specs.Field.{DirectoryRecord}
+use Rattle.tiff_decode.specs.declared.ifd_decoder.IfdDecoder.{IfdDecoder}
 use Rattle.tiff_decode.specs.Machine.{Decoding, Outcome}
 
 -- the other directory, or else this one
@@ -32,6 +33,24 @@ pub record IsBorrowed (old new : MutBor Decoding) : Type 0 where
   pub same_reference : new.ghost_name ≡ old.ghost_name
   pub state : new.now ≡ record old.now { failures = new.now.failures }
   pub failures : old.now.failures ≤ new.now.failures
+
+-- ---- the calls of an `IfdDecoder`
+
+-- what it reads tags of: the decoder that it borrowed, with its directory
+abbrev pub reading : {R : Type 0} → IfdDecoder R → Decoding
+reading reader = reader_of reader.decoder.now (option_map (λ d. d.now) reader.other)
+
+-- It goes on reading the same directory of the same decoder, of which no more than the count of failed reads changed, with a
+-- fault of the device alone.
+pub record KeepsReading {R X : Type 0} (result : Result X TiffError) (old new : IfdDecoder R) : Type 0 where
+  pub held : IsBorrowed old.decoder new.decoder
+  pub other : new.other ≡ old.other
+  pub swallowed : NoneSwallowed result old.decoder.now.failures new.decoder.now.failures
+
+-- It answers what is given, seen by view, but for want of memory and a fault of the device, and goes on reading.
+pub record ReadsTags {R X Y : Type 0} (view : X → Y) (given : Outcome Y) (result : Result X TiffError) (old new : IfdDecoder R) : Type 0 where
+  pub answer : Answers view result given.answer old.decoder.now.failures new.decoder.now.failures
+  pub kept : KeepsReading result old new
 
 -- ---- numbers of any type
 

@@ -70,15 +70,11 @@ fn read_first_directory<R: Source>(
     ensures walk { IfOk result (λ r. IsInChain r.0.kind r.0.order (R.bytes source.old) r.0.first r.1
         (Some (record { 0 = r.0.first })) 0 (is_some r.2.next)) }
 {
-    let header = match read_header(source) {
-        Ok(header) => header,
-        Err(fault) => return Err(fault),
-    };
+    let header = read_header(source)?;
     let mut walk = Walk::new(alloc, header.first);
-    match walk.enter_next(alloc, source, header.kind, header.order) {
-        Ok(Some(directory)) => return Ok((header, walk, directory)),
-        Ok(None) => return Err(TiffFormatError::ImageFileDirectoryNotFound.into()),
-        Err(fault) => return Err(fault),
+    match walk.enter_next(alloc, source, header.kind, header.order)? {
+        Some(directory) => return Ok((header, walk, directory)),
+        None => return Err(TiffFormatError::ImageFileDirectoryNotFound.into()),
     }
 }
 
@@ -238,12 +234,8 @@ fn enter_offset<R: Source>(
         at ≡ Some offset → IsAt offsets standing.new.pointer standing.new.at standing.new.more }
 {
     let (kind, order) = (tags.kind, tags.order);
-    match read_directory(alloc, &mut tags.source, offset, kind, order) {
-        Ok(directory) => {
-            return enter_directory(alloc, tags, page, standing, at, offset, directory);
-        }
-        Err(fault) => return Err(fault),
-    }
+    let directory = read_directory(alloc, &mut tags.source, offset, kind, order)?;
+    enter_directory(alloc, tags, page, standing, at, offset, directory)
 }
 
 // Enters the next offset of a walk: its directory, and the offset.
@@ -268,10 +260,9 @@ fn enter_behind<R: Source>(
     let Some(offset) = walk.next() else {
         return Ok(None);
     };
-    match walk.enter_next(alloc, source, kind, order) {
-        Ok(Some(directory)) => return Ok(Some((offset, directory))),
-        Ok(None) => return Ok(None),
-        Err(fault) => return Err(fault),
+    match walk.enter_next(alloc, source, kind, order)? {
+        Some(directory) => return Ok(Some((offset, directory))),
+        None => return Ok(None),
     }
 }
 
@@ -341,10 +332,7 @@ impl<R: Source + Drop> Decoder<R> {
         ensures count { IfOk result (λ d. d.failures ≡ R.failures source) }
     {
         let mut source = source;
-        let (header, walk, directory) = match read_first_directory(alloc, &mut source) {
-            Ok(found) => found,
-            Err(fault) => return Err(fault),
-        };
+        let (header, walk, directory) = read_first_directory(alloc, &mut source)?;
         let more = links_on(&directory);
         let mut tags = ValueReader {
             source,
@@ -353,24 +341,20 @@ impl<R: Source + Drop> Decoder<R> {
             directory,
             limits: Limits::default(),
         };
-        match read_page(&mut tags, alloc) {
-            Ok(page) => {
-                return Ok(Decoder {
-                    alloc,
-                    tags,
-                    page,
-                    first: header.first,
-                    walk,
-                    standing: Standing {
-                        pointer: Some(IfdPointer(header.first)),
-                        at: 0,
-                        more,
-                    },
-                    offset: header_end(header.kind),
-                });
-            }
-            Err(fault) => return Err(fault),
-        }
+        let page = read_page(&mut tags, alloc)?;
+        Ok(Decoder {
+            alloc,
+            tags,
+            page,
+            first: header.first,
+            walk,
+            standing: Standing {
+                pointer: Some(IfdPointer(header.first)),
+                at: 0,
+                more,
+            },
+            offset: header_end(header.kind),
+        })
     }
 }
 

@@ -5,7 +5,7 @@ ghost use Rattle.tiff_base.specs.Answers.{Answers, AnswersWithoutMemory, NoneSwa
 ghost use Rattle.tiff_ifd.specs.Fitted.{fitted_numbers};
 ghost use Rattle.tiff_ifd.specs.View.{datum};
 ghost use Rattle.tiff_decode.specs.Outcome as outcome;
-ghost use Rattle.tiff_decode.specs.Reader.{directory_or, reader_of, IsBorrowed, IsNumber, NumberAs, NumberIfAs, NumbersAs, NumbersIfAs, TagsRead};
+ghost use Rattle.tiff_decode.specs.Reader.{directory_or, reader_of, reading, KeepsReading, ReadsTags, IsNumber, NumberAs, NumberIfAs, NumbersAs, NumbersIfAs, TagsRead};
 ghost use Rattle.tiff_decode.specs.Step.{bits_32, bits_64, BufferLeft};
 
 use crate::decoder::Decoder;
@@ -70,10 +70,7 @@ where
 {
     let mut all = Vec::with_capacity(alloc, numbers.len())?;
     for n in numbers {
-        match as_type(*n, tag) {
-            Ok(x) => all.push(x)?,
-            Err(fault) => return Err(fault),
-        }
+        all.push(as_type(*n, tag)?)?;
     }
     Ok(all)
 }
@@ -208,10 +205,8 @@ impl<R: Source> Decoder<R> {
             return Ok(None);
         };
         let tags = &mut self.tags;
-        match read_part(&mut tags.source, tags.kind, tags.order, &entry, at, buf) {
-            Ok(n) => return Ok(Some(n)),
-            Err(fault) => return Err(fault),
-        }
+        let n = read_part(&mut tags.source, tags.kind, tags.order, &entry, at, buf)?;
+        Ok(Some(n))
     }
 
     /// The value of a tag of the page, if there is the tag. A list of more values than `decoding_buffer_size / 32`, a text of
@@ -285,13 +280,9 @@ impl<R: Source> Decoder<R> {
         ensures count { self.old.failures ≤ self.new.failures }
         ensures swallowed { NoneSwallowed result self.old.failures self.new.failures }
     {
-        match self.number_in(None, tag) {
-            Ok(None) => Ok(None),
-            Ok(Some(n)) => match as_type(n, tag) {
-                Ok(x) => Ok(Some(x)),
-                Err(fault) => Err(fault),
-            },
-            Err(fault) => Err(fault),
+        match self.number_in(None, tag)? {
+            None => Ok(None),
+            Some(n) => Ok(Some(as_type(n, tag)?)),
         }
     }
 
@@ -310,13 +301,9 @@ impl<R: Source> Decoder<R> {
         ensures swallowed { NoneSwallowed result self.old.failures self.new.failures }
     {
         let alloc = self.alloc;
-        match self.numbers_in(None, tag) {
-            Ok(None) => Ok(None),
-            Ok(Some(numbers)) => match all_as(alloc, &numbers, tag) {
-                Ok(all) => Ok(Some(all)),
-                Err(fault) => Err(fault),
-            },
-            Err(fault) => Err(fault),
+        match self.numbers_in(None, tag)? {
+            None => Ok(None),
+            Some(numbers) => Ok(Some(all_as(alloc, &numbers, tag)?)),
         }
     }
 
@@ -331,10 +318,7 @@ impl<R: Source> Decoder<R> {
         ensures count { self.old.failures ≤ self.new.failures }
         ensures swallowed { NoneSwallowed result self.old.failures self.new.failures }
     {
-        match self.required_in(None, tag) {
-            Ok(n) => as_type(n, tag),
-            Err(fault) => Err(fault),
-        }
+        as_type(self.required_in(None, tag)?, tag)
     }
 
     /// The value of a required tag of the page. No such tag: `RequiredTagNotFound`; then the faults of `find_tag`.
@@ -453,7 +437,7 @@ impl<'a, R: Source> IfdDecoder<'a, R> {
 
     /// The field of a tag, if there is the tag.
     pub fn find_entry(&self, tag: Tag) -> Option<Entry>
-        ensures { result ≡ outcome.find_entry (reader_of self.now.decoder.now (option_map (λ d. d.now) self.now.other)) tag }
+        ensures { result ≡ outcome.find_entry (reading self.now) tag }
     {
         self.decoder.entry_in(self.other, tag)
     }
@@ -462,15 +446,8 @@ impl<'a, R: Source> IfdDecoder<'a, R> {
     /// Values of 2^64 bytes or more, and more bytes than `decoding_buffer_size`: `LimitsExceeded`, and the buffer stays; values
     /// past the end of the source: `IoError(UnexpectedEof)`. After any other fault the buffer has the field's type and no values.
     pub fn find_tag_buf(&mut self, tag: Tag, buf: &mut ValueBuffer) -> TiffResult<Option<Entry>>
-        ensures held { IsBorrowed self.old.decoder self.new.decoder }
-        ensures swallowed { NoneSwallowed result self.old.decoder.now.failures self.new.decoder.now.failures }
-        ensures other { self.new.other ≡ self.old.other }
-        ensures answer { Answers (λ e. (e, buf.new)) result (outcome.find_tag_buf
-            (reader_of self.old.decoder.now (option_map (λ d. d.now) self.old.other)) tag buf.old).answer
-            self.old.decoder.now.failures self.new.decoder.now.failures }
-        ensures left { BufferLeft self.old.decoder.now.order
-            (outcome.find_entry (reader_of self.old.decoder.now (option_map (λ d. d.now) self.old.other)) tag) buf.old result
-            buf.new }
+        ensures read { ReadsTags (λ e. (e, buf.new)) (outcome.find_tag_buf (reading self.old) tag buf.old) result self.old self.new }
+        ensures left { BufferLeft self.old.decoder.now.order (outcome.find_entry (reading self.old) tag) buf.old result buf.new }
     {
         self.decoder.buf_in(self.other, tag, buf)
     }
@@ -484,26 +461,18 @@ impl<'a, R: Source> IfdDecoder<'a, R> {
         buf: &mut [u8],
         offset: u64,
     ) -> TiffResult<Option<usize>>
-        ensures held { IsBorrowed self.old.decoder self.new.decoder }
-        ensures swallowed { NoneSwallowed result self.old.decoder.now.failures self.new.decoder.now.failures }
-        ensures other { self.new.other ≡ self.old.other }
+        ensures kept { KeepsReading result self.old self.new }
         ensures answer { AnswersWithoutMemory (λ n. (n, buf.new)) result
-            (outcome.find_tag_bytes (reader_of self.old.decoder.now (option_map (λ d. d.now) self.old.other)) tag buf.old
-            offset).answer self.old.decoder.now.failures self.new.decoder.now.failures }
+            (outcome.find_tag_bytes (reading self.old) tag buf.old offset).answer self.old.decoder.now.failures
+            self.new.decoder.now.failures }
     {
         self.decoder.bytes_in(self.other, tag, buf, offset)
     }
 
     /// The value of a tag, if there is the tag. The faults are those of `Decoder::find_tag`.
     pub fn find_tag(&mut self, tag: Tag) -> TiffResult<Option<Value>>
-        ensures held { IsBorrowed self.old.decoder self.new.decoder }
-        ensures swallowed { NoneSwallowed result self.old.decoder.now.failures self.new.decoder.now.failures }
-        ensures other { self.new.other ≡ self.old.other }
-        ensures answer { Answers (option_map datum) result (outcome.find_tag
-            (reader_of self.old.decoder.now (option_map (λ d. d.now) self.old.other)) tag).answer self.old.decoder.now.failures
-            self.new.decoder.now.failures }
-        ensures none { outcome.find_entry (reader_of self.old.decoder.now (option_map (λ d. d.now) self.old.other)) tag ≡ None →
-            result ≡ Ok None }
+        ensures read { ReadsTags (option_map datum) (outcome.find_tag (reading self.old) tag) result self.old self.new }
+        ensures none { outcome.find_entry (reading self.old) tag ≡ None → result ≡ Ok None }
     {
         self.decoder.value_in(self.other, tag)
     }
@@ -514,19 +483,12 @@ impl<'a, R: Source> IfdDecoder<'a, R> {
     where
         T::Error: Drop,
         ensures answer { NumberIfAs T.try_from_gives (self.old.decoder.now.failures < self.new.decoder.now.failures) tag
-            (outcome.find_tag_unsigned (reader_of self.old.decoder.now (option_map (λ d. d.now) self.old.other)) tag).answer
-            result }
-        ensures held { IsBorrowed self.old.decoder self.new.decoder }
-        ensures swallowed { NoneSwallowed result self.old.decoder.now.failures self.new.decoder.now.failures }
-        ensures other { self.new.other ≡ self.old.other }
+            (outcome.find_tag_unsigned (reading self.old) tag).answer result }
+        ensures kept { KeepsReading result self.old self.new }
     {
-        match self.decoder.number_in(self.other, tag) {
-            Ok(None) => Ok(None),
-            Ok(Some(n)) => match as_type(n, tag) {
-                Ok(x) => Ok(Some(x)),
-                Err(fault) => Err(fault),
-            },
-            Err(fault) => Err(fault),
+        match self.decoder.number_in(self.other, tag)? {
+            None => Ok(None),
+            Some(n) => Ok(Some(as_type(n, tag)?)),
         }
     }
 
@@ -539,20 +501,13 @@ impl<'a, R: Source> IfdDecoder<'a, R> {
     where
         T::Error: Drop,
         ensures answer { NumbersIfAs T.try_from_gives (self.old.decoder.now.failures < self.new.decoder.now.failures) tag
-            (outcome.find_tag_unsigned_vec (reader_of self.old.decoder.now (option_map (λ d. d.now) self.old.other)) tag).answer
-            result }
-        ensures held { IsBorrowed self.old.decoder self.new.decoder }
-        ensures swallowed { NoneSwallowed result self.old.decoder.now.failures self.new.decoder.now.failures }
-        ensures other { self.new.other ≡ self.old.other }
+            (outcome.find_tag_unsigned_vec (reading self.old) tag).answer result }
+        ensures kept { KeepsReading result self.old self.new }
     {
         let alloc = self.alloc;
-        match self.decoder.numbers_in(self.other, tag) {
-            Ok(None) => Ok(None),
-            Ok(Some(numbers)) => match all_as(alloc, &numbers, tag) {
-                Ok(all) => Ok(Some(all)),
-                Err(fault) => Err(fault),
-            },
-            Err(fault) => Err(fault),
+        match self.decoder.numbers_in(self.other, tag)? {
+            None => Ok(None),
+            Some(numbers) => Ok(Some(all_as(alloc, &numbers, tag)?)),
         }
     }
 
@@ -562,27 +517,16 @@ impl<'a, R: Source> IfdDecoder<'a, R> {
     where
         T::Error: Drop,
         ensures answer { NumberAs T.try_from_gives (self.old.decoder.now.failures < self.new.decoder.now.failures) tag
-            (outcome.get_tag_unsigned (reader_of self.old.decoder.now (option_map (λ d. d.now) self.old.other)) tag).answer
-            result }
-        ensures held { IsBorrowed self.old.decoder self.new.decoder }
-        ensures swallowed { NoneSwallowed result self.old.decoder.now.failures self.new.decoder.now.failures }
-        ensures other { self.new.other ≡ self.old.other }
+            (outcome.get_tag_unsigned (reading self.old) tag).answer result }
+        ensures kept { KeepsReading result self.old self.new }
     {
-        match self.decoder.required_in(self.other, tag) {
-            Ok(n) => as_type(n, tag),
-            Err(fault) => Err(fault),
-        }
+        as_type(self.decoder.required_in(self.other, tag)?, tag)
     }
 
     /// The value of a required tag. No such tag: `RequiredTagNotFound`; then the faults of `find_tag`.
     #[tactic(auto, unfolding(crate::specs::Outcome::get_tag, crate::specs::Outcome::find_tag, tiff_ifd::specs::Look::require, tiff_ifd::specs::Look::find))]
     pub fn get_tag(&mut self, tag: Tag) -> TiffResult<Value>
-        ensures held { IsBorrowed self.old.decoder self.new.decoder }
-        ensures swallowed { NoneSwallowed result self.old.decoder.now.failures self.new.decoder.now.failures }
-        ensures other { self.new.other ≡ self.old.other }
-        ensures answer { Answers datum result (outcome.get_tag
-            (reader_of self.old.decoder.now (option_map (λ d. d.now) self.old.other)) tag).answer self.old.decoder.now.failures
-            self.new.decoder.now.failures }
+        ensures { ReadsTags datum (outcome.get_tag (reading self.old) tag) result self.old self.new }
     {
         match self.find_tag(tag)? {
             None => Err(TiffFormatError::RequiredTagNotFound(tag).into()),
@@ -593,12 +537,7 @@ impl<'a, R: Source> IfdDecoder<'a, R> {
     /// A required tag's number, below 2^32. No such tag: `RequiredTagNotFound`; then the faults of `find_tag` and of `Value::into_u32`.
     #[tactic(auto, using(crate::proofs::Required::unconverted, crate::proofs::Required::required_by), unfolding(crate::specs::Outcome::get_tag_u32, crate::specs::Outcome::get_tag))]
     pub fn get_tag_u32(&mut self, tag: Tag) -> TiffResult<u32>
-        ensures held { IsBorrowed self.old.decoder self.new.decoder }
-        ensures swallowed { NoneSwallowed result self.old.decoder.now.failures self.new.decoder.now.failures }
-        ensures other { self.new.other ≡ self.old.other }
-        ensures answer { Answers (λ n. n) result (outcome.get_tag_u32
-            (reader_of self.old.decoder.now (option_map (λ d. d.now) self.old.other)) tag).answer self.old.decoder.now.failures
-            self.new.decoder.now.failures }
+        ensures { ReadsTags (λ n. n) (outcome.get_tag_u32 (reading self.old) tag) result self.old self.new }
     {
         self.get_tag(tag)?.into_u32()
     }
@@ -606,12 +545,7 @@ impl<'a, R: Source> IfdDecoder<'a, R> {
     /// A required tag's number, below 2^64. No such tag: `RequiredTagNotFound`; then the faults of `find_tag` and of `Value::into_u64`.
     #[tactic(auto, using(crate::proofs::Required::unconverted, crate::proofs::Required::required_by), unfolding(crate::specs::Outcome::get_tag_u64, crate::specs::Outcome::get_tag))]
     pub fn get_tag_u64(&mut self, tag: Tag) -> TiffResult<u64>
-        ensures held { IsBorrowed self.old.decoder self.new.decoder }
-        ensures swallowed { NoneSwallowed result self.old.decoder.now.failures self.new.decoder.now.failures }
-        ensures other { self.new.other ≡ self.old.other }
-        ensures answer { Answers (λ n. n) result (outcome.get_tag_u64
-            (reader_of self.old.decoder.now (option_map (λ d. d.now) self.old.other)) tag).answer self.old.decoder.now.failures
-            self.new.decoder.now.failures }
+        ensures { ReadsTags (λ n. n) (outcome.get_tag_u64 (reading self.old) tag) result self.old self.new }
     {
         self.get_tag(tag)?.into_u64()
     }
@@ -619,12 +553,7 @@ impl<'a, R: Source> IfdDecoder<'a, R> {
     /// The bits of a required tag's floating number of 4 bytes. No such tag: `RequiredTagNotFound`; then the faults of `find_tag` and of `Value::into_f32`.
     #[tactic(auto, using(crate::proofs::Required::unconverted, crate::proofs::Required::required_by), unfolding(crate::specs::Outcome::get_tag_f32, crate::specs::Outcome::get_tag))]
     pub fn get_tag_f32(&mut self, tag: Tag) -> TiffResult<Bits32>
-        ensures held { IsBorrowed self.old.decoder self.new.decoder }
-        ensures swallowed { NoneSwallowed result self.old.decoder.now.failures self.new.decoder.now.failures }
-        ensures other { self.new.other ≡ self.old.other }
-        ensures answer { Answers (bits_32) result (outcome.get_tag_f32
-            (reader_of self.old.decoder.now (option_map (λ d. d.now) self.old.other)) tag).answer self.old.decoder.now.failures
-            self.new.decoder.now.failures }
+        ensures { ReadsTags bits_32 (outcome.get_tag_f32 (reading self.old) tag) result self.old self.new }
     {
         self.get_tag(tag)?.into_f32()
     }
@@ -632,12 +561,7 @@ impl<'a, R: Source> IfdDecoder<'a, R> {
     /// The bits of a required tag's floating number of 8 bytes. No such tag: `RequiredTagNotFound`; then the faults of `find_tag` and of `Value::into_f64`.
     #[tactic(auto, using(crate::proofs::Required::unconverted, crate::proofs::Required::required_by), unfolding(crate::specs::Outcome::get_tag_f64, crate::specs::Outcome::get_tag))]
     pub fn get_tag_f64(&mut self, tag: Tag) -> TiffResult<Bits64>
-        ensures held { IsBorrowed self.old.decoder self.new.decoder }
-        ensures swallowed { NoneSwallowed result self.old.decoder.now.failures self.new.decoder.now.failures }
-        ensures other { self.new.other ≡ self.old.other }
-        ensures answer { Answers (bits_64) result (outcome.get_tag_f64
-            (reader_of self.old.decoder.now (option_map (λ d. d.now) self.old.other)) tag).answer self.old.decoder.now.failures
-            self.new.decoder.now.failures }
+        ensures { ReadsTags bits_64 (outcome.get_tag_f64 (reading self.old) tag) result self.old self.new }
     {
         self.get_tag(tag)?.into_f64()
     }
@@ -645,12 +569,7 @@ impl<'a, R: Source> IfdDecoder<'a, R> {
     /// A required tag's numbers, below 2^32. No such tag: `RequiredTagNotFound`; then the faults of `find_tag` and of `Value::into_u32_vec`.
     #[tactic(auto, using(crate::proofs::Required::unconverted, crate::proofs::Required::required_by), unfolding(crate::specs::Outcome::get_tag_u32_vec, crate::specs::Outcome::get_tag))]
     pub fn get_tag_u32_vec(&mut self, tag: Tag) -> TiffResult<Vec<u32>>
-        ensures held { IsBorrowed self.old.decoder self.new.decoder }
-        ensures swallowed { NoneSwallowed result self.old.decoder.now.failures self.new.decoder.now.failures }
-        ensures other { self.new.other ≡ self.old.other }
-        ensures answer { Answers (λ v. v.items) result (outcome.get_tag_u32_vec
-            (reader_of self.old.decoder.now (option_map (λ d. d.now) self.old.other)) tag).answer self.old.decoder.now.failures
-            self.new.decoder.now.failures }
+        ensures { ReadsTags (λ v. v.items) (outcome.get_tag_u32_vec (reading self.old) tag) result self.old self.new }
     {
         let alloc = self.alloc;
         self.get_tag(tag)?.into_u32_vec(alloc)
@@ -659,12 +578,7 @@ impl<'a, R: Source> IfdDecoder<'a, R> {
     /// A required tag's numbers, below 2^16. No such tag: `RequiredTagNotFound`; then the faults of `find_tag` and of `Value::into_u16_vec`.
     #[tactic(auto, using(crate::proofs::Required::unconverted, crate::proofs::Required::required_by), unfolding(crate::specs::Outcome::get_tag_u16_vec, crate::specs::Outcome::get_tag))]
     pub fn get_tag_u16_vec(&mut self, tag: Tag) -> TiffResult<Vec<u16>>
-        ensures held { IsBorrowed self.old.decoder self.new.decoder }
-        ensures swallowed { NoneSwallowed result self.old.decoder.now.failures self.new.decoder.now.failures }
-        ensures other { self.new.other ≡ self.old.other }
-        ensures answer { Answers (λ v. v.items) result (outcome.get_tag_u16_vec
-            (reader_of self.old.decoder.now (option_map (λ d. d.now) self.old.other)) tag).answer self.old.decoder.now.failures
-            self.new.decoder.now.failures }
+        ensures { ReadsTags (λ v. v.items) (outcome.get_tag_u16_vec (reading self.old) tag) result self.old self.new }
     {
         let alloc = self.alloc;
         self.get_tag(tag)?.into_u16_vec(alloc)
@@ -673,12 +587,7 @@ impl<'a, R: Source> IfdDecoder<'a, R> {
     /// A required tag's numbers, below 2^64. No such tag: `RequiredTagNotFound`; then the faults of `find_tag` and of `Value::into_u64_vec`.
     #[tactic(auto, using(crate::proofs::Required::unconverted, crate::proofs::Required::required_by), unfolding(crate::specs::Outcome::get_tag_u64_vec, crate::specs::Outcome::get_tag))]
     pub fn get_tag_u64_vec(&mut self, tag: Tag) -> TiffResult<Vec<u64>>
-        ensures held { IsBorrowed self.old.decoder self.new.decoder }
-        ensures swallowed { NoneSwallowed result self.old.decoder.now.failures self.new.decoder.now.failures }
-        ensures other { self.new.other ≡ self.old.other }
-        ensures answer { Answers (λ v. v.items) result (outcome.get_tag_u64_vec
-            (reader_of self.old.decoder.now (option_map (λ d. d.now) self.old.other)) tag).answer self.old.decoder.now.failures
-            self.new.decoder.now.failures }
+        ensures { ReadsTags (λ v. v.items) (outcome.get_tag_u64_vec (reading self.old) tag) result self.old self.new }
     {
         let alloc = self.alloc;
         self.get_tag(tag)?.into_u64_vec(alloc)
@@ -687,12 +596,7 @@ impl<'a, R: Source> IfdDecoder<'a, R> {
     /// The bits of a required tag's floating numbers of 4 bytes. No such tag: `RequiredTagNotFound`; then the faults of `find_tag` and of `Value::into_f32_vec`.
     #[tactic(auto, using(crate::proofs::Required::unconverted, crate::proofs::Required::required_by), unfolding(crate::specs::Outcome::get_tag_f32_vec, crate::specs::Outcome::get_tag))]
     pub fn get_tag_f32_vec(&mut self, tag: Tag) -> TiffResult<Vec<Bits32>>
-        ensures held { IsBorrowed self.old.decoder self.new.decoder }
-        ensures swallowed { NoneSwallowed result self.old.decoder.now.failures self.new.decoder.now.failures }
-        ensures other { self.new.other ≡ self.old.other }
-        ensures answer { Answers (λ v. map bits_32 v.items) result
-            (outcome.get_tag_f32_vec (reader_of self.old.decoder.now (option_map (λ d. d.now) self.old.other)) tag).answer
-            self.old.decoder.now.failures self.new.decoder.now.failures }
+        ensures { ReadsTags (λ v. map bits_32 v.items) (outcome.get_tag_f32_vec (reading self.old) tag) result self.old self.new }
     {
         let alloc = self.alloc;
         self.get_tag(tag)?.into_f32_vec(alloc)
@@ -701,12 +605,7 @@ impl<'a, R: Source> IfdDecoder<'a, R> {
     /// The bits of a required tag's floating numbers of 8 bytes. No such tag: `RequiredTagNotFound`; then the faults of `find_tag` and of `Value::into_f64_vec`.
     #[tactic(auto, using(crate::proofs::Required::unconverted, crate::proofs::Required::required_by), unfolding(crate::specs::Outcome::get_tag_f64_vec, crate::specs::Outcome::get_tag))]
     pub fn get_tag_f64_vec(&mut self, tag: Tag) -> TiffResult<Vec<Bits64>>
-        ensures held { IsBorrowed self.old.decoder self.new.decoder }
-        ensures swallowed { NoneSwallowed result self.old.decoder.now.failures self.new.decoder.now.failures }
-        ensures other { self.new.other ≡ self.old.other }
-        ensures answer { Answers (λ v. map bits_64 v.items) result
-            (outcome.get_tag_f64_vec (reader_of self.old.decoder.now (option_map (λ d. d.now) self.old.other)) tag).answer
-            self.old.decoder.now.failures self.new.decoder.now.failures }
+        ensures { ReadsTags (λ v. map bits_64 v.items) (outcome.get_tag_f64_vec (reading self.old) tag) result self.old self.new }
     {
         let alloc = self.alloc;
         self.get_tag(tag)?.into_f64_vec(alloc)
@@ -715,12 +614,7 @@ impl<'a, R: Source> IfdDecoder<'a, R> {
     /// A required tag's bytes. No such tag: `RequiredTagNotFound`; then the faults of `find_tag` and of `Value::into_u8_vec`.
     #[tactic(auto, using(crate::proofs::Required::unconverted, crate::proofs::Required::required_by), unfolding(crate::specs::Outcome::get_tag_u8_vec, crate::specs::Outcome::get_tag))]
     pub fn get_tag_u8_vec(&mut self, tag: Tag) -> TiffResult<Vec<u8>>
-        ensures held { IsBorrowed self.old.decoder self.new.decoder }
-        ensures swallowed { NoneSwallowed result self.old.decoder.now.failures self.new.decoder.now.failures }
-        ensures other { self.new.other ≡ self.old.other }
-        ensures answer { Answers (λ v. v.items) result (outcome.get_tag_u8_vec
-            (reader_of self.old.decoder.now (option_map (λ d. d.now) self.old.other)) tag).answer self.old.decoder.now.failures
-            self.new.decoder.now.failures }
+        ensures { ReadsTags (λ v. v.items) (outcome.get_tag_u8_vec (reading self.old) tag) result self.old self.new }
     {
         let alloc = self.alloc;
         self.get_tag(tag)?.into_u8_vec(alloc)
@@ -729,12 +623,7 @@ impl<'a, R: Source> IfdDecoder<'a, R> {
     /// A required tag's text. No such tag: `RequiredTagNotFound`; then the faults of `find_tag` and of `Value::into_string`.
     #[tactic(auto, using(crate::proofs::Required::unconverted, crate::proofs::Required::required_by), unfolding(crate::specs::Outcome::get_tag_ascii_string, crate::specs::Outcome::get_tag))]
     pub fn get_tag_ascii_string(&mut self, tag: Tag) -> TiffResult<String>
-        ensures held { IsBorrowed self.old.decoder self.new.decoder }
-        ensures swallowed { NoneSwallowed result self.old.decoder.now.failures self.new.decoder.now.failures }
-        ensures other { self.new.other ≡ self.old.other }
-        ensures answer { Answers (string_bytes) result (outcome.get_tag_ascii_string
-            (reader_of self.old.decoder.now (option_map (λ d. d.now) self.old.other)) tag).answer self.old.decoder.now.failures
-            self.new.decoder.now.failures }
+        ensures { ReadsTags string_bytes (outcome.get_tag_ascii_string (reading self.old) tag) result self.old self.new }
     {
         self.get_tag(tag)?.into_string()
     }

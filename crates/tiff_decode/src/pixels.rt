@@ -26,10 +26,8 @@ impl<R: Source> Decoder<R> {
     {
         let (alloc, order) = (self.alloc, self.tags.order);
         let source = &mut self.tags.source;
-        match pixels::read_image(alloc, source, order, &self.page, &self.tags.limits) {
-            Ok(samples) => Ok(DecodingResult::of(samples)),
-            Err(fault) => Err(fault),
-        }
+        let samples = pixels::read_image(alloc, source, order, &self.page, &self.tags.limits)?;
+        Ok(DecodingResult::of(samples))
     }
 
     /// Makes `samples` the samples of the image, its planes one behind the other; where the bytes of all planes are past
@@ -45,13 +43,15 @@ impl<R: Source> Decoder<R> {
     {
         let (alloc, order) = (self.alloc, self.tags.order);
         let source = &mut self.tags.source;
-        match pixels::read_image_to_buffer(alloc, source, order, &self.page, &self.tags.limits) {
-            Ok((layout, read)) => {
-                *samples = DecodingResult::of(read);
-                Ok(layout)
-            }
-            Err(fault) => Err(fault),
-        }
+        let (layout, read) = pixels::read_image_to_buffer(
+            alloc,
+            source,
+            order,
+            &self.page,
+            &self.tags.limits,
+        )?;
+        *samples = DecodingResult::of(read);
+        Ok(layout)
     }
 
     /// Reads the image into a slice, as many of its planes as the slice takes whole; its other bytes stay. A slice shorter
@@ -73,10 +73,8 @@ impl<R: Source> Decoder<R> {
     {
         let (alloc, order) = (self.alloc, self.tags.order);
         let (source, limits) = (&mut self.tags.source, &self.tags.limits);
-        match pixels::read_chunk(alloc, source, order, &self.page, limits, chunk_index) {
-            Ok(samples) => Ok(DecodingResult::of(samples)),
-            Err(fault) => Err(fault),
-        }
+        let samples = pixels::read_chunk(alloc, source, order, &self.page, limits, chunk_index)?;
+        Ok(DecodingResult::of(samples))
     }
 
     /// Reads a chunk as it is in the image into a slice, whose other bytes stay. A slice shorter than the chunk:
@@ -114,7 +112,7 @@ impl<R: Source> Decoder<R> {
     {
         let (alloc, order) = (self.alloc, self.tags.order);
         let (source, limits) = (&mut self.tags.source, &self.tags.limits);
-        match pixels::read_chunk_to_buffer(
+        let read = pixels::read_chunk_to_buffer(
             alloc,
             source,
             order,
@@ -122,13 +120,9 @@ impl<R: Source> Decoder<R> {
             limits,
             chunk_index,
             output_width,
-        ) {
-            Ok(read) => {
-                *buffer = DecodingResult::of(read);
-                Ok(())
-            }
-            Err(fault) => Err(fault),
-        }
+        )?;
+        *buffer = DecodingResult::of(read);
+        Ok(())
     }
 
     /// Reads the chunk of each plane of a coding unit into a slice, one behind the other, as many as the slice takes whole;

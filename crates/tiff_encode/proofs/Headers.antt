@@ -7,17 +7,10 @@ use Rattle.tiff_base.specs.declared.error.TiffError.{TiffError}
 use Rattle.tiff_base.specs.declared.tags.FileKind.{FileKind}
 use Rattle.tiff_base.specs.Number.{le}
 use Rattle.tiff_base.specs.SourceAndSink.{put}
-use Rattle.tiff_value.proofs.Put.{put-put}
+use Rattle.tiff_value.proofs.Put.{put-put, put_end}
 use Rattle.tiff_value.specs.Written.{Written, writer_after, writer_after_counted, IsStopped, IsCut}
 use Rattle.tiff_encode.specs.FileBytes.{offset_len, header_mark, header_bytes}
 use Rattle.tiff_encode.proofs.Slices.{length-le}
-
--- a piece at the end, or behind it
-pub put_end : (file xs : List ℕ) (at : ℕ) → length file ≤ at → put file at xs ≡ file ++ xs
-put_end file xs at h =
-    let t : take at file ≡ file = take_all at file h in
-    let d : drop (at + length xs) file ≡ [] = drop_all _ file (omega (arith, h)) in
-    ap (λ p. p ++ (xs ++ drop (at + length xs) file)) t ∙ ap (λ q. file ++ (xs ++ q)) d ∙ ap (λ q. file ++ q) (append-nil xs)
 
 put_behind : (file : List ℕ) (at : ℕ) (xs ys : List ℕ) → length file < at → put (put file at xs) (at + length xs) ys ≡ put file at (xs ++ ys)
 put_behind file at xs ys h =

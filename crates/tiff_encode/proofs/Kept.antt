@@ -5,6 +5,7 @@ use Rattle.std.proofs.Math.Nat.{mul-le-mul_left}
 use Rattle.std.specs.List.{filter_map, range_with_len, cons_option}
 use Rattle.std.specs.FinMap.{FinMap, len}
 use Rattle.std.specs.Ordering.{nat_cmp}
+use Rattle.tiff_base.proofs.Common.{bind_ok}
 use Rattle.tiff_base.specs.declared.error.TiffError.{TiffError}
 use Rattle.tiff_base.specs.declared.error.TiffError.TheVariants.{LimitsExceeded}
 use Rattle.tiff_base.specs.declared.tags.FileKind.{FileKind}
@@ -18,7 +19,7 @@ use Rattle.tiff_base.specs.Directory.{count_width, offset_width, entry_len, entr
 use Rattle.tiff_encode.specs.FileBytes.{offset_len, count_len, header_mark}
 use Rattle.tiff_encode.specs.Model.{In, FinishedDirectory, Model, header_link, own_link, IsClear, body_len, IsApart, Stands, relinked}
 use Rattle.tiff_encode.specs.Laws.{KeptByAppending, KeptByPatching, KeptByTearing}
-use Rattle.tiff_encode.proofs.Slices.{bind_ok, ok_bind, ok_inj, exact, is_exact, exact_append, length_put, exact_put_before, exact_put_behind, exact_put_here, length-le, number-le, is_offset_width, number_kept}
+use Rattle.tiff_encode.proofs.Slices.{ok_bind, ok_inj, exact, is_exact, exact_append, length_put, exact_put_before, exact_put_behind, exact_put_here, length-le, number-le, is_offset_width, number_kept}
 
 -- the bytes of the file between two offsets stand in another too
 pub Keeps : List ℕ → List ℕ → ℕ → ℕ → Type 0

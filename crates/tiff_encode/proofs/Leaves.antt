@@ -8,7 +8,7 @@ use Rattle.tiff_encode.specs.Model.{Stands, header_link, header_model}
 use Rattle.tiff_encode.specs.Shows.{LeavesHeader}
 use Rattle.tiff_encode.proofs.Slices.{length-le}
 use Rattle.tiff_encode.proofs.Header.{header_stands}
-use Rattle.tiff_encode.proofs.Headers.{put_end}
+use Rattle.tiff_value.proofs.Put.{put_end}
 
 -- a header that was written on an empty sink stands
 pub leaves_header : (kind : FileKind) (told : List ℕ) (failures at width : ℕ) (first last : Written) → first ≡ new_writer told failures

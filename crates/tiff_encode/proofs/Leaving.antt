@@ -6,6 +6,7 @@ use Rattle.std.proofs.lemmas.List.{length-take-le}
 use Rattle.std.specs.Prelude.{◌/◌, ◌||◌}
 use Rattle.std.specs.FinMap.{len, entries}
 use Rattle.std.specs.List.{list_any}
+use Rattle.tiff_base.proofs.Common.{neither}
 use Rattle.tiff_base.specs.declared.error.TiffError.{TiffError}
 use Rattle.tiff_base.specs.declared.io.SinkFault.{SinkFault}
 use Rattle.tiff_base.specs.declared.tags.ByteOrder.{ByteOrder}
@@ -245,10 +246,6 @@ in_order BigEndian cause h = absurd (some_none h)
 pub passed : (b : Bool) (e : TiffError) (cause : Option TiffError) → cond b (Some e) cause ≡ None → (b ≡ false) × (cause ≡ None)
 passed true e cause h = absurd (some_none h)
 passed false e cause h = (refl, h)
-
-neither : (a b : Bool) → (a || b) ≡ false → (a ≡ false) × (b ≡ false)
-neither false b h = (refl, h)
-neither true b h = absurd cc
 
 -- the values in some bytes take no more than they
 values_within : (n size : ℕ) → n / size * size ≤ n

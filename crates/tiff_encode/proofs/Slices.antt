@@ -4,6 +4,7 @@ use Rattle.std.proofs.lemmas.List.{drop-drop, take_at, drop_at, take_all, take-a
 use Rattle.std.proofs.lemmas.Bool.{leb-true, le-leb}
 use Rattle.std.proofs.lemmas.Nat.{from_le_bytes-to_le_bytes_2, from_le_bytes-to_le_bytes_4, from_le_bytes-to_le_bytes_8}
 use Rattle.std.specs.Int.{Width, w16, w32, w64, byte_len, bytes_low_first}
+use Rattle.tiff_base.proofs.Common.{bind_ok}
 use Rattle.tiff_base.specs.declared.error.TiffError.{TiffError}
 use Rattle.tiff_base.specs.declared.tags.FileKind.{FileKind}
 use Rattle.tiff_base.specs.declared.tags.FileKind.TheVariants.{Classic, Big}
@@ -14,12 +15,6 @@ use Rattle.tiff_base.specs.Number.{number, number_at, le}
 use Rattle.tiff_base.specs.Directory.{count_width, offset_width}
 
 -- ---- answers
-
--- what a step that is no fault began with
-pub bind_ok : {A B : Type 0} (r : Result A TiffError) (f : A → Result B TiffError) (y : B) → (r >>= f) ≡ Ok y
-    → (x : A) × ((r ≡ Ok x) × (f x ≡ Ok y))
-bind_ok (Ok x) f y e = (x, (refl, e))
-bind_ok (Err x) f y e = absurd cc
 
 -- two steps that are no fault
 pub ok_bind : {A B : Type 0} (r : Result A TiffError) (f : A → Result B TiffError) (x : A) (y : B) → r ≡ Ok x

@@ -1,12 +1,19 @@
 -- A chunk is written.
-use Rattle.std.proofs.Common.{◌≡◌, ℕ, ◌-◌, ◌*◌, ◌%◌, ◌^◌, ◌<◌, min, Bool, true, false, cond, List, length, Option, Some, None, Result, Ok, Err, refl, ap, sym, ◌∙◌, subst, inl, inr, arith, append-nil}
+use Rattle.std.proofs.Common.{◌≡◌, ℕ, ◌-◌, ◌*◌, ◌%◌, ◌^◌, ◌<◌, min, Bool, true, false, cond, List, length, get_or, Option, Some, None, Result, Ok, Err, refl, ap, sym, ◌∙◌, subst, inl, inr, arith, append-nil}
 use Rattle.std.proofs.lemmas.Bool.{eqb-true}
+use Rattle.std.proofs.lemmas.List.FromFn.{fill_by_all}
 use Rattle.std.proofs.Math.Nat.{mul-mod_left, zero-mod}
-use Rattle.std.specs.Prelude.{◌⊎◌, ◌==◌, ◌||◌, not}
+use Rattle.std.specs.List.{flat_map}
+use Rattle.std.specs.Prelude.{◌⊎◌, ◌==◌, ◌||◌, not, IfSome}
 use Rattle.tiff_base.specs.declared.error.TiffError.{TiffError}
 use Rattle.tiff_base.specs.declared.error.TiffError.TheVariants.{IoError, IntSizeError, OutOfMemory}
 use Rattle.tiff_base.specs.declared.io.IoKind.TheVariants.{InvalidData}
 use Rattle.tiff_base.specs.declared.io.SinkFault.{SinkFault}
+use Rattle.tiff_base.specs.declared.tags.CompressionMethod.TheVariants as method
+use Rattle.tiff_base.specs.declared.tags.Predictor.TheVariants as predictor
+use Rattle.tiff_base.specs.Number.{le}
+use Rattle.tiff_page.specs.Pixels.{stored_samples}
+use Rattle.tiff_value.specs.Differences.{differences}
 use Rattle.tiff_value.specs.Packed.{IsStored}
 use Rattle.tiff_encode.specs.Machine.{FileState, OpenImage, WriteOutcome, Writing, by_cause}
 use Rattle.tiff_encode.specs.Chunks.{image_page, row_samples, chunk_rows, is_left, next_chunk_sample_count}
@@ -106,18 +113,17 @@ chunk_counted old i n stored h =
     eqb-true n (next_chunk_sample_count i)
     (counted_by old.fault (is_past_chunks i) (is_left i) (n == next_chunk_sample_count i) (is_past old.kind (end_of old) || is_past old.kind stored) h)
 
-module _ (old : FileState) (i : OpenImage) (samples : List ℕ) (n count : ℕ) (stored : List ℕ) (new : FileState) (next : OpenImage) (e : TiffError) where
-  abbrev told : WriteOutcome OpenImage
-  told = write_chunk i (length samples) stored old
+-- ---- samples that are stored
 
-  -- the call fails once they are packed
-  pub chunk_fails : write_chunk_cause old i n 0 ≡ None → count ≡ length samples → IsStored i.method stored (unpacked_chunk i samples)
-      → (let r : Result (Unit {0}) TiffError = Err e in AppendsChunk (write_chunk i count stored old) i r old new next)
-      → (let r : Result (Unit {0}) TiffError = Err e in WritesStoredChunk write_chunk (write_chunk_cause old i n 0) i samples r old new next)
-  chunk_fails uncaused counted is_stored h =
-      let r : Result (Unit {0}) TiffError = Err e in
-      let same : write_chunk i count stored old ≡ told = ap (λ k. write_chunk i k stored old) counted in
-      let ends : StoresChunk write_chunk i samples r old new next = (
+module _ (old : FileState) (i : OpenImage) (samples : List ℕ) (new : FileState) (next : OpenImage) where
+  -- a chunk of samples is stored as bytes that may stand for them
+  pub chunk_stored : (count : ℕ) (stored : List ℕ) (r : Result (Unit {0}) TiffError) → count ≡ length samples
+      → IsStored i.method stored (unpacked_chunk i samples) → AppendsChunk (write_chunk i count stored old) i r old new next
+      → StoresChunk write_chunk i samples r old new next
+  chunk_stored count stored (Ok x) counted is_stored h =
+      (stored, (is_stored, subst (λ t. IsTold t (Ok next) new) (ap (λ k. write_chunk i k stored old) counted) h))
+  chunk_stored count stored (Err e) counted is_stored h =
+      let same : write_chunk i count stored old ≡ write_chunk i (length samples) stored old = ap (λ k. write_chunk i k stored old) counted in (
         h.0,
         elim h.1 as (λ _. ((e ≡ OutOfMemory) × (new ≡ old)) ⊎ ((xs : List ℕ) × (IsStored i.method xs (unpacked_chunk i samples) × (IsTold (write_chunk i (length samples) xs old) (Err e) new ⊎ IsCutOff (write_chunk i (length samples) xs old).deeds e old new)))) [
           | inl t ↦ inr (stored, (is_stored, inl (subst (λ t. IsTold t (Err e) new) same t)))
@@ -126,5 +132,35 @@ module _ (old : FileState) (i : OpenImage) (samples : List ℕ) (n count : ℕ) 
             | inr w ↦ inl w
           ]
         ],
-      ) in
-      subst (λ cause. WritesStoredChunk write_chunk cause i samples r old new next) (sym uncaused) ends
+      )
+
+  -- so it is where nothing refuses it
+  pub chunk_written : (n : ℕ) (r : Result (Unit {0}) TiffError) → write_chunk_cause old i n 0 ≡ None → StoresChunk write_chunk i samples r old new next
+      → WritesStoredChunk write_chunk (write_chunk_cause old i n 0) i samples r old new next
+  chunk_written n r uncaused h = subst (λ cause. WritesStoredChunk write_chunk cause i samples r old new next) (sym uncaused) h
+
+-- ---- samples that are stored as they lie
+
+-- without a predictor numbers are left as they are
+left_plain : (m l s : ℕ) (ns : List ℕ) → differences predictor.None m l s ns ≡ ns
+unfolding differences
+left_plain m l s ns = sym (fill_by_all (λ k. get_or ns k 0) ns (length ns) 0 refl (λ k h. refl))
+
+module _ {V : Type 0} (bytes : V → List ℕ) (i : OpenImage) (samples : List ℕ) (size : ℕ) (packed : i.method ≡ method.None)
+    (differs : i.predictor ≡ predictor.None) (sized : i.size ≡ size) where
+  -- their bytes are those of the chunk
+  lent : (xs : List ℕ) → xs ≡ flat_map (le size) samples → IsStored i.method xs (unpacked_chunk i samples)
+  unfolding unpacked_chunk
+  lent xs h =
+      let p = image_page i in
+      let plain =
+      ap (λ q. flat_map (le i.size) (differences q (256 ^ i.size) (row_samples p) (stored_samples p) samples)) differs
+      ∙ ap (flat_map (le i.size)) (left_plain (256 ^ i.size) (row_samples p) (stored_samples p) samples)
+      ∙ ap (λ n. flat_map (le n) samples) sized in
+      subst (λ m. IsStored m xs (unpacked_chunk i samples)) (sym packed) (h ∙ sym plain)
+
+  -- and are lent, where there are some
+  pub lent_some : (o : Option V) → IfSome o (λ b. bytes b ≡ flat_map (le size) samples)
+      → IfSome o (λ b. IsStored i.method (bytes b) (unpacked_chunk i samples))
+  lent_some None h = h
+  lent_some (Some b) h = lent (bytes b) h

@@ -11,7 +11,8 @@ use Rattle.tiff_page.specs.Layout.{shown, planes, row_bytes, whole_chroma, sampl
 use Rattle.tiff_page.specs.PixelFault.{is_plain, predictor_fault, method_fault, white_fault}
 use Rattle.tiff_page.specs.Pixels.{each_to}
 use Rattle.tiff_page.specs.Row.{IsSize}
-use Rattle.tiff_page.specs.Image.{Decoded, image_of}
+use Rattle.tiff_page.specs.PixelCalls.{image_of}
+use Rattle.tiff_page.specs.Image.{Decoded}
 use Rattle.tiff_encode.specs.Machine.{OpenImage}
 use Rattle.tiff_encode.specs.Chunks.{all_samples, image_page}
 use Rattle.tiff_encode.specs.Held.{IsWholeImage}

@@ -84,10 +84,7 @@ impl<W: Sink + Drop> TiffEncoder<W, TiffKindStandard> {
         // On an empty sink the header stands.
         ensures leaves { W.told sink ≡ [] → IfOk result (λ e. LeavesHeader Classic e.bytes e.chain) }
     {
-        match TiffEncoder::new_generic(alloc, sink) {
-            Ok(encoder) => return Ok(encoder),
-            Err(fault) => return Err(fault),
-        }
+        TiffEncoder::new_generic(alloc, sink)
     }
 }
 
@@ -99,10 +96,7 @@ impl<W: Sink + Drop> TiffEncoder<W, TiffKindBig> {
             (λ e. HeaderFails Big W.told W.failures W.fault sink e) }
         ensures leaves { W.told sink ≡ [] → IfOk result (λ e. LeavesHeader Big e.bytes e.chain) }
     {
-        match TiffEncoder::new_generic(alloc, sink) {
-            Ok(encoder) => return Ok(encoder),
-            Err(fault) => return Err(fault),
-        }
+        TiffEncoder::new_generic(alloc, sink)
     }
 }
 
@@ -183,20 +177,14 @@ impl<W: Sink, K: TiffKind> TiffEncoder<W, K> {
     fn append(&mut self, bytes: &[u8]) -> TiffResult<()>
         ensures { AppendsToFile bytes.now self.old self.new result }
     {
-        match self.writer.write_plain(bytes) {
-            Ok(()) => return Ok(()),
-            Err(fault) => return Err(fault),
-        }
+        self.writer.write_plain(bytes)
     }
 
     // Zeros up to a multiple of 4.
     fn pad(&mut self) -> TiffResult<()>
         ensures { AppendsToFile (padding (length self.old.bytes)) self.old self.new result }
     {
-        match self.writer.pad_word_boundary() {
-            Ok(()) => return Ok(()),
-            Err(fault) => return Err(fault),
-        }
+        self.writer.pad_word_boundary()
     }
 
     // Points the link at an offset to a directory.
@@ -206,17 +194,8 @@ impl<W: Sink, K: TiffKind> TiffEncoder<W, K> {
         ensures { PointsLink parent directory self.old self.new result }
     {
         let end = self.writer.offset();
-        match self.writer.goto_offset(parent) {
-            Ok(()) => {}
-            Err(fault) => return Err(fault),
-        }
-        match K::write_offset(&mut self.writer, directory) {
-            Ok(()) => {}
-            Err(fault) => return Err(fault),
-        }
-        match self.writer.goto_offset(end) {
-            Ok(()) => return Ok(()),
-            Err(fault) => return Err(fault),
-        }
+        self.writer.goto_offset(parent)?;
+        K::write_offset(&mut self.writer, directory)?;
+        self.writer.goto_offset(end)
     }
 }

@@ -7,6 +7,7 @@ use Rattle.std.proofs.lemmas.Option.{slice_get-get_or}
 use Rattle.std.specs.Ordering.{eq_by_cmp, nat_cmp}
 use Rattle.std.specs.Cmp.{nat_cmp_total, eq_by_cmp_equiv}
 use Rattle.std.specs.FinMap.{get, insert, empty, get-insert, get-empty, nat_cmp-IsAntisymmetric}
+use Rattle.tiff_base.proofs.Common.{neither}
 use Rattle.tiff_base.specs.declared.error.TiffError.{TiffError}
 use Rattle.tiff_base.specs.declared.error.TiffError.TheVariants.{FormatError}
 use Rattle.tiff_base.specs.declared.error.TiffFormatError.TheVariants.{CycleInOffsets}
@@ -115,10 +116,6 @@ others_by true links p t q apart h e =
     absurd (subst IsFalseBit (sym apart ∙ subst P same (itself q)) tt)
 others_by false links p t q apart h e =
     get-insert nat_cmp_total links p t q ∙ ap (λ (b : Bool). cond b (Some t) (get links q)) e ∙ h
-
-neither : (b c : Bool) → (b || c) ≡ false → (b ≡ false) × (c ≡ false)
-neither true c h = absurd (subst IsFalseBit (sym h) tt)
-neither false c h = (refl, h)
 
 goes_on : (links : Links) (met : List ℕ) (p : ℕ) (t : Option ℕ) → AreLinked links met (Some p) → (q last : ℕ) → In q (p ∷ met) → t ≡ Some last
     → (others : List ℕ) × Goes (insert links p t) q others last

@@ -6,6 +6,7 @@ use Rattle.std.specs.List.{list_any, IsDistinct, AllByRecursion}
 use Rattle.std.proofs.lemmas.Map.Keys.{IsDistinct-cons}
 use Rattle.std.proofs.lemmas.Bool.Decides.{nat_tests}
 use Rattle.std.proofs.lemmas.Map.Steps.{length-le_from_distinct_below}
+use Rattle.tiff_base.proofs.Common.{neither}
 use Rattle.tiff_base.specs.declared.error.TiffError.{TiffError}
 use Rattle.tiff_base.specs.declared.error.TiffError.TheVariants.{FormatError, IoError}
 use Rattle.tiff_base.specs.declared.error.TiffFormatError.TheVariants.{CycleInOffsets}
@@ -113,10 +114,6 @@ was_read met (Err e) after h = absurd (subst IsOkLink (sym h) tt)
 abbrev pub IsFalseBit : Bool → Type 0
 IsFalseBit true = ⊥
 IsFalseBit false = Unit {0}
-
-neither : (b c : Bool) → (b || c) ≡ false → (b ≡ false) × (c ≡ false)
-neither true c h = absurd (subst IsFalseBit (sym h) tt)
-neither false c h = (refl, h)
 
 -- no offset of the list is this one
 apart : (p : ℕ) (met : List ℕ) → list_any (nat_eq p) met ≡ false → AllByRecursion (λ y. nat_eq p y ≡ false) met

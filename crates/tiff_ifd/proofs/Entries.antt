@@ -7,6 +7,7 @@ use Rattle.std.proofs.lemmas.Bool.{lt-leb}
 use Rattle.std.specs.Int.{Width, byte_len}
 use Rattle.std.specs.FinMap.{from_entries, insert, empty}
 use Rattle.std.specs.Ordering.{nat_cmp}
+use Rattle.tiff_base.proofs.Common.{range_more}
 use Rattle.tiff_base.specs.declared.error.TiffError.{TiffError}
 use Rattle.tiff_base.specs.declared.error.TiffError.TheVariants.{IoError}
 use Rattle.tiff_base.specs.declared.io.IoKind.TheVariants.{UnexpectedEof}
@@ -18,12 +19,6 @@ use Rattle.tiff_base.specs.Number.{number_at, number}
 use Rattle.tiff_base.specs.Answers.{◌>>=◌}
 use Rattle.tiff_base.specs.Field.{Field, DirectoryRecord}
 use Rattle.tiff_base.specs.Directory.{count_width, offset_width, entry_len, entry_of, entries_from, last_of_each, link, first_entry, link_offset, directory_at}
-
-range_more : (a n : ℕ) → range_with_len a (suc n) ≡ range_with_len a n ++ (a + n) ∷ []
-range_more a zero = let e : a ≡ a + 0 = omega arith in ap (λ (k : ℕ). k ∷ []) e
-range_more a (suc n) =
-    let e : (a + 1) + n ≡ a + suc n = omega arith in
-    ap (λ (l : List ℕ). a ∷ l) (range_more (a + 1) n) ∙ ap (λ (k : ℕ). a ∷ (range_with_len (a + 1) n ++ k ∷ [])) e
 
 pub no_entries : (kind : FileKind) (order : ByteOrder) (bytes : List ℕ) (first : ℕ) → last_of_each (entries_from kind order bytes first 0) ≡ empty
 unfolding last_of_each entries_from

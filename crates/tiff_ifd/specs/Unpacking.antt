@@ -1,5 +1,5 @@
 -- A reader of a packed list, and what it reads (TIFF 6.0 section 9).
-use Rattle.std.specs.Prelude.{◌≡◌, ℕ, ◌-◌, ◌≤◌, ◌<◌, Bool, nat_lt, List, [], ◌++◌, length, take, drop, replicate, slice_index, Option, Some, None, Result, Ok, Err}
+use Rattle.std.specs.Prelude.{◌≡◌, ℕ, ◌+◌, ◌-◌, ◌≤◌, ◌<◌, Bool, nat_lt, List, [], ◌++◌, length, take, drop, replicate, slice_index, Option, Some, None, Result, Ok, Err}
 use Rattle.tiff_base.specs.declared.error.TiffError.{TiffError}
 use Rattle.tiff_base.specs.declared.error.TiffError.TheVariants.{IoError}
 use Rattle.tiff_base.specs.declared.io.IoKind.TheVariants.{UnexpectedEof}
@@ -67,6 +67,16 @@ left_at bytes offset = left_in offset.block (nat_lt (length bytes - offset.at) o
 abbrev pub unpacking : {S : Type 0} → (S → List ℕ) → (S → ℕ) → S → PackedPosition → Unpacking
 unpacking bytes_of failures_of source offset =
     record { bytes = bytes_of source; failures = failures_of source; rest = left_at (bytes_of source) offset }
+
+-- the offset behind the packed bytes
+abbrev pub packed_end : PackedPosition → ℕ
+packed_end offset = offset.at + offset.len
+
+-- an offset that was found has the packed bytes end here
+abbrev pub EndsAt : ℕ → Result (Option PackedPosition) TiffError → Type 0
+EndsAt end (Ok (Some offset)) = packed_end offset ≡ end
+EndsAt end (Ok None) = Unit {0}
+EndsAt end (Err e) = Unit {0}
 
 -- how many bytes of a block are left
 abbrev pub count_of : Block → ℕ

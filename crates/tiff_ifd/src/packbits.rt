@@ -1,9 +1,10 @@
 //! A packed list is unpacked, in pieces of any size.
 
-ghost use Rattle.std.specs.Prelude.{◌≡◌, ℕ, ◌<◌, ◌≤◌, List, length, Ok, OnOk, IfErr, IfSome, IfNone};
+ghost use Rattle.std.specs.Prelude.{◌≡◌, ℕ, ◌+◌, ◌<◌, ◌≤◌, List, length, Ok, OnOk, IfOk, IfErr, IfSome, IfNone};
 ghost use Rattle.tiff_base.specs.Answers.{IsCause, IsKept, NoneSwallowed};
 ghost use Rattle.tiff_base.specs.Runs.{with_front};
-ghost use Rattle.tiff_ifd.specs.Unpacking.{unpacked_at, left_at, unpacking, count_of, GivesNext, HasTooFew, ReadsByte, Finds, ReadsBlock, PieceReads, Fills, UnpacksFront};
+ghost use Rattle.tiff_base.specs.SourceAndSink.{ReachesTo};
+ghost use Rattle.tiff_ifd.specs.Unpacking.{unpacked_at, left_at, unpacking, packed_end, EndsAt, count_of, GivesNext, HasTooFew, ReadsByte, Finds, ReadsBlock, PieceReads, Fills, UnpacksFront};
 ghost use Rattle.tiff_ifd.specs.declared.packbits.Block.TheVariants.{Literal, Run};
 
 use std::marker::Model;
@@ -46,6 +47,7 @@ impl Block {
 fn read_byte<R: Source>(source: &mut R, at: u64) -> TiffResult<u8>
     ensures kept { IsKept R.bytes R.failures result source.old source.new }
     ensures byte { ReadsByte (R.bytes source.old) at (R.failures source.old < R.failures source.new) result }
+    ensures asked { ReachesTo (at + 1) (R.reach source.old) (R.reach source.new) }
 {
     let mut byte = [0u8; 1];
     match read_exact_at(source, at, &mut byte) {
@@ -58,6 +60,8 @@ fn read_byte<R: Source>(source: &mut R, at: u64) -> TiffResult<u8>
 fn next_block<R: Source>(source: &mut R, at: u64, len: u64) -> TiffResult<Option<PackedPosition>>
     ensures kept { IsKept R.bytes R.failures result source.old source.new }
     ensures block { Finds (R.bytes source.old) (unpacked_at (R.bytes source.old) at len) (R.failures source.old < R.failures source.new) result }
+    ensures asked { ReachesTo (at + len) (R.reach source.old) (R.reach source.new) }
+    ensures end { EndsAt (at + len) result }
 {
     let mut at = at;
     let mut len = len;
@@ -98,6 +102,8 @@ fn begun_block<R: Source>(
 ) -> TiffResult<Option<PackedPosition>>
     ensures kept { IsKept R.bytes R.failures result source.old source.new }
     ensures block { Finds (R.bytes source.old) (left_at (R.bytes source.old) offset) (R.failures source.old < R.failures source.new) result }
+    ensures asked { ReachesTo (packed_end offset) (R.reach source.old) (R.reach source.new) }
+    ensures end { EndsAt (packed_end offset) result }
 {
     if offset.block.count() > 0 {
         return Ok(Some(offset));
@@ -117,6 +123,8 @@ fn read_literal<R: Source>(
     requires some { 0 < length buf.old }
     ensures kept { IsKept R.bytes R.failures result source.old source.new }
     ensures bytes { ReadsBlock (R.bytes source.old) offset (R.failures source.old < R.failures source.new) buf.old buf.new result }
+    ensures asked { ReachesTo (packed_end offset) (R.reach source.old) (R.reach source.new) }
+    ensures end { IfOk result (λ r. packed_end r.1 ≡ packed_end offset) }
 {
     let most = (count.min(buf.len()) as u64).min(offset.len) as usize;
     let n = match source.read_at(offset.at, &mut buf[..most]) {
@@ -143,7 +151,8 @@ fn repeat(
     requires run { offset.block ≡ Run value count }
     requires begun { 0 < count }
     requires some { 0 < length buf.old }
-    ensures { (bytes : List ℕ) → GivesNext (left_at bytes offset) buf.old result.0 buf.new (left_at bytes result.1) }
+    ensures bytes { (bytes : List ℕ) → GivesNext (left_at bytes offset) buf.old result.0 buf.new (left_at bytes result.1) }
+    ensures end { packed_end result.1 ≡ packed_end offset }
 {
     let n = count.min(buf.len());
     buf[..n].fill(value);
@@ -167,6 +176,8 @@ fn read_block<R: Source>(
     requires some { 0 < length buf.old }
     ensures kept { IsKept R.bytes R.failures result source.old source.new }
     ensures bytes { ReadsBlock (R.bytes source.old) offset (R.failures source.old < R.failures source.new) buf.old buf.new result }
+    ensures asked { ReachesTo (packed_end offset) (R.reach source.old) (R.reach source.new) }
+    ensures end { IfOk result (λ r. packed_end r.1 ≡ packed_end offset) }
 {
     match offset.block {
         Block::Literal(count) => read_literal(source, offset, count, buf),
@@ -224,7 +235,8 @@ fn unpack_blocks(packed: &[u8], buf: &mut [u8]) -> (usize, usize)
 impl PackedPosition {
     /// Before the `length` packed bytes from `at` on; a source may end before them.
     pub fn new(at: u64, length: u64) -> Self
-        ensures { (bytes : List ℕ) → left_at bytes result ≡ unpacked_at bytes at length }
+        ensures rest { (bytes : List ℕ) → left_at bytes result ≡ unpacked_at bytes at length }
+        ensures end { packed_end result ≡ at + length }
     {
         PackedPosition {
             block: Block::Literal(0),
@@ -238,6 +250,8 @@ impl PackedPosition {
         ensures empty { length buf.old ≡ 0 → (result ≡ Ok 0) × ((self.new ≡ self.old) × (source.new ≡ source.old)) }
         ensures kept { IsKept R.bytes R.failures result source.old source.new }
         ensures piece { PieceReads result (unpacking R.bytes R.failures source.old self.old) (unpacking R.bytes R.failures source.new self.new) buf.old buf.new }
+        ensures asked { ReachesTo (packed_end self.old) (R.reach source.old) (R.reach source.new) }
+        ensures end { packed_end self.new ≡ packed_end self.old }
     {
         if buf.is_empty() {
             return Ok(0);
@@ -260,6 +274,8 @@ impl PackedPosition {
     fn read_blocks<R: Source>(&mut self, source: &mut R, buf: &mut [u8]) -> TiffResult<usize>
         ensures kept { IsKept R.bytes R.failures result source.old source.new }
         ensures piece { PieceReads result (unpacking R.bytes R.failures source.old self.old) (unpacking R.bytes R.failures source.new self.new) buf.old buf.new }
+        ensures asked { ReachesTo (packed_end self.old) (R.reach source.old) (R.reach source.new) }
+        ensures end { packed_end self.new ≡ packed_end self.old }
     {
         if self.block.count() > 0 {
             return self.read(source, buf);
@@ -286,6 +302,8 @@ impl PackedPosition {
         ensures kept { IsKept R.bytes R.failures result source.old source.new }
         ensures ok { OnOk result (left_at (R.bytes source.old) self.old ≡ with_front buf.new (left_at (R.bytes source.old) self.new)) }
         ensures err { IfErr result (λ e. IsCause ⊥ (R.failures source.old < R.failures source.new) e (HasTooFew (left_at (R.bytes source.old) self.old) (length buf.old) e)) }
+        ensures asked { ReachesTo (packed_end self.old) (R.reach source.old) (R.reach source.new) }
+        ensures end { packed_end self.new ≡ packed_end self.old }
     {
         let mut done = 0;
         while done < buf.len() {
@@ -305,6 +323,8 @@ impl PackedPosition {
     pub fn read_exact<R: Source>(&mut self, source: &mut R, buf: &mut [u8]) -> TiffResult<()>
         ensures kept { IsKept R.bytes R.failures result source.old source.new }
         ensures filled { Fills result (unpacking R.bytes R.failures source.old self.old) (unpacking R.bytes R.failures source.new self.new) buf.new }
+        ensures asked { ReachesTo (packed_end self.old) (R.reach source.old) (R.reach source.new) }
+        ensures end { packed_end self.new ≡ packed_end self.old }
     {
         let mut offset = *self;
         match offset.fill(source, buf) {

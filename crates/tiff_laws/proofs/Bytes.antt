@@ -6,13 +6,13 @@ use Rattle.tiff_page.specs.Page.{PageRecord}
 use Rattle.tiff_page.specs.Rect.{rect, across, chunks_of_plane}
 use Rattle.tiff_page.specs.Layout.{LayoutRecord, row_bits, row_bytes, shown}
 use Rattle.tiff_page.specs.Laws.{HasSides, ChunkIsWithin, ChunksWithin}
-use Rattle.tiff_page.proofs.Chunks.{start_is, none_before}
+use Rattle.tiff_page.proofs.Chunks.{fewer_bytes, start_is, none_before}
 use Rattle.tiff_laws.specs.Whole.{ByteIsOfChunk, PlanesCovered, chunk_row, at_image}
 use Rattle.tiff_laws.specs.Bytes.{plane_of_byte, line_of_byte, column_of_byte, full_row, chunk_of_byte, row_of_byte, byte_in_row, IsByteAt, IsFoundAt, OneByte}
 use Rattle.tiff_laws.proofs.Laid.{IsLaid, laid}
 use Rattle.tiff_laws.proofs.Whole as whole
-use Rattle.tiff_laws.proofs.WhereChunks.{fewer_bytes}
-use Rattle.tiff_laws.proofs.Covered.{aligned_rows, parts_some}
+use Rattle.tiff_page.proofs.Planes.{aligned_rows}
+use Rattle.tiff_laws.proofs.Covered.{parts_some}
 
 -- so many bytes of a plane below others
 pub below_planes : (n planes size rest : ℕ) → n < planes → rest < size → n * size + rest < planes * size

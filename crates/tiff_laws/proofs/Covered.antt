@@ -1,18 +1,17 @@
 -- Each byte of an image's planes is of a chunk.
-use Rattle.std.proofs.Common.{◌≡◌, ℕ, ◌+◌, ◌-◌, ◌*◌, ◌/◌, ◌%◌, ◌<◌, ◌≤◌, true, false, [], Ok, Err, ap, sym, subst, ◌∙◌, ◌⊎◌, inl, inr, ⊎_elim, arith}
+use Rattle.std.proofs.Common.{◌≡◌, ℕ, ◌+◌, ◌-◌, ◌*◌, ◌/◌, ◌%◌, ◌<◌, ◌≤◌, true, false, Ok, Err, ap, sym, subst, ◌∙◌, ◌⊎◌, inl, inr, ⊎_elim, arith}
 use Rattle.std.specs.Prelude.{◌==◌, nat_lt}
 use Rattle.std.proofs.lemmas.Bool.{cases_Bool, eqb-true, ltb-false}
 use Rattle.std.proofs.lemmas.Nat.{mod_below, div-add-mod'}
 use Rattle.std.proofs.Math.Nat.{mul_assoc, mul_comm, mul-le-mul_right, div-mul-le_self, lt-div-mul-add, one-le-mul, le-div_iff_mul-le, div-lt_iff_lt-mul}
+use Rattle.tiff_page.proofs.Planes.{aligned_rows}
 use Rattle.tiff_base.specs.declared.color.ColorType.{ColorType}
 use Rattle.tiff_base.specs.declared.error.TiffError.TheVariants.{UnsupportedError}
 use Rattle.tiff_base.specs.declared.error.TiffUnsupportedError.TheVariants.{MisalignedTileBoundaries}
-use Rattle.tiff_base.specs.declared.tags.ByteOrder.TheVariants.{LittleEndian}
 use Rattle.tiff_page.specs.Page.{PageRecord}
 use Rattle.tiff_page.specs.Counts.{parts}
-use Rattle.tiff_page.specs.Rect.{rect, across, chunks_of_plane}
+use Rattle.tiff_page.specs.Rect.{rect, across, chunks_of_plane, chunk_of_pixel}
 use Rattle.tiff_page.specs.Layout.{LayoutRecord, row_bits, shown, aligned}
-use Rattle.tiff_page.specs.Pixels.{chunk_at}
 use Rattle.tiff_page.specs.Laws.{HasSides, HasPixel, OneChunk}
 use Rattle.tiff_laws.specs.Whole.{ByteIsOfChunk, PlanesCovered, chunk_row}
 use Rattle.tiff_laws.proofs.Laid.{IsLaid, laid}
@@ -30,24 +29,6 @@ in_columns k u x x0 w a b c d e =
     let h : (x + 1) * u ≡ x * u + u = omega arith in
     let i : (x0 + w) * u ≡ x0 * u + w * u = omega arith in
     (omega (arith, f, c, e), omega (arith, g, h, i, d, e, f, c))
-
--- several chunks across have rows of whole bytes
-pub aligned_rows : (p : PageRecord) (c : ColorType) (w : ℕ) (a : ColorType) → aligned p c w ≡ Ok a
-    → (parts w p.chunk_width ≤ 1) ⊎ (row_bits p c p.chunk_width ≡ row_bits p c p.chunk_width / 8 * 8)
-aligned_rows p c w a h =
-    let n : ℕ = row_bits p c p.chunk_width in
-    ⊎_elim
-    (λ (t : nat_lt 1 (parts w p.chunk_width) ≡ true).
-    ⊎_elim
-    (λ (z : (row_bits p c p.chunk_width % 8 == 0) ≡ true).
-    let e : n % 8 ≡ 0 = eqb-true (n % 8) 0 z in
-    let d : n / 8 * 8 + n % 8 ≡ n = div-add-mod' n 8 in
-    inr (omega (arith, e, d)))
-    (λ (f : (row_bits p c p.chunk_width % 8 == 0) ≡ false).
-    let k : Err (UnsupportedError MisalignedTileBoundaries) ≡ Ok a = rw (t, f) at h in cc)
-    (cases_Bool (row_bits p c p.chunk_width % 8 == 0)))
-    (λ (f : nat_lt 1 (parts w p.chunk_width) ≡ false). inl (ltb-false 1 (parts w p.chunk_width) f))
-    (cases_Bool (nat_lt 1 (parts w p.chunk_width)))
 
 -- so many chunks before it, each of whole bytes
 pub whole_before : (col cw u : ℕ) → cw * u ≡ cw * u / 8 * 8 → col * cw * u ≡ col * cw * u / 8 * 8
@@ -107,10 +88,10 @@ module _ (one_chunk : OneChunk) (p : PageRecord) (l : LayoutRecord) (sides : Has
   x_below = plane_of (8 * k) p.width bits bit_below
 
   abbrev i : ℕ
-  i = chunk_at [] LittleEndian p plane x y
+  i = chunk_of_pixel p plane x y
 
   has : HasPixel p i plane x y
-  has = (one_chunk [] LittleEndian p plane x y sides x_below y_below).0
+  has = (one_chunk p plane x y sides x_below y_below).0
 
   chunks_some : 0 < chunks_of_plane p
   chunks_some = one-le-mul (parts_some p.width p.chunk_width sides.chunk_wide sides.wide) (parts_some p.height p.chunk_height sides.chunk_high sides.high)

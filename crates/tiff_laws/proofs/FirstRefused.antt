@@ -25,7 +25,7 @@ pub fault_first : (r : Result (Unit {0}) TiffError) (x : List ℕ) (e : TiffErro
 fault_first (Ok u) x e h = cc
 fault_first (Err f) x e h = cc
 
-module _ (file : List ℕ) (order : ByteOrder) (p : PageRecord) (limits : Limits) (width height : ℕ) (part : LayoutRecord → Part file order p) (buf : List ℕ) (l : LayoutRecord) (whole : planes_layout p width height ≡ Ok l) (room : l.plane_stride ≤ length buf) where
+module _ (file : List ℕ) (order : ByteOrder) (p : PageRecord) (limits : Limits) (width height : ℕ) (part : LayoutRecord → Part) (buf : List ℕ) (l : LayoutRecord) (whole : planes_layout p width height ≡ Ok l) (room : l.plane_stride ≤ length buf) where
   abbrev answer : Result (List ℕ) TiffError
   answer = planes_layout p width height >>= (λ l. room_fault (length buf) l.plane_stride >>= (λ _. filled file order p limits l.color (part l) buf))
 
@@ -50,8 +50,8 @@ module _ (within_image : ChunksWithin) (d : Decoding) (sides : HasSides d.state.
   abbrev fault : ℕ → Result (Unit {0}) TiffError
   fault i = fault_of d.bytes d.order page d.state.limits l.color i
 
-  abbrev into : ℕ → LayoutRecord → Part d.bytes d.order page
-  into i layout = chunk_part d.bytes d.order page i 1 layout.row_bytes
+  abbrev into : ℕ → LayoutRecord → Part
+  into i layout = chunk_part page i 1 layout.row_bytes
 
   -- a chunk with a fault is refused
   pub chunk_refused : (i : ℕ) (e : TiffError) → fault i ≡ Err e → IsChunkRefused d l e i
@@ -92,7 +92,7 @@ module _ (within_image : ChunksWithin) (d : Decoding) (sides : HasSides d.state.
     at_chunk : (j plane : ℕ) → of_chunk j plane ≡ fault (plane * c + j)
     at_chunk j plane = let e : 0 + j ≡ j = omega arith in ap (λ (z : ℕ). fault (plane * c + z)) e
 
-    pub first_of : (e : TiffError) → part_fault d.bytes d.order page d.state.limits l.color (image_part d.bytes d.order page used s) ≡ Err e
+    pub first_of : (e : TiffError) → part_fault d.bytes d.order page d.state.limits l.color (image_part page used s) ≡ Err e
         → (plane k : ℕ) × IsFirstRefused d l used plane k e
     first_of e h =
         let a : (k : ℕ) × ((k < c) × IsFirst of_column k e) = (first_fault of_column c e).0 h in
@@ -110,7 +110,7 @@ module _ (within_image : ChunksWithin) (d : Decoding) (sides : HasSides d.state.
         )
 
     pub by_first : (e : TiffError) (plane k : ℕ) → IsFirstRefused d l used plane k e
-        → part_fault d.bytes d.order page d.state.limits l.color (image_part d.bytes d.order page used s) ≡ Err e
+        → part_fault d.bytes d.order page d.state.limits l.color (image_part page used s) ≡ Err e
     by_first e plane k is =
         let found : of_column k ≡ Err e =
         (first_fault (of_chunk k) used e).1 plane is.used (record {
@@ -127,7 +127,7 @@ module _ (within_image : ChunksWithin) (no_fault : NoFault) (first_fault : First
   unfolding outcome.read_image_bytes pixels.read_image_bytes
   refused_where_chunks d l buf e sides room =
       let p : PageRecord = d.state.page in
-      let to : LayoutRecord → Part d.bytes d.order p = λ layout. image_part d.bytes d.order p (planes_used p layout (length buf)) layout.row_bytes in
+      let to : LayoutRecord → Part = λ layout. image_part p (planes_used p layout (length buf)) layout.row_bytes in
       let used : ℕ = planes_used p l (length buf) in (
         λ h. first_of within_image d sides l room.laid no_fault first_fault used l.row_bytes e
             (refusal_of d.bytes d.order p d.state.limits p.width p.height to buf l room.laid room.room e h),

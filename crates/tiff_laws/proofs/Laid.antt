@@ -2,6 +2,7 @@
 use Rattle.std.proofs.Common.{◌≡◌, ℕ, ◌*◌, ◌^◌, ◌<◌, ◌≤◌, Bool, true, false, List, length, Ok, Err, refl, sym, subst, ⊎_elim}
 use Rattle.std.specs.Prelude.{Result, nat_lt}
 use Rattle.std.proofs.lemmas.Bool.{cases_Bool, ltb-true, ltb-false}
+use Rattle.tiff_base.proofs.Common.{bind_ok}
 use Rattle.tiff_base.specs.declared.color.ColorType.{ColorType}
 use Rattle.tiff_base.specs.declared.error.TiffError.{TiffError}
 use Rattle.tiff_base.specs.declared.error.TiffError.TheVariants.{LimitsExceeded, UsageError}
@@ -16,11 +17,6 @@ use Rattle.tiff_page.specs.Buffers.{planes_layout}
 use Rattle.tiff_page.specs.PixelCalls.{Part, room_fault, part_fault, placed, filled}
 
 -- ---- chains of steps
-
--- each step of a chain that gave something did
-pub bind_ok : {A B : Type 0} (r : Result A TiffError) (f : A → Result B TiffError) (y : B) → (r >>= f) ≡ Ok y → (x : A) × ((r ≡ Ok x) × (f x ≡ Ok y))
-bind_ok (Ok x) f y h = (x, (refl, h))
-bind_ok (Err e) f y h = cc
 
 abbrev pub good : {A : Type 0} → A → Result A TiffError
 good x = Ok x
@@ -96,11 +92,11 @@ planes_laid p width height l h =
 
 module _ (file : List ℕ) (order : ByteOrder) (p : PageRecord) (limits : Limits) where
   -- what a read of pixels was when it gave these bytes
-  pub record IsFilled (color : ColorType) (part : Part file order p) (buf new : List ℕ) : Type 0 where
+  pub record IsFilled (color : ColorType) (part : Part) (buf new : List ℕ) : Type 0 where
     pub none : part_fault file order p limits color part ≡ Ok tt
     pub bytes : new ≡ placed file order p color part.region part.stride part.planes buf
 
-  pub filled_gives : (color : ColorType) (part : Part file order p) (buf new : List ℕ) → filled file order p limits color part buf ≡ Ok new
+  pub filled_gives : (color : ColorType) (part : Part) (buf new : List ℕ) → filled file order p limits color part buf ≡ Ok new
       → IsFilled color part buf new
   unfolding filled
   filled_gives color part buf new h =
@@ -109,12 +105,12 @@ module _ (file : List ℕ) (order : ByteOrder) (p : PageRecord) (limits : Limits
       record { none = a.1.0; bytes = sym (ok_is all new a.1.1) }
 
   -- a layout, room for a plane of it, and then the bytes
-  pub record IsReadInto (width height : ℕ) (part : LayoutRecord → Part file order p) (buf new : List ℕ) (l : LayoutRecord) : Type 0 where
+  pub record IsReadInto (width height : ℕ) (part : LayoutRecord → Part) (buf new : List ℕ) (l : LayoutRecord) : Type 0 where
     pub laid : planes_layout p width height ≡ Ok l
     pub room : l.plane_stride ≤ length buf
     pub filled : IsFilled l.color (part l) buf new
 
-  pub read_gives : (width height : ℕ) (part : LayoutRecord → Part file order p) (buf new : List ℕ)
+  pub read_gives : (width height : ℕ) (part : LayoutRecord → Part) (buf new : List ℕ)
       → (planes_layout p width height >>= (λ l. room_fault (length buf) l.plane_stride >>= (λ _. filled file order p limits l.color (part l) buf))) ≡ Ok new
       → (l : LayoutRecord) × IsReadInto width height part buf new l
   read_gives width height part buf new h =

@@ -26,7 +26,7 @@ none_found true true x v (inl h) = cc
 none_found true true x v (inr h) = cc
 
 -- past the planes there is no byte of the region
-pub none_at : (file : List ℕ) (order : ByteOrder) (p : PageRecord) (color : ColorType) (region : Region file order p) (stride planes at v : ℕ)
+pub none_at : (file : List ℕ) (order : ByteOrder) (p : PageRecord) (color : ColorType) (region : Region) (stride planes at v : ℕ)
     → (planes ≤ at / (stride * region.height)) ⊎ (row_bytes p color region.width ≤ at % stride)
     → unwrap_or (byte_at file order p color region stride planes at) v ≡ v
 unfolding byte_at
@@ -51,15 +51,15 @@ module _ (placed_each : PlacedEach) (file : List ℕ) (order : ByteOrder) (p : P
   abbrev count : ℕ
   count = planes_used p l (length buf)
 
-  abbrev pub into : LayoutRecord → Part file order p
-  into layout = image_part file order p (planes_used p layout (length buf)) layout.row_bytes
+  abbrev pub into : LayoutRecord → Part
+  into layout = image_part p (planes_used p layout (length buf)) layout.row_bytes
 
   module _ (read : IsReadInto file order p limits p.width p.height into buf image l) where
     abbrev all : List ℕ
-    all = placed file order p l.color (image_region file order p) l.row_bytes count buf
+    all = placed file order p l.color (image_region p) l.row_bytes count buf
 
     pub as_long : length image ≡ length buf
-    as_long = ap length read.filled.bytes ∙ (placed_each file order p l.color (image_region file order p) l.row_bytes count buf).0
+    as_long = ap length read.filled.bytes ∙ (placed_each file order p l.color (image_region p) l.row_bytes count buf).0
 
     pub stays : (at : ℕ) → count * l.plane_stride ≤ at → at < length buf → slice_index image at ≡ slice_index buf at
     stays at above below =
@@ -67,8 +67,8 @@ module _ (placed_each : PlacedEach) (file : List ℕ) (order : ByteOrder) (p : P
         let stride : l.plane_stride ≡ l.row_bytes * p.height = is.stride ∙ ap (λ (z : ℕ). z * p.height) (sym is.rows) in
         let over : count * (l.row_bytes * p.height) ≤ at = subst (λ (z : ℕ). count * z ≤ at) stride above in
         ap (λ (z : List ℕ). slice_index z at) read.filled.bytes
-        ∙ (placed_each file order p l.color (image_region file order p) l.row_bytes count buf).1 at below
-        ∙ none_at file order p l.color (image_region file order p) l.row_bytes count at (slice_index buf at)
+        ∙ (placed_each file order p l.color (image_region p) l.row_bytes count buf).1 at below
+        ∙ none_at file order p l.color (image_region p) l.row_bytes count at (slice_index buf at)
         (past l.row_bytes p.height count at (row_bytes p l.color p.width) sides.high is.rows over)
 
 module _ (placed_each : PlacedEach) (plane_of_chunks : PlaneOfChunks) (planes_covered : PlanesCovered) where
@@ -88,7 +88,7 @@ module _ (placed_each : PlacedEach) (plane_of_chunks : PlaneOfChunks) (planes_co
     abbrev page : PageRecord
     page = d.state.page
 
-    abbrev to : LayoutRecord → Part d.bytes d.order page
+    abbrev to : LayoutRecord → Part
     to = into placed_each d.bytes d.order page d.state.limits l sides given buf image
 
     is_read : IsReadInto d.bytes d.order page d.state.limits page.width page.height to buf image l

@@ -3,6 +3,7 @@ use Rattle.std.proofs.Common.{◌≡◌, ℕ, ◌*◌, ◌/◌, ◌<◌, ◌≤�
 use Rattle.std.specs.Prelude.{Result, nat_le, replicate}
 use Rattle.std.proofs.lemmas.List.{length-replicate}
 use Rattle.std.proofs.Math.Nat.{mul_comm, mul-le-mul_right}
+use Rattle.tiff_base.proofs.Common.{bind_ok}
 use Rattle.tiff_base.specs.declared.error.TiffError.{TiffError}
 use Rattle.tiff_base.specs.Answers.{◌>>=◌}
 use Rattle.tiff_page.specs.declared.layout.BufferLayoutPreference.{BufferLayoutPreference}
@@ -18,7 +19,7 @@ use Rattle.tiff_decode.specs.Outcome as outcome
 use Rattle.tiff_laws.specs.Sides.{HasSamples}
 use Rattle.tiff_laws.specs.Whole.{HasRoom, ImageIsItsChunks, IsFirstRefused, RefusedWhereChunks}
 use Rattle.tiff_laws.specs.Samples.{numbers_by, image_read, planes_let, HasNumbers, AreOfChunks, ImageByBytes, BufferByBytes, SamplesOfChunks, BufferOfChunks}
-use Rattle.tiff_laws.proofs.Laid.{bind_ok, good, ok_is}
+use Rattle.tiff_laws.proofs.Laid.{good, ok_is}
 use Rattle.tiff_laws.proofs.Samples.{all_or_one, used_of, some_plane, all_some}
 
 -- the fault of a step is that of what is made of its value

@@ -20,7 +20,7 @@ use Rattle.tiff_page.specs.Image.{Decoded}
 use Rattle.tiff_page.specs.Buffers.{planes_layout, all_planes}
 use Rattle.tiff_page.specs.PixelCalls as pixels
 use Rattle.tiff_page.specs.PixelCalls.{Part, image_part, chunk_part, room_fault, planes_used, filled, samples}
-use Rattle.tiff_page.specs.Laws.{HasSides, SomeBytes, ImageIsFirstPlane}
+use Rattle.tiff_page.specs.Laws.{HasSides, SomeBytes}
 use Rattle.tiff_page.proofs.Planes.{Shows, color_shows}
 use Rattle.tiff_decode.specs.Machine.{Decoding}
 use Rattle.tiff_decode.specs.Outcome as outcome
@@ -49,7 +49,7 @@ used_of all used size l some =
     let b : size * used / size ≡ used = ap (λ (z : ℕ). z / size) a ∙ div-mul-add used size 0 some in
     omega (arith, b, l)
 
-module _ (file : List ℕ) (order : ByteOrder) (p : PageRecord) (limits : Limits) (width height : ℕ) (part : LayoutRecord → Part file order p) (buf : List ℕ) (l : LayoutRecord) (whole : planes_layout p width height ≡ Ok l) (room : l.plane_stride ≤ length buf) where
+module _ (file : List ℕ) (order : ByteOrder) (p : PageRecord) (limits : Limits) (width height : ℕ) (part : LayoutRecord → Part) (buf : List ℕ) (l : LayoutRecord) (whole : planes_layout p width height ≡ Ok l) (room : l.plane_stride ≤ length buf) where
   -- with a layout and room a slice is filled
   pub fills_part : (planes_layout p width height >>= (λ l. room_fault (length buf) l.plane_stride >>= (λ _. filled file order p limits l.color (part l) buf)))
       ≡ filled file order p limits l.color (part l) buf
@@ -85,40 +85,39 @@ module _ (some_bytes : SomeBytes) (d : Decoding) (sides : HasSides d.state.page)
     used_is : planes_used p l (length zeros) ≡ used
     used_is = ap (λ (z : ℕ). min (planes p.planar l.color) (z / l.plane_stride)) long ∙ used_of (planes p.planar l.color) used l.plane_stride few some_plane
 
-    pub bytes_are : image_read d zeros ≡ filled d.bytes d.order p d.state.limits l.color (image_part d.bytes d.order p used l.row_bytes) zeros
+    pub bytes_are : image_read d zeros ≡ filled d.bytes d.order p d.state.limits l.color (image_part p used l.row_bytes) zeros
     unfolding outcome.read_image_bytes pixels.read_image_bytes
     bytes_are =
-        fills_part d.bytes d.order p d.state.limits p.width p.height (λ layout. image_part d.bytes d.order p (planes_used p layout (length zeros)) layout.row_bytes) zeros l whole room
-        ∙ (λ k. filled d.bytes d.order p d.state.limits l.color (image_part d.bytes d.order p (used_is k) l.row_bytes) zeros)
+        fills_part d.bytes d.order p d.state.limits p.width p.height (λ layout. image_part p (planes_used p layout (length zeros)) layout.row_bytes) zeros l whole room
+        ∙ (λ k. filled d.bytes d.order p d.state.limits l.color (image_part p (used_is k) l.row_bytes) zeros)
 
-    pub numbers_are : samples d.bytes d.order p d.state.limits l.color (image_part d.bytes d.order p used l.row_bytes) (l.plane_stride * used)
+    pub numbers_are : samples d.bytes d.order p d.state.limits l.color (image_part p used l.row_bytes) (l.plane_stride * used)
         ≡ numbers_by d (image_read d) (l.plane_stride * used)
     unfolding samples
     numbers_are = ap (λ (r : Result (List ℕ) TiffError). numbers_by d (λ _. r) (l.plane_stride * used)) (sym bytes_are)
 
   -- one plane
-  pub first_numbers : samples d.bytes d.order p d.state.limits l.color (image_part d.bytes d.order p 1 l.row_bytes) l.plane_stride
+  pub first_numbers : samples d.bytes d.order p d.state.limits l.color (image_part p 1 l.row_bytes) l.plane_stride
       ≡ numbers_by d (image_read d) l.plane_stride
   first_numbers =
       let e : l.plane_stride * 1 ≡ l.plane_stride = omega arith in
-      subst (λ (z : ℕ). samples d.bytes d.order p d.state.limits l.color (image_part d.bytes d.order p 1 l.row_bytes) z ≡ numbers_by d (image_read d) z) e
+      subst (λ (z : ℕ). samples d.bytes d.order p d.state.limits l.color (image_part p 1 l.row_bytes) z ≡ numbers_by d (image_read d) z) e
       (numbers_are 1 (omega arith) (omega (arith, all_some)))
 
   -- the planes that the limit lets through
-  pub let_numbers : samples d.bytes d.order p d.state.limits l.color (image_part d.bytes d.order p (planes_let d l) l.row_bytes) (l.plane_stride * planes_let d l)
+  pub let_numbers : samples d.bytes d.order p d.state.limits l.color (image_part p (planes_let d l) l.row_bytes) (l.plane_stride * planes_let d l)
       ≡ numbers_by d (image_read d) (l.plane_stride * planes_let d l)
   let_numbers =
       let all : ℕ = planes p.planar l.color in
       let a = all_or_one (nat_le (l.plane_stride * all) d.state.limits.decoding_buffer_size) all all_some in
       numbers_are (planes_let d l) a.0 a.1
 
-pub image_by : ImageIsFirstPlane → SomeBytes → ImageByBytes
-unfolding outcome.read_image
-image_by first some_bytes d sides has =
+pub image_by : SomeBytes → ImageByBytes
+unfolding outcome.read_image pixels.image_of
+image_by some_bytes d sides has =
     let p : PageRecord = d.state.page in
-    first d.bytes d.order p d.state.limits
-    ∙ same_after (planes_layout p p.width p.height)
-    (λ (l : LayoutRecord). samples d.bytes d.order p d.state.limits l.color (image_part d.bytes d.order p 1 l.row_bytes) l.plane_stride)
+    same_after (planes_layout p p.width p.height)
+    (λ (l : LayoutRecord). samples d.bytes d.order p d.state.limits l.color (image_part p 1 l.row_bytes) l.plane_stride)
     (λ (l : LayoutRecord). numbers_by d (image_read d) l.plane_stride)
     (λ l whole. first_numbers some_bytes d sides has l whole)
 
@@ -128,7 +127,7 @@ buffer_by some_bytes d sides has =
     let p : PageRecord = d.state.page in
     let named : LayoutRecord → Decoded → Result (BufferLayoutPreference × Decoded) TiffError = λ l numbers. Ok (all_planes p l, numbers) in
     same_after (planes_layout p p.width p.height)
-    (λ (l : LayoutRecord). samples d.bytes d.order p d.state.limits l.color (image_part d.bytes d.order p (planes_let d l) l.row_bytes) (l.plane_stride * planes_let d l) >>= named l)
+    (λ (l : LayoutRecord). samples d.bytes d.order p d.state.limits l.color (image_part p (planes_let d l) l.row_bytes) (l.plane_stride * planes_let d l) >>= named l)
     (λ (l : LayoutRecord). numbers_by d (image_read d) (l.plane_stride * planes_let d l) >>= named l)
     (λ l whole. ap (λ (r : Result Decoded TiffError). r >>= named l) (let_numbers some_bytes d sides has l whole))
 
@@ -136,7 +135,7 @@ pub chunk_by : ChunkByBytes
 unfolding outcome.read_chunk outcome.read_chunk_bytes pixels.read_chunk pixels.read_chunk_bytes samples
 chunk_by d i =
     let p : PageRecord = d.state.page in
-    let into : LayoutRecord → Part d.bytes d.order p = λ layout. chunk_part d.bytes d.order p i 1 layout.row_bytes in
+    let into : LayoutRecord → Part = λ layout. chunk_part p i 1 layout.row_bytes in
     same_after (planes_layout p (rect p i).width (rect p i).height)
     (λ (l : LayoutRecord). samples d.bytes d.order p d.state.limits l.color (into l) l.plane_stride)
     (λ (l : LayoutRecord). numbers_by d (chunk_read d i) l.plane_stride)

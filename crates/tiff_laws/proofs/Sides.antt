@@ -2,6 +2,8 @@
 use Rattle.std.proofs.Common.{◌≡◌, ℕ, zero, suc, ◌^◌, ◌<◌, Bool, true, false, List, [], ◌∷◌, length, Option, Some, None, Ok, Err, refl, subst, arith}
 use Rattle.std.specs.Prelude.{Result, if◌then◌else◌, ◌==◌, ◌&&◌, ◌||◌, not}
 use Rattle.std.specs.List.{list_all}
+use Rattle.tiff_base.proofs.Common.{bind_ok}
+use Rattle.tiff_base.proofs.Common.{neither}
 use Rattle.tiff_base.specs.declared.error.TiffError.{TiffError}
 use Rattle.tiff_base.specs.declared.error.TiffError.TheVariants.{FormatError}
 use Rattle.tiff_base.specs.declared.error.TiffFormatError.TheVariants.{InvalidTagValueType}
@@ -17,7 +19,7 @@ use Rattle.tiff_page.specs.Page.{PageRecord, Chunks}
 use Rattle.tiff_page.specs.Checks.{sides, size_in, interpretation_in, method_in, some_samples, samples_in, extra_in, format_in, same_depth, one_depth, depth_from, depth_in, predictor_in, planar_in, subsampling_in, chunk_type_in, chunks_counted, some_rows, strips_in, some_side, tiles_in, chunks_in, page_of}
 use Rattle.tiff_page.specs.Laws.{HasSides}
 use Rattle.tiff_laws.specs.Sides.{HasSamples, PageHasSides}
-use Rattle.tiff_laws.proofs.Laid.{bind_ok, good, ok_is}
+use Rattle.tiff_laws.proofs.Laid.{good, ok_is}
 
 -- ---- what a choice gave
 
@@ -41,10 +43,6 @@ module _ {A : Type 0} (x y : A) (e : TiffError) where
 and_right : (a b : Bool) → (a && b) ≡ true → b ≡ true
 and_right true b h = h
 and_right false b h = cc
-
-neither : (a b : Bool) → (a || b) ≡ false → (a ≡ false) × (b ≡ false)
-neither true b h = cc
-neither false b h = (refl, h)
 
 -- ---- what the checks gave
 

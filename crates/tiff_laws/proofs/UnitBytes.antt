@@ -59,7 +59,7 @@ module _ (n h s k : ℕ) (below : k < s * h) where
   along_at = ap (λ (z : ℕ). z % s) is_at ∙ whole.column_at n h (k / s) s (k % s) line_below rest_below
 
 -- a byte of a plane of a region that was placed
-module _ (placed_each : PlacedEach) (file : List ℕ) (order : ByteOrder) (p : PageRecord) (color : ColorType) (region : Region file order p) (s planes n k : ℕ) (buf : List ℕ) where
+module _ (placed_each : PlacedEach) (file : List ℕ) (order : ByteOrder) (p : PageRecord) (color : ColorType) (region : Region) (s planes n k : ℕ) (buf : List ℕ) where
   pub byte_placed : s ≡ row_bytes p color region.width → k < s * region.height → n < planes → n * (s * region.height) + k < length buf
       → slice_index (placed file order p color region s planes buf) (n * (s * region.height) + k) ≡ region_byte file order p color region (region.plane + n) (k / s) (k % s)
   byte_placed rows below nl room =
@@ -75,8 +75,8 @@ module _ (chunks_within : ChunksWithin) (placed_each : PlacedEach) (unit_of_chun
   abbrev used : ℕ
   used = planes_used p l (length buf)
 
-  abbrev region : Region d.bytes d.order p
-  region = chunk_region d.bytes d.order p unit
+  abbrev region : Region
+  region = chunk_region p unit
 
   abbrev s : ℕ
   s = l.row_bytes
@@ -136,8 +136,8 @@ module _ (chunks_within : ChunksWithin) (placed_each : PlacedEach) (unit_of_chun
         ∙ ap (λ (z : ℕ). region_byte d.bytes d.order p l.color region z (k / s) (k % s)) e
 
     module _ (part chunk : List ℕ) (of_chunk : (outcome.read_chunk_bytes d i part).answer ≡ Ok chunk) where
-      abbrev of : Region d.bytes d.order p
-      of = chunk_region d.bytes d.order p i
+      abbrev of : Region
+      of = chunk_region p i
 
       chunk_read : IsReadInto d.bytes d.order p d.state.limits (rect p i).width (rect p i).height (into d l unit has.laid has.listed i) part chunk l
       unfolding outcome.read_chunk_bytes pixels.read_chunk_bytes

@@ -6,6 +6,7 @@ use Rattle.std.proofs.lemmas.Bool.{cases_Bool, lt-ltb, ltb-true}
 use Rattle.std.proofs.lemmas.List.{length-replicate}
 use Rattle.std.proofs.lemmas.Nat.{mod-mul-add}
 use Rattle.std.proofs.Math.Nat.{mod-eq_of_lt}
+use Rattle.tiff_base.proofs.Common.{bind_ok}
 use Rattle.tiff_base.specs.declared.error.TiffError.{TiffError}
 use Rattle.tiff_base.specs.declared.error.TiffError.TheVariants.{UsageError}
 use Rattle.tiff_base.specs.declared.error.UsageError.TheVariants.{InvalidCodingUnit}
@@ -23,7 +24,7 @@ use Rattle.tiff_decode.specs.Machine.{Decoding}
 use Rattle.tiff_decode.specs.Outcome as outcome
 use Rattle.tiff_laws.specs.Whole.{IsChunkRead, IsChunkRefused, chunk_byte_count}
 use Rattle.tiff_laws.specs.Units.{HasUnitRoom, IsFirstPlaneRefused, UnitWhereChunks, UnitRefusedWhereChunks, unit_chunk}
-use Rattle.tiff_laws.proofs.Laid.{IsLaid, IsFilled, laid, planes_laid, bind_ok, filled_gives, read_gives, room_ok, ok_is}
+use Rattle.tiff_laws.proofs.Laid.{IsLaid, IsFilled, laid, planes_laid, filled_gives, read_gives, room_ok, ok_is}
 use Rattle.tiff_laws.proofs.WhereChunks.{fault_of, read_into, one_fault, ok_or, is_good, has_room}
 use Rattle.tiff_laws.proofs.FirstRefused.{fault_first, refusal_of, refusal_by}
 
@@ -52,8 +53,8 @@ module _ (d : Decoding) (l : LayoutRecord) (unit : ℕ) (whole : planes_layout d
   abbrev pub fault : ℕ → Result (Unit {0}) TiffError
   fault i = fault_of d.bytes d.order page d.state.limits l.color i
 
-  abbrev pub into : ℕ → LayoutRecord → Part d.bytes d.order page
-  into i layout = chunk_part d.bytes d.order page i 1 layout.row_bytes
+  abbrev pub into : ℕ → LayoutRecord → Part
+  into i layout = chunk_part page i 1 layout.row_bytes
 
   pub is_laid : IsLaid page (rect page unit).width (rect page unit).height l
   is_laid = laid page (rect page unit).width (rect page unit).height l (planes_laid page (rect page unit).width (rect page unit).height l whole).0
@@ -127,8 +128,8 @@ module _ (d : Decoding) (l : LayoutRecord) (unit : ℕ) (whole : planes_layout d
   abbrev pub of_plane : ℕ → Result (Unit {0}) TiffError
   of_plane plane = fault (unit_chunk page unit plane)
 
-  abbrev pub unit_part : ℕ → ℕ → Part d.bytes d.order page
-  unit_part used s = chunk_part d.bytes d.order page unit used s
+  abbrev pub unit_part : ℕ → ℕ → Part
+  unit_part used s = chunk_part page unit used s
 
   pub faults_are : (used s : ℕ) → part_fault d.bytes d.order page d.state.limits l.color (unit_part used s) ≡ each_below of_plane used
   faults_are used s =
@@ -175,14 +176,14 @@ module _ (d : Decoding) (l : LayoutRecord) (unit : ℕ) (whole : planes_layout d
 -- what a read of a unit was when it gave bytes
 pub record IsUnitRead (d : Decoding) (unit : ℕ) (buf new : List ℕ) (l : LayoutRecord) : Type 0 where
   pub has : HasUnitRoom d.state.page l unit (length buf)
-  pub filled : IsFilled d.bytes d.order d.state.page d.state.limits l.color (chunk_part d.bytes d.order d.state.page unit (planes_used d.state.page l (length buf)) l.row_bytes) buf new
+  pub filled : IsFilled d.bytes d.order d.state.page d.state.limits l.color (chunk_part d.state.page unit (planes_used d.state.page l (length buf)) l.row_bytes) buf new
 
 pub unit_gives : (d : Decoding) (unit : ℕ) (buf new : List ℕ) → (outcome.read_coding_unit_bytes d unit buf).answer ≡ Ok new
     → (l : LayoutRecord) × IsUnitRead d unit buf new l
 unfolding outcome.read_coding_unit_bytes pixels.read_coding_unit_bytes
 unit_gives d unit buf new h =
     let p : PageRecord = d.state.page in
-    let part : LayoutRecord → Part d.bytes d.order p = λ l. chunk_part d.bytes d.order p unit (planes_used p l (length buf)) l.row_bytes in
+    let part : LayoutRecord → Part = λ l. chunk_part p unit (planes_used p l (length buf)) l.row_bytes in
     let fill : LayoutRecord → Result (List ℕ) TiffError = λ l. filled d.bytes d.order p d.state.limits l.color (part l) buf in
     let sized : LayoutRecord → Result (List ℕ) TiffError = λ l. room_fault (length buf) l.plane_stride >>= (λ _. fill l) in
     let a = bind_ok (planes_layout p (rect p unit).width (rect p unit).height) (λ l. unit_fault p unit >>= (λ _. sized l)) new h in

@@ -5,6 +5,7 @@ use Rattle.std.specs.Result.{is_ok, IsOk}
 use Rattle.std.proofs.lemmas.Bool.{lt-ltb, le-ltb}
 use Rattle.std.proofs.lemmas.Nat.{mul-add-lt, div_below, mod_below, div-add-mod'}
 use Rattle.std.proofs.Math.Nat.{mul_comm, mul-le-mul, mul-le-mul_right}
+use Rattle.tiff_page.proofs.Chunks.{fewer_bytes}
 use Rattle.tiff_base.specs.declared.color.ColorType.{ColorType}
 use Rattle.tiff_base.specs.declared.error.TiffError.{TiffError}
 use Rattle.tiff_base.specs.declared.tags.ByteOrder.{ByteOrder}
@@ -30,13 +31,6 @@ use Rattle.tiff_laws.proofs.Laid.{IsLaid, laid, planes_laid, read_gives, ok_is}
 
 pub wide_is : (n : ℕ) → n < 2 ^ 64 → wide n ≡ Ok n
 wide_is n h = let t : nat_lt n (2 ^ 64) ≡ true = lt-ltb n (2 ^ 64) h in rw t refl
-
--- fewer columns have no more bytes
-pub fewer_bytes : (v w d s : ℕ) → v ≤ w → (v * d * s + 7) / 8 ≤ (w * d * s + 7) / 8
-fewer_bytes v w d s h =
-    let a : v * d ≤ w * d = mul-le-mul_right d h in
-    let b : v * d * s ≤ w * d * s = mul-le-mul_right s a in
-    omega (arith, b)
 
 -- what is no wider than a chunk is of one chunk
 pub one_part : (w n : ℕ) → 0 < n → w ≤ n → parts w n ≤ 1
@@ -97,13 +91,13 @@ module _ (file : List ℕ) (order : ByteOrder) (p : PageRecord) (limits : Limits
   fault_of color i = chunk_fault p limits (is_short file order p color) color i
 
   -- a part without a fault is read
-  pub fills : (color : ColorType) (part : Part file order p) (buf : List ℕ) → part_fault file order p limits color part ≡ Ok tt
+  pub fills : (color : ColorType) (part : Part) (buf : List ℕ) → part_fault file order p limits color part ≡ Ok tt
       → filled file order p limits color part buf ≡ Ok (placed file order p color part.region part.stride part.planes buf)
   unfolding filled
   fills color part buf none = rw none refl
 
   -- as is a slice with room for it
-  pub read_into : (width height : ℕ) (part : LayoutRecord → Part file order p) (buf : List ℕ) (l : LayoutRecord) → planes_layout p width height ≡ Ok l
+  pub read_into : (width height : ℕ) (part : LayoutRecord → Part) (buf : List ℕ) (l : LayoutRecord) → planes_layout p width height ≡ Ok l
       → l.plane_stride ≤ length buf → part_fault file order p limits l.color (part l) ≡ Ok tt
       → IsOk (planes_layout p width height >>= (λ l. room_fault (length buf) l.plane_stride >>= (λ _. filled file order p limits l.color (part l) buf)))
   read_into width height part buf l whole room none =
@@ -112,7 +106,7 @@ module _ (file : List ℕ) (order : ByteOrder) (p : PageRecord) (limits : Limits
       rw (whole, a, b) refl
 
   -- the only chunk of its part
-  pub one_fault : (color : ColorType) (i s : ℕ) → part_fault file order p limits color (chunk_part file order p i 1 s) ≡ fault_of color i
+  pub one_fault : (color : ColorType) (i s : ℕ) → part_fault file order p limits color (chunk_part p i 1 s) ≡ fault_of color i
   one_fault color i s = let e : 0 * chunks_of_plane p + (i + 0) ≡ i = omega arith in ap (fault_of color) e
 
   module _ (no_fault : NoFault) (color : ColorType) (used s : ℕ) where
@@ -120,7 +114,7 @@ module _ (file : List ℕ) (order : ByteOrder) (p : PageRecord) (limits : Limits
     of_column j = each_below (λ plane. fault_of color (plane * chunks_of_plane p + (0 + j))) used
 
     -- an image without a fault has no chunk with one
-    pub none_has : part_fault file order p limits color (image_part file order p used s) ≡ Ok tt
+    pub none_has : part_fault file order p limits color (image_part p used s) ≡ Ok tt
         → (i : ℕ) → i < used * chunks_of_plane p → fault_of color i ≡ Ok tt
     none_has none i l =
         let c : ℕ = chunks_of_plane p in
@@ -131,7 +125,7 @@ module _ (file : List ℕ) (order : ByteOrder) (p : PageRecord) (limits : Limits
         ap (fault_of color) e ∙ at
 
     pub none_have : ((i : ℕ) → i < used * chunks_of_plane p → fault_of color i ≡ Ok tt)
-        → part_fault file order p limits color (image_part file order p used s) ≡ Ok tt
+        → part_fault file order p limits color (image_part p used s) ≡ Ok tt
     none_have each =
         let c : ℕ = chunks_of_plane p in
         (no_fault of_column c).1
@@ -155,7 +149,7 @@ module _ (within_image : ChunksWithin) (no_fault : NoFault) where
     pub chunk_read : (i : ℕ) → fault i ≡ Ok tt → IsChunkRead d l i
     unfolding outcome.read_chunk_bytes pixels.read_chunk_bytes
     chunk_read i none part room =
-        read_into d.bytes d.order p d.state.limits (rect p i).width (rect p i).height (λ layout. chunk_part d.bytes d.order p i 1 layout.row_bytes) part
+        read_into d.bytes d.order p d.state.limits (rect p i).width (rect p i).height (λ layout. chunk_part p i 1 layout.row_bytes) part
         (chunk_layout p l sides whole i (within_image p i sides)) (chunk_laid p l sides whole i (within_image p i sides)) room
         (one_fault d.bytes d.order p d.state.limits l.color i (chunk_row p l i) ∙ none)
 
@@ -164,7 +158,7 @@ module _ (within_image : ChunksWithin) (no_fault : NoFault) where
     unfolding outcome.read_chunk_bytes pixels.read_chunk_bytes
     chunk_none i part ok =
         let bytes = ok_or (outcome.read_chunk_bytes d i part).answer ok in
-        let a = read_gives d.bytes d.order p d.state.limits (rect p i).width (rect p i).height (λ layout. chunk_part d.bytes d.order p i 1 layout.row_bytes) part bytes.0 bytes.1 in
+        let a = read_gives d.bytes d.order p d.state.limits (rect p i).width (rect p i).height (λ layout. chunk_part p i 1 layout.row_bytes) part bytes.0 bytes.1 in
         let is : IsLaid p (rect p i).width (rect p i).height a.0 = laid p (rect p i).width (rect p i).height a.0 (planes_laid p (rect p i).width (rect p i).height a.0 a.1.laid).0 in
         let is' : IsLaid p p.width p.height l = laid p p.width p.height l (planes_laid p p.width p.height l whole).0 in
         let color : l.color ≡ a.0.color = ok_is l.color a.0.color (sym is'.color ∙ is.color) in
@@ -178,7 +172,7 @@ module _ (within_image : ChunksWithin) (no_fault : NoFault) where
   image_then_chunks d buf sides ok =
       let page : PageRecord = d.state.page in
       let bytes = ok_or (outcome.read_image_bytes d buf).answer ok in
-      let into : LayoutRecord → Part d.bytes d.order page = λ layout. image_part d.bytes d.order page (planes_used page layout (length buf)) layout.row_bytes in
+      let into : LayoutRecord → Part = λ layout. image_part page (planes_used page layout (length buf)) layout.row_bytes in
       let a = read_gives d.bytes d.order page d.state.limits page.width page.height into buf bytes.0 bytes.1 in (
         a.0,
         (
@@ -194,7 +188,7 @@ module _ (within_image : ChunksWithin) (no_fault : NoFault) where
   unfolding outcome.read_image_bytes pixels.read_image_bytes
   chunks_then_image d buf sides l room each =
       let page : PageRecord = d.state.page in
-      let into : LayoutRecord → Part d.bytes d.order page = λ layout. image_part d.bytes d.order page (planes_used page layout (length buf)) layout.row_bytes in
+      let into : LayoutRecord → Part = λ layout. image_part page (planes_used page layout (length buf)) layout.row_bytes in
       read_into d.bytes d.order page d.state.limits page.width page.height into buf l room.laid room.room
       (none_have d.bytes d.order page d.state.limits no_fault l.color (planes_used page l (length buf)) l.row_bytes
       (λ i below. chunk_none d sides l room.laid i (each i below).0 (each i below).1))

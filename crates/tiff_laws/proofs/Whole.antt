@@ -4,6 +4,7 @@ use Rattle.std.specs.Prelude.{Result, ◌&&◌, if◌then◌else◌, nat_lt, nat
 use Rattle.std.proofs.lemmas.Bool.{cases_lt, lt-ltb}
 use Rattle.std.proofs.lemmas.Nat.{mul-add-lt, div-mul-add, mod-mul-add, div_below}
 use Rattle.std.proofs.Math.Nat.{div-eq_of_lt, mod-eq_of_lt, div-mul-le_self, mul_assoc, mul_comm, mul-le-mul_right}
+use Rattle.tiff_base.proofs.Common.{bind_ok}
 use Rattle.tiff_base.specs.declared.color.ColorType.{ColorType}
 use Rattle.tiff_base.specs.declared.error.TiffError.{TiffError}
 use Rattle.tiff_base.specs.declared.error.TiffError.TheVariants.{FormatError, IoError, LimitsExceeded}
@@ -22,7 +23,7 @@ use Rattle.tiff_page.specs.PixelCalls.{Part, image_part, chunk_part, planes_used
 use Rattle.tiff_page.specs.Laws.{HasSides, ChunkIsWithin, HasWholeRows, ChunksWithin, PlacedEach, WholeRows, ImageOfChunks}
 use Rattle.tiff_decode.specs.Outcome as outcome
 use Rattle.tiff_laws.specs.Whole.{IsPlacedIn, PlaneOfChunks, chunks_used, chunk_row, at_chunk, at_image}
-use Rattle.tiff_laws.proofs.Laid.{IsLaid, IsReadInto, laid, planes_laid, bind_ok, read_gives, ok_is}
+use Rattle.tiff_laws.proofs.Laid.{IsLaid, IsReadInto, laid, planes_laid, read_gives, ok_is}
 
 -- ---- where a byte is
 
@@ -64,7 +65,7 @@ bits_within x w d s width h =
 
 module _ (file : List ℕ) (order : ByteOrder) (p : PageRecord) (color : ColorType) where
   -- the byte at a position that is in a plane and a row
-  pub byte_is : (region : Region file order p) (stride planes at plane row k v : ℕ) → at / (stride * region.height) ≡ plane
+  pub byte_is : (region : Region) (stride planes at plane row k v : ℕ) → at / (stride * region.height) ≡ plane
       → at % (stride * region.height) / stride ≡ row → at % stride ≡ k → plane < planes → k < row_bytes p color region.width
       → unwrap_or (byte_at file order p color region stride planes at) v ≡ region_byte file order p color region (region.plane + plane) row k
   unfolding byte_at
@@ -108,11 +109,11 @@ module _ (within_image : ChunksWithin) (placed_each : PlacedEach) (whole_rows : 
     is_laid : IsLaid p p.width p.height l
     is_laid = laid p p.width p.height l given
 
-    abbrev into_image : List ℕ → LayoutRecord → Part file order p
-    into_image buf layout = image_part file order p (planes_used p layout (length buf)) layout.row_bytes
+    abbrev into_image : List ℕ → LayoutRecord → Part
+    into_image buf layout = image_part p (planes_used p layout (length buf)) layout.row_bytes
 
-    abbrev into_chunk : LayoutRecord → Part file order p
-    into_chunk layout = chunk_part file order p i 1 layout.row_bytes
+    abbrev into_chunk : LayoutRecord → Part
+    into_chunk layout = chunk_part p i 1 layout.row_bytes
 
     abbrev IsImageRead : List ℕ → List ℕ → LayoutRecord → Type 0
     IsImageRead buf image layout = IsReadInto file order p limits p.width p.height (into_image buf) buf image layout
@@ -132,9 +133,9 @@ module _ (within_image : ChunksWithin) (placed_each : PlacedEach) (whole_rows : 
     image_byte : (buf image : List ℕ) (r b : ℕ) → IsImageRead buf image l → i < chunks_used p l (length buf)
         → r < (rect p i).height → b < chunk_row p l i
         → slice_index image (at_image p l i r b)
-        ≡ region_byte file order p l.color (image_region file order p) (rect p i).plane ((rect p i).y + r) (row_bits p l.color (rect p i).x / 8 + b)
+        ≡ region_byte file order p l.color (image_region p) (rect p i).plane ((rect p i).y + r) (row_bits p l.color (rect p i).x / 8 + b)
     image_byte buf image r b read used rl bl =
-        let region : Region file order p = image_region file order p in
+        let region : Region = image_region p in
         let s : ℕ = l.row_bytes in
         let n : ℕ = (rect p i).plane in
         let y : ℕ = (rect p i).y + r in
@@ -168,9 +169,9 @@ module _ (within_image : ChunksWithin) (placed_each : PlacedEach) (whole_rows : 
     -- the same byte of the chunk
     chunk_byte : (part chunk : List ℕ) (layout : LayoutRecord) (r b : ℕ) → IsChunkRead part chunk layout
         → r < (rect p i).height → b < chunk_row p l i
-        → slice_index chunk (at_chunk p l i r b) ≡ region_byte file order p l.color (chunk_region file order p i) (rect p i).plane r b
+        → slice_index chunk (at_chunk p l i r b) ≡ region_byte file order p l.color (chunk_region p i) (rect p i).plane r b
     chunk_byte part chunk layout r b read rl bl =
-        let region : Region file order p = chunk_region file order p i in
+        let region : Region = chunk_region p i in
         let s : ℕ = chunk_row p l i in
         let h : ℕ = (rect p i).height in
         let n : ℕ = (rect p i).plane in

@@ -72,7 +72,6 @@ pub fn refused_where_chunks()
 pub fn image_by_bytes()
     ensures { ImageByBytes }
 {
-    laws::image_is_first_plane();
     laws::some_bytes();
 }
 

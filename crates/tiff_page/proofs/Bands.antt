@@ -22,11 +22,10 @@ use Rattle.tiff_page.specs.Rect.{rect}
 use Rattle.tiff_page.specs.Layout.{row_bits, row_bytes, shown}
 use Rattle.tiff_page.specs.Laws.{HasSides}
 use Rattle.tiff_page.specs.PixelFault.{unless}
-use Rattle.tiff_page.specs.Pixels.{width_of, stored_samples, chunk_data, stored_row_bytes, is_byte_plane, needed_of_last, is_short}
+use Rattle.tiff_page.specs.Pixels.{width_of, stored_samples, chunk_data, stored_row_bytes, is_byte_plane, is_short, row_number, needed_of_row, inverted, number_by, number_of_row}
 use Rattle.tiff_page.specs.BufferPositions.{Writes, IsIn, in_rect, chunk_byte}
-use Rattle.tiff_page.specs.Row.{row_number}
-use Rattle.tiff_page.specs.OutputRow.{StoresAllShown, complement_of, number_in, handed_byte}
-use Rattle.tiff_page.specs.RowReads.{needed_of_row, TakesRow}
+use Rattle.tiff_page.specs.OutputRow.{StoresAllShown, handed_number, handed_byte}
+use Rattle.tiff_page.specs.RowReads.{TakesRow}
 use Rattle.tiff_page.specs.ChunkData.{IsTooShort}
 use Rattle.tiff_page.specs.AdjacentRows.{LieTogether}
 use Rattle.tiff_page.proofs.ChunkRows.{row_handed, bits_are, number_in_row, none_dropped}
@@ -48,12 +47,12 @@ number_moved order size len q n k many one e l same =
     let x : (q * n + k) * size + j ≡ q * len + (k * size + j) = omega (arith, d) in
     ap (λ z. slice_index many z) x ∙ same (k * size + j) (omega (arith, jl, a, e))))
 
-number_alone : (order : ByteOrder) (p : PageRecord) (many one : List ℕ) (pr : Predictor) (c d sample : ℕ) → pr ≡ predictor.None
-    → row_number order (p.depth / 8) many (c * stored_samples p + sample) ≡ row_number order (p.depth / 8) one (d * stored_samples p + sample)
-    → number_in order p many pr c sample ≡ number_in order p one pr d sample
-number_alone order p many one predictor.None c d sample e h = h
-number_alone order p many one predictor.Horizontal c d sample e h = cc
-number_alone order p many one predictor.FloatingPoint c d sample e h = cc
+number_alone : (order : ByteOrder) (p : PageRecord) (many one : List ℕ) (pr : Predictor) (c d : ℕ) → pr ≡ predictor.None
+    → row_number order (p.depth / 8) many c ≡ row_number order (p.depth / 8) one d
+    → number_by pr order p many c ≡ number_by pr order p one d
+number_alone order p many one predictor.None c d e h = h
+number_alone order p many one predictor.Horizontal c d e h = cc
+number_alone order p many one predictor.FloatingPoint c d e h = cc
 
 -- rows of so many columns, of which the one after q others is alone
 module _ (order : ByteOrder) (p : PageRecord) (color : ColorType) (w q b : ℕ) (many one : List ℕ) (stored : StoresAllShown p color) (all : stored_samples p ≤ shown p.planar color) (alone : p.predictor ≡ predictor.None) (bl : b < row_bytes p color w) (same : (m : ℕ) → m < row_bytes p color w → slice_index many (q * row_bytes p color w + m) ≡ slice_index one m) where
@@ -90,8 +89,8 @@ module _ (order : ByteOrder) (p : PageRecord) (color : ColorType) (w q b : ℕ) 
         let x : (q * w + n / s) * t + n % s ≡ q * (w * t) + (n / s * t + n % s) = omega arith in
         ap (row_number order size many) x ∙ number_moved order size len q (w * t) (n / s * t + n % s) many one e (omega (arith, k)) same
 
-    whole_moved : complement_of p.interpretation (2 ^ p.depth) (number_in order p many p.predictor ((q * len + b) / size / s) ((q * len + b) / size % s)) / 256 ^ ((q * len + b) % size) % 256
-        ≡ complement_of p.interpretation (2 ^ p.depth) (number_in order p one p.predictor (n / s) (n % s)) / 256 ^ (b % size) % 256
+    whole_moved : handed_number order p many color ((q * len + b) / size) / 256 ^ ((q * len + b) % size) % 256
+        ≡ handed_number order p one color n / 256 ^ (b % size) % 256
     whole_moved =
         let sz : 0 < size = omega (arith, big) in
         let x : (q * len + b) / size ≡ q * (w * s) + n = ap (λ z. (z + b) / size) before ∙ mul-add-div_right sz (q * (w * s)) b in
@@ -99,16 +98,17 @@ module _ (order : ByteOrder) (p : PageRecord) (color : ColorType) (w q b : ℕ) 
         let y : q * (w * s) ≡ q * w * s = omega arith in
         let c : (q * (w * s) + n) / s ≡ q * w + n / s = ap (λ z. (z + n) / s) y ∙ mul-add-div_right stored.shows (q * w) n in
         let d : (q * (w * s) + n) % s ≡ n % s = ap (λ z. (z + n) % s) y ∙ mul-add-mod_self_right (q * w) s n in
-        (λ z. complement_of p.interpretation (2 ^ p.depth) (number_in order p many p.predictor (x z / s) (x z % s)) / 256 ^ m z % 256)
-        ∙ (λ z. complement_of p.interpretation (2 ^ p.depth) (number_in order p many p.predictor (c z) (d z)) / 256 ^ (b % size) % 256)
-        ∙ ap (λ v. complement_of p.interpretation (2 ^ p.depth) v / 256 ^ (b % size) % 256) (number_alone order p many one p.predictor (q * w + n / s) (n / s) (n % s) alone number_here)
+        let shows : ℕ → ℕ = λ v. inverted p.interpretation (2 ^ p.depth) v / 256 ^ (b % size) % 256 in
+        (λ z. handed_number order p many color (x z) / 256 ^ m z % 256)
+        ∙ (λ z. shows (number_of_row order p many (c z * t + d z)))
+        ∙ ap shows (number_alone order p many one p.predictor ((q * w + n / s) * t + n % s) (n / s * t + n % s) alone number_here)
 
   pub handed_moved : handed_byte order p many color (q * len + b) ≡ handed_byte order p one color b
   handed_moved =
       ⊎_elim
       (λ (l : p.depth < 8).
       let e : nat_lt p.depth 8 ≡ true = lt-ltb p.depth 8 l in
-      rw e (ap (complement_of p.interpretation 256) (same b bl)))
+      rw e (ap (inverted p.interpretation 256) (same b bl)))
       (λ (g : 8 ≤ p.depth).
       let e : nat_lt p.depth 8 ≡ false = le-ltb p.depth 8 g in
       ⊎_elim
@@ -192,9 +192,6 @@ module _ (file : List ℕ) (order : ByteOrder) (p : PageRecord) (color : ColorTy
   abbrev bytes : List ℕ
   bytes = chunk_data file order p k
 
-  needed_last : needed_of_last file order p color k ≡ row_bytes p color (rect p k).width
-  needed_last = rw together.shown refl
-
   needed_here : (m : ℕ) → needed_of_row p color m ≡ m
   needed_here m = rw together.shown refl
 
@@ -231,7 +228,7 @@ module _ (file : List ℕ) (order : ByteOrder) (p : PageRecord) (color : ColorTy
       ∙ handed_moved order p color (rect p k).width q b (take (length out) (drop (row * len) bytes)) (take len (drop ((row + q) * len) bytes)) stored
       (none_dropped (is_byte_plane p.predictor) (shown p.planar color) (stored_samples p) together.shown) together.alone bl
       (λ m ml. one_row row q m (length out) ml (omega (arith, ml, top, size)))
-      ∙ (λ z. handed_byte order p (take (sym needed_last z) (drop ((row + q) * sym together.in_data z) bytes)) color b)
+      ∙ (λ z. handed_byte order p (take (sym (needed_here len) z) (drop ((row + q) * sym together.in_data z) bytes)) color b)
       ∙ sym (row_handed file order p color k (row + q) b sides stored listed (omega (arith, ql, rl)) bl)
 
   -- the data hold the rows so far
@@ -254,10 +251,10 @@ module _ (file : List ℕ) (order : ByteOrder) (p : PageRecord) (color : ColorTy
       ∙ drop-drop (n * stride) (row * stride) bytes
       ∙ ap (λ (m : ℕ). drop m bytes) (omega arith)
 
-  rows_needed : 0 < h → (h - 1) * stored_row_bytes p + needed_of_last file order p color k ≡ h * stride
+  rows_needed : 0 < h → (h - 1) * stored_row_bytes p + needed_of_row p color (row_bytes p color (rect p k).width) ≡ h * stride
   rows_needed some =
       let a : stored_row_bytes p ≡ stride = together.in_data ∙ sym together.in_buffer in
-      let b : needed_of_last file order p color k ≡ stride = needed_last ∙ sym together.in_buffer in
+      let b : needed_of_row p color (row_bytes p color (rect p k).width) ≡ stride = needed_here (row_bytes p color (rect p k).width) ∙ sym together.in_buffer in
       let c : h - 1 + 1 ≡ h = omega (arith, some) in
       let d : (h - 1) * stride + stride ≡ (h - 1 + 1) * stride = omega arith in
       (λ z. (h - 1) * a z + b z) ∙ d ∙ ap (λ m. m * stride) c
@@ -274,6 +271,6 @@ module _ (file : List ℕ) (order : ByteOrder) (p : PageRecord) (color : ColorTy
       let y : (row + n) * stride ≡ row * stride + n * stride = omega arith in
       let x : (row + n) * stride ≤ h * stride = mul-le-mul_right stride rl in
       let u = rows_needed some in
-      let s : is_short file order p color k ≡ true = lt-ltb (length bytes) ((h - 1) * stored_row_bytes p + needed_of_last file order p color k) (omega (arith, l, g, c, y, x, u)) in
+      let s : is_short file order p color k ≡ true = lt-ltb (length bytes) ((h - 1) * stored_row_bytes p + needed_of_row p color (row_bytes p color (rect p k).width)) (omega (arith, l, g, c, y, x, u)) in
       rw (s, t.fault) refl)
       q

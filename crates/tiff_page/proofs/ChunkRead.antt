@@ -1,7 +1,7 @@
 -- The rows of a chunk are read one after another.
-use Rattle.std.proofs.Common.{◌≡◌, ℕ, ◌+◌, ◌-◌, ◌*◌, ◌<◌, ◌≤◌, true, false, List, take, drop, length, Err, refl, ap, sym, ◌∙◌, subst, ⊎_elim, arith, drop-drop, length-drop}
+use Rattle.std.proofs.Common.{◌≡◌, ℕ, ◌+◌, ◌-◌, ◌*◌, ◌<◌, ◌≤◌, true, List, take, drop, length, Err, refl, ap, sym, ◌∙◌, subst, arith, drop-drop, length-drop}
 use Rattle.std.specs.Prelude.{slice_index}
-use Rattle.std.proofs.lemmas.Bool.{cases_Bool, lt-ltb}
+use Rattle.std.proofs.lemmas.Bool.{lt-ltb}
 use Rattle.std.proofs.Math.Nat.{le-mul_of_pos_right, mul-le-mul_right}
 use Rattle.tiff_base.specs.declared.color.ColorType.{ColorType}
 use Rattle.tiff_base.specs.declared.error.TiffError.{TiffError}
@@ -15,14 +15,14 @@ use Rattle.tiff_page.specs.Counts.{all_chunks}
 use Rattle.tiff_page.specs.Rect.{rect}
 use Rattle.tiff_page.specs.Layout.{row_bits, row_bytes, shown}
 use Rattle.tiff_page.specs.PixelFault.{unless}
-use Rattle.tiff_page.specs.Pixels.{chunk_data, stored_row_bytes, needs_whole_rows, is_short}
+use Rattle.tiff_page.specs.Pixels.{chunk_data, stored_row_bytes, is_short, needed_of_row}
 use Rattle.tiff_page.specs.Laws.{HasSides}
 use Rattle.tiff_page.specs.BufferPositions.{chunk_byte}
 use Rattle.tiff_page.specs.OutputRow.{StoresAllShown, handed_byte}
-use Rattle.tiff_page.specs.RowReads.{needed_of_row, TakesRow}
+use Rattle.tiff_page.specs.RowReads.{TakesRow}
 use Rattle.tiff_page.specs.ChunkData.{IsTooShort}
 use Rattle.tiff_page.proofs.Sizes.{product_some}
-use Rattle.tiff_page.proofs.ChunkRows.{row_handed, stored_more, needed_more}
+use Rattle.tiff_page.proofs.ChunkRows.{row_handed, need_within, needed_more}
 
 -- a row lies in the buffer
 pub row_below : (top h stride len row : ℕ) → 0 < stride → (top + h) * stride ≤ len → row < h → top + row < len
@@ -69,19 +69,11 @@ module _ (file : List ℕ) (order : ByteOrder) (p : PageRecord) (color : ColorTy
       let g : len ≤ need = needed_more file order p color k r 0 sides stored listed rl some in
       omega (arith, a, f, g, some)
 
-  pub need_within : 0 < len → 0 < h → need ≤ stored_row_bytes p
-  need_within some rows =
-      let l : len ≤ stored_row_bytes p = stored_more file order p color k 0 0 sides stored listed rows some in
-      ⊎_elim
-      (λ (e : needs_whole_rows p color ≡ true). rw e (omega arith))
-      (λ (e : needs_whole_rows p color ≡ false). rw e (omega (arith, l)))
-      (cases_Bool (needs_whole_rows p color))
-
   -- where the next row stands
   pub next_row : (r gap : ℕ) (left rest next out : List ℕ) → 0 < len → r + 1 < h → length out ≡ len → left ≡ drop (r * stored_row_bytes p) bytes → TakesRow order p color left rest out
       → gap ≡ stored_row_bytes p - need → next ≡ drop gap rest → next ≡ drop ((r + 1) * stored_row_bytes p) bytes
   next_row r gap left rest next out some rl e d t g n =
-      let w : need ≤ stored_row_bytes p = need_within some (omega (arith, rl)) in
+      let w : need ≤ stored_row_bytes p = need_within file order p color k r 0 sides stored listed (omega (arith, rl)) some in
       let a : rest ≡ drop need left = subst (λ (m : ℕ). rest ≡ drop (needed_of_row p color m) left) e t.behind in
       let b : next ≡ drop gap (drop need (drop (r * stored_row_bytes p) bytes)) = n ∙ ap (drop gap) (a ∙ ap (drop need) d) in
       b

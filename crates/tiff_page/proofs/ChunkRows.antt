@@ -1,34 +1,27 @@
 -- The bytes of a row of a chunk over its stored bytes.
-use Rattle.std.proofs.Common.{rules, ◌≡◌, ℕ, ◌+◌, ◌-◌, ◌*◌, ◌/◌, ◌%◌, ◌^◌, ◌<◌, ◌≤◌, min, true, false, Bool, List, drop, refl, ap, sym, ◌∙◌, ⊎_elim, arith}
-use Rattle.std.specs.Prelude.{nat_lt, slice_index, sum_by, ◌||◌}
-use Rattle.std.specs.List.{range_with_len}
+use Rattle.std.proofs.Common.{◌≡◌, ℕ, ◌+◌, ◌-◌, ◌*◌, ◌/◌, ◌%◌, ◌^◌, ◌<◌, ◌≤◌, min, true, false, Bool, List, drop, refl, ap, sym, ◌∙◌, ⊎_elim, arith}
+use Rattle.std.specs.Prelude.{nat_lt, slice_index, ◌||◌}
 use Rattle.std.proofs.lemmas.Bool.{cases_Bool, cases_lt, lt-ltb, le-ltb, ltb-false}
-use Rattle.std.proofs.lemmas.List.{get_or-take, get_or-drop}
+use Rattle.std.proofs.lemmas.List.{get_or-take}
 use Rattle.std.proofs.lemmas.Nat.{div-mul-add, mod-mul-add, mod_below, div_below, div-add-mod'}
 use Rattle.std.proofs.Math.Nat.{mod-eq_of_lt, mul_comm, mul-le-mul_left, mul-le-mul_right}
 use Rattle.tiff_base.specs.declared.color.ColorType.{ColorType}
 use Rattle.tiff_base.specs.declared.tags.ByteOrder.{ByteOrder}
-use Rattle.tiff_base.specs.declared.tags.ByteOrder.TheVariants.{BigEndian}
-use Rattle.tiff_base.specs.declared.tags.PhotometricInterpretation.{PhotometricInterpretation}
 use Rattle.tiff_base.specs.declared.tags.PlanarConfiguration.{PlanarConfiguration}
 use Rattle.tiff_base.specs.declared.tags.PlanarConfiguration.TheVariants.{Chunky, Planar}
 use Rattle.tiff_base.specs.declared.tags.Predictor.{Predictor}
 use Rattle.tiff_base.specs.declared.tags.Predictor.TheVariants as predictor
-use Rattle.tiff_base.specs.Number.{number}
+use Rattle.tiff_base.specs.SourceAndSink.{bytes_at}
 use Rattle.tiff_page.specs.Page.{PageRecord}
 use Rattle.tiff_page.specs.Counts.{all_chunks, planes_of}
 use Rattle.tiff_page.specs.Rect.{rect, across, chunks_of_plane}
 use Rattle.tiff_page.specs.Layout.{row_bits, row_bytes, shown}
-use Rattle.tiff_page.specs.Pixels.{each_to, width_of, planar_or, stored_samples, stored_row_bytes, chunk_data, stored_byte, is_byte_plane, needs_whole_rows, needed_of_last, inverted, number_by, packed_byte, number_byte, chunk_region, shown_sample}
+use Rattle.tiff_page.specs.Pixels.{planar_or, stored_samples, stored_row_bytes, chunk_data, stored_row, is_byte_plane, needs_whole_rows, needed_of_row, inverted, number_by, number_of_row, packed_byte, number_byte, chunk_region, shown_sample}
 use Rattle.tiff_page.specs.Laws.{HasSides}
-use Rattle.tiff_page.specs.Row.{row_number, summed_byte_in}
 use Rattle.tiff_page.specs.OutputRow as law
-use Rattle.tiff_page.specs.OutputRow.{StoresAllShown, complement_of, number_in, handed_number, handed_byte, stored_row}
+use Rattle.tiff_page.specs.OutputRow.{StoresAllShown, handed_number}
 use Rattle.tiff_page.proofs.Chunks.{fewer_bytes}
-use Rattle.tiff_page.proofs.Rows.{each_same, sum_same}
-
-pub complemented_is : (file : List ℕ) (order : ByteOrder) (p : PageRecord) (i : PhotometricInterpretation) (n v : ℕ) → inverted file order p i n v ≡ complement_of i n v
-complemented_is file order p i n v = search rules
+use Rattle.tiff_page.proofs.Rows.{number_same, sums_same, joins_same}
 
 -- bytes of whole numbers
 pub bits_are : (w d n s : ℕ) → d ≡ n * 8 → (w * d * s + 7) / 8 ≡ w * s * n
@@ -45,9 +38,6 @@ number_in_row n s t w h l b =
     let k : (n / s + 1) * t ≤ w * t = mul-le-mul_right t (omega (arith, q)) in
     let e : (n / s + 1) * t ≡ n / s * t + t = omega arith in
     omega (arith, k, e, m, l)
-
-pub bytes_in_row : (k size w : ℕ) → k + 1 ≤ w → k * size + size ≤ w * size
-bytes_in_row k size w h = let a : (k + 1) * size ≤ w * size = mul-le-mul_right size h in omega (arith, a)
 
 pub none_dropped : (b : Bool) (s t : ℕ) → (b || nat_lt s t) ≡ false → t ≤ s
 none_dropped true s t h = cc
@@ -91,10 +81,14 @@ module _ (file : List ℕ) (order : ByteOrder) (p : PageRecord) (color : ColorTy
   size = p.depth / 8
 
   abbrev pub need : ℕ
-  need = needed_of_last file order p color k
+  need = needed_of_row p color (row_bytes p color (rect p k).width)
+
+  -- the row, and what is read of it
+  abbrev pub all : List ℕ
+  all = stored_row file order p k r
 
   abbrev pub row : List ℕ
-  row = stored_row file order p color k r
+  row = bytes_at (chunk_data file order p k) (r * stored_row_bytes p) need
 
   pub x_is : (rect p k).x ≡ cx * p.chunk_width
   unfolding rect
@@ -119,10 +113,6 @@ module _ (file : List ℕ) (order : ByteOrder) (p : PageRecord) (color : ColorTy
   pub whole_index : k / chunks_of_plane p * chunks_of_plane p + j ≡ k
   whole_index = div-add-mod' k (chunks_of_plane p)
 
-  -- the row that is read has each byte below the ones that are needed
-  pub byte_of_row : (q : ℕ) → q < need → slice_index row q ≡ stored_byte file order p k r q
-  byte_of_row q l = get_or-take need (drop (r * stored_row_bytes p) (chunk_data file order p k)) q 0 l ∙ get_or-drop (r * stored_row_bytes p) (chunk_data file order p k) q 0
-
   pub stored_more : row_bytes p color (rect p k).width ≤ stored_row_bytes p
   unfolding row_bits
   stored_more =
@@ -141,10 +131,25 @@ module _ (file : List ℕ) (order : ByteOrder) (p : PageRecord) (color : ColorTy
       (λ (e : needs_whole_rows p color ≡ false). rw e (omega arith))
       (cases_Bool (needs_whole_rows p color))
 
+  pub need_within : need ≤ stored_row_bytes p
+  need_within =
+      let l = stored_more in
+      ⊎_elim
+      (λ (e : needs_whole_rows p color ≡ true). rw e (omega arith))
+      (λ (e : needs_whole_rows p color ≡ false). rw e l)
+      (cases_Bool (needs_whole_rows p color))
+
+  -- what is read has each byte of the row below the ones that are needed
+  pub byte_of_row : (q : ℕ) → q < need → slice_index all q ≡ slice_index row q
+  byte_of_row q l =
+      let w = need_within in
+      let left : List ℕ = drop (r * stored_row_bytes p) (chunk_data file order p k) in
+      get_or-take (stored_row_bytes p) left q 0 (omega (arith, l, w)) ∙ sym (get_or-take need left q 0 l)
+
   -- ---- depths below 8
 
-  pub packed : packed_byte file order p color (chunk_region file order p k) (k / chunks_of_plane p) r b
-      ≡ complement_of p.interpretation 256 (slice_index row b)
+  pub packed : packed_byte file order p color (chunk_region p k) (k / chunks_of_plane p) r b
+      ≡ inverted p.interpretation 256 (slice_index row b)
   unfolding rect
   packed =
       let len : row_bytes p color (min p.chunk_width (p.width - cx * p.chunk_width)) ≤ row_bytes p color p.chunk_width = width_bytes in
@@ -152,9 +157,8 @@ module _ (file : List ℕ) (order : ByteOrder) (p : PageRecord) (color : ColorTy
       let byte : b % row_bytes p color p.chunk_width ≡ b = mod-eq_of_lt (omega (arith, bl, len)) in
       let here : k / chunks_of_plane p * chunks_of_plane p + j ≡ k = whole_index in
       let n = needed_more in
-      (λ z. inverted file order p p.interpretation 256 (stored_byte file order p (here z) (line z) (byte z)))
-      ∙ complemented_is file order p p.interpretation 256 (stored_byte file order p k r b)
-      ∙ ap (complement_of p.interpretation 256) (sym (byte_of_row b (omega (arith, bl, n))))
+      (λ z. inverted p.interpretation 256 (slice_index (stored_row file order p (here z) (line z)) (byte z)))
+      ∙ ap (inverted p.interpretation 256) (byte_of_row b (omega (arith, bl, n)))
 
   -- ---- depths of whole bytes
 
@@ -210,45 +214,31 @@ module _ (file : List ℕ) (order : ByteOrder) (p : PageRecord) (color : ColorTy
         rw h (omega (arith, m, e)))
         (cases_Bool (needs_whole_rows p color))
 
-    pub raw_is : (c : ℕ) → c ≤ col → number order (width_of size) (each_to size (λ i. stored_byte file order p k r ((c * t + sample) * size + i)))
-        ≡ row_number order size row (c * t + sample)
-    raw_is c h =
-        let l : n / s * t + n % s + 1 ≤ (rect p k).width * t = number_in_row n s t (rect p k).width stored.shows stored.stores number_below in
-        let d : c * t ≤ n / s * t = mul-le-mul_right t h in
-        let m : (c * t + sample) * size + size ≤ (rect p k).width * t * size = bytes_in_row (c * t + sample) size ((rect p k).width * t) (omega (arith, l, d)) in
+    pub in_its_row : col * t + sample + 1 ≤ (rect p k).width * t
+    in_its_row = number_in_row n s t (rect p k).width stored.shows stored.stores number_below
+
+    pub number_needed : (col * t + sample + 1) * size ≤ need
+    number_needed =
+        let m : (col * t + sample + 1) * size ≤ (rect p k).width * t * size = mul-le-mul_right size in_its_row in
         let q = samples_needed in
-        ap (number order (width_of size))
-        (each_same size (λ i. stored_byte file order p k r ((c * t + sample) * size + i)) (λ i. slice_index row ((c * t + sample) * size + i))
-        (λ i il. sym (byte_of_row ((c * t + sample) * size + i) (omega (arith, il, m, q)))))
+        omega (arith, m, q)
 
-    pub plane_byte_is : is_byte_plane p.predictor ≡ true → (q : ℕ) → q < stored_row_bytes p
-        → sum_by (λ m. stored_byte file order p k r (q - m * t)) (range_with_len 0 (q / t + 1)) % 256 ≡ summed_byte_in t row q
-    plane_byte_is e q l =
-        let f : need ≡ stored_row_bytes p = rw e refl in
-        ap (λ z. z % 256)
-        (sum_same (q / t + 1) 0 (λ m. stored_byte file order p k r (q - m * t)) (λ m. slice_index row (q - m * t))
-        (λ m h i. sym (byte_of_row (q - m * t) (omega (arith, l, f)))))
-
-    pub number_is : (pr : Predictor) → pr ≡ p.predictor → number_by file order p pr k r col sample ≡ number_in order p row pr col sample
-    number_is predictor.None e = raw_is col (omega arith)
+    -- so it has the same numbers
+    pub number_is : (pr : Predictor) → pr ≡ p.predictor → number_by pr order p all (col * t + sample) ≡ number_by pr order p row (col * t + sample)
+    number_is predictor.None e = number_same order size all row (col * t + sample) (λ i u v. byte_of_row i (omega (arith, v, number_needed)))
     number_is predictor.Horizontal e =
-        ap (λ z. z % 2 ^ p.depth)
-        (sum_same (col + 1) 0 (λ c. number order (width_of size) (each_to size (λ i. stored_byte file order p k r ((c * t + sample) * size + i)))) (λ c. row_number order size row (c * t + sample))
-        (λ c h l. raw_is c (omega (arith, l))))
+        sums_same order order size t all row (col * t + sample) need
+        (λ m h. number_same order size all row m (λ i u v. byte_of_row i (omega (arith, v, h)))) number_needed
     number_is predictor.FloatingPoint e =
         let f : is_byte_plane p.predictor ≡ true = ap is_byte_plane (sym e) in
-        let l : n / s * t + n % s + 1 ≤ (rect p k).width * t = number_in_row n s t (rect p k).width stored.shows stored.stores number_below in
+        let y : need ≡ stored_row_bytes p = rw f refl in
         let w : (rect p k).width * t ≤ p.chunk_width * t = mul-le-mul_right t width_below in
-        let g = bytes_stored in
-        ap (number BigEndian (width_of size))
-        (each_same size (λ i. sum_by (λ m. stored_byte file order p k r (i * (p.chunk_width * t) + (col * t + sample) - m * t)) (range_with_len 0 ((i * (p.chunk_width * t) + (col * t + sample)) / t + 1)) % 256)
-        (λ i. summed_byte_in t row (i * (p.chunk_width * t) + (col * t + sample)))
-        (λ i il.
-        let o : (i + 1) * (p.chunk_width * t) ≤ size * (p.chunk_width * t) = mul-le-mul_right (p.chunk_width * t) (omega (arith, il)) in
         let u : size * (p.chunk_width * t) ≡ p.chunk_width * t * size = mul_comm size (p.chunk_width * t) in
-        plane_byte_is f (i * (p.chunk_width * t) + (col * t + sample)) (omega (arith, o, u, g, l, w))))
+        let g = bytes_stored in
+        let l = in_its_row in
+        joins_same size t (p.chunk_width * t) all row (col * t + sample) need byte_of_row (omega (arith, l, w)) (omega (arith, y, u, g))
 
-    pub handed : number_byte file order p color (chunk_region file order p k) (k / chunks_of_plane p) r b
+    pub handed : number_byte file order p color (chunk_region p k) (k / chunks_of_plane p) r b
         ≡ handed_number order p row color n / 256 ^ (b % size) % 256
     unfolding rect shown_sample
     handed =
@@ -260,14 +250,12 @@ module _ (file : List ℕ) (order : ByteOrder) (p : PageRecord) (color : ColorTy
         let of_plane : cy * a + cx ≡ j = div-add-mod' j a in
         let plane : ℕ = planar_or p.planar (planar_or p.planar (k / chunks_of_plane p) sample) 0 in
         let here : plane * chunks_of_plane p + j ≡ k = plane_for p.planar (k / chunks_of_plane p) (chunks_of_plane p) j k sample whole_index chunky_index in
+        let shows : ℕ → ℕ = λ v. inverted p.interpretation (2 ^ p.depth) v / 256 ^ (b % size) % 256 in
         (λ z.
-        inverted file order p p.interpretation (2 ^ p.depth)
-        (number_by file order p p.predictor (plane * chunks_of_plane p + (row_at z * a + column_at z)) (line z) (column z) (sample_for p.planar (k / chunks_of_plane p) n color z))
-        / 256 ^ (b % size) % 256)
-        ∙ (λ z. inverted file order p p.interpretation (2 ^ p.depth) (number_by file order p p.predictor (plane * chunks_of_plane p + of_plane z) r col sample) / 256 ^ (b % size) % 256)
-        ∙ (λ z. inverted file order p p.interpretation (2 ^ p.depth) (number_by file order p p.predictor (here z) r col sample) / 256 ^ (b % size) % 256)
-        ∙ (λ z. inverted file order p p.interpretation (2 ^ p.depth) (number_is p.predictor refl z) / 256 ^ (b % size) % 256)
-        ∙ ap (λ z. z / 256 ^ (b % size) % 256) (complemented_is file order p p.interpretation (2 ^ p.depth) (number_in order p row p.predictor col sample))
+        shows (number_of_row order p (stored_row file order p (plane * chunks_of_plane p + (row_at z * a + column_at z)) (line z)) (column z * t + sample_for p.planar (k / chunks_of_plane p) n color z)))
+        ∙ (λ z. shows (number_of_row order p (stored_row file order p (plane * chunks_of_plane p + of_plane z) r) (col * t + sample)))
+        ∙ (λ z. shows (number_of_row order p (stored_row file order p (here z) r) (col * t + sample)))
+        ∙ ap shows (number_is p.predictor refl)
 
 pub row_handed : law.RowHanded
 unfolding rect

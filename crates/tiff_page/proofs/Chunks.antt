@@ -1,6 +1,6 @@
 -- A chunk's rows are a part of the rows of the image; a coding unit's are those of the chunk of each plane.
 use Rattle.std.proofs.Common.{◌≡◌, ℕ, Some, ◌+◌, ◌-◌, ◌*◌, ◌/◌, ◌%◌, ◌^◌, ◌<◌, ◌≤◌, min, true, false, List, ap, sym, ◌∙◌, ⊎_elim, arith}
-use Rattle.std.specs.Prelude.{nat_lt}
+use Rattle.std.specs.Prelude.{nat_lt, slice_index}
 use Rattle.std.proofs.lemmas.Bool.{cases_lt, lt-ltb, le-ltb}
 use Rattle.std.proofs.lemmas.Nat.{mod_below, div-add-mod', div-mul-add, mod-mul-add}
 use Rattle.std.proofs.Math.Nat.{div-eq_of_lt, mod-eq_of_lt, mul_assoc, mul_comm, mul-le-mul_right, mul-add-div_right, mul-add-mod_self_right}
@@ -9,7 +9,7 @@ use Rattle.tiff_base.specs.declared.tags.ByteOrder.{ByteOrder}
 use Rattle.tiff_page.specs.Page.{PageRecord}
 use Rattle.tiff_page.specs.Rect.{rect, across, chunks_of_plane}
 use Rattle.tiff_page.specs.Layout.{row_bits, row_bytes, shown}
-use Rattle.tiff_page.specs.Pixels.{packed_byte, number_byte, region_byte, image_region, chunk_region, stored_byte, inverted, shown_sample, planar_or}
+use Rattle.tiff_page.specs.Pixels.{packed_byte, number_byte, region_byte, image_region, chunk_region, stored_row, inverted, shown_sample, planar_or}
 use Rattle.tiff_page.specs.Laws as law
 use Rattle.tiff_page.specs.Laws.{HasSides, HasWholeRows}
 use Rattle.tiff_page.proofs.Sizes.{parts_some}
@@ -103,8 +103,8 @@ module _ (file : List ℕ) (order : ByteOrder) (p : PageRecord) (color : ColorTy
     pub in_rows : row < p.chunk_height
     in_rows = omega (arith, rl)
 
-    pub packed_same : packed_byte file order p color (image_region file order p) (i / chunks_of_plane p) (line * p.chunk_height + row) (start + k)
-        ≡ packed_byte file order p color (chunk_region file order p i) (i / chunks_of_plane p) row k
+    pub packed_same : packed_byte file order p color (image_region p) (i / chunks_of_plane p) (line * p.chunk_height + row) (start + k)
+        ≡ packed_byte file order p color (chunk_region p i) (i / chunks_of_plane p) row k
     unfolding rect
     packed_same =
         let up : (0 + (line * p.chunk_height + row)) / p.chunk_height ≡ line = ap (λ z. z / p.chunk_height) (from_0 (line * p.chunk_height + row)) ∙ div-mul-add line p.chunk_height row in_rows in
@@ -116,13 +116,13 @@ module _ (file : List ℕ) (order : ByteOrder) (p : PageRecord) (color : ColorTy
         let h : 0 / p.chunk_width + (start + k) / c ≡ col = omega (arith, q, n) in
         let o : k % c ≡ k = mod-eq_of_lt in_chunk in
         let v : line * a + col ≡ j = div-add-mod' j a in
-        (λ t. inverted file order p p.interpretation 256 (stored_byte file order p (first + (up t * a + h t)) (down t) (m t)))
-        ∙ (λ t. inverted file order p p.interpretation 256 (stored_byte file order p (first + v t) row k))
-        ∙ (λ t. inverted file order p p.interpretation 256 (stored_byte file order p (first + j) (sym inner t) (sym o t)))
+        (λ t. inverted p.interpretation 256 (slice_index (stored_row file order p (first + (up t * a + h t)) (down t)) (m t)))
+        ∙ (λ t. inverted p.interpretation 256 (slice_index (stored_row file order p (first + v t) row) k))
+        ∙ (λ t. inverted p.interpretation 256 (slice_index (stored_row file order p (first + j) (sym inner t)) (sym o t)))
 
     pub number_same : 8 ≤ p.depth → p.depth ≡ p.depth / 8 * 8
-        → number_byte file order p color (image_region file order p) (i / chunks_of_plane p) (line * p.chunk_height + row) (start + k)
-        ≡ number_byte file order p color (chunk_region file order p i) (i / chunks_of_plane p) row k
+        → number_byte file order p color (image_region p) (i / chunks_of_plane p) (line * p.chunk_height + row) (start + k)
+        ≡ number_byte file order p color (chunk_region p i) (i / chunks_of_plane p) row k
     unfolding rect row_bits
     number_same big e =
         let s : ℕ = shown p.planar color in
@@ -139,8 +139,8 @@ module _ (file : List ℕ) (order : ByteOrder) (p : PageRecord) (color : ColorTy
         let y : 0 + (line * p.chunk_height + row) ≡ line * p.chunk_height + row = from_0 (line * p.chunk_height + row) in
         λ t. shown_sample file order p (h t) (y t) (planar_or p.planar (i / chunks_of_plane p) (g t)) / 256 ^ m t % 256
 
-    pub byte_same : region_byte file order p color (image_region file order p) (i / chunks_of_plane p) (line * p.chunk_height + row) (start + k)
-        ≡ region_byte file order p color (chunk_region file order p i) (i / chunks_of_plane p) row k
+    pub byte_same : region_byte file order p color (image_region p) (i / chunks_of_plane p) (line * p.chunk_height + row) (start + k)
+        ≡ region_byte file order p color (chunk_region p i) (i / chunks_of_plane p) row k
     byte_same =
         ⊎_elim
         (λ (l : p.depth < 8). let t : nat_lt p.depth 8 ≡ true = lt-ltb p.depth 8 l in rw t packed_same)

@@ -250,7 +250,7 @@ module _ (p : PageRecord) (color : ColorType) (stride plane j : ℕ) (sides : Ha
         let u : (rect p k).plane ≡ plane_of p color stride i = plane_is ∙ sym (belongs i q).of_plane in
         let x : row_bits p color (rect p k).x / 8 + b ≡ i % stride = omega (arith, q.right) in
         sym (image_of_chunks file order p color k row b sides whole rl bl)
-        ∙ (λ t. region_byte file order p color (image_region file order p) (u t) (v2 t) (x t))
+        ∙ (λ t. region_byte file order p color (image_region p) (u t) (v2 t) (x t))
 
     pub chunk_at_position : (old new : List ℕ)
         → Writes (IsInChunk p color stride plane j) (in_rect (chunk_byte file order p color k) stride (top_of p color stride plane j) (left_of p color stride plane j)) old new
@@ -316,7 +316,7 @@ module _ (file : List ℕ) (order : ByteOrder) (p : PageRecord) (color : ColorTy
   plane_of_position i = sym (div-div-eq-div-mul i stride p.height)
 
   pub position_shown : (i : ℕ) → plane_of p color stride i < n → i % stride < row_bytes p color p.width
-      → byte_at file order p color (image_region file order p) stride n i ≡ Some (image_byte p color stride file order i)
+      → byte_at file order p color (image_region p) stride n i ≡ Some (image_byte p color stride file order i)
   unfolding byte_at
   position_shown i a b =
       let s : 0 < stride = omega (arith, b, fits) in
@@ -324,16 +324,16 @@ module _ (file : List ℕ) (order : ByteOrder) (p : PageRecord) (color : ColorTy
       let t : nat_lt (i / (stride * p.height)) n ≡ true = lt-ltb (i / (stride * p.height)) n (omega (arith, a, u)) in
       let v : nat_lt (i % stride) (row_bytes p color p.width) ≡ true = lt-ltb (i % stride) (row_bytes p color p.width) b in
       let w : 0 + i / (stride * p.height) ≡ plane_of p color stride i = omega (arith, u) in
-      rw (t, v) (λ z. Some (region_byte file order p color (image_region file order p) (w z) (row_of_position s i z) (i % stride)))
+      rw (t, v) (λ z. Some (region_byte file order p color (image_region p) (w z) (row_of_position s i z) (i % stride)))
 
-  pub plane_gap : (i : ℕ) → n ≤ plane_of p color stride i → byte_at file order p color (image_region file order p) stride n i ≡ None
+  pub plane_gap : (i : ℕ) → n ≤ plane_of p color stride i → byte_at file order p color (image_region p) stride n i ≡ None
   unfolding byte_at
   plane_gap i a =
       let u = plane_of_position i in
       let t : nat_lt (i / (stride * p.height)) n ≡ false = le-ltb (i / (stride * p.height)) n (omega (arith, a, u)) in
       rw t refl
 
-  pub row_gap : (i : ℕ) → row_bytes p color p.width ≤ i % stride → byte_at file order p color (image_region file order p) stride n i ≡ None
+  pub row_gap : (i : ℕ) → row_bytes p color p.width ≤ i % stride → byte_at file order p color (image_region p) stride n i ≡ None
   unfolding byte_at
   row_gap i b =
       let v : nat_lt (i % stride) (row_bytes p color p.width) ≡ false = le-ltb (i % stride) (row_bytes p color p.width) b in
@@ -355,7 +355,7 @@ module _ (file : List ℕ) (order : ByteOrder) (p : PageRecord) (color : ColorTy
 
   pub byte_there : (old new : List ℕ) → Writes (IsBefore p color stride n (chunks_of_plane p) 0) (image_byte p color stride file order) old new
       → (i : ℕ) → i < length old
-      → slice_index new i ≡ unwrap_or (byte_at file order p color (image_region file order p) stride n i) (slice_index old i)
+      → slice_index new i ≡ unwrap_or (byte_at file order p color (image_region p) stride n i) (slice_index old i)
   byte_there old new w i l =
       ⊎_elim
       (λ q. q.1 ∙ sym (ap (λ z. unwrap_or z (slice_index old i)) (position_shown i q.0.of_plane q.0.byte)))
@@ -370,7 +370,7 @@ module _ (file : List ℕ) (order : ByteOrder) (p : PageRecord) (color : ColorTy
       (w.1 i l)
 
 -- a list with a buffer's byte or what it had at each position is the buffer after a region is placed in it
-pub is_placed : (file : List ℕ) (order : ByteOrder) (p : PageRecord) (color : ColorType) (region : Region file order p) (stride n : ℕ) (old new : List ℕ) → length new ≡ length old
+pub is_placed : (file : List ℕ) (order : ByteOrder) (p : PageRecord) (color : ColorType) (region : Region) (stride n : ℕ) (old new : List ℕ) → length new ≡ length old
     → ((i : ℕ) → i < length old → slice_index new i ≡ unwrap_or (byte_at file order p color region stride n i) (slice_index old i))
     → new ≡ placed file order p color region stride n old
 is_placed file order p color region stride n old new e h =
@@ -379,4 +379,4 @@ is_placed file order p color region stride n old new e h =
 
 pub image_written : law.ImageWritten
 image_written file order p color stride n old new sides whole fits w =
-    is_placed file order p color (image_region file order p) stride n old new w.0 (byte_there file order p color stride n sides whole fits old new w)
+    is_placed file order p color (image_region p) stride n old new w.0 (byte_there file order p color stride n sides whole fits old new w)

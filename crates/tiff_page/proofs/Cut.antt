@@ -28,8 +28,8 @@ use Rattle.tiff_page.specs.Rect.{chunks_of_plane}
 use Rattle.tiff_page.specs.Layout.{sample_type_of, size_of}
 use Rattle.tiff_page.specs.PixelFault.{unless, form_fault, chunk_fault, samples_fault, each_below}
 use Rattle.tiff_page.specs.PixelCalls.{Part, part_fault, filled, samples, image_part, chunk_part}
-use Rattle.tiff_page.specs.Pixels.{data_by_method, chunk_data, is_short}
-use Rattle.tiff_page.specs.EarlyFaults.{needed_bytes, least_stored, bytes_held, is_cut, early_fault}
+use Rattle.tiff_page.specs.Pixels.{data_by_method, chunk_data, needed, is_short}
+use Rattle.tiff_page.specs.EarlyFaults.{least_stored, bytes_held, is_cut, early_fault}
 use Rattle.tiff_page.proofs.Sizes.{plane_some}
 use Rattle.tiff_page.proofs.PositionLaws.{cases_fault}
 use Rattle.tiff_page.proofs.Filling.{first_at}
@@ -122,9 +122,9 @@ cut_short file order p m position count n h = omega (arith, h)
 module _ (file : List ℕ) (order : ByteOrder) (p : PageRecord) (limits : Limits) (color : ColorType) where
   is_short_of : (i : ℕ) → is_cut file p color i ≡ true → is_short file order p color i ≡ true
   is_short_of i h =
-      lt-ltb (length (chunk_data file order p i)) (needed_bytes p color i)
-      (cut_short file order p p.method (slice_index p.offsets i) (slice_index p.byte_counts i) (needed_bytes p color i)
-      (ltb-true (bytes_held file p.method (slice_index p.offsets i) (slice_index p.byte_counts i)) (least_stored p.method (needed_bytes p color i)) h))
+      lt-ltb (length (chunk_data file order p i)) (needed p color i)
+      (cut_short file order p p.method (slice_index p.offsets i) (slice_index p.byte_counts i) (needed p color i)
+      (ltb-true (bytes_held file p.method (slice_index p.offsets i) (slice_index p.byte_counts i)) (least_stored p.method (needed p color i)) h))
 
   abbrev fault_of : ℕ → Result (Unit {0}) TiffError
   fault_of i = chunk_fault p limits (is_short file order p color) color i
@@ -142,7 +142,7 @@ module _ (file : List ℕ) (order : ByteOrder) (p : PageRecord) (limits : Limits
       (cases_fault (form_fault p limits color i))
 
   -- a fault of the first chunk is the first of a part
-  part_early : (part : Part file order p) (e : TiffError) → 0 < part.count → 0 < part.planes → fault_of part.first ≡ Err e → part_fault file order p limits color part ≡ Err e
+  part_early : (part : Part) (e : TiffError) → 0 < part.count → 0 < part.planes → fault_of part.first ≡ Err e → part_fault file order p limits color part ≡ Err e
   part_early part e some planes h =
       let in_plane : ℕ → ℕ → Result (Unit {0}) TiffError = λ j plane. fault_of (plane * chunks_of_plane p + (part.first + j)) in
       let at : part.first ≡ 0 * chunks_of_plane p + (part.first + 0) = omega arith in
@@ -150,7 +150,7 @@ module _ (file : List ℕ) (order : ByteOrder) (p : PageRecord) (limits : Limits
       (first_at (in_plane 0) part.planes 0 e planes refl (subst (λ (m : ℕ). fault_of m ≡ Err e) at h))
 
   -- and of its samples
-  pub samples_early : (part : Part file order p) (type : DecodingSampleType) (len : ℕ) (e : TiffError) → 0 < part.count → 0 < part.planes → sample_type_of p ≡ Ok type
+  pub samples_early : (part : Part) (type : DecodingSampleType) (len : ℕ) (e : TiffError) → 0 < part.count → 0 < part.planes → sample_type_of p ≡ Ok type
       → early_fault file p limits color type part.first len ≡ Err e → samples file order p limits color part len ≡ Err e
   unfolding samples filled
   samples_early part type len e some planes typed h =
@@ -167,14 +167,14 @@ module _ (file : List ℕ) (order : ByteOrder) (p : PageRecord) (limits : Limits
 pub image_early : (wanting failed : Type 0) (file : List ℕ) (order : ByteOrder) (p : PageRecord) (limits : Limits) (color : ColorType) (type : DecodingSampleType) (planes stride len : ℕ) (e : TiffError)
     → 0 < p.width → 0 < p.height → 0 < p.chunk_width → 0 < p.chunk_height → 0 < planes → sample_type_of p ≡ Ok type
     → IsCause wanting failed e (early_fault file p limits color type 0 len ≡ Err e)
-    → IsCause (Unit {0}) failed e (samples file order p limits color (image_part file order p planes stride) len ≡ Err e)
+    → IsCause (Unit {0}) failed e (samples file order p limits color (image_part p planes stride) len ≡ Err e)
 image_early wanting failed file order p limits color type planes stride len e w h cw ch some typed c =
     cause_along e (λ _. tt) (λ f. f)
-    (λ t. samples_early file order p limits color (image_part file order p planes stride) type len e (plane_some p.width p.height p.chunk_width p.chunk_height w h cw ch) some typed t) c
+    (λ t. samples_early file order p limits color (image_part p planes stride) type len e (plane_some p.width p.height p.chunk_width p.chunk_height w h cw ch) some typed t) c
 
 pub chunk_early : (wanting failed : Type 0) (file : List ℕ) (order : ByteOrder) (p : PageRecord) (limits : Limits) (color : ColorType) (type : DecodingSampleType) (i stride len : ℕ) (e : TiffError)
     → sample_type_of p ≡ Ok type → IsCause wanting failed e (early_fault file p limits color type i len ≡ Err e)
-    → IsCause (Unit {0}) failed e (samples file order p limits color (chunk_part file order p i 1 stride) len ≡ Err e)
+    → IsCause (Unit {0}) failed e (samples file order p limits color (chunk_part p i 1 stride) len ≡ Err e)
 chunk_early wanting failed file order p limits color type i stride len e typed c =
     cause_along e (λ _. tt) (λ f. f)
-    (λ t. samples_early file order p limits color (chunk_part file order p i 1 stride) type len e (omega arith) (omega arith) typed t) c
+    (λ t. samples_early file order p limits color (chunk_part p i 1 stride) type len e (omega arith) (omega arith) typed t) c

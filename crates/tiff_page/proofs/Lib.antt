@@ -1,5 +1,4 @@
 pub mod Sizes
-pub mod Strip
 pub mod PositionLaws
 pub mod Planes
 pub mod Chunks

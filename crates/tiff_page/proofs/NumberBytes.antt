@@ -9,13 +9,14 @@ use Rattle.std.proofs.lemmas.List.FromFn.{length-map-range_with_len, get_or-map-
 use Rattle.std.proofs.lemmas.Nat.{div-add-mod', div_below, mod_below, le-div, div-mul-add, mod-mul-add, row_fits}
 use Rattle.std.proofs.Math.ListN.{set}
 use Rattle.std.proofs.Math.Nat.{div-one, div-div-eq-div-mul, pow-suc, mod-eq_of_lt, mul-le-mul_right, mul_comm, mul-div_cancel, zero-div}
-use Rattle.tiff_base.specs.declared.tags.ByteOrder.TheVariants.{LittleEndian}
+use Rattle.tiff_base.specs.declared.tags.ByteOrder.{ByteOrder}
+use Rattle.tiff_base.specs.declared.tags.ByteOrder.TheVariants.{LittleEndian, BigEndian}
 use Rattle.tiff_base.specs.Number.{number}
 use Rattle.tiff_base.specs.SourceAndSink.{AreOctets, bytes_at}
 use Rattle.tiff_page.specs.NumberBytes.{byte_of, all_bytes, bytes_in, IsPut, NumbersArePut}
-use Rattle.tiff_page.specs.Pixels.{each_to, width_of, numbers_in}
+use Rattle.tiff_page.specs.Pixels.{each_to, width_of, numbers_in, row_number}
 use Rattle.tiff_page.specs.BufferPositions.{Writes}
-use Rattle.tiff_page.specs.Row.{IsSize, row_number}
+use Rattle.tiff_page.specs.Row.{IsSize}
 use Rattle.tiff_page.proofs.Rects.{writes_more, writes_as, writes_none}
 use Rattle.tiff_page.proofs.RowLaws.{power_pos, bytes_of_numbers}
 use Rattle.tiff_page.proofs.Rows.{each_same, each_at, digits, by_size, little_digits, number_lt}
@@ -313,3 +314,25 @@ map_replicate f x (suc n) = ap (λ (ys : List ℕ). f x ∷ ys) (map_replicate f
 -- numbers that are all 0
 pub zeros_mapped : {A : Type 0} (f : A → ℕ) (x : A) (xs : List A) (n : ℕ) → f x ≡ 0 → xs ≡ replicate n x → map f xs ≡ replicate n 0
 zeros_mapped f x xs n z e = ap (map f) e ∙ map_replicate f x n ∙ ap (replicate n) z
+
+-- ---- numbers of one byte
+
+-- one byte is its number
+pub number_one : (order : ByteOrder) (b : ℕ) → number order w8 (b ∷ []) ≡ b
+unfolding number
+number_one LittleEndian b = refl
+number_one BigEndian b = refl
+
+-- bytes are their own numbers
+pub numbers_are : (bytes : List ℕ) → numbers_in 1 bytes ≡ bytes
+unfolding numbers_in
+numbers_are bytes =
+    let count : div_ceil (length bytes) 1 ≡ length bytes = omega arith in
+    ext_get_or 0 _ bytes
+    (length-map-range_with_len (λ n. number LittleEndian w8 (slice_index bytes (n * 1 + 0) ∷ [])) 0 (div_ceil (length bytes) 1) ∙ count)
+    (λ i h.
+    let l : i < div_ceil (length bytes) 1 = subst (λ (n : ℕ). i < n) (length-map-range_with_len (λ n. number LittleEndian w8 (slice_index bytes (n * 1 + 0) ∷ [])) 0 (div_ceil (length bytes) 1)) h in
+    let at : i * 1 + 0 ≡ i = omega arith in
+    get_or-map-range_with_len (λ n. number LittleEndian w8 (slice_index bytes (n * 1 + 0) ∷ [])) 0 (div_ceil (length bytes) 1) i i 0 l (omega arith)
+    ∙ number_one LittleEndian (slice_index bytes (i * 1 + 0))
+    ∙ ap (slice_index bytes) at)

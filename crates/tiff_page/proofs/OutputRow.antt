@@ -1,12 +1,11 @@
 -- The bytes of a row as they are handed out: of the numbers that the row became.
-use Rattle.std.proofs.Common.{take, drop, mul_assoc, ◌≡◌, ℕ, zero, suc, ◌+◌, ◌-◌, ◌*◌, ◌/◌, ◌%◌, ◌^◌, ◌<◌, ◌≤◌, ◌⊎◌, true, false, List, length, get_or, refl, ap, sym, ◌∙◌, arith, ⊎_elim}
-use Rattle.std.specs.Prelude.{sum_by, nat_lt}
-use Rattle.std.specs.List.{range_with_len}
+use Rattle.std.proofs.Common.{take, drop, mul_assoc, ◌≡◌, ℕ, ◌+◌, ◌-◌, ◌*◌, ◌/◌, ◌%◌, ◌^◌, ◌<◌, ◌≤◌, ◌⊎◌, true, false, List, length, get_or, refl, ap, sym, ◌∙◌, arith, ⊎_elim}
+use Rattle.std.specs.Prelude.{nat_lt}
 use Rattle.std.proofs.lemmas.List.{get_or_past, get_or-take, get_or-drop, length-take-le, length-drop}
 use borrow.Rule.Slice.PartMut.{put_mid}
 use Rattle.std.proofs.lemmas.Bool.{cases_Bool, cases_lt, lt-ltb, le-ltb, ltb-false}
 use Rattle.std.proofs.lemmas.Nat.{div-add-mod', div-mul-add, mod-mul-add, mod_below, div_below}
-use Rattle.std.proofs.Math.Nat.{pow-succ', div-div-eq-div-mul, div-one, mul-le-mul_right, mul_comm}
+use Rattle.std.proofs.Math.Nat.{mul-le-mul_right, mul_comm}
 use Rattle.tiff_base.specs.declared.color.ColorType.{ColorType}
 use Rattle.tiff_base.specs.declared.tags.ByteOrder.{ByteOrder}
 use Rattle.tiff_base.specs.declared.tags.ByteOrder.TheVariants.{LittleEndian}
@@ -14,73 +13,32 @@ use Rattle.tiff_base.specs.declared.tags.PhotometricInterpretation.{PhotometricI
 use Rattle.tiff_base.specs.declared.tags.PhotometricInterpretation.TheVariants as meaning
 use Rattle.tiff_base.specs.declared.tags.Predictor.{Predictor}
 use Rattle.tiff_base.specs.declared.tags.Predictor.TheVariants as predictor
-use Rattle.tiff_base.specs.Number.{number}
 use Rattle.tiff_page.specs.Layout.{shown, row_bits, row_bytes}
 use Rattle.tiff_page.specs.Page.{PageRecord}
-use Rattle.tiff_page.specs.Pixels.{each_to, width_of, stored_samples, stored_row_bytes, is_byte_plane, needs_whole_rows}
-use Rattle.tiff_page.specs.Row.{IsSize, row_number, summed_number, joined_number, Became}
-use Rattle.tiff_page.specs.OutputRow.{complement_of, number_in, handed_byte}
-use Rattle.tiff_page.specs.ReadablePage.{IsRead, number_of_row}
-use Rattle.tiff_page.proofs.Rows.{put_below, put_there, by_size, some_size, sum_same}
+use Rattle.tiff_page.specs.Pixels.{stored_samples, stored_row_bytes, is_byte_plane, needs_whole_rows, row_number, summed_number, joined_number, number_of_row, inverted, in_row}
+use Rattle.tiff_page.specs.Row.{IsSize, Became}
+use Rattle.tiff_page.specs.OutputRow.{handed_byte}
+use Rattle.tiff_page.specs.ReadablePage.{IsRead}
+use Rattle.tiff_page.proofs.Rows.{put_below, put_there, by_size, digits, little_digits, some_size, sums_same}
+use Rattle.tiff_page.proofs.RowLaws.{bytes_of_numbers, complemented, digit}
 
 -- ---- bytes of a number
-
--- the number of n bytes, the least first
-abbrev pub horner : (ℕ → ℕ) → ℕ → ℕ
-horner f zero = 0
-horner f (suc n) = f 0 + 256 * horner (λ j. f (suc j)) n
-
-little_horner : (size : ℕ) (f : ℕ → ℕ) → IsSize size → number LittleEndian (width_of size) (each_to size f) ≡ horner f size
-unfolding number
-little_horner size f s =
-    by_size (λ n. number LittleEndian (width_of n) (each_to n f) ≡ horner f n) size (omega arith) (omega arith) (omega arith) (omega arith) s
-
-byte_of : (n : ℕ) (f : ℕ → ℕ) (j : ℕ) → ((i : ℕ) → f i < 256) → j < n → horner f n / 256 ^ j % 256 ≡ f j
-byte_of zero f j b h = Prim.absurd (omega (arith, h))
-byte_of (suc n) f zero b h =
-    ap (λ (m : ℕ). m % 256) (div-one (horner f (suc n))) ∙ omega (arith, b 0)
-byte_of (suc n) f (suc j) b h =
-    let d : ℕ = horner (λ i. f (suc i)) n in
-    let q : (f 0 + 256 * d) / 256 ≡ d = omega (arith, b 0) in
-    ap (λ (m : ℕ). (f 0 + 256 * d) / m % 256) (pow-succ' 256 j)
-    ∙ ap (λ (m : ℕ). m % 256) (sym (div-div-eq-div-mul (f 0 + 256 * d) 256 (256 ^ j)))
-    ∙ ap (λ (m : ℕ). m / 256 ^ j % 256) q
-    ∙ byte_of n (λ i. f (suc i)) j (λ i. b (suc i)) (omega (arith, h))
-
-horner_lt : (n : ℕ) (f : ℕ → ℕ) → ((i : ℕ) → f i < 256) → horner f n < 256 ^ n
-horner_lt zero f b = omega arith
-horner_lt (suc n) f b =
-    let d : ℕ = horner (λ i. f (suc i)) n in
-    let h : d < 256 ^ n = horner_lt n (λ i. f (suc i)) (λ i. b (suc i)) in
-    let p : 256 ^ suc n ≡ 256 * 256 ^ n = pow-succ' 256 n in
-    let g : f 0 + 256 * d < 256 * 256 ^ n = omega (arith, h, b 0) in
-    omega (arith, p, g)
-
--- the complement of a number has the complements of its bytes
-horner_turned : (n : ℕ) (f : ℕ → ℕ) → ((i : ℕ) → f i < 256) → 256 ^ n - 1 - horner f n ≡ horner (λ i. 255 - f i) n
-horner_turned zero f b = omega arith
-horner_turned (suc n) f b =
-    let d : ℕ = horner (λ i. f (suc i)) n in
-    let h : d < 256 ^ n = horner_lt n (λ i. f (suc i)) (λ i. b (suc i)) in
-    let p : 256 ^ suc n ≡ 256 * 256 ^ n = pow-succ' 256 n in
-    let e : 256 ^ n - 1 - d ≡ horner (λ i. 255 - f (suc i)) n = horner_turned n (λ i. f (suc i)) (λ i. b (suc i)) in
-    let g : 256 * 256 ^ n - 1 - (f 0 + 256 * d) ≡ (255 - f 0) + 256 * (256 ^ n - 1 - d) = omega (arith, h, b 0) in
-    ap (λ (m : ℕ). m - 1 - (f 0 + 256 * d)) p ∙ g ∙ ap (λ (m : ℕ). (255 - f 0) + 256 * m) e
 
 -- a byte of a number of a row
 module _ (size : ℕ) (z : IsSize size) (row : List ℕ) (octets : (i : ℕ) → get_or row i 0 < 256) (k j v : ℕ) (l : j < size) (e : row_number LittleEndian size row k ≡ v) where
   byte_stands : v / 256 ^ j % 256 ≡ get_or row (k * size + j) 0
-  byte_stands =
-      ap (λ (m : ℕ). m / 256 ^ j % 256) (sym e ∙ little_horner size (λ i. get_or row (k * size + i) 0) z)
-      ∙ byte_of size (λ i. get_or row (k * size + i) 0) j (λ i. octets (k * size + i)) l
+  byte_stands = ap (λ (m : ℕ). m / 256 ^ j % 256) (sym e) ∙ sym (bytes_of_numbers size row k j z octets l)
 
   byte_turned : (256 ^ size - 1 - v) / 256 ^ j % 256 ≡ 255 - get_or row (k * size + j) 0
   byte_turned =
-      ap (λ (m : ℕ). (256 ^ size - 1 - m) / 256 ^ j % 256) (sym e ∙ little_horner size (λ i. get_or row (k * size + i) 0) z)
-      ∙ ap (λ (m : ℕ). m / 256 ^ j % 256) (horner_turned size (λ i. get_or row (k * size + i) 0) (λ i. octets (k * size + i)))
-      ∙ byte_of size (λ i. 255 - get_or row (k * size + i) 0) j (λ i. omega arith) l
+      let f : ℕ → ℕ = λ i. get_or row (k * size + i) 0 in
+      let g : ℕ → ℕ = λ i. 255 - f i in
+      let c : digits g size + digits f size + 1 ≡ 256 ^ size = complemented g f size (λ i h. refl) (λ i. octets (k * size + i)) in
+      let d : v ≡ digits f size = sym e ∙ little_digits size f z in
+      let n : 256 ^ size - 1 - v ≡ digits g size = omega (arith, c, d) in
+      ap (λ (m : ℕ). m / 256 ^ j % 256) n ∙ digit g size j (λ i. omega arith) l
 
-  byte_shown : (i : PhotometricInterpretation) → complement_of i (256 ^ size) v / 256 ^ j % 256 ≡ complement_of i 256 (get_or row (k * size + j) 0)
+  byte_shown : (i : PhotometricInterpretation) → inverted i (256 ^ size) v / 256 ^ j % 256 ≡ inverted i 256 (get_or row (k * size + j) 0)
   byte_shown meaning.WhiteIsZero = byte_turned
   byte_shown meaning.BlackIsZero = byte_stands
   byte_shown meaning.RGB = byte_stands
@@ -108,57 +66,40 @@ depth_limit p z e = ap (λ (n : ℕ). 2 ^ n) e ∙ bytes_limit (p.depth / 8) z
 
 -- ---- the numbers of a row, without the byte-plane predictor
 
-module _ (order : ByteOrder) (p : PageRecord) (old : List ℕ) where
-  summed_terms : (mid : List ℕ) (k : ℕ) → 0 < p.depth / 8 → (k + 1) * (p.depth / 8) ≤ length old → Became (p.depth / 8) (row_number order (p.depth / 8) old) old mid
-      → sum_by (λ c. row_number LittleEndian (p.depth / 8) mid (c * stored_samples p + k % stored_samples p)) (range_with_len 0 (k / stored_samples p + 1))
-      ≡ sum_by (λ c. row_number order (p.depth / 8) old (c * stored_samples p + k % stored_samples p)) (range_with_len 0 (k / stored_samples p + 1))
-  summed_terms mid k z h b =
-      let s : ℕ = stored_samples p in
-      let w : k / s * s + k % s ≡ k = div-add-mod' k s in
-      sum_same (k / s + 1) 0 (λ c. row_number LittleEndian (p.depth / 8) mid (c * s + k % s)) (λ c. row_number order (p.depth / 8) old (c * s + k % s))
-      (λ c u l.
-      let m : c * s ≤ k / s * s = mul-le-mul_right s (omega (arith, l)) in
-      let n : (c * s + k % s + 1) * (p.depth / 8) ≤ (k + 1) * (p.depth / 8) = mul-le-mul_right (p.depth / 8) (omega (arith, m, w)) in
-      b.numbers (c * s + k % s) (omega (arith, n, h)))
-
-  pub summed_numbers : (mid new : List ℕ) → p.predictor ≡ predictor.Horizontal → IsSize (p.depth / 8) → p.depth ≡ p.depth / 8 * 8 → length mid ≡ length old
-      → Became (p.depth / 8) (row_number order (p.depth / 8) old) old mid
-      → Became (p.depth / 8) (summed_number (p.depth / 8) (stored_samples p) mid) mid new
-      → Became (p.depth / 8) (number_of_row order p old) old new
-  summed_numbers mid new e z d l b c =
-      record {
-        numbers = λ k h.
-            c.numbers k (omega (arith, h, l))
-            ∙ ap (λ (m : ℕ). m % 256 ^ (p.depth / 8)) (summed_terms mid k (some_size (p.depth / 8) z) h b)
-            ∙ (rw e (ap (λ (m : ℕ). sum_by (λ c. row_number order (p.depth / 8) old (c * stored_samples p + k % stored_samples p)) (range_with_len 0 (k / stored_samples p + 1)) % m) (sym (depth_limit p z d))));
-        behind = λ i h. (let g : length mid / (p.depth / 8) * (p.depth / 8) ≡ length old / (p.depth / 8) * (p.depth / 8) = ap (λ (n : ℕ). n / (p.depth / 8) * (p.depth / 8)) l in
-            c.behind i (omega (arith, g, h)) ∙ b.behind i h);
-      }
+pub summed_numbers : (order : ByteOrder) (p : PageRecord) (old mid new : List ℕ) → p.predictor ≡ predictor.Horizontal → length mid ≡ length old
+    → Became (p.depth / 8) (row_number order (p.depth / 8) old) old mid
+    → Became (p.depth / 8) (summed_number LittleEndian (p.depth / 8) (stored_samples p) mid) mid new
+    → Became (p.depth / 8) (number_of_row order p old) old new
+summed_numbers order p old mid new e l b c =
+    let size : ℕ = p.depth / 8 in
+    record {
+      numbers = λ k h.
+          c.numbers k (omega (arith, h, l)) ∙ sums_same LittleEndian order size (stored_samples p) mid old k (length old) b.numbers h ∙ (rw e refl);
+      behind = λ i h. (let g : length mid / size * size ≡ length old / size * size = ap (λ (n : ℕ). n / size * size) l in
+          c.behind i (omega (arith, g, h)) ∙ b.behind i h);
+    }
 
 -- ---- the bytes that are handed out
 
 -- of a row of numbers k is the one that a byte is of
 handed_at : (order : ByteOrder) (p : PageRecord) (c : ColorType) (old mid : List ℕ) (b k : ℕ) → IsRead p c → 8 ≤ p.depth
     → Became (p.depth / 8) (number_of_row order p old) old mid → ((i : ℕ) → get_or mid i 0 < 256)
-    → b / (p.depth / 8) / shown p.planar c * stored_samples p + b / (p.depth / 8) % shown p.planar c ≡ k → (k + 1) * (p.depth / 8) ≤ length old
-    → complement_of p.interpretation 256 (get_or mid (k * (p.depth / 8) + b % (p.depth / 8)) 0) ≡ handed_byte order p old c b
+    → in_row p (b / (p.depth / 8) / shown p.planar c) (b / (p.depth / 8) % shown p.planar c) ≡ k → (k + 1) * (p.depth / 8) ≤ length old
+    → inverted p.interpretation 256 (get_or mid (k * (p.depth / 8) + b % (p.depth / 8)) 0) ≡ handed_byte order p old c b
 handed_at order p c old mid b k r d became octets at within =
     let size : ℕ = p.depth / 8 in
     let s : ℕ = shown p.planar c in
-    let n : ℕ = b / size in
+    let n : ℕ = in_row p (b / size / s) (b / size % s) in
     let z : IsSize size = (whole p c r d).0 in
     let l : b % size < size = mod_below b size (some_size size z) in
-    let m : n % s < stored_samples p = omega (arith, mod_below n s r.stored.shows, r.stored.stores) in
-    let q : k / stored_samples p ≡ n / s = ap (λ (x : ℕ). x / stored_samples p) (sym at) ∙ div-mul-add (n / s) (stored_samples p) (n % s) m in
-    let t : k % stored_samples p ≡ n % s = ap (λ (x : ℕ). x % stored_samples p) (sym at) ∙ mod-mul-add (n / s) (stored_samples p) (n % s) m in
-    let e : row_number LittleEndian size mid k ≡ number_in order p old p.predictor (n / s) (n % s) = became.numbers k within ∙ (λ i. number_in order p old p.predictor (q i) (t i)) in
+    let e : row_number LittleEndian size mid k ≡ number_of_row order p old n = became.numbers k within ∙ ap (number_of_row order p old) (sym at) in
     let f : nat_lt p.depth 8 ≡ false = le-ltb p.depth 8 d in
     sym (rw f
-    (ap (λ (x : ℕ). complement_of p.interpretation x (number_in order p old p.predictor (n / s) (n % s)) / 256 ^ (b % size) % 256) (depth_limit p z (whole p c r d).1)
-    ∙ byte_shown size z mid octets k (b % size) (number_in order p old p.predictor (n / s) (n % s)) l e p.interpretation))
+    (ap (λ (x : ℕ). inverted p.interpretation x (number_of_row order p old n) / 256 ^ (b % size) % 256) (depth_limit p z (whole p c r d).1)
+    ∙ byte_shown size z mid octets k (b % size) (number_of_row order p old n) l e p.interpretation))
 
 handed_packed : (order : ByteOrder) (p : PageRecord) (c : ColorType) (old : List ℕ) (b : ℕ) → p.depth < 8
-    → complement_of p.interpretation 256 (get_or old b 0) ≡ handed_byte order p old c b
+    → inverted p.interpretation 256 (get_or old b 0) ≡ handed_byte order p old c b
 handed_packed order p c old b d = let f : nat_lt p.depth 8 ≡ true = lt-ltb p.depth 8 d in rw f refl
 
 pub in_place : (p : PageRecord) (c : ColorType) → needs_whole_rows p c ≡ false → (is_byte_plane p.predictor ≡ false) × (nat_lt (shown p.planar c) (stored_samples p) ≡ false)
@@ -174,11 +115,11 @@ each_octet row b i = ⊎_elim (λ (h : i < length row). b i h) (λ (h : length r
 pub row_handed : (order : ByteOrder) (p : PageRecord) (c : ColorType) (old mid : List ℕ) (b : ℕ) → IsRead p c → needs_whole_rows p c ≡ false
     → (8 ≤ p.depth → Became (p.depth / 8) (number_of_row order p old) old mid) → (p.depth < 8 → mid ≡ old) → ((i : ℕ) → i < length mid → get_or mid i 0 < 256)
     → (p.depth < 8) ⊎ (length old / (p.depth / 8) * (p.depth / 8) ≡ length old) → b < length old
-    → complement_of p.interpretation 256 (get_or mid b 0) ≡ handed_byte order p old c b
+    → inverted p.interpretation 256 (get_or mid b 0) ≡ handed_byte order p old c b
 row_handed order p c old mid b r w numbers same within_mid rows l =
     let octets : (i : ℕ) → get_or mid i 0 < 256 = each_octet mid within_mid in
     ⊎_elim
-    (λ (d : p.depth < 8). ap (λ (xs : List ℕ). complement_of p.interpretation 256 (get_or xs b 0)) (same d) ∙ handed_packed order p c old b d)
+    (λ (d : p.depth < 8). ap (λ (xs : List ℕ). inverted p.interpretation 256 (get_or xs b 0)) (same d) ∙ handed_packed order p c old b d)
     (λ (d : 8 ≤ p.depth).
     let size : ℕ = p.depth / 8 in
     let s : ℕ = shown p.planar c in
@@ -190,7 +131,7 @@ row_handed order p c old mid b r w numbers same within_mid rows l =
     let even : length old / size * size ≡ length old = ⊎_elim (λ (q : p.depth < 8). Prim.absurd (omega (arith, q, d))) (λ q. q) rows in
     let few : k < length old / size = div_below b size (length old / size) u (omega (arith, l, even, mul_comm size (length old / size))) in
     let within : (k + 1) * size ≤ length old / size * size = mul-le-mul_right size (omega (arith, few)) in
-    ap (λ (x : ℕ). complement_of p.interpretation 256 (get_or mid x 0)) (sym there)
+    ap (λ (x : ℕ). inverted p.interpretation 256 (get_or mid x 0)) (sym there)
     ∙ handed_at order p c old mid b k r d (numbers d) octets at (omega (arith, within, even)))
     (cases_lt p.depth 8)
 
@@ -228,7 +169,7 @@ pub joined_numbers : (order : ByteOrder) (p : PageRecord) (old new : List ℕ) �
     → Became (p.depth / 8) (number_of_row order p old) old new
 joined_numbers order p old new e l b =
     record {
-      numbers = λ k h. b.numbers k h ∙ (rw e (λ i. joined_number (p.depth / 8) (stored_samples p) (l i) old (sym (div-add-mod' k (stored_samples p)) i)));
+      numbers = λ k h. b.numbers k h ∙ (rw e (λ i. joined_number (p.depth / 8) (stored_samples p) (l i) old k));
       behind = b.behind;
     }
 
@@ -283,7 +224,7 @@ pub whole_handed : (order : ByteOrder) (p : PageRecord) (c : ColorType) (old mid
     → width ≤ p.chunk_width → length old ≡ stored_row_bytes p → kept ≡ shown p.planar c * (p.depth / 8) → whole_pixel ≡ stored_samples p * (p.depth / 8)
     → Became (p.depth / 8) (number_of_row order p old) old mid → ((i : ℕ) → i < length mid → get_or mid i 0 < 256)
     → b < width * kept → x ≡ get_or mid (b / kept * whole_pixel + b % kept) 0
-    → complement_of p.interpretation 256 x ≡ handed_byte order p old c b
+    → inverted p.interpretation 256 x ≡ handed_byte order p old c b
 whole_handed order p c old mid width kept whole_pixel b x r w few long ek ew became within_mid l ex =
     let d : 8 ≤ p.depth = whole_deep p c r w in
     let size : ℕ = p.depth / 8 in
@@ -306,6 +247,6 @@ whole_handed order p c old mid width kept whole_pixel b x r w few long ek ew bec
     let v : (k + 1) * size ≤ p.chunk_width * stored_samples p * size =
     mul-le-mul_right size (omega (arith, g, mod_below n s r.stored.shows, r.stored.stores)) in
     let within : (k + 1) * size ≤ length old = omega (arith, v, long, stored_bytes p (whole p c r d).1) in
-    ap (complement_of p.interpretation 256)
+    ap (inverted p.interpretation 256)
     (ex ∙ (λ i. get_or mid (q i * ew i + t i) 0) ∙ ap (λ (y : ℕ). get_or mid y 0) at)
     ∙ handed_at order p c old mid b k r d became (each_octet mid within_mid) refl within

@@ -1,10 +1,8 @@
 -- What a layout gives; the image as its first plane; rows of whole bytes.
-use Rattle.std.proofs.Common.{◌≡◌, ℕ, ◌+◌, ◌*◌, ◌/◌, ◌^◌, ◌<◌, ◌≤◌, zero, suc, Bool, true, false, List, length, Ok, Err, refl, ap, sym, subst, ◌∙◌, ◌⊎◌, inl, inr, ⊎_elim, arith}
-use Rattle.std.specs.Prelude.{◌%◌, ◌&&◌, not, Result, replicate, slice_index, unwrap_or, if◌then◌else◌, nat_lt, ◌==◌}
+use Rattle.std.proofs.Common.{◌≡◌, ℕ, ◌+◌, ◌*◌, ◌/◌, ◌^◌, ◌<◌, ◌≤◌, zero, suc, Bool, true, false, List, Ok, Err, refl, ap, sym, subst, ◌∙◌, ◌⊎◌, inl, inr, ⊎_elim, arith}
+use Rattle.std.specs.Prelude.{◌%◌, ◌&&◌, not, Result, if◌then◌else◌, nat_lt, ◌==◌}
 use Rattle.std.proofs.lemmas.Bool.{cases_Bool, cases_lt, eqb-true, ltb-false, le-ltb}
 use Rattle.std.proofs.lemmas.Nat.{div-add-mod'}
-use Rattle.std.proofs.lemmas.List.{ext_get_or, get_or-replicate, length-replicate}
-use Rattle.std.proofs.lemmas.List.FromFn.{length-map-range_with_len, get_or-map-range_with_len}
 use Rattle.std.proofs.Math.Nat.{one-le-mul}
 use Rattle.tiff_base.specs.declared.color.ColorType.{ColorType}
 use Rattle.tiff_base.specs.declared.color.ColorType.TheVariants.{Gray, RGB, RGBA, CMYK, CMYKA, YCbCr, Lab, Multiband}
@@ -22,15 +20,13 @@ use Rattle.tiff_base.specs.declared.tags.SampleFormat.TheVariants.{Uint, Int, IE
 use Rattle.tiff_base.specs.Answers.{◌>>=◌}
 use Rattle.tiff_base.specs.Color.{num_samples}
 use Rattle.tiff_ifd.specs.declared.limits.Limits.{Limits}
-use Rattle.tiff_page.specs.declared.layout.DecodingSampleType.{DecodingSampleType}
 use Rattle.tiff_page.specs.Page.{PageRecord}
 use Rattle.tiff_page.specs.Rect.{chunks_of_plane}
-use Rattle.tiff_page.specs.Layout.{LayoutRecord, layout_of, color_of, color_from, no_color, gray, lab, photometric, first_is_alpha, row_bits, row_bytes, shown, planes, wide, aligned, whole_chroma, sample_type_of, size_of}
-use Rattle.tiff_page.specs.PixelFault.{is_whole, depth_fault, each_below, chunk_fault, samples_fault}
-use Rattle.tiff_page.specs.Pixels.{is_short, byte_at, image_bytes, image_region}
-use Rattle.tiff_page.specs.Image.{decoded_samples, chunks_read, image_of}
+use Rattle.tiff_page.specs.Layout.{LayoutRecord, layout_of, color_of, color_from, no_color, gray, lab, photometric, first_is_alpha, row_bits, row_bytes, shown, wide, aligned, whole_chroma}
+use Rattle.tiff_page.specs.PixelFault.{is_whole, depth_fault, each_below, chunk_fault}
+use Rattle.tiff_page.specs.Pixels.{is_short}
 use Rattle.tiff_page.specs.Buffers.{planes_layout}
-use Rattle.tiff_page.specs.PixelCalls.{placed, filled, samples, image_part, part_fault}
+use Rattle.tiff_page.specs.PixelCalls.{samples, image_part, part_fault, image_of}
 use Rattle.tiff_page.specs.Laws as law
 use Rattle.tiff_page.proofs.Sizes.{product_some}
 
@@ -175,7 +171,7 @@ some_row p c w d s e wp =
 pub some_plane : (n h : ℕ) → 0 < n → 0 < h → 0 < n * h
 some_plane n h p q = one-le-mul p q
 
--- ---- the image as its first plane
+-- ---- the first plane
 
 pub each_same : (f g : ℕ → Result (Unit {0}) TiffError) (n : ℕ) → ((k : ℕ) → f k ≡ g k) → each_below f n ≡ each_below g n
 each_same f g zero h = refl
@@ -187,70 +183,16 @@ one_plane f c j = let e : 0 * c + (0 + j) ≡ j = omega arith in ap f (sym e)
 pub from_0 : (i : ℕ) → 0 + i ≡ i
 from_0 i = omega arith
 
-pub bytes_placed : (file : List ℕ) (order : ByteOrder) (p : PageRecord) (color : ColorType) (s n : ℕ) → s ≡ row_bytes p color p.width → n ≡ s * p.height
-    → image_bytes file order p color ≡ placed file order p color (image_region file order p) s 1 (replicate n 0)
-unfolding image_bytes placed
-bytes_placed file order p color s n es en =
-    let l : length (replicate n 0) ≡ n = length-replicate n 0 in
-    let r : ℕ = row_bytes p color p.width in
-    let at : ℕ → ℕ = λ i. unwrap_or (byte_at file order p color (image_region file order p) r 1 i) 0 in
-    let to : ℕ → ℕ = λ i. unwrap_or (byte_at file order p color (image_region file order p) s 1 i) (slice_index (replicate n 0) i) in
-    ext_get_or 0 (image_bytes file order p color) (placed file order p color (image_region file order p) s 1 (replicate n 0))
-    (length-map-range_with_len at 0 (r * p.height) ∙ rw (sym es, sym en) (sym l) ∙ sym (length-map-range_with_len to 0 (length (replicate n 0))))
-    (λ i k.
-    let b : i < n = rw (length-map-range_with_len at 0 (r * p.height), sym es, sym en) at k in
-    get_or-map-range_with_len at 0 (r * p.height) i i 0 (rw (sym es, sym en) b) (from_0 i)
-    ∙ (rw (sym es, get_or-replicate {A = ℕ} n i 0 0 b) refl)
-    ∙ sym (get_or-map-range_with_len to 0 (length (replicate n 0)) i i 0 (rw l b) (from_0 i)))
+pub first_plane_fault : (file : List ℕ) (order : ByteOrder) (p : PageRecord) (limits : Limits) (color : ColorType) (stride : ℕ)
+    → part_fault file order p limits color (image_part p 1 stride) ≡ each_below (chunk_fault p limits (is_short file order p color) color) (chunks_of_plane p)
+first_plane_fault file order p limits color stride =
+    let f : ℕ → Result (Unit {0}) TiffError = chunk_fault p limits (is_short file order p color) color in
+    sym (each_same f (λ j. each_below (λ plane. f (plane * chunks_of_plane p + (0 + j))) 1) (chunks_of_plane p) (one_plane f (chunks_of_plane p)))
 
-pub finish_same : (a : Result (Unit {0}) TiffError) (x : List ℕ) (type : DecodingSampleType)
-    → (a >>= (λ _. Ok (decoded_samples type x))) ≡ ((a >>= (λ _. Ok x)) >>= (λ bytes. Ok (decoded_samples type bytes)))
-finish_same (Ok u) x type = refl
-finish_same (Err e) x type = refl
-
-pub finish : (a b : Result (Unit {0}) TiffError) (x y : List ℕ) (type : DecodingSampleType) → a ≡ b → x ≡ y
-    → (a >>= (λ _. Ok (decoded_samples type x))) ≡ ((b >>= (λ _. Ok y)) >>= (λ bytes. Ok (decoded_samples type bytes)))
-finish a b x y type e q =
-    finish_same a x type
-    ∙ ap (λ (r : Result (Unit {0}) TiffError). (r >>= (λ _. Ok x)) >>= (λ bytes. Ok (decoded_samples type bytes))) e
-    ∙ ap (λ (z : List ℕ). (b >>= (λ _. Ok z)) >>= (λ bytes. Ok (decoded_samples type bytes))) q
-
-module _ (file : List ℕ) (order : ByteOrder) (p : PageRecord) (limits : Limits) (l : LayoutRecord) (given : layout_of p p.width p.height ≡ Ok l) where
-  pub of_chunks : (type : DecodingSampleType)
-      → chunks_read file order p limits l.color type
-      ≡ (filled file order p limits l.color (image_part file order p 1 l.row_bytes) (replicate l.plane_stride 0) >>= (λ bytes. Ok (decoded_samples type bytes)))
-  unfolding filled
-  of_chunks type =
-      let g : ((l.row_bytes ≡ row_bytes p l.color p.width) × (l.plane_stride ≡ row_bytes p l.color p.width * p.height)) × ((color_of p ≡ Ok l.color) × (aligned p l.color p.width ≡ Ok l.color)) = layout_gives p p.width p.height l given in
-      let n : l.plane_stride ≡ l.row_bytes * p.height = g.0.1 ∙ ap (λ z. z * p.height) (sym g.0.0) in
-      let f : ℕ → Result (Unit {0}) TiffError = chunk_fault p limits (is_short file order p l.color) l.color in
-      finish (each_below f (chunks_of_plane p)) (part_fault file order p limits l.color (image_part file order p 1 l.row_bytes))
-      (image_bytes file order p l.color) (placed file order p l.color (image_region file order p) l.row_bytes 1 (replicate l.plane_stride 0)) type
-      (each_same f (λ j. each_below (λ plane. f (plane * chunks_of_plane p + (0 + j))) 1) (chunks_of_plane p) (one_plane f (chunks_of_plane p)))
-      (bytes_placed file order p l.color l.row_bytes l.plane_stride g.0.0 n)
-
-  pub of_limit : (type : DecodingSampleType)
-      → (samples_fault limits (size_of type) l.plane_stride >>= (λ _. chunks_read file order p limits l.color type))
-      ≡ (samples_fault limits (size_of type) l.plane_stride
-      >>= (λ _. filled file order p limits l.color (image_part file order p 1 l.row_bytes) (replicate l.plane_stride 0) >>= (λ bytes. Ok (decoded_samples type bytes))))
-  of_limit type =
-      ⊎_elim (λ ok. rw (ok.1) (of_chunks type)) (λ er. rw (er.1) refl) (cases_of (samples_fault limits (size_of type) l.plane_stride))
-
-  pub of_type : (sample_type_of p >>= (λ type. samples_fault limits (size_of type) l.plane_stride >>= (λ _. chunks_read file order p limits l.color type)))
-      ≡ samples file order p limits l.color (image_part file order p 1 l.row_bytes) l.plane_stride
-  unfolding samples
-  of_type = ⊎_elim (λ ok. rw (ok.1) (of_limit ok.0)) (λ er. rw (er.1) refl) (cases_of (sample_type_of p))
-
-  pub of_planes : (wide (l.plane_stride * planes p.planar l.color) >>= (λ _. sample_type_of p
-      >>= (λ type. samples_fault limits (size_of type) l.plane_stride >>= (λ _. chunks_read file order p limits l.color type))))
-      ≡ ((wide (l.plane_stride * planes p.planar l.color) >>= (λ _. Ok l))
-      >>= (λ layout. samples file order p limits layout.color (image_part file order p 1 layout.row_bytes) layout.plane_stride))
-  of_planes = ⊎_elim (λ ok. rw (ok.1) of_type) (λ er. rw (er.1) refl) (cases_of (wide (l.plane_stride * planes p.planar l.color)))
-
-pub image_is_first_plane : law.ImageIsFirstPlane
-unfolding image_of planes_layout
-image_is_first_plane file order p limits =
-    ⊎_elim (λ ok. rw (ok.1) (of_planes file order p limits ok.0 ok.1)) (λ er. rw (er.1) refl) (cases_of (layout_of p p.width p.height))
+pub image_is_first_plane : (file : List ℕ) (order : ByteOrder) (p : PageRecord) (limits : Limits) → image_of file order p limits
+    ≡ (planes_layout p p.width p.height >>= (λ layout. samples file order p limits layout.color (image_part p 1 layout.row_bytes) layout.plane_stride))
+unfolding image_of
+image_is_first_plane file order p limits = refl
 
 -- ---- rows of whole bytes
 

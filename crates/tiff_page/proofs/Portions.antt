@@ -32,11 +32,10 @@ use Rattle.tiff_page.specs.Rect.{rect}
 use Rattle.tiff_page.specs.Row.{IsSize}
 use Rattle.tiff_page.specs.Samples.{color_in, first_in, part_of, IsLaid, room_of}
 use Rattle.tiff_page.proofs.Cut.{image_early, chunk_early}
-use Rattle.tiff_page.proofs.NumberBytes.{some_size, numbers_again, zeros_in}
+use Rattle.tiff_page.proofs.NumberBytes.{some_size, numbers_again, zeros_in, numbers_are}
 use Rattle.tiff_page.proofs.PositionLaws.{chunks_within, cases_fault}
 use Rattle.tiff_page.proofs.Planes.{layout_gives}
 use Rattle.tiff_page.proofs.Rows.{each_same, by_size}
-use Rattle.tiff_page.proofs.Strip.{numbers_are}
 
 -- ---- early faults
 
@@ -62,7 +61,7 @@ within_limit file p limits color type first len h =
 -- ---- what stands behind a portion
 
 module _ (file : List ℕ) (order : ByteOrder) (p : PageRecord) where
-  past : (color : ColorType) (r : Region file order p) (stride planes i : ℕ) → row_bytes p color r.width ≤ stride → 0 < r.height → planes * (stride * r.height) ≤ i
+  past : (color : ColorType) (r : Region) (stride planes i : ℕ) → row_bytes p color r.width ≤ stride → 0 < r.height → planes * (stride * r.height) ≤ i
       → byte_at file order p color r stride planes i ≡ None
   unfolding byte_at
   past color r stride planes i fits high behind =
@@ -97,6 +96,15 @@ zero_in zero i = refl
 zero_in (suc n) zero = refl
 zero_in (suc n) (suc i) = zero_in n i
 
+pub placed_in_zeros : (file : List ℕ) (order : ByteOrder) (p : PageRecord) (color : ColorType) (region : Region) (stride planes n : ℕ)
+    → placed file order p color region stride planes (replicate n 0) ≡ each_to n (λ i. unwrap_or (byte_at file order p color region stride planes i) 0)
+unfolding placed
+placed_in_zeros file order p color region stride planes n =
+    let found : ℕ → ℕ → ℕ = λ i v. unwrap_or (byte_at file order p color region stride planes i) v in
+    let count : length (replicate n 0) ≡ n = length-replicate n 0 in
+    ap (λ (k : ℕ). each_to k (λ i. found i (get_or (replicate n 0) i 0))) count
+    ∙ each_same n (λ i. found i (get_or (replicate n 0) i 0)) (λ i. found i 0) (λ i l. ap (found i) (zero_in n i))
+
 -- a list by its positions, with zeros behind them
 at_position : (f : ℕ → ℕ) (n i : ℕ) → ((k : ℕ) → n ≤ k → f k ≡ 0) → get_or (each_to n f) i 0 ≡ f i
 at_position f n i none =
@@ -127,20 +135,15 @@ filled_up size f n z none =
 -- ---- the samples of a portion
 
 module _ (file : List ℕ) (order : ByteOrder) (p : PageRecord) (limits : Limits) (portion : Portion) (sides : HasSides p) (laid : IsLaid p portion) where
-  abbrev part : Part file order p
+  abbrev part : Part
   part = part_of file order p portion
 
   abbrev in_place : ℕ → ℕ
   in_place i = unwrap_or (byte_at file order p (color_in portion) part.region part.stride part.planes i) 0
 
   -- what is placed in zeros
-  placed_in_zeros : (n : ℕ) → placed file order p (color_in portion) part.region part.stride part.planes (replicate n 0) ≡ each_to n in_place
-  unfolding placed
-  placed_in_zeros n =
-      let count : length (replicate n 0) ≡ n = length-replicate n 0 in
-      ap (λ (k : ℕ). each_to k (λ i. unwrap_or (byte_at file order p (color_in portion) part.region part.stride part.planes i) (get_or (replicate n 0) i 0))) count
-      ∙ each_same n (λ i. unwrap_or (byte_at file order p (color_in portion) part.region part.stride part.planes i) (get_or (replicate n 0) i 0)) in_place
-      (λ i l. ap (unwrap_or (byte_at file order p (color_in portion) part.region part.stride part.planes i)) (zero_in n i))
+  placed_here : (n : ℕ) → placed file order p (color_in portion) part.region part.stride part.planes (replicate n 0) ≡ each_to n in_place
+  placed_here n = placed_in_zeros file order p (color_in portion) part.region part.stride part.planes n
 
   none_behind : (len i : ℕ) → room_of p portion ≤ len → len ≤ i → in_place i ≡ 0
   none_behind len i room l = ap (λ o. unwrap_or o 0) (portion_past file order p portion i sides laid (omega (arith, room, l)))
@@ -176,9 +179,9 @@ module _ (file : List ℕ) (order : ByteOrder) (p : PageRecord) (limits : Limits
       let all : bytes_in size before ≡ replicate (div_ceil len size * size) 0 = zeros_in size (div_ceil len size) before z zeros in
       let f = filled_bytes (bytes_in size before) (bytes_in size after) h in
       let new : bytes_in size after ≡ each_to (div_ceil len size * size) in_place =
-      f.1 ∙ (ap (λ (xs : List ℕ). placed file order p (color_in portion) part.region part.stride part.planes xs) all ∙ placed_in_zeros (div_ceil len size * size)) in
+      f.1 ∙ (ap (λ (xs : List ℕ). placed file order p (color_in portion) part.region part.stride part.planes xs) all ∙ placed_here (div_ceil len size * size)) in
       let numbers : numbers_in size (placed file order p (color_in portion) part.region part.stride part.planes (replicate len 0)) ≡ after =
-      ap (numbers_in size) (placed_in_zeros len) ∙ (sym (filled_up size in_place len z (λ i l. none_behind len i room l)) ∙ (sym (ap (numbers_in size) new) ∙ numbers_again size after z)) in
+      ap (numbers_in size) (placed_here len) ∙ (sym (filled_up size in_place len z (λ i l. none_behind len i room l)) ∙ (sym (ap (numbers_in size) new) ∙ numbers_again size after z)) in
       rw (typed, within_limit file p limits color type first len early, f.0)
       (ap Ok (λ i. record { sample_type = type; numbers = ((λ t. numbers_in (sized t) (placed file order p (color_in portion) part.region part.stride part.planes (replicate len 0))) ∙ numbers) i }))
 

@@ -1,20 +1,19 @@
 -- Each pixel is of one chunk of a plane; the first fault; a buffer position by position.
-use Rattle.std.proofs.Common.{◌≡◌, ℕ, zero, suc, ◌+◌, ◌-◌, ◌*◌, ◌/◌, ◌%◌, ◌<◌, ◌≤◌, min, List, length, Ok, Err, refl, ap, sym, ◌∙◌, ◌⊎◌, inl, inr, ⊎_elim, arith}
+use Rattle.std.proofs.Common.{◌≡◌, ℕ, zero, suc, ◌+◌, ◌-◌, ◌*◌, ◌/◌, ◌%◌, ◌<◌, ◌≤◌, min, length, Ok, Err, refl, ap, sym, ◌∙◌, ◌⊎◌, inl, inr, ⊎_elim, arith}
 use Rattle.std.specs.Prelude.{Result, slice_index, unwrap_or}
 use Rattle.std.proofs.lemmas.Bool.{cases_lt}
 use Rattle.std.proofs.lemmas.Nat.{div_below, mod_below, div-add-mod', div-mul-add, mod-mul-add}
 use Rattle.std.proofs.Math.Nat.{mul_comm, mul-le-mul_right}
 use Rattle.std.proofs.lemmas.List.FromFn.{length-map-range_with_len, get_or-map-range_with_len}
 use Rattle.tiff_base.specs.declared.error.TiffError.{TiffError}
-use Rattle.tiff_base.specs.declared.tags.ByteOrder.{ByteOrder}
 use Rattle.tiff_page.specs.Page.{PageRecord}
 use Rattle.tiff_page.specs.Counts.{parts}
-use Rattle.tiff_page.specs.Rect.{rect, across, chunks_of_plane}
+use Rattle.tiff_page.specs.Rect.{rect, across, chunks_of_plane, chunk_of_pixel}
 use Rattle.tiff_page.specs.PixelFault.{each_below}
-use Rattle.tiff_page.specs.Pixels.{byte_at, chunk_at}
+use Rattle.tiff_page.specs.Pixels.{byte_at}
 use Rattle.tiff_page.specs.PixelCalls.{placed}
 use Rattle.tiff_page.specs.Laws as law
-use Rattle.tiff_page.specs.Laws.{HasSides, HasPixel, ChunkIsWithin, IsFirst}
+use Rattle.tiff_page.specs.Laws.{HasSides, HasPixel, IsFirst}
 use Rattle.tiff_page.proofs.Sizes.{parts_cover, column_in, row_in}
 
 -- a quotient by its bounds
@@ -72,9 +71,9 @@ module _ (p : PageRecord) (plane x y : ℕ) (s : HasSides p) (xl : x < p.width) 
   pub row_is : (plane * c + j) % c / a ≡ y / p.chunk_height
   row_is = ap (λ z. z / a) (mod-mul-add plane c j j_below) ∙ div-mul-add (y / p.chunk_height) a (x / p.chunk_width) column_below
 
-  pub has_pixel : (file : List ℕ) (order : ByteOrder) → HasPixel p (chunk_at file order p plane x y) plane x y
+  pub has_pixel : HasPixel p (chunk_of_pixel p plane x y) plane x y
   unfolding rect
-  has_pixel file order =
+  has_pixel =
       let e : (plane * c + j) % c % a * p.chunk_width ≡ x / p.chunk_width * p.chunk_width = ap (λ z. z * p.chunk_width) column_is in
       let f : (plane * c + j) % c / a * p.chunk_height ≡ y / p.chunk_height * p.chunk_height = ap (λ z. z * p.chunk_height) row_is in
       let l : x / p.chunk_width * p.chunk_width ≤ x = before x p.chunk_width in
@@ -89,9 +88,9 @@ module _ (p : PageRecord) (plane x y : ℕ) (s : HasSides p) (xl : x < p.width) 
         bottom = omega arith;
       }
 
-  pub no_other : (file : List ℕ) (order : ByteOrder) (i : ℕ) → HasPixel p i plane x y → i ≡ chunk_at file order p plane x y
+  pub no_other : (i : ℕ) → HasPixel p i plane x y → i ≡ chunk_of_pixel p plane x y
   unfolding rect
-  no_other file order i h =
+  no_other i h =
       let n : ℕ = i % c in
       let col : x / p.chunk_width ≡ i % c % a = div_is x (i % c % a) p.chunk_width h.left (omega (arith, h.right)) in
       let row : y / p.chunk_height ≡ i % c / a = div_is y (i % c / a) p.chunk_height h.top (omega (arith, h.bottom)) in
@@ -102,7 +101,7 @@ module _ (p : PageRecord) (plane x y : ℕ) (s : HasSides p) (xl : x < p.width) 
       omega arith
 
 pub one_chunk : law.OneChunk
-one_chunk file order p plane x y s xl yl = (has_pixel p plane x y s xl yl file order, no_other p plane x y s xl yl file order)
+one_chunk p plane x y s xl yl = (has_pixel p plane x y s xl yl, no_other p plane x y s xl yl)
 
 pub chunks_within : law.ChunksWithin
 unfolding rect

@@ -8,7 +8,8 @@ use Rattle.tiff_base.specs.declared.tags.ByteOrder.{ByteOrder}
 use Rattle.tiff_page.specs.declared.chunk_data.Stored.{Stored}
 use Rattle.tiff_page.specs.NumberBytes.{IsPut}
 use Rattle.tiff_page.specs.Page.{PageRecord}
-use Rattle.tiff_page.specs.RowReads.{needed_of_row, RowRead, TakesRow, PutsRow, RowPut}
+use Rattle.tiff_page.specs.Pixels.{needed_of_row}
+use Rattle.tiff_page.specs.RowReads.{RowRead, TakesRow, PutsRow, RowPut}
 use Rattle.tiff_page.specs.ChunkData.{bytes_left, IsTooShort}
 use Rattle.tiff_page.proofs.Rects.{copied, holds_put_mid}
 

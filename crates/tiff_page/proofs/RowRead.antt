@@ -12,9 +12,9 @@ use Rattle.tiff_base.specs.Answers.{IsCause}
 use Rattle.tiff_base.proofs.Causes.{cause_along}
 use Rattle.tiff_page.specs.Page.{PageRecord}
 use Rattle.tiff_page.specs.Layout.{row_bits, row_bytes, shown}
-use Rattle.tiff_page.specs.Pixels.{stored_row_bytes, needs_whole_rows}
+use Rattle.tiff_page.specs.Pixels.{stored_row_bytes, needs_whole_rows, needed_of_row}
 use Rattle.tiff_page.specs.OutputRow.{StoresAllShown, handed_byte}
-use Rattle.tiff_page.specs.RowReads.{needed_of_row, TakesRow}
+use Rattle.tiff_page.specs.RowReads.{TakesRow}
 use Rattle.tiff_page.specs.ChunkData.{IsTooShort}
 use Rattle.tiff_page.proofs.ChunkRows.{bits_are}
 use Rattle.tiff_page.proofs.Data.{behind_front}

@@ -12,12 +12,13 @@ use Rattle.std.proofs.Math.Nat.{div-mul-le_self, mul-le-mul_right, mul-le-mul_le
 use Rattle.std.specs.Prelude.{sum_by}
 use Rattle.std.specs.List.{range_with_len}
 use Rattle.std.specs.Int.{Width, w16, w32, w64, from_le_bytes, to_le_bytes}
+use Rattle.tiff_base.proofs.Common.{range_more}
 use Rattle.tiff_base.specs.declared.tags.ByteOrder.{ByteOrder}
 use Rattle.tiff_base.specs.declared.tags.ByteOrder.TheVariants.{LittleEndian, BigEndian}
 use Rattle.tiff_base.specs.Number.{number}
 use Rattle.tiff_base.specs.SourceAndSink.{bytes_at}
-use Rattle.tiff_page.specs.Pixels.{each_to, width_of}
-use Rattle.tiff_page.specs.Row.{IsSize, row_number, summed_number, summed_byte_in, joined_number, Became, AddsNumber, TurnsNumber}
+use Rattle.tiff_page.specs.Pixels.{each_to, width_of, row_number, summed_number, summed_byte, joined_number}
+use Rattle.tiff_page.specs.Row.{IsSize, Became, AddsNumber, TurnsNumber}
 
 -- ---- bytes of a number
 
@@ -164,12 +165,6 @@ adds_8 old part from to a b k e f w p x y =
 
 -- ---- sums along a row
 
-range_more : (a n : ℕ) → range_with_len a (suc n) ≡ range_with_len a n ++ (a + n) ∷ []
-range_more a zero = let e : a ≡ a + 0 = omega arith in ap (λ (k : ℕ). k ∷ []) e
-range_more a (suc n) =
-    let e : (a + 1) + n ≡ a + suc n = omega arith in
-    ap (λ (l : List ℕ). a ∷ l) (range_more (a + 1) n) ∙ ap (λ (k : ℕ). a ∷ (range_with_len (a + 1) n ++ k ∷ [])) e
-
 sum_more : (g : ℕ → ℕ) (n : ℕ) → sum_by g (range_with_len 0 (n + 1)) ≡ sum_by g (range_with_len 0 n) + g n
 sum_more g n =
     ap (λ (m : ℕ). sum_by g (range_with_len 0 m)) (add-one n) ∙ ap (sum_by g) (range_more 0 n) ∙ sum_by_push g (range_with_len 0 n) (0 + n)
@@ -197,20 +192,20 @@ strided_next f s k p h =
     let w : ((k - s) / s + 1) * s + (k - s) % s ≡ k = omega (arith, div-add-mod' (k - s) s) in
     rw (e.0, e.1) (sum_more (λ c. f (c * s + (k - s) % s)) ((k - s) / s + 1) ∙ ap (λ (m : ℕ). strided f s (k - s) + f m) w)
 
-pub first_summed : (size s : ℕ) (old : List ℕ) (k : ℕ) → IsSize size → ((i : ℕ) → get_or old i 0 < 256) → k < s → row_number LittleEndian size old k ≡ summed_number size s old k
+pub first_summed : (size s : ℕ) (old : List ℕ) (k : ℕ) → IsSize size → ((i : ℕ) → get_or old i 0 < 256) → k < s → row_number LittleEndian size old k ≡ summed_number LittleEndian size s old k
 first_summed size s old k z b h =
     sym (ap (λ (m : ℕ). m % 256 ^ size) (strided_first (row_number LittleEndian size old) s k h) ∙ mod-eq_of_lt (number_lt size old k z b))
 
 pub next_summed : (size s : ℕ) (old : List ℕ) (k : ℕ) → 0 < s → s ≤ k
-    → summed_number size s old k ≡ (summed_number size s old (k - s) + row_number LittleEndian size old k) % 256 ^ size
+    → summed_number LittleEndian size s old k ≡ (summed_number LittleEndian size s old (k - s) + row_number LittleEndian size old k) % 256 ^ size
 next_summed size s old k p h =
     ap (λ (m : ℕ). m % 256 ^ size) (strided_next (row_number LittleEndian size old) s k p h)
     ∙ sym (mod-add-mod (strided (row_number LittleEndian size old) s (k - s)) (256 ^ size) (row_number LittleEndian size old k))
 
 -- one more number of a row is summed
 pub summed_more : (size s : ℕ) (old mid new : List ℕ) (k : ℕ) → 0 < s → s ≤ k → AddsNumber size mid (k - s) k new
-    → ((j : ℕ) → j < k → row_number LittleEndian size mid j ≡ summed_number size s old j) → ((j : ℕ) → k ≤ j → row_number LittleEndian size mid j ≡ row_number LittleEndian size old j)
-    → (j : ℕ) → j < k + 1 → row_number LittleEndian size new j ≡ summed_number size s old j
+    → ((j : ℕ) → j < k → row_number LittleEndian size mid j ≡ summed_number LittleEndian size s old j) → ((j : ℕ) → k ≤ j → row_number LittleEndian size mid j ≡ row_number LittleEndian size old j)
+    → (j : ℕ) → j < k + 1 → row_number LittleEndian size new j ≡ summed_number LittleEndian size s old j
 summed_more size s old mid new k p h a done rest j l =
     ⊎_elim
     (λ q.
@@ -218,9 +213,9 @@ summed_more size s old mid new k p h a done rest j l =
     number_same LittleEndian size new mid j (λ i u v. a.below i (omega (arith, m, v))) ∙ done j q)
     (λ q.
     let e : k ≡ j = omega (arith, q, l) in
-    subst (λ (i : ℕ). row_number LittleEndian size new i ≡ summed_number size s old i) e
+    subst (λ (i : ℕ). row_number LittleEndian size new i ≡ summed_number LittleEndian size s old i) e
     (a.sum ∙ ap (λ (m : ℕ). (m + row_number LittleEndian size mid k) % 256 ^ size) (done (k - s) (omega (arith, p, h)))
-    ∙ ap (λ (m : ℕ). (summed_number size s old (k - s) + m) % 256 ^ size) (rest k (omega arith)) ∙ sym (next_summed size s old k p h)))
+    ∙ ap (λ (m : ℕ). (summed_number LittleEndian size s old (k - s) + m) % 256 ^ size) (rest k (omega arith)) ∙ sym (next_summed size s old k p h)))
     (cases_lt j k)
 
 pub rest_more : (size s : ℕ) (old mid new : List ℕ) (k : ℕ) → AddsNumber size mid (k - s) k new
@@ -272,7 +267,7 @@ back f s r (suc c) =
     ∙ (let z : 0 + suc c ≡ suc c = omega arith in ap (λ (m : ℕ). sum_by (λ n. f (n * s + r)) (range_with_len 0 (suc c)) + f (m * s + r)) z) in
     omega (arith, a, b)
 
-pub summed_is : (s : ℕ) (old : List ℕ) (k : ℕ) → summed_number 1 s old k ≡ summed_byte_in s old k
+pub summed_is : (s : ℕ) (old : List ℕ) (k : ℕ) → summed_number LittleEndian 1 s old k ≡ summed_byte s old k
 summed_is s old k =
     let e : k / s * s + k % s ≡ k = div-add-mod' k s in
     let bytes : sum_by (λ c. row_number LittleEndian 1 old (c * s + k % s)) (range_with_len 0 (k / s + 1)) ≡ sum_by (λ c. get_or old (c * s + k % s) 0) (range_with_len 0 (k / s + 1)) =
@@ -283,6 +278,31 @@ summed_is s old k =
     ∙ sym (back (λ m. get_or old m 0) s (k % s) (k / s))
     ∙ ap (λ (n : ℕ). sum_by (λ c. get_or old (k / s * s + k % s - c * s) 0) (range_with_len 0 n)) (sym (add-one (k / s)))
     ∙ ap (λ (m : ℕ). sum_by (λ c. get_or old (m - c * s) 0) (range_with_len 0 (k / s + 1))) e)
+
+-- ---- rows of the same numbers
+
+pub sums_same : (order other : ByteOrder) (size s : ℕ) (new old : List ℕ) (k n : ℕ)
+    → ((j : ℕ) → (j + 1) * size ≤ n → row_number order size new j ≡ row_number other size old j) → (k + 1) * size ≤ n
+    → summed_number order size s new k ≡ summed_number other size s old k
+sums_same order other size s new old k n e h =
+    let w : k / s * s + k % s ≡ k = div-add-mod' k s in
+    ap (λ (m : ℕ). m % 256 ^ size)
+    (sum_same (k / s + 1) 0 (λ c. row_number order size new (c * s + k % s)) (λ c. row_number other size old (c * s + k % s))
+    (λ c u l.
+    let m : c * s ≤ k / s * s = mul-le-mul_right s (omega (arith, l)) in
+    let o : (c * s + k % s + 1) * size ≤ (k + 1) * size = mul-le-mul_right size (omega (arith, m, w)) in
+    e (c * s + k % s) (omega (arith, o, h))))
+
+pub joins_same : (size s count : ℕ) (new old : List ℕ) (k n : ℕ) → ((i : ℕ) → i < n → get_or new i 0 ≡ get_or old i 0) → k < count → size * count ≤ n
+    → joined_number size s count new k ≡ joined_number size s count old k
+joins_same size s count new old k n e h w =
+    ap (number BigEndian (width_of size))
+    (each_same size (λ j. summed_byte s new (j * count + k)) (λ j. summed_byte s old (j * count + k))
+    (λ j l.
+    let o : (j + 1) * count ≤ size * count = mul-le-mul_right count (omega (arith, l)) in
+    ap (λ (m : ℕ). m % 256)
+    (sum_same ((j * count + k) / s + 1) 0 (λ i. get_or new (j * count + k - i * s) 0) (λ i. get_or old (j * count + k - i * s) 0)
+    (λ i a b. e (j * count + k - i * s) (omega (arith, o, h, w))))))
 
 -- where a byte of a plane stands
 pub plane_within : (size count j k len : ℕ) → j < size → k < count → size * count ≤ len → (size - 1 - j) * count + k < len
@@ -315,14 +335,14 @@ join_more size count k n m planes row part e f l w next done i b j c =
 
 -- the numbers of planes that are joined
 pub joined : (size s : ℕ) (old mid planes new : List ℕ) → IsSize size → length old / size * size ≡ length old → length mid ≡ length old → length new ≡ length old
-    → ((k : ℕ) → (k + 1) * 1 ≤ length old → row_number LittleEndian 1 mid k ≡ summed_number 1 s old k) → planes ≡ mid
+    → ((k : ℕ) → (k + 1) * 1 ≤ length old → row_number LittleEndian 1 mid k ≡ summed_number LittleEndian 1 s old k) → planes ≡ mid
     → ((k : ℕ) → k < length planes / size → (j : ℕ) → j < size → get_or new (k * size + j) 0 ≡ get_or planes ((size - 1 - j) * (length planes / size) + k) 0)
     → Became size (joined_number size s (length old / size) old) old new
 joined size s old mid planes new z whole l m sums e each =
     let count = length old / size in
     let p : 0 < size = some_size size z in
     let counts : length planes / size ≡ count = ap (λ (n : ℕ). n / size) (ap length e ∙ l) in
-    let at_number : (k : ℕ) → (k + 1) * size ≤ length old → (j : ℕ) → j < size → get_or new (k * size + j) 0 ≡ summed_byte_in s old ((size - 1 - j) * count + k) =
+    let at_number : (k : ℕ) → (k + 1) * size ≤ length old → (j : ℕ) → j < size → get_or new (k * size + j) 0 ≡ summed_byte s old ((size - 1 - j) * count + k) =
     λ k h j b.
     let c : k < count = number_before k size (length old) p h in
     let v : (size - 1 - j) * count + k < length old = plane_within size count j k (length old) b c (planes_within size (length old)) in
@@ -331,8 +351,8 @@ joined size s old mid planes new z whole l m sums e each =
     ∙ sym (one_number mid ((size - 1 - j) * count + k)) ∙ sums ((size - 1 - j) * count + k) (omega (arith, v)) ∙ summed_is s old ((size - 1 - j) * count + k) in
     record {
       numbers = λ k h.
-          ap (number LittleEndian (width_of size)) (each_same size (λ j. get_or new (k * size + j) 0) (λ j. summed_byte_in s old ((size - 1 - j) * count + k)) (λ j b. at_number k h j b))
-          ∙ sym (big_as_little size (λ j. summed_byte_in s old (j * count + k)) z);
+          ap (number LittleEndian (width_of size)) (each_same size (λ j. get_or new (k * size + j) 0) (λ j. summed_byte s old ((size - 1 - j) * count + k)) (λ j b. at_number k h j b))
+          ∙ sym (big_as_little size (λ j. summed_byte s old (j * count + k)) z);
       behind = λ i h. get_or_past new i 0 (omega (arith, h, whole, m)) ∙ sym (get_or_past old i 0 (omega (arith, h, whole)));
     }
 

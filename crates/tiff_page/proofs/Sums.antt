@@ -4,7 +4,9 @@ use Rattle.std.proofs.lemmas.Bool.{cases_lt}
 use Rattle.std.proofs.lemmas.List.{get_or-take, get_or-drop, get_or-set_same, get_or-set_other}
 use Rattle.std.proofs.Math.ListN.{set}
 use borrow.Rule.Slice.PartMut.{put_mid}
-use Rattle.tiff_page.specs.Row.{summed_number, Became}
+use Rattle.tiff_base.specs.declared.tags.ByteOrder.TheVariants.{LittleEndian}
+use Rattle.tiff_page.specs.Pixels.{summed_number}
+use Rattle.tiff_page.specs.Row.{Became}
 use Rattle.tiff_page.proofs.Rows.{first_summed, next_summed, one_number, put_below, put_above, put_at}
 
 -- one more byte of a pixel is summed
@@ -36,27 +38,27 @@ byte_kept old xs j v kept i h = get_or-set_other xs j i v 0 (λ d. omega (arith,
 
 -- these bytes, added to those of a pixel, give its sums
 abbrev pub CarriesTo : ℕ → List ℕ → List ℕ → ℕ → Type 0
-CarriesTo s old last k = (j : ℕ) → j < s → (get_or last j 0 + get_or old (k * s + j) 0) % 256 ≡ summed_number 1 s old (k * s + j)
+CarriesTo s old last k = (j : ℕ) → j < s → (get_or last j 0 + get_or old (k * s + j) 0) % 256 ≡ summed_number LittleEndian 1 s old (k * s + j)
 
 pub carries_first : (s : ℕ) (old last : List ℕ) → ((i : ℕ) → get_or old i 0 < 256) → ((j : ℕ) → j < s → get_or last j 0 ≡ 0) → CarriesTo s old last 0
 carries_first s old last b z j h =
     let e : 0 * s + j ≡ j = omega arith in
     let w : (0 + get_or old j 0) % 256 ≡ get_or old j 0 = omega (arith, b j) in
-    subst (λ (i : ℕ). (get_or last j 0 + get_or old i 0) % 256 ≡ summed_number 1 s old i) (sym e)
+    subst (λ (i : ℕ). (get_or last j 0 + get_or old i 0) % 256 ≡ summed_number LittleEndian 1 s old i) (sym e)
     (ap (λ (m : ℕ). (m + get_or old j 0) % 256) (z j h) ∙ w ∙ sym (one_number old j) ∙ first_summed 1 s old j (inl refl) b h)
 
-pub carries_next : (s : ℕ) (old last : List ℕ) (k : ℕ) → 0 < s → ((j : ℕ) → j < s → get_or last j 0 ≡ summed_number 1 s old (k * s + j)) → CarriesTo s old last (k + 1)
+pub carries_next : (s : ℕ) (old last : List ℕ) (k : ℕ) → 0 < s → ((j : ℕ) → j < s → get_or last j 0 ≡ summed_number LittleEndian 1 s old (k * s + j)) → CarriesTo s old last (k + 1)
 carries_next s old last k p e j h =
     let i = (k + 1) * s + j in
     let d : k * s + j ≡ i - s = omega arith in
-    ap (λ (m : ℕ). (m + get_or old i 0) % 256) (e j h ∙ ap (summed_number 1 s old) d)
-    ∙ ap (λ (m : ℕ). (summed_number 1 s old (i - s) + m) % 256) (sym (one_number old i))
+    ap (λ (m : ℕ). (m + get_or old i 0) % 256) (e j h ∙ ap (summed_number LittleEndian 1 s old) d)
+    ∙ ap (λ (m : ℕ). (summed_number LittleEndian 1 s old (i - s) + m) % 256) (sym (one_number old i))
     ∙ sym (next_summed 1 s old i p (omega arith))
 
 at_pixel : (s k n : ℕ) (old row part last : List ℕ) → n ≡ s → length part ≡ s → (k + 1) * s ≤ length row
     → ((j : ℕ) → j < length part → get_or part j 0 ≡ (get_or last j 0 + get_or (take n (drop (k * s) row)) j 0) % 256)
     → CarriesTo s old last k → ((i : ℕ) → k * s ≤ i → get_or row i 0 ≡ get_or old i 0)
-    → (j : ℕ) → j < s → get_or (put_mid (k * s) n row part) (k * s + j) 0 ≡ summed_number 1 s old (k * s + j)
+    → (j : ℕ) → j < s → get_or (put_mid (k * s) n row part) (k * s + j) 0 ≡ summed_number LittleEndian 1 s old (k * s + j)
 at_pixel s k n old row part last e l w sums carries rest j h =
     put_at row part (k * s) n j (omega (arith, w, e)) (omega (arith, l, e)) (omega (arith, h, e))
     ∙ sums j (omega (arith, h, l))
@@ -68,13 +70,13 @@ at_pixel s k n old row part last e l w sums carries rest j h =
 pub pixel_done : (s k n : ℕ) (old row part last : List ℕ) → n ≡ s → length part ≡ s → (k + 1) * s ≤ length row
     → ((j : ℕ) → j < length part → get_or part j 0 ≡ (get_or last j 0 + get_or (take n (drop (k * s) row)) j 0) % 256)
     → CarriesTo s old last k
-    → ((i : ℕ) → i < k * s → get_or row i 0 ≡ summed_number 1 s old i) → ((i : ℕ) → k * s ≤ i → get_or row i 0 ≡ get_or old i 0)
-    → (i : ℕ) → i < (k + 1) * s → get_or (put_mid (k * s) n row part) i 0 ≡ summed_number 1 s old i
+    → ((i : ℕ) → i < k * s → get_or row i 0 ≡ summed_number LittleEndian 1 s old i) → ((i : ℕ) → k * s ≤ i → get_or row i 0 ≡ get_or old i 0)
+    → (i : ℕ) → i < (k + 1) * s → get_or (put_mid (k * s) n row part) i 0 ≡ summed_number LittleEndian 1 s old i
 pixel_done s k n old row part last e l w sums carries done rest i h =
     ⊎_elim
     (λ q. put_below row part (k * s) n i (omega (arith, w)) q ∙ done i q)
     (λ q. (let d : k * s + (i - k * s) ≡ i = omega (arith, q) in
-    subst (λ (m : ℕ). get_or (put_mid (k * s) n row part) m 0 ≡ summed_number 1 s old m) d
+    subst (λ (m : ℕ). get_or (put_mid (k * s) n row part) m 0 ≡ summed_number LittleEndian 1 s old m) d
     (at_pixel s k n old row part last e l w sums carries rest (i - k * s) (omega (arith, q, h)))))
     (cases_lt i (k * s))
 
@@ -98,9 +100,9 @@ pixel_carries s k n old row part last next e l w p sums held carries rest =
 
 -- all pixels are summed
 pub all_summed : (s : ℕ) (old new : List ℕ) → length old / s * s ≡ length old
-    → ((i : ℕ) → i < length old / s * s → get_or new i 0 ≡ summed_number 1 s old i)
+    → ((i : ℕ) → i < length old / s * s → get_or new i 0 ≡ summed_number LittleEndian 1 s old i)
     → ((i : ℕ) → length old / s * s ≤ i → get_or new i 0 ≡ get_or old i 0)
-    → Became 1 (summed_number 1 s old) old new
+    → Became 1 (summed_number LittleEndian 1 s old) old new
 all_summed s old new whole done rest = record {
   numbers = λ k h. one_number new k ∙ done k (omega (arith, h, whole));
   behind = λ i h. rest i (omega (arith, h, whole));

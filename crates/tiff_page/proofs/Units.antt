@@ -48,7 +48,7 @@ module _ (file : List ℕ) (order : ByteOrder) (p : PageRecord) (color : ColorTy
 
     -- the byte of a chunk is that of the unit
     pub of_unit : (row b : ℕ) → chunk_byte file order p color (plane * chunks_of_plane p + k) row b
-        ≡ region_byte file order p color (chunk_region file order p k) ((rect p k).plane + plane) row b
+        ≡ region_byte file order p color (chunk_region p k) ((rect p k).plane + plane) row b
     unfolding rect
     of_unit row b =
         ⊎_elim
@@ -56,15 +56,15 @@ module _ (file : List ℕ) (order : ByteOrder) (p : PageRecord) (color : ColorTy
         let e : plane * chunks_of_plane p ≡ 0 * chunks_of_plane p = ap (λ m. m * chunks_of_plane p) z in
         let f : plane * chunks_of_plane p + k ≡ k = omega (arith, e) in
         let g : k / chunks_of_plane p ≡ k / chunks_of_plane p + plane = omega (arith, z) in
-        (λ t. region_byte file order p color (chunk_region file order p (f t)) (f t / chunks_of_plane p) row b)
-        ∙ (λ t. region_byte file order p color (chunk_region file order p k) (g t) row b))
+        (λ t. region_byte file order p color (chunk_region p (f t)) (f t / chunks_of_plane p) row b)
+        ∙ (λ t. region_byte file order p color (chunk_region p k) (g t) row b))
         (λ (l : k < chunks_of_plane p).
         let e : (plane * chunks_of_plane p + k) / chunks_of_plane p ≡ plane = div-mul-add plane (chunks_of_plane p) k l in
         let f : k / chunks_of_plane p ≡ 0 = div-eq_of_lt l in
         let g : plane ≡ k / chunks_of_plane p + plane = omega (arith, f) in
-        (λ t. region_byte file order p color (chunk_region file order p (plane * chunks_of_plane p + k)) (e t) row b)
+        (λ t. region_byte file order p color (chunk_region p (plane * chunks_of_plane p + k)) (e t) row b)
         ∙ sym (unit_of_chunks file order p color k plane row b l)
-        ∙ (λ t. region_byte file order p color (chunk_region file order p k) (g t) row b))
+        ∙ (λ t. region_byte file order p color (chunk_region p k) (g t) row b))
         which
 
     pub byte_is : (i : ℕ) → At i
@@ -73,7 +73,7 @@ module _ (file : List ℕ) (order : ByteOrder) (p : PageRecord) (color : ColorTy
         let u = plane_at i q in
         let x : i % stride - 0 ≡ i % stride = omega arith in
         of_unit (i / stride - plane * h) (i % stride - 0)
-        ∙ (λ t. region_byte file order p color (chunk_region file order p k) ((rect p k).plane + sym u.0 t) (sym u.1 t) (x t))
+        ∙ (λ t. region_byte file order p color (chunk_region p k) ((rect p k).plane + sym u.0 t) (sym u.1 t) (x t))
 
     pub plane_more : (old mid new : List ℕ)
         → Writes (IsInUnit p color stride k plane) (unit_byte file order p color stride k) old mid
@@ -100,23 +100,23 @@ module _ (file : List ℕ) (order : ByteOrder) (p : PageRecord) (color : ColorTy
     plane_of_position i = sym (div-div-eq-div-mul i stride h)
 
     pub position_shown : (i : ℕ) → i / stride / h < n → i % stride < len
-        → byte_at file order p color (chunk_region file order p k) stride n i ≡ Some (unit_byte file order p color stride k i)
+        → byte_at file order p color (chunk_region p k) stride n i ≡ Some (unit_byte file order p color stride k i)
     unfolding byte_at
     position_shown i a b =
         let s : 0 < stride = omega (arith, b, fits) in
         let u = plane_of_position i in
         let t : nat_lt (i / (stride * h)) n ≡ true = lt-ltb (i / (stride * h)) n (omega (arith, a, u)) in
         let v : nat_lt (i % stride) len ≡ true = lt-ltb (i % stride) len b in
-        rw (t, v) (λ z. Some (region_byte file order p color (chunk_region file order p k) ((rect p k).plane + u z) (row_of_position s i z) (i % stride)))
+        rw (t, v) (λ z. Some (region_byte file order p color (chunk_region p k) ((rect p k).plane + u z) (row_of_position s i z) (i % stride)))
 
-    pub plane_gap : (i : ℕ) → n ≤ i / stride / h → byte_at file order p color (chunk_region file order p k) stride n i ≡ None
+    pub plane_gap : (i : ℕ) → n ≤ i / stride / h → byte_at file order p color (chunk_region p k) stride n i ≡ None
     unfolding byte_at
     plane_gap i a =
         let u = plane_of_position i in
         let t : nat_lt (i / (stride * h)) n ≡ false = le-ltb (i / (stride * h)) n (omega (arith, a, u)) in
         rw t refl
 
-    pub row_gap : (i : ℕ) → len ≤ i % stride → byte_at file order p color (chunk_region file order p k) stride n i ≡ None
+    pub row_gap : (i : ℕ) → len ≤ i % stride → byte_at file order p color (chunk_region p k) stride n i ≡ None
     unfolding byte_at
     row_gap i b =
         let v : nat_lt (i % stride) len ≡ false = le-ltb (i % stride) len b in
@@ -127,7 +127,7 @@ module _ (file : List ℕ) (order : ByteOrder) (p : PageRecord) (color : ColorTy
 
     pub byte_there : (old new : List ℕ) → Writes (IsInUnit p color stride k n) (unit_byte file order p color stride k) old new
         → (i : ℕ) → i < length old
-        → slice_index new i ≡ unwrap_or (byte_at file order p color (chunk_region file order p k) stride n i) (slice_index old i)
+        → slice_index new i ≡ unwrap_or (byte_at file order p color (chunk_region p k) stride n i) (slice_index old i)
     byte_there old new w i l =
         ⊎_elim
         (λ q. q.1 ∙ sym (ap (λ z. unwrap_or z (slice_index old i)) (position_shown i q.0.of_plane q.0.byte)))
@@ -149,4 +149,4 @@ no_plane_written p color stride k value old = writes_none (IsInUnit p color stri
 
 pub unit_written : law.UnitWritten
 unit_written file order p color stride k n old new sides fits w =
-    is_placed file order p color (chunk_region file order p k) stride n old new w.0 (byte_there file order p color stride k sides n fits old new w)
+    is_placed file order p color (chunk_region p k) stride n old new w.0 (byte_there file order p color stride k sides n fits old new w)

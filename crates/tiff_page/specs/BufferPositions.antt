@@ -26,7 +26,7 @@ in_rect value stride top left i = value (i / stride - top) (i % stride - left)
 
 -- a byte of a row of a chunk, as it is handed out
 abbrev pub chunk_byte : List ℕ → ByteOrder → PageRecord → ColorType → ℕ → ℕ → ℕ → ℕ
-chunk_byte file order p color k row b = region_byte file order p color (chunk_region file order p k) (rect p k).plane row b
+chunk_byte file order p color k row b = region_byte file order p color (chunk_region p k) (rect p k).plane row b
 
 -- the rows of a chunk stand in a buffer a stride apart, from a row and a byte of it on, and all else of it stays
 abbrev pub WritesChunk : List ℕ → ByteOrder → PageRecord → ColorType → ℕ → ℕ → ℕ → ℕ → List ℕ → List ℕ → Type 0
@@ -67,7 +67,7 @@ module _ (p : PageRecord) (color : ColorType) (stride : ℕ) where
 
   -- the byte of the image at a position
   abbrev pub image_byte : List ℕ → ByteOrder → ℕ → ℕ
-  image_byte file order i = region_byte file order p color (image_region file order p) (plane_of i) (i / stride % p.height) (i % stride)
+  image_byte file order i = region_byte file order p color (image_region p) (plane_of i) (i / stride % p.height) (i % stride)
 
 -- Of the image these chunks stand in a buffer that held something before: of each of n planes those below the j-th, and the
 -- j-th of the planes below another; all else of it stays.
@@ -91,4 +91,4 @@ IsInUnit p color stride k n i = IsInPlanes stride (rect p k).height (row_bytes p
 -- the byte of these chunks at a position
 abbrev pub unit_byte : List ℕ → ByteOrder → PageRecord → ColorType → ℕ → ℕ → ℕ → ℕ
 unit_byte file order p color stride k i =
-    region_byte file order p color (chunk_region file order p k) ((rect p k).plane + i / stride / (rect p k).height) (i / stride % (rect p k).height) (i % stride)
+    region_byte file order p color (chunk_region p k) ((rect p k).plane + i / stride / (rect p k).height) (i / stride % (rect p k).height) (i % stride)

@@ -1,5 +1,5 @@
 -- Faults that are found before memory is taken for samples.
-use Rattle.std.specs.Prelude.{ℕ, ◌+◌, ◌-◌, ◌*◌, min, Bool, true, false, if◌then◌else◌, nat_lt, List, length, slice_index, Result}
+use Rattle.std.specs.Prelude.{ℕ, ◌-◌, min, Bool, true, false, if◌then◌else◌, nat_lt, List, length, slice_index, Result}
 use Rattle.std.specs.Int.{div_ceil}
 use Rattle.tiff_base.specs.declared.color.ColorType.{ColorType}
 use Rattle.tiff_base.specs.declared.error.TiffError.{TiffError}
@@ -9,19 +9,13 @@ use Rattle.tiff_base.specs.Answers.{◌>>=◌}
 use Rattle.tiff_ifd.specs.declared.limits.Limits.{Limits}
 use Rattle.tiff_page.specs.declared.layout.DecodingSampleType.{DecodingSampleType}
 use Rattle.tiff_page.specs.Page.{PageRecord}
-use Rattle.tiff_page.specs.Rect.{rect}
-use Rattle.tiff_page.specs.Layout.{row_bytes, size_of}
+use Rattle.tiff_page.specs.Layout.{size_of}
 use Rattle.tiff_page.specs.PixelFault.{samples_fault, chunk_fault}
-use Rattle.tiff_page.specs.Pixels.{stored_row_bytes}
-use Rattle.tiff_page.specs.RowReads.{needed_of_row}
+use Rattle.tiff_page.specs.Pixels.{needed}
 
 abbrev pub is_packed : CompressionMethod → Bool
 is_packed method.PackBits = true
 is_packed _ = false
-
--- the bytes that are needed of a chunk: all rows before its last one, and what is read of that
-abbrev pub needed_bytes : PageRecord → ColorType → ℕ → ℕ
-needed_bytes p color i = ((rect p i).height - 1) * stored_row_bytes p + needed_of_row p color (row_bytes p color (rect p i).width)
 
 -- the bytes that so many of data take in a file at least: packed, two of them give at most 128
 abbrev pub least_stored : CompressionMethod → ℕ → ℕ
@@ -34,7 +28,7 @@ bytes_held file m offset count = if is_packed m then min count (length file - of
 -- a file has fewer bytes for a chunk than its data take at least
 abbrev pub is_cut : List ℕ → PageRecord → ColorType → ℕ → Bool
 is_cut file p color i =
-    nat_lt (bytes_held file p.method (slice_index p.offsets i) (slice_index p.byte_counts i)) (least_stored p.method (needed_bytes p color i))
+    nat_lt (bytes_held file p.method (slice_index p.offsets i) (slice_index p.byte_counts i)) (least_stored p.method (needed p color i))
 
 -- what is found before memory is taken for samples of so many bytes: more of them than fit into the limit, and the
 -- faults of the first chunk, whose data are told by how many bytes the file has

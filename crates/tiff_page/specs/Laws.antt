@@ -1,20 +1,15 @@
 -- Laws of these definitions: each pixel is of one chunk of a plane, a call's fault is the first that there is, a buffer
--- is placed position by position, an image is read as its first plane, no row is empty, and images and coding units show
--- their chunks.
+-- is placed position by position, no row is empty, and images and coding units show their chunks.
 use Rattle.std.specs.Prelude.{◌≡◌, ℕ, ◌+◌, ◌*◌, ◌/◌, ◌<◌, ◌≤◌, ◌⊎◌, List, length, slice_index, unwrap_or, Result, Ok, Err}
 use Rattle.tiff_base.specs.declared.color.ColorType.{ColorType}
 use Rattle.tiff_base.specs.declared.error.TiffError.{TiffError}
 use Rattle.tiff_base.specs.declared.tags.ByteOrder.{ByteOrder}
-use Rattle.tiff_base.specs.Answers.{◌>>=◌}
-use Rattle.tiff_ifd.specs.declared.limits.Limits.{Limits}
 use Rattle.tiff_page.specs.Page.{PageRecord}
-use Rattle.tiff_page.specs.Rect.{rect, across, chunks_of_plane}
+use Rattle.tiff_page.specs.Rect.{rect, across, chunks_of_plane, chunk_of_pixel}
 use Rattle.tiff_page.specs.Layout.{LayoutRecord, layout_of, row_bits, row_bytes}
 use Rattle.tiff_page.specs.PixelFault.{depth_fault, each_below}
-use Rattle.tiff_page.specs.Pixels.{Region, byte_at, chunk_at, region_byte, image_region, chunk_region}
-use Rattle.tiff_page.specs.Image.{Decoded, image_of}
-use Rattle.tiff_page.specs.Buffers.{planes_layout}
-use Rattle.tiff_page.specs.PixelCalls.{placed, image_part, samples}
+use Rattle.tiff_page.specs.Pixels.{Region, byte_at, region_byte, image_region, chunk_region}
+use Rattle.tiff_page.specs.PixelCalls.{placed}
 
 -- an image and its chunks have a width and a height
 pub record HasSides (p : PageRecord) : Type 0 where
@@ -33,9 +28,9 @@ pub record HasPixel (p : PageRecord) (i plane x y : ℕ) : Type 0 where
 
 -- each pixel of the image is of one chunk of a plane and of no other
 abbrev pub OneChunk : Type 0
-OneChunk = (file : List ℕ) (order : ByteOrder) (p : PageRecord) (plane x y : ℕ) → HasSides p → x < p.width → y < p.height
-    → HasPixel p (chunk_at file order p plane x y) plane x y
-    × ((i : ℕ) → HasPixel p i plane x y → i ≡ chunk_at file order p plane x y)
+OneChunk = (p : PageRecord) (plane x y : ℕ) → HasSides p → x < p.width → y < p.height
+    → HasPixel p (chunk_of_pixel p plane x y) plane x y
+    × ((i : ℕ) → HasPixel p i plane x y → i ≡ chunk_of_pixel p plane x y)
 
 -- a chunk's rectangle has a pixel, and lies within the image
 pub record ChunkIsWithin (p : PageRecord) (i : ℕ) : Type 0 where
@@ -66,21 +61,11 @@ NoFault = (fault : ℕ → Result (Unit {0}) TiffError) (n : ℕ)
 
 -- a buffer in which a region is placed is as long as before, and has at each position the region's byte or what it had
 abbrev pub PlacedEach : Type 0
-PlacedEach = (file : List ℕ) (order : ByteOrder) (p : PageRecord) (color : ColorType) (region : Region file order p) (stride planes : ℕ) (buf : List ℕ)
+PlacedEach = (file : List ℕ) (order : ByteOrder) (p : PageRecord) (color : ColorType) (region : Region) (stride planes : ℕ) (buf : List ℕ)
     → (length (placed file order p color region stride planes buf) ≡ length buf)
     × ((i : ℕ) → i < length buf
     → slice_index (placed file order p color region stride planes buf) i
     ≡ unwrap_or (byte_at file order p color region stride planes i) (slice_index buf i))
-
--- reading an image is reading all its chunks in one plane, as the other calls read them
-abbrev pub first_plane : List ℕ → ByteOrder → PageRecord → Limits → Result Decoded TiffError
-first_plane file order p limits = do
-  layout ← planes_layout p p.width p.height
-  samples file order p limits layout.color (image_part file order p 1 layout.row_bytes) layout.plane_stride
-
-abbrev pub ImageIsFirstPlane : Type 0
-ImageIsFirstPlane = (file : List ℕ) (order : ByteOrder) (p : PageRecord) (limits : Limits)
-    → image_of file order p limits ≡ first_plane file order p limits
 
 -- the rows and the planes of a layout of a page are of some bytes
 abbrev pub SomeBytes : Type 0
@@ -97,8 +82,8 @@ pub record HasWholeRows (p : PageRecord) (color : ColorType) : Type 0 where
 abbrev pub ImageOfChunks : Type 0
 ImageOfChunks = (file : List ℕ) (order : ByteOrder) (p : PageRecord) (color : ColorType) (i row k : ℕ) → HasSides p → HasWholeRows p color
     → row < (rect p i).height → k < row_bytes p color (rect p i).width
-    → region_byte file order p color (image_region file order p) (rect p i).plane ((rect p i).y + row) (row_bits p color (rect p i).x / 8 + k)
-    ≡ region_byte file order p color (chunk_region file order p i) (rect p i).plane row k
+    → region_byte file order p color (image_region p) (rect p i).plane ((rect p i).y + row) (row_bits p color (rect p i).x / 8 + k)
+    ≡ region_byte file order p color (chunk_region p i) (rect p i).plane row k
 
 -- a page whose image has a layout, and whose depth and color are read, has such rows
 abbrev pub WholeRows : Type 0
@@ -108,5 +93,5 @@ WholeRows = (p : PageRecord) (layout : LayoutRecord) → layout_of p p.width p.h
 -- a coding unit shows of each plane the chunk of that plane
 abbrev pub UnitOfChunks : Type 0
 UnitOfChunks = (file : List ℕ) (order : ByteOrder) (p : PageRecord) (color : ColorType) (unit plane row k : ℕ) → unit < chunks_of_plane p
-    → region_byte file order p color (chunk_region file order p unit) plane row k
-    ≡ region_byte file order p color (chunk_region file order p (plane * chunks_of_plane p + unit)) plane row k
+    → region_byte file order p color (chunk_region p unit) plane row k
+    ≡ region_byte file order p color (chunk_region p (plane * chunks_of_plane p + unit)) plane row k

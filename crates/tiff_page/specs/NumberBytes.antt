@@ -4,9 +4,8 @@ use Rattle.std.proofs.lemmas.List.{length-map}
 use Rattle.std.proofs.lemmas.List.FromFn.{length-map-range_with_len}
 use Rattle.std.specs.Prelude.{◌≡◌, map, ℕ, ◌+◌, ◌-◌, ◌*◌, ◌/◌, ◌%◌, ◌^◌, ◌<◌, ◌≤◌, ◌==◌, if◌then◌else◌, List, length, slice_index}
 use Rattle.tiff_base.specs.declared.tags.ByteOrder.TheVariants.{LittleEndian}
-use Rattle.tiff_page.specs.Pixels.{each_to}
+use Rattle.tiff_page.specs.Pixels.{each_to, row_number}
 use Rattle.tiff_page.specs.BufferPositions.{Writes}
-use Rattle.tiff_page.specs.Row.{row_number}
 
 -- byte j of a number of so many bytes: the last is what is left
 abbrev pub byte_of : ℕ → ℕ → ℕ → ℕ

@@ -28,26 +28,25 @@ stride_fault stride row_bytes = unless (nat_lt stride row_bytes) (UsageError (In
 abbrev pub planes_used : PageRecord → LayoutRecord → ℕ → ℕ
 planes_used p layout len = min (planes p.planar layout.color) (len / layout.plane_stride)
 
+-- what a call reads: so many chunks of a plane from the first on, in so many planes, and where their bytes go: a region of
+-- the image, whose rows are a stride apart
+pub record Part : Type 0 where
+  pub first : ℕ
+  pub count : ℕ
+  pub planes : ℕ
+  pub region : Region
+  pub stride : ℕ
+
+-- all chunks of an image
+abbrev pub image_part : PageRecord → ℕ → ℕ → Part
+image_part p planes stride = record { first = 0; count = chunks_of_plane p; planes = planes; region = image_region p; stride = stride }
+
+-- one chunk
+abbrev pub chunk_part : PageRecord → ℕ → ℕ → ℕ → Part
+chunk_part p i planes stride = record { first = i; count = 1; planes = planes; region = chunk_region p i; stride = stride }
+
 -- a file, its byte order, and a page of it
 module _ (file : List ℕ) (order : ByteOrder) (p : PageRecord) where
-  -- what a call reads: so many chunks of a plane from the first on, in so many planes, and where their bytes go: a
-  -- region of the image, whose rows are a stride apart
-  pub record Part : Type 0 where
-    pub first : ℕ
-    pub count : ℕ
-    pub planes : ℕ
-    pub region : Region file order p
-    pub stride : ℕ
-
-  -- all chunks of an image
-  abbrev pub image_part : ℕ → ℕ → Part
-  image_part planes stride =
-      record { first = 0; count = chunks_of_plane p; planes = planes; region = image_region file order p; stride = stride }
-
-  -- one chunk
-  abbrev pub chunk_part : ℕ → ℕ → ℕ → Part
-  chunk_part i planes stride = record { first = i; count = 1; planes = planes; region = chunk_region file order p i; stride = stride }
-
   -- the first fault of these chunks: of the first chunk, and in it of the first plane, that has one
   abbrev pub part_fault : Limits → ColorType → Part → Result (Unit {0}) TiffError
   part_fault limits color part =
@@ -57,7 +56,7 @@ module _ (file : List ℕ) (order : ByteOrder) (p : PageRecord) where
 
   -- the bytes of a buffer after a region is placed in it, in so many planes of rows a stride apart: what isn't of a row
   -- stays
-  unfoldable pub placed : ColorType → Region file order p → ℕ → ℕ → List ℕ → List ℕ
+  unfoldable pub placed : ColorType → Region → ℕ → ℕ → List ℕ → List ℕ
   placed color region stride planes buf =
       each_to (length buf) (λ i. unwrap_or (byte_at file order p color region stride planes i) (slice_index buf i))
 
@@ -75,12 +74,18 @@ module _ (file : List ℕ) (order : ByteOrder) (p : PageRecord) where
     bytes ← filled limits color part (replicate len 0)
     Ok (decoded_samples type bytes)
 
+-- the samples of an image, of its first plane where it is planar
+unfoldable pub image_of : List ℕ → ByteOrder → PageRecord → Limits → Result Decoded TiffError
+image_of file order p limits = do
+  layout ← planes_layout p p.width p.height
+  samples file order p limits layout.color (image_part p 1 layout.row_bytes) layout.plane_stride
+
 -- a slice after an image is read into it: as many planes as it takes whole
 unfoldable pub read_image_bytes : List ℕ → ByteOrder → PageRecord → Limits → List ℕ → Result (List ℕ) TiffError
 read_image_bytes file order p limits buf = do
   layout ← planes_layout p p.width p.height
   _ ← room_fault (length buf) layout.plane_stride
-  filled file order p limits layout.color (image_part file order p (planes_used p layout (length buf)) layout.row_bytes) buf
+  filled file order p limits layout.color (image_part p (planes_used p layout (length buf)) layout.row_bytes) buf
 
 -- all planes of an image, or the first one where all aren't within the limit; the layout names all
 unfoldable pub read_image_to_buffer : List ℕ → ByteOrder → PageRecord → Limits → Result (BufferLayoutPreference × Decoded) TiffError
@@ -88,21 +93,21 @@ read_image_to_buffer file order p limits = do
   layout ← planes_layout p p.width p.height
   let all = planes p.planar layout.color
   let used = if nat_le (layout.plane_stride * all) limits.decoding_buffer_size then all else 1
-  numbers ← samples file order p limits layout.color (image_part file order p used layout.row_bytes) (layout.plane_stride * used)
+  numbers ← samples file order p limits layout.color (image_part p used layout.row_bytes) (layout.plane_stride * used)
   Ok (all_planes p layout, numbers)
 
 -- the samples of a chunk
 unfoldable pub read_chunk : List ℕ → ByteOrder → PageRecord → Limits → ℕ → Result Decoded TiffError
 read_chunk file order p limits i = do
   layout ← planes_layout p (rect p i).width (rect p i).height
-  samples file order p limits layout.color (chunk_part file order p i 1 layout.row_bytes) layout.plane_stride
+  samples file order p limits layout.color (chunk_part p i 1 layout.row_bytes) layout.plane_stride
 
 -- a slice after a chunk is read into it: one plane
 unfoldable pub read_chunk_bytes : List ℕ → ByteOrder → PageRecord → Limits → ℕ → List ℕ → Result (List ℕ) TiffError
 read_chunk_bytes file order p limits i buf = do
   layout ← planes_layout p (rect p i).width (rect p i).height
   _ ← room_fault (length buf) layout.plane_stride
-  filled file order p limits layout.color (chunk_part file order p i 1 layout.row_bytes) buf
+  filled file order p limits layout.color (chunk_part p i 1 layout.row_bytes) buf
 
 -- the samples of a chunk in rows so many bytes apart, with zeros between them
 unfoldable pub read_chunk_to_buffer : List ℕ → ByteOrder → PageRecord → Limits → ℕ → ℕ → Result Decoded TiffError
@@ -110,7 +115,7 @@ read_chunk_to_buffer file order p limits i stride = do
   layout ← planes_layout p (rect p i).width (rect p i).height
   _ ← stride_fault stride layout.row_bytes
   _ ← wide (stride * p.chunk_height)
-  samples file order p limits layout.color (chunk_part file order p i 1 stride) (stride * (rect p i).height)
+  samples file order p limits layout.color (chunk_part p i 1 stride) (stride * (rect p i).height)
 
 -- a slice after a coding unit is read into it: of as many planes as it takes whole the chunk
 unfoldable pub read_coding_unit_bytes : List ℕ → ByteOrder → PageRecord → Limits → ℕ → List ℕ → Result (List ℕ) TiffError
@@ -118,4 +123,4 @@ read_coding_unit_bytes file order p limits unit buf = do
   layout ← planes_layout p (rect p unit).width (rect p unit).height
   _ ← unit_fault p unit
   _ ← room_fault (length buf) layout.plane_stride
-  filled file order p limits layout.color (chunk_part file order p unit (planes_used p layout (length buf)) layout.row_bytes) buf
+  filled file order p limits layout.color (chunk_part p unit (planes_used p layout (length buf)) layout.row_bytes) buf

@@ -15,6 +15,7 @@ use Rattle.tiff_base.specs.declared.tags.Predictor.{Predictor}
 use Rattle.tiff_base.specs.declared.tags.Predictor.TheVariants as predictor
 use Rattle.tiff_base.specs.Number.{number}
 use Rattle.tiff_base.specs.Runs.{runs}
+use Rattle.tiff_base.specs.SourceAndSink.{bytes_at}
 use Rattle.tiff_page.specs.Page.{PageRecord}
 use Rattle.tiff_page.specs.Rect.{across, chunks_of_plane, rect, chunk_of_pixel}
 use Rattle.tiff_page.specs.Layout.{shown, row_bytes}
@@ -47,6 +48,74 @@ is_byte_plane _ = false
 abbrev pub needs_whole_rows : PageRecord → ColorType → Bool
 needs_whole_rows p color = is_byte_plane p.predictor || nat_lt (shown p.planar color) (stored_samples p)
 
+-- the bytes that are read of a row of which so many are handed out: with the byte-plane predictor, or where samples are
+-- dropped, all
+abbrev pub needed_of_row : PageRecord → ColorType → ℕ → ℕ
+needed_of_row p color len = if needs_whole_rows p color then stored_row_bytes p else len
+
+-- the bytes that are needed of a chunk: all rows of its part of the image, of the last one what is read of it
+abbrev pub needed : PageRecord → ColorType → ℕ → ℕ
+needed p color i = ((rect p i).height - 1) * stored_row_bytes p + needed_of_row p color (row_bytes p color (rect p i).width)
+
+-- the bytes of a number
+abbrev pub number_size : PageRecord → ℕ
+number_size p = p.depth / 8
+
+-- which number of its row a sample of a pixel is
+abbrev pub in_row : PageRecord → ℕ → ℕ → ℕ
+in_row p column sample = column * stored_samples p + sample
+
+-- ---- the numbers of a row, over its bytes
+
+-- number k of a row of numbers of so many bytes
+abbrev pub row_number : ByteOrder → ℕ → List ℕ → ℕ → ℕ
+row_number order size row k = number order (width_of size) (each_to size (λ j. slice_index row (k * size + j)))
+
+-- the same with the horizontal predictor, a pixel having so many numbers: the sum of it and those of its sample before it
+abbrev pub summed_number : ByteOrder → ℕ → ℕ → List ℕ → ℕ → ℕ
+summed_number order size stored row k =
+    sum_by (λ c. row_number order size row (c * stored + k % stored)) (range_with_len 0 (k / stored + 1)) % 256 ^ size
+
+-- byte k of a row with the byte-plane predictor: with all those before it by whole pixels
+abbrev pub summed_byte : ℕ → List ℕ → ℕ → ℕ
+summed_byte stored row k = sum_by (λ n. slice_index row (k - n * stored)) (range_with_len 0 (k / stored + 1)) % 256
+
+-- number k of a row of so many numbers with that predictor: its most significant byte is of the row's first part, and so on
+abbrev pub joined_number : ℕ → ℕ → ℕ → List ℕ → ℕ → ℕ
+joined_number size stored count row k = number BigEndian (width_of size) (each_to size (λ j. summed_byte stored row (j * count + k)))
+
+-- number k of a row of a chunk, its predictor undone
+abbrev pub number_by : Predictor → ByteOrder → PageRecord → List ℕ → ℕ → ℕ
+number_by predictor.None order p row k = row_number order (number_size p) row k
+number_by predictor.Horizontal order p row k = summed_number order (number_size p) (stored_samples p) row k
+number_by predictor.FloatingPoint order p row k = joined_number (number_size p) (stored_samples p) (p.chunk_width * stored_samples p) row k
+
+abbrev pub number_of_row : ByteOrder → PageRecord → List ℕ → ℕ → ℕ
+number_of_row order p row k = number_by p.predictor order p row k
+
+-- ---- what is shown
+
+-- what is shown of a number below a limit
+abbrev pub inverted : PhotometricInterpretation → ℕ → ℕ → ℕ
+inverted meaning.WhiteIsZero limit v = limit - 1 - v
+inverted _ limit v = v
+
+-- a part of the image that is read: a rectangle, its first plane, and where it is a chunk's, which of a plane
+pub record Region : Type 0 where
+  pub x : ℕ
+  pub y : ℕ
+  pub width : ℕ
+  pub height : ℕ
+  pub plane : ℕ
+  pub chunk : Option ℕ
+
+abbrev pub image_region : PageRecord → Region
+image_region p = record { x = 0; y = 0; width = p.width; height = p.height; plane = 0; chunk = None }
+
+abbrev pub chunk_region : PageRecord → ℕ → Region
+chunk_region p i =
+    let r = rect p i in record { x = r.x; y = r.y; width = r.width; height = r.height; plane = r.plane; chunk = Some (i % chunks_of_plane p) }
+
 -- a file, its byte order, and a page of it
 module _ (file : List ℕ) (order : ByteOrder) (p : PageRecord) where
   -- the data at an offset: the file from there on, or what the bytes unpack to; other methods are not unpacked
@@ -59,98 +128,37 @@ module _ (file : List ℕ) (order : ByteOrder) (p : PageRecord) where
   abbrev pub chunk_data : ℕ → List ℕ
   chunk_data i = data_by_method p.method (slice_index p.offsets i) (slice_index p.byte_counts i)
 
-  -- a byte of a row of a chunk
-  abbrev pub stored_byte : ℕ → ℕ → ℕ → ℕ
-  stored_byte i row k = slice_index (chunk_data i) (row * stored_row_bytes p + k)
-
-  -- the bytes that are needed of a chunk: all rows of its part of the image, of the last one the shown bytes or the whole
-  -- row
-  abbrev pub needed_of_last : ColorType → ℕ → ℕ
-  needed_of_last color i =
-      if needs_whole_rows p color then stored_row_bytes p else row_bytes p color (rect p i).width
-
-  abbrev pub needed : ColorType → ℕ → ℕ
-  needed color i = ((rect p i).height - 1) * stored_row_bytes p + needed_of_last color i
+  -- the bytes of a row of a chunk, as they are stored
+  abbrev pub stored_row : ℕ → ℕ → List ℕ
+  stored_row i row = bytes_at (chunk_data i) (row * stored_row_bytes p) (stored_row_bytes p)
 
   -- too few data
   abbrev pub is_short : ColorType → ℕ → Bool
-  is_short color i = nat_lt (length (chunk_data i)) (needed color i)
+  is_short color i = nat_lt (length (chunk_data i)) (needed p color i)
 
-  -- the bytes of a number
-  abbrev pub number_size : ℕ
-  number_size = p.depth / 8
-
-  -- which number of its row a sample of a pixel is
-  abbrev pub in_row : ℕ → ℕ → ℕ
-  in_row column sample = column * stored_samples p + sample
-
-  -- a number as it stands
-  abbrev pub raw_number : ℕ → ℕ → ℕ → ℕ → ℕ
-  raw_number i row column sample =
-      number order (width_of number_size) (each_to number_size (λ j. stored_byte i row (in_row column sample * number_size + j)))
-
-  -- a byte of a row with the byte-plane predictor: with all those before it by whole pixels
-  abbrev pub summed_byte : ℕ → ℕ → ℕ → ℕ
-  summed_byte i row k = sum_by (λ n. stored_byte i row (k - n * stored_samples p)) (range_with_len 0 (k / stored_samples p + 1)) % 256
-
-  -- a number of a row with that predictor: its most significant byte is of the row's first part, and so on
-  abbrev pub plane_number : ℕ → ℕ → ℕ → ℕ → ℕ
-  plane_number i row column sample =
-      number BigEndian (width_of number_size) (each_to number_size (λ j. summed_byte i row (j * (p.chunk_width * stored_samples p) + in_row column sample)))
-
-  -- the number of a sample: with the horizontal predictor the sum of it and those of its row before it
-  abbrev pub number_by : Predictor → ℕ → ℕ → ℕ → ℕ → ℕ
-  number_by predictor.None i row column sample = raw_number i row column sample
-  number_by predictor.Horizontal i row column sample = sum_by (λ c. raw_number i row c sample) (range_with_len 0 (column + 1)) % 2 ^ p.depth
-  number_by predictor.FloatingPoint i row column sample = plane_number i row column sample
-
+  -- the number of a sample of a pixel
   abbrev pub stored_number : ℕ → ℕ → ℕ → ℕ → ℕ
-  stored_number i row column sample = number_by p.predictor i row column sample
-
-  -- what is shown of a number below a limit
-  abbrev pub inverted : PhotometricInterpretation → ℕ → ℕ → ℕ
-  inverted meaning.WhiteIsZero limit v = limit - 1 - v
-  inverted _ limit v = v
-
-  -- the chunk of a plane that holds a pixel
-  abbrev pub chunk_at : ℕ → ℕ → ℕ → ℕ
-  chunk_at plane x y = chunk_of_pixel p plane x y
+  stored_number i row column sample = number_of_row order p (stored_row i row) (in_row p column sample)
 
   -- a sample of a pixel, at depths of whole bytes
   unfoldable pub shown_sample : ℕ → ℕ → ℕ → ℕ
   shown_sample x y sample =
       inverted p.interpretation (2 ^ p.depth)
-      (stored_number (chunk_at (planar_or p.planar sample 0) x y) (y % p.chunk_height) (x % p.chunk_width) (planar_or p.planar 0 sample))
-
-  -- a part of the image that is read: a rectangle, its first plane, and where it is a chunk's, which of a plane
-  pub record Region : Type 0 where
-    pub x : ℕ
-    pub y : ℕ
-    pub width : ℕ
-    pub height : ℕ
-    pub plane : ℕ
-    pub chunk : Option ℕ
-
-  abbrev pub image_region : Region
-  image_region = record { x = 0; y = 0; width = p.width; height = p.height; plane = 0; chunk = None }
-
-  abbrev pub chunk_region : ℕ → Region
-  chunk_region i =
-      let r = rect p i in record { x = r.x; y = r.y; width = r.width; height = r.height; plane = r.plane; chunk = Some (i % chunks_of_plane p) }
+      (stored_number (chunk_of_pixel p (planar_or p.planar sample 0) x y) (y % p.chunk_height) (x % p.chunk_width) (planar_or p.planar 0 sample))
 
   -- byte k of a row of a region with depths below 8: such bytes are handed out as they stand
   abbrev pub packed_byte : ColorType → Region → ℕ → ℕ → ℕ → ℕ
   packed_byte color r plane row k =
       let c = row_bytes p color p.chunk_width in
       let here = plane * chunks_of_plane p + unwrap_or r.chunk ((r.y + row) / p.chunk_height * across p + (r.x / p.chunk_width + k / c)) in
-      inverted p.interpretation 256 (stored_byte here ((r.y + row) % p.chunk_height) (k % c))
+      inverted p.interpretation 256 (slice_index (stored_row here ((r.y + row) % p.chunk_height)) (k % c))
 
   -- byte k of a row of a region at depths of whole bytes: of a number's bytes the least comes first
   abbrev pub number_byte : ColorType → Region → ℕ → ℕ → ℕ → ℕ
   number_byte color r plane row k =
-      let n = k / number_size in
+      let n = k / number_size p in
       let s = shown p.planar color in
-      shown_sample (r.x + n / s) (r.y + row) (planar_or p.planar plane (n % s)) / 256 ^ (k % number_size) % 256
+      shown_sample (r.x + n / s) (r.y + row) (planar_or p.planar plane (n % s)) / 256 ^ (k % number_size p) % 256
 
   abbrev pub region_byte : ColorType → Region → ℕ → ℕ → ℕ → ℕ
   region_byte color r plane row k =
@@ -165,13 +173,6 @@ module _ (file : List ℕ) (order : ByteOrder) (p : PageRecord) where
       then Some (region_byte color r (r.plane + plane) (i % (stride * r.height) / stride) k)
       else None
 
-  -- the bytes of the first plane of an image
-  unfoldable pub image_bytes : ColorType → List ℕ
-  image_bytes color =
-      let stride = row_bytes p color p.width in
-      each_to (stride * p.height) (λ i. unwrap_or (byte_at color image_region stride 1 i) 0)
-
 -- the little-endian numbers of so many bytes each that a list of bytes holds, the last filled up by zeros
 unfoldable pub numbers_in : ℕ → List ℕ → List ℕ
-numbers_in size bytes =
-    each_to (div_ceil (length bytes) size) (λ n. number LittleEndian (width_of size) (each_to size (λ j. slice_index bytes (n * size + j))))
+numbers_in size bytes = each_to (div_ceil (length bytes) size) (row_number LittleEndian size bytes)

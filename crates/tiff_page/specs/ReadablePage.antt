@@ -1,7 +1,6 @@
 -- Pages whose rows are read: what is known of one that passed the tests of its form.
-use Rattle.std.specs.Prelude.{◌≡◌, ℕ, ◌/◌, ◌%◌, ◌<◌, ◌⊎◌, List, Ok}
+use Rattle.std.specs.Prelude.{◌≡◌, ℕ, ◌/◌, ◌<◌, ◌⊎◌, Ok}
 use Rattle.tiff_base.specs.declared.color.ColorType.{ColorType}
-use Rattle.tiff_base.specs.declared.tags.ByteOrder.{ByteOrder}
 use Rattle.tiff_base.specs.declared.tags.Predictor.TheVariants as predictor
 use Rattle.tiff_ifd.specs.declared.limits.Limits.{Limits}
 use Rattle.tiff_page.specs.Page.{PageRecord}
@@ -9,7 +8,7 @@ use Rattle.tiff_page.specs.Layout.{color_of, shown}
 use Rattle.tiff_page.specs.Pixels.{stored_samples}
 use Rattle.tiff_page.specs.PixelFault.{form_fault}
 use Rattle.tiff_page.specs.Row.{IsSize}
-use Rattle.tiff_page.specs.OutputRow.{StoresAllShown, number_in}
+use Rattle.tiff_page.specs.OutputRow.{StoresAllShown}
 
 -- samples of one, two, four or eight bytes, or of fewer than 8 bits; of these all are shown, and none is predicted
 pub record IsRead (p : PageRecord) (color : ColorType) : Type 0 where
@@ -22,7 +21,3 @@ pub record IsRead (p : PageRecord) (color : ColorType) : Type 0 where
 abbrev pub FormRead : Type 0
 FormRead = (p : PageRecord) (limits : Limits) (color : ColorType) (i : ℕ) → 0 < p.samples → color_of p ≡ Ok color
     → form_fault p limits color i ≡ Ok tt → IsRead p color
-
--- number k of a stored row, its predictor undone
-abbrev pub number_of_row : ByteOrder → PageRecord → List ℕ → ℕ → ℕ
-number_of_row order p row k = number_in order p row p.predictor (k / stored_samples p) (k % stored_samples p)

@@ -1,5 +1,5 @@
 -- What is read of a row of a chunk.
-use Rattle.std.specs.Prelude.{◌≡◌, ℕ, ◌<◌, ◌≤◌, if◌then◌else◌, List, length, take, drop, slice_index, Result, Ok, Err}
+use Rattle.std.specs.Prelude.{◌≡◌, ℕ, ◌<◌, ◌≤◌, List, length, take, drop, slice_index, Result, Ok, Err}
 use Rattle.tiff_base.specs.declared.color.ColorType.{ColorType}
 use Rattle.tiff_base.specs.declared.error.TiffError.{TiffError}
 use Rattle.tiff_base.specs.declared.tags.ByteOrder.{ByteOrder}
@@ -7,14 +7,9 @@ use Rattle.tiff_base.specs.Answers.{IsCause}
 use Rattle.tiff_page.specs.declared.chunk_data.Stored.{Stored}
 use Rattle.tiff_page.specs.NumberBytes.{IsPut}
 use Rattle.tiff_page.specs.Page.{PageRecord}
-use Rattle.tiff_page.specs.Pixels.{stored_row_bytes, needs_whole_rows}
+use Rattle.tiff_page.specs.Pixels.{needed_of_row}
 use Rattle.tiff_page.specs.OutputRow.{handed_byte}
 use Rattle.tiff_page.specs.ChunkData.{bytes_left, IsTooShort}
-
--- the bytes that are read of a row of which so many are handed out: with the byte-plane predictor, or where samples are
--- dropped, all
-abbrev pub needed_of_row : PageRecord → ColorType → ℕ → ℕ
-needed_of_row p color len = if needs_whole_rows p color then stored_row_bytes p else len
 
 -- A row was read and handed out: what is left stands behind it.
 pub record TakesRow (order : ByteOrder) (p : PageRecord) (color : ColorType) (left rest out : List ℕ) : Type 0 where

@@ -38,9 +38,9 @@ first_in (Image layout planes) = 0
 first_in (Chunk color i stride) = i
 
 -- what is read as the part of a page that it is
-abbrev pub part_of : (file : List ℕ) (order : ByteOrder) (p : PageRecord) → Portion → Part file order p
-part_of file order p (Image layout planes) = image_part file order p planes layout.row_bytes
-part_of file order p (Chunk color i stride) = chunk_part file order p i 1 stride
+abbrev pub part_of : (file : List ℕ) (order : ByteOrder) (p : PageRecord) → Portion → Part
+part_of file order p (Image layout planes) = image_part p planes layout.row_bytes
+part_of file order p (Chunk color i stride) = chunk_part p i 1 stride
 
 -- its layout is the page's
 abbrev pub IsLaid : PageRecord → Portion → Type 0

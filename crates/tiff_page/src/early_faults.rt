@@ -7,7 +7,7 @@ ghost use Rattle.tiff_base.specs.declared.error.TiffError.TheVariants as tiff;
 ghost use Rattle.tiff_base.specs.declared.io.IoKind.TheVariants as io;
 ghost use Rattle.tiff_page.specs.EarlyFaults as spec;
 ghost use Rattle.tiff_page.specs.PixelFault.{chunk_fault, unless};
-ghost use Rattle.tiff_page.specs.RowReads.{needed_of_row};
+ghost use Rattle.tiff_page.specs.Pixels as pixels;
 ghost use Rattle.tiff_page.specs.PageView as view;
 
 use crate::faults::form_fault;
@@ -30,7 +30,7 @@ fn is_packed(method: CompressionMethod) -> bool
 // The bytes that are read of a row of which so many are handed out.
 fn needed_of_row(page: &Page, color: ColorType, len: usize) -> usize
     requires { len < 2 ^ 56 }
-    ensures value { result ≡ needed_of_row (view.page page.now) color len }
+    ensures value { result ≡ pixels.needed_of_row (view.page page.now) color len }
     ensures few { result < 2 ^ 56 }
 {
     if needs_whole_rows(page, color) {
@@ -42,7 +42,7 @@ fn needed_of_row(page: &Page, color: ColorType, len: usize) -> usize
 // The bytes that are needed of a chunk.
 #[tactic(auto, using(crate::proofs::Cut::rows_fit, crate::proofs::Cut::bytes_few))]
 fn needed_bytes(page: &Page, color: ColorType, index: u32) -> u128
-    ensures value { result ≡ spec.needed_bytes (view.page page.now) color index }
+    ensures value { result ≡ pixels.needed (view.page page.now) color index }
     ensures few { result < 2 ^ 89 }
 {
     let (width, height) = chunk_data_dimensions(page, index);

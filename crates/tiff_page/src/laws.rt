@@ -1,7 +1,7 @@
 //! Laws of the definitions, each the contract of a function with no work.
 
-ghost use Rattle.tiff_page.specs.Laws.{OneChunk, ChunksWithin, FirstFault, NoFault, PlacedEach, ImageIsFirstPlane, SomeBytes, ImageOfChunks, WholeRows, UnitOfChunks};
-ghost use Rattle.tiff_page.specs.Row.{NumbersAreRaw, SumsAreHorizontal, JoinsArePlanes, ComplementsInvert, BytesOfNumbers};
+ghost use Rattle.tiff_page.specs.Laws.{OneChunk, ChunksWithin, FirstFault, NoFault, PlacedEach, SomeBytes, ImageOfChunks, WholeRows, UnitOfChunks};
+ghost use Rattle.tiff_page.specs.Row.{ComplementsInvert, BytesOfNumbers};
 
 /// Each pixel of the image is of one chunk of a plane and of no other.
 pub fn one_chunk()
@@ -28,11 +28,6 @@ pub fn placed_each()
     ensures { PlacedEach }
 {}
 
-/// Reading an image is reading all its chunks in one plane.
-pub fn image_is_first_plane()
-    ensures { ImageIsFirstPlane }
-{}
-
 /// The rows and the planes of a layout are of some bytes.
 pub fn some_bytes()
     ensures { SomeBytes }
@@ -51,21 +46,6 @@ pub fn whole_rows()
 /// A coding unit shows of each plane the chunk of that plane.
 pub fn unit_of_chunks()
     ensures { UnitOfChunks }
-{}
-
-/// The numbers of a row are those of the chunk's row.
-pub fn numbers_are_raw()
-    ensures { NumbersAreRaw }
-{}
-
-/// The sums along a row are the numbers of the chunk's row with the horizontal predictor.
-pub fn sums_are_horizontal()
-    ensures { SumsAreHorizontal }
-{}
-
-/// The numbers that are joined of a row are those of the chunk's row with the byte-plane predictor.
-pub fn joins_are_planes()
-    ensures { JoinsArePlanes }
 {}
 
 /// Complements of the bytes of a row are complements of its numbers.

@@ -4,8 +4,8 @@ ghost use Rattle.std.specs.Prelude.{◌≡◌, ◌+◌, ◌*◌, ◌/◌, ◌%�
 ghost use Rattle.tiff_page.specs.Layout as layouts;
 ghost use Rattle.tiff_page.specs.Pixels as pixels;
 ghost use Rattle.tiff_page.specs.Row.{IsSize, Became};
-ghost use Rattle.tiff_page.specs.OutputRow.{complement_of, handed_byte};
-ghost use Rattle.tiff_page.specs.ReadablePage.{FormRead, IsRead, number_of_row};
+ghost use Rattle.tiff_page.specs.OutputRow.{handed_byte};
+ghost use Rattle.tiff_page.specs.ReadablePage.{FormRead, IsRead};
 ghost use Rattle.tiff_page.specs.PageView as view;
 
 use crate::layout::{bits, row_bits, shown};
@@ -53,7 +53,7 @@ fn undo_numbers(page: &Page, order: ByteOrder, row: &mut [u8])
     requires sizes { (page.now.depth < 8) ⊎ IsSize (page.now.depth / 8) }
     requires deep { (page.now.depth < 8) ⊎ (page.now.depth ≡ page.now.depth / 8 * 8) }
     requires in_place { pixels.is_byte_plane page.now.predictor ≡ false }
-    ensures numbers { 8 ≤ page.now.depth → Became (page.now.depth / 8) (number_of_row order (view.page page.now) row.old) row.old row.new }
+    ensures numbers { 8 ≤ page.now.depth → Became (page.now.depth / 8) (pixels.number_of_row order (view.page page.now) row.old) row.old row.new }
     ensures packed { page.now.depth < 8 → row.new ≡ row.old }
     ensures octets { EachIndex row.new (λ i. slice_index row.new i < 256) }
 {
@@ -71,7 +71,7 @@ fn undo_numbers(page: &Page, order: ByteOrder, row: &mut [u8])
 
 // Complements the bytes of a row where the page says so.
 fn complement(page: &Page, row: &mut [u8])
-    ensures { EachIndex row.new (λ b. slice_index row.new b ≡ complement_of page.now.interpretation 256 (slice_index row.old b)) }
+    ensures { EachIndex row.new (λ b. slice_index row.new b ≡ pixels.inverted page.now.interpretation 256 (slice_index row.old b)) }
 {
     if matches!(page.interpretation, PhotometricInterpretation::WhiteIsZero) {
         invert(row);
@@ -95,7 +95,7 @@ fn undo_whole(page: &Page, order: ByteOrder, row: &mut [u8], room: &mut [u8])
     requires deep { page.now.depth ≡ page.now.depth / 8 * 8 }
     requires row { length row.old ≡ pixels.stored_row_bytes (view.page page.now) }
     requires room { pixels.is_byte_plane page.now.predictor ≡ true → length room.old ≡ length row.old }
-    ensures numbers { Became (page.now.depth / 8) (number_of_row order (view.page page.now) row.old) row.old row.new }
+    ensures numbers { Became (page.now.depth / 8) (pixels.number_of_row order (view.page page.now) row.old) row.old row.new }
     ensures octets { EachIndex row.new (λ i. slice_index row.new i < 256) }
 {
     let depth = page.depth;

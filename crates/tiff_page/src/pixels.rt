@@ -13,7 +13,7 @@ ghost use Rattle.tiff_base.specs.Answers.{Answers, AnswersWithoutSource, Gives, 
 ghost use Rattle.tiff_base.specs.Sparing.{AnswersSparingly};
 ghost use Rattle.tiff_page.specs.Buffers as buffers;
 ghost use Rattle.tiff_page.specs.EarlyFaults.{early_fault};
-ghost use Rattle.tiff_page.specs.Image.{image_of};
+ghost use Rattle.tiff_page.specs.PixelCalls.{image_of};
 ghost use Rattle.tiff_page.specs.Layout as layouts;
 ghost use Rattle.tiff_page.specs.PixelCalls as calls;
 ghost use Rattle.tiff_page.specs.PixelCalls.{filled};
@@ -31,7 +31,7 @@ use crate::layout::{
 };
 use crate::numbers::Number;
 use crate::page::Page;
-use crate::read_chunks::{fill_image, fill_unit};
+use crate::read_chunks::{ImagePart, PageReader, UnitPart};
 use crate::samples::{Portion, Samples};
 use crate::writer::{InPlace, NumberRoom, RowWriter};
 use std::alloc::Global;
@@ -129,29 +129,6 @@ fn planes_within(page: &Page, limits: &Limits, layout: PlaneLayout) -> u16
     1
 }
 
-// Zeros for samples of so many bytes, if these are within the limit, and no fault of their first chunk is found before
-// memory is taken.
-fn zeros<R: Source, T: Number<N>, const N: usize>(
-    alloc: Global,
-    source: &mut R,
-    page: &Page,
-    limits: &Limits,
-    color: ColorType,
-    sample_type: DecodingSampleType,
-    first: u32,
-    len: usize,
-) -> TiffResult<Vec<T>>
-    requires { 0 < N }
-    ensures kept { IsKept R.bytes R.failures result source.old source.new }
-    ensures answer { AnswersSparingly (λ _. tt) result (early_fault (R.bytes source.old) (view.page page.now) limits.now color
-        sample_type first len) (R.failures source.old) (R.failures source.new) }
-    ensures zeros { IfOk result (λ v. map T.bits v.items ≡ replicate (div_ceil len N) 0) }
-{
-    samples_fault(limits, size_of(sample_type), len)?;
-    early_fault(source, page, limits, color, first)?;
-    Ok(T::zeros(alloc, len.div_ceil(N))?)
-}
-
 impl Portion {
     // Its color.
     fn color(self) -> ColorType
@@ -174,268 +151,176 @@ impl Portion {
     }
 }
 
-// Reads an image or a chunk into the bytes of a list.
-fn fill<R: Source, T, W: RowWriter<T>>(
-    alloc: Global,
-    source: &mut R,
-    order: ByteOrder,
-    page: &Page,
-    limits: &Limits,
-    portion: Portion,
-    writer: &mut W,
-    out: &mut [T],
-) -> TiffResult<()>
-    requires laid { IsLaid (view.page page.now) portion }
-    requires room { room_of (view.page page.now) portion ≤ length (W.bytes out.old) }
-    requires few { room_of (view.page page.now) portion < 2 ^ 64 }
-    ensures kept { IsKept R.bytes R.failures result source.old source.new }
-    ensures answer { Answers (λ _. W.bytes out.new) result (filled (R.bytes source.old) order (view.page page.now) limits.now
-        (color_in portion) (part_of (R.bytes source.old) order (view.page page.now) portion) (W.bytes out.old))
-        (R.failures source.old) (R.failures source.new) }
-{
-    match portion {
-        Portion::Image(layout, planes) => fill_image(
-            alloc, source, order, page, limits, layout, planes, writer, out,
-        ),
-        Portion::Chunk(color, index, stride) => fill_unit(
-            alloc, source, order, page, limits, color, index, 1, stride, writer, out,
-        ),
+impl PageReader<'_> {
+    // Zeros for the samples of an image or a chunk in so many bytes, if these are within the limit, and no fault of its first
+    // chunk is found before memory is taken.
+    fn zeros<R: Source, T: Number<N>, const N: usize>(
+        &self,
+        source: &mut R,
+        portion: Portion,
+        sample_type: DecodingSampleType,
+        len: usize,
+    ) -> TiffResult<Vec<T>>
+        requires { 0 < N }
+        ensures kept { IsKept R.bytes R.failures result source.old source.new }
+        ensures answer { AnswersSparingly (λ _. tt) result (early_fault (R.bytes source.old) (view.page self.now.page.now)
+            self.now.limits.now (color_in portion) sample_type (first_in portion) len) (R.failures source.old)
+            (R.failures source.new) }
+        ensures zeros { IfOk result (λ v. map T.bits v.items ≡ replicate (div_ceil len N) 0) }
+    {
+        samples_fault(self.limits, size_of(sample_type), len)?;
+        early_fault(
+            source,
+            self.page,
+            self.limits,
+            portion.color(),
+            portion.first(),
+        )?;
+        Ok(T::zeros(self.alloc, len.div_ceil(N))?)
     }
-}
 
-// The bytes of an image or a chunk whose samples are bytes.
-fn bytes_of<R: Source>(
-    alloc: Global,
-    source: &mut R,
-    order: ByteOrder,
-    page: &Page,
-    limits: &Limits,
-    portion: Portion,
-    len: usize,
-) -> TiffResult<Vec<u8>>
-    requires laid { IsLaid (view.page page.now) portion }
-    requires room { room_of (view.page page.now) portion ≤ len }
-    requires typed { layouts.sample_type_of (view.page page.now) ≡ Ok type.U8 }
-    ensures kept { IsKept R.bytes R.failures result source.old source.new }
-    ensures answer { Answers (λ v. record { sample_type = type.U8; numbers = v.items }) result
-        (calls.samples (R.bytes source.old) order (view.page page.now) limits.now (color_in portion)
-        (part_of (R.bytes source.old) order (view.page page.now) portion) len) (R.failures source.old) (R.failures source.new) }
-{
-    let (color, first) = (portion.color(), portion.first());
-    let sample_type = DecodingSampleType::U8;
-    let mut bytes: Vec<u8> = match zeros(
-        alloc,
-        source,
-        page,
-        limits,
-        color,
-        sample_type,
-        first,
-        len,
-    ) {
-        Ok(bytes) => bytes,
-        Err(fault) => return Err(fault),
-    };
-    match fill(
-        alloc,
-        source,
-        order,
-        page,
-        limits,
-        portion,
-        &mut InPlace,
-        &mut bytes,
-    ) {
-        Ok(()) => Ok(bytes),
-        Err(fault) => Err(fault),
+    // Reads an image or a chunk into the bytes of a list.
+    fn fill<R: Source, T, W: RowWriter<T>>(
+        &self,
+        source: &mut R,
+        portion: Portion,
+        writer: &mut W,
+        out: &mut [T],
+    ) -> TiffResult<()>
+        requires laid { IsLaid (view.page self.now.page.now) portion }
+        requires room { room_of (view.page self.now.page.now) portion ≤ length (W.bytes out.old) }
+        requires few { room_of (view.page self.now.page.now) portion < 2 ^ 64 }
+        ensures kept { IsKept R.bytes R.failures result source.old source.new }
+        ensures answer { Answers (λ _. W.bytes out.new) result (filled (R.bytes source.old) self.now.order
+            (view.page self.now.page.now) self.now.limits.now (color_in portion)
+            (part_of (R.bytes source.old) self.now.order (view.page self.now.page.now) portion) (W.bytes out.old))
+            (R.failures source.old) (R.failures source.new) }
+    {
+        match portion {
+            Portion::Image(layout, planes) => {
+                let part = ImagePart { layout, planes };
+                self.fill_image(source, part, writer, out)
+            }
+            Portion::Chunk(color, index, stride) => {
+                let unit = UnitPart {
+                    color,
+                    index,
+                    planes: 1,
+                    stride,
+                };
+                self.fill_unit(source, unit, writer, out)
+            }
+        }
     }
-}
 
-// The numbers of an image or a chunk whose samples are of a number type.
-#[tactic(auto, using(crate::proofs::Portions::portion_early, crate::proofs::Portions::numbers_given, crate::proofs::Portions::filling_cause, crate::proofs::Portions::room_in))]
-fn numbers_of<R: Source, T: Number<N>, const N: usize>(
-    alloc: Global,
-    source: &mut R,
-    order: ByteOrder,
-    page: &Page,
-    limits: &Limits,
-    portion: Portion,
-    sample_type: DecodingSampleType,
-    len: usize,
-) -> TiffResult<Vec<T>>
-    requires some { 0 < N }
-    requires laid { IsLaid (view.page page.now) portion }
-    requires room { room_of (view.page page.now) portion ≤ len }
-    requires typed { layouts.sample_type_of (view.page page.now) ≡ Ok sample_type }
-    requires size { layouts.size_of sample_type ≡ N }
-    ensures kept { IsKept R.bytes R.failures result source.old source.new }
-    ensures answer { Answers (λ v. record { sample_type = sample_type; numbers = map T.bits v.items }) result
-        (calls.samples (R.bytes source.old) order (view.page page.now) limits.now (color_in portion)
-        (part_of (R.bytes source.old) order (view.page page.now) portion) len) (R.failures source.old) (R.failures source.new) }
-{
-    let (color, first) = (portion.color(), portion.first());
-    let mut numbers: Vec<T> = match zeros(
-        alloc,
-        source,
-        page,
-        limits,
-        color,
-        sample_type,
-        first,
-        len,
-    ) {
-        Ok(numbers) => numbers,
-        Err(fault) => return Err(fault),
-    };
-    let mut room = NumberRoom::<N>::new(alloc);
-    match fill(
-        alloc,
-        source,
-        order,
-        page,
-        limits,
-        portion,
-        &mut room,
-        &mut numbers,
-    ) {
-        Ok(()) => Ok(numbers),
-        Err(fault) => Err(fault),
+    // The bytes of an image or a chunk whose samples are bytes.
+    fn bytes_of<R: Source>(
+        &self,
+        source: &mut R,
+        portion: Portion,
+        len: usize,
+    ) -> TiffResult<Vec<u8>>
+        requires laid { IsLaid (view.page self.now.page.now) portion }
+        requires room { room_of (view.page self.now.page.now) portion ≤ len }
+        requires typed { layouts.sample_type_of (view.page self.now.page.now) ≡ Ok type.U8 }
+        ensures kept { IsKept R.bytes R.failures result source.old source.new }
+        ensures answer { Answers (λ v. record { sample_type = type.U8; numbers = v.items }) result
+            (calls.samples (R.bytes source.old) self.now.order (view.page self.now.page.now) self.now.limits.now
+            (color_in portion) (part_of (R.bytes source.old) self.now.order (view.page self.now.page.now) portion) len)
+            (R.failures source.old) (R.failures source.new) }
+    {
+        let mut bytes: Vec<u8> = match self.zeros(source, portion, DecodingSampleType::U8, len) {
+            Ok(bytes) => bytes,
+            Err(fault) => return Err(fault),
+        };
+        let mut writer = InPlace::new(self.alloc);
+        match self.fill(source, portion, &mut writer, &mut bytes) {
+            Ok(()) => Ok(bytes),
+            Err(fault) => Err(fault),
+        }
     }
-}
 
-// The samples of an image or a chunk, in so many bytes.
-#[tactic(auto, unfolding(crate::specs::PixelCalls::samples))]
-fn samples_of<R: Source>(
-    alloc: Global,
-    source: &mut R,
-    order: ByteOrder,
-    page: &Page,
-    limits: &Limits,
-    portion: Portion,
-    len: usize,
-) -> TiffResult<Samples>
-    requires laid { IsLaid (view.page page.now) portion }
-    requires room { room_of (view.page page.now) portion ≤ len }
-    ensures kept { IsKept R.bytes R.failures result source.old source.new }
-    ensures answer { Answers samples_as result (calls.samples (R.bytes source.old) order (view.page page.now) limits.now
-        (color_in portion) (part_of (R.bytes source.old) order (view.page page.now) portion) len) (R.failures source.old)
-        (R.failures source.new) }
-{
-    let sample_type = sample_type_of(page, alloc)?;
-    match sample_type {
-        DecodingSampleType::U8 => bytes_of(alloc, source, order, page, limits, portion, len).map(
-            Samples::U8,
-        ),
-        DecodingSampleType::U16 => numbers_of(
-            alloc,
-            source,
-            order,
-            page,
-            limits,
-            portion,
-            sample_type,
-            len,
-        )
-        .map(Samples::U16),
-        DecodingSampleType::U32 => numbers_of(
-            alloc,
-            source,
-            order,
-            page,
-            limits,
-            portion,
-            sample_type,
-            len,
-        )
-        .map(Samples::U32),
-        DecodingSampleType::U64 => numbers_of(
-            alloc,
-            source,
-            order,
-            page,
-            limits,
-            portion,
-            sample_type,
-            len,
-        )
-        .map(Samples::U64),
-        DecodingSampleType::F16 => numbers_of(
-            alloc,
-            source,
-            order,
-            page,
-            limits,
-            portion,
-            sample_type,
-            len,
-        )
-        .map(Samples::F16),
-        DecodingSampleType::F32 => numbers_of(
-            alloc,
-            source,
-            order,
-            page,
-            limits,
-            portion,
-            sample_type,
-            len,
-        )
-        .map(Samples::F32),
-        DecodingSampleType::F64 => numbers_of(
-            alloc,
-            source,
-            order,
-            page,
-            limits,
-            portion,
-            sample_type,
-            len,
-        )
-        .map(Samples::F64),
-        DecodingSampleType::I8 => numbers_of(
-            alloc,
-            source,
-            order,
-            page,
-            limits,
-            portion,
-            sample_type,
-            len,
-        )
-        .map(Samples::I8),
-        DecodingSampleType::I16 => numbers_of(
-            alloc,
-            source,
-            order,
-            page,
-            limits,
-            portion,
-            sample_type,
-            len,
-        )
-        .map(Samples::I16),
-        DecodingSampleType::I32 => numbers_of(
-            alloc,
-            source,
-            order,
-            page,
-            limits,
-            portion,
-            sample_type,
-            len,
-        )
-        .map(Samples::I32),
-        DecodingSampleType::I64 => numbers_of(
-            alloc,
-            source,
-            order,
-            page,
-            limits,
-            portion,
-            sample_type,
-            len,
-        )
-        .map(Samples::I64),
+    // The numbers of an image or a chunk whose samples are of a number type.
+    #[tactic(auto, using(crate::proofs::Portions::portion_early, crate::proofs::Portions::numbers_given, crate::proofs::Portions::filling_cause, crate::proofs::Portions::room_in))]
+    fn numbers_of<R: Source, T: Number<N>, const N: usize>(
+        &self,
+        source: &mut R,
+        portion: Portion,
+        sample_type: DecodingSampleType,
+        len: usize,
+    ) -> TiffResult<Vec<T>>
+        requires some { 0 < N }
+        requires laid { IsLaid (view.page self.now.page.now) portion }
+        requires room { room_of (view.page self.now.page.now) portion ≤ len }
+        requires typed { layouts.sample_type_of (view.page self.now.page.now) ≡ Ok sample_type }
+        requires size { layouts.size_of sample_type ≡ N }
+        ensures kept { IsKept R.bytes R.failures result source.old source.new }
+        ensures answer { Answers (λ v. record { sample_type = sample_type; numbers = map T.bits v.items }) result
+            (calls.samples (R.bytes source.old) self.now.order (view.page self.now.page.now) self.now.limits.now
+            (color_in portion) (part_of (R.bytes source.old) self.now.order (view.page self.now.page.now) portion) len)
+            (R.failures source.old) (R.failures source.new) }
+    {
+        let mut numbers: Vec<T> = match self.zeros(source, portion, sample_type, len) {
+            Ok(numbers) => numbers,
+            Err(fault) => return Err(fault),
+        };
+        let mut writer = NumberRoom::<N>::new(self.alloc);
+        match self.fill(source, portion, &mut writer, &mut numbers) {
+            Ok(()) => Ok(numbers),
+            Err(fault) => Err(fault),
+        }
+    }
+
+    // The samples of an image or a chunk, in so many bytes.
+    #[tactic(auto, unfolding(crate::specs::PixelCalls::samples))]
+    fn samples_of<R: Source>(
+        &self,
+        source: &mut R,
+        portion: Portion,
+        len: usize,
+    ) -> TiffResult<Samples>
+        requires laid { IsLaid (view.page self.now.page.now) portion }
+        requires room { room_of (view.page self.now.page.now) portion ≤ len }
+        ensures kept { IsKept R.bytes R.failures result source.old source.new }
+        ensures answer { Answers samples_as result (calls.samples (R.bytes source.old) self.now.order
+            (view.page self.now.page.now) self.now.limits.now (color_in portion)
+            (part_of (R.bytes source.old) self.now.order (view.page self.now.page.now) portion) len) (R.failures source.old)
+            (R.failures source.new) }
+    {
+        let sample_type = sample_type_of(self.page, self.alloc)?;
+        match sample_type {
+            DecodingSampleType::U8 => self.bytes_of(source, portion, len).map(Samples::U8),
+            DecodingSampleType::U16 => self
+                .numbers_of(source, portion, sample_type, len)
+                .map(Samples::U16),
+            DecodingSampleType::U32 => self
+                .numbers_of(source, portion, sample_type, len)
+                .map(Samples::U32),
+            DecodingSampleType::U64 => self
+                .numbers_of(source, portion, sample_type, len)
+                .map(Samples::U64),
+            DecodingSampleType::F16 => self
+                .numbers_of(source, portion, sample_type, len)
+                .map(Samples::F16),
+            DecodingSampleType::F32 => self
+                .numbers_of(source, portion, sample_type, len)
+                .map(Samples::F32),
+            DecodingSampleType::F64 => self
+                .numbers_of(source, portion, sample_type, len)
+                .map(Samples::F64),
+            DecodingSampleType::I8 => self
+                .numbers_of(source, portion, sample_type, len)
+                .map(Samples::I8),
+            DecodingSampleType::I16 => self
+                .numbers_of(source, portion, sample_type, len)
+                .map(Samples::I16),
+            DecodingSampleType::I32 => self
+                .numbers_of(source, portion, sample_type, len)
+                .map(Samples::I32),
+            DecodingSampleType::I64 => self
+                .numbers_of(source, portion, sample_type, len)
+                .map(Samples::I64),
+        }
     }
 }
 
@@ -452,17 +337,15 @@ pub fn read_image<R: Source>(
     ensures answer { Answers samples_as result (image_of (R.bytes source.old) order (view.page page.now) limits.now)
         (R.failures source.old) (R.failures source.new) }
 {
-    let layout = planes_layout(page, alloc, page.width, page.height)?;
-    let portion = Portion::Image(layout, 1);
-    samples_of(
+    let reader = PageReader {
         alloc,
-        source,
         order,
         page,
         limits,
-        portion,
-        layout.plane_stride,
-    )
+    };
+    let layout = planes_layout(page, alloc, page.width, page.height)?;
+    let portion = Portion::Image(layout, 1);
+    reader.samples_of(source, portion, layout.plane_stride)
 }
 
 /// The samples of all planes of an image, or of the first one where all aren't within `decoding_buffer_size`, with the layout
@@ -480,12 +363,18 @@ pub fn read_image_to_buffer<R: Source>(
         (calls.read_image_to_buffer (R.bytes source.old) order (view.page page.now) limits.now) (R.failures source.old)
         (R.failures source.new) }
 {
+    let reader = PageReader {
+        alloc,
+        order,
+        page,
+        limits,
+    };
     let layout = planes_layout(page, alloc, page.width, page.height)?;
     let preference = all_planes(page, layout);
     let planes = planes_within(page, limits, layout);
     let len = layout.plane_stride * usize::from(planes);
     let portion = Portion::Image(layout, planes);
-    match samples_of(alloc, source, order, page, limits, portion, len) {
+    match reader.samples_of(source, portion, len) {
         Ok(samples) => Ok((preference, samples)),
         Err(fault) => Err(fault),
     }
@@ -506,20 +395,17 @@ pub fn read_image_bytes<R: Source>(
     ensures answer { Answers (λ _. buf.new) result (calls.read_image_bytes (R.bytes source.old) order (view.page page.now)
         limits.now buf.old) (R.failures source.old) (R.failures source.new) }
 {
-    let layout = planes_layout(page, alloc, page.width, page.height)?;
-    room_fault(buf.len(), layout.plane_stride)?;
-    let planes = planes_used(page, layout, buf.len());
-    fill_image(
+    let reader = PageReader {
         alloc,
-        source,
         order,
         page,
         limits,
-        layout,
-        planes,
-        &mut InPlace,
-        buf,
-    )
+    };
+    let layout = planes_layout(page, alloc, page.width, page.height)?;
+    room_fault(buf.len(), layout.plane_stride)?;
+    let planes = planes_used(page, layout, buf.len());
+    let part = ImagePart { layout, planes };
+    reader.fill_image(source, part, &mut InPlace::new(alloc), buf)
 }
 
 /// The samples of a chunk, in rows of its own width in the image. An index past the list of chunks:
@@ -537,17 +423,15 @@ pub fn read_chunk<R: Source>(
     ensures answer { Answers samples_as result (calls.read_chunk (R.bytes source.old) order (view.page page.now) limits.now
         index) (R.failures source.old) (R.failures source.new) }
 {
-    let layout = chunk_layout(page, alloc, index)?;
-    let portion = Portion::Chunk(layout.color, index, layout.row_bytes);
-    samples_of(
+    let reader = PageReader {
         alloc,
-        source,
         order,
         page,
         limits,
-        portion,
-        layout.plane_stride,
-    )
+    };
+    let layout = chunk_layout(page, alloc, index)?;
+    let portion = Portion::Chunk(layout.color, index, layout.row_bytes);
+    reader.samples_of(source, portion, layout.plane_stride)
 }
 
 /// Reads a chunk into a slice, in rows of its own width in the image; bytes behind them stay. Less room than its bytes:
@@ -566,21 +450,21 @@ pub fn read_chunk_bytes<R: Source>(
     ensures answer { Answers (λ _. buf.new) result (calls.read_chunk_bytes (R.bytes source.old) order (view.page page.now)
         limits.now index buf.old) (R.failures source.old) (R.failures source.new) }
 {
-    let layout = chunk_layout(page, alloc, index)?;
-    room_fault(buf.len(), layout.plane_stride)?;
-    fill_unit(
+    let reader = PageReader {
         alloc,
-        source,
         order,
         page,
         limits,
-        layout.color,
+    };
+    let layout = chunk_layout(page, alloc, index)?;
+    room_fault(buf.len(), layout.plane_stride)?;
+    let unit = UnitPart {
+        color: layout.color,
         index,
-        1,
-        layout.row_bytes,
-        &mut InPlace,
-        buf,
-    )
+        planes: 1,
+        stride: layout.row_bytes,
+    };
+    reader.fill_unit(source, unit, &mut InPlace::new(alloc), buf)
 }
 
 /// The samples of a chunk, its rows `stride` bytes apart, with zeros between them. A stride below the bytes of a row:
@@ -600,12 +484,18 @@ pub fn read_chunk_to_buffer<R: Source>(
     ensures answer { Answers samples_as result (calls.read_chunk_to_buffer (R.bytes source.old) order (view.page page.now)
         limits.now index stride) (R.failures source.old) (R.failures source.new) }
 {
+    let reader = PageReader {
+        alloc,
+        order,
+        page,
+        limits,
+    };
     let layout = chunk_layout(page, alloc, index)?;
     stride_fault(stride, layout.row_bytes)?;
     wide_product(stride, page.chunk_height as usize)?;
     let len = rows_len(page, index, stride);
     let portion = Portion::Chunk(layout.color, index, stride);
-    samples_of(alloc, source, order, page, limits, portion, len)
+    reader.samples_of(source, portion, len)
 }
 
 /// Reads the chunk of each plane of a coding unit into a slice, as many as it takes whole, one behind the other; bytes behind
@@ -625,21 +515,21 @@ pub fn read_coding_unit_bytes<R: Source>(
     ensures answer { Answers (λ _. buf.new) result (calls.read_coding_unit_bytes (R.bytes source.old) order (view.page page.now)
         limits.now unit buf.old) (R.failures source.old) (R.failures source.new) }
 {
+    let reader = PageReader {
+        alloc,
+        order,
+        page,
+        limits,
+    };
     let layout = chunk_layout(page, alloc, unit)?;
     unit_fault(page, unit)?;
     room_fault(buf.len(), layout.plane_stride)?;
     let planes = planes_used(page, layout, buf.len());
-    fill_unit(
-        alloc,
-        source,
-        order,
-        page,
-        limits,
-        layout.color,
-        unit,
+    let unit = UnitPart {
+        color: layout.color,
+        index: unit,
         planes,
-        layout.row_bytes,
-        &mut InPlace,
-        buf,
-    )
+        stride: layout.row_bytes,
+    };
+    reader.fill_unit(source, unit, &mut InPlace::new(alloc), buf)
 }

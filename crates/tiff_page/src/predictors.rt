@@ -2,7 +2,8 @@
 
 ghost use Rattle.std.specs.Prelude.{◌≡◌, ℕ, ◌+◌, ◌-◌, ◌*◌, ◌/◌, ◌%◌, ◌<◌, ◌≤◌, length, slice_index, EachIndex};
 ghost use Rattle.tiff_base.specs.declared.tags.ByteOrder.TheVariants.{LittleEndian, BigEndian};
-ghost use Rattle.tiff_page.specs.Row.{IsSize, row_number, summed_number, joined_number, Became, AddsNumber, TurnsNumber};
+ghost use Rattle.tiff_page.specs.Pixels.{row_number, summed_number, joined_number};
+ghost use Rattle.tiff_page.specs.Row.{IsSize, Became, AddsNumber, TurnsNumber};
 
 use tiff_base::read::{u16_in, u32_in, u64_in};
 use tiff_base::tags::ByteOrder;
@@ -157,7 +158,7 @@ fn add_number(row: &mut [u8], from: usize, to: usize, size: usize)
 fn sum_numbers(row: &mut [u8], size: usize, stored: usize)
     requires size { IsSize size }
     requires stored { 0 < stored }
-    ensures { Became size (summed_number size stored row.old) row.old row.new }
+    ensures { Became size (summed_number LittleEndian size stored row.old) row.old row.new }
 {
     let count = row.len() / size;
     for k in stored..count {
@@ -184,7 +185,7 @@ fn sum_pixel<const N: usize>(last: &mut [u8; N], pixel: &mut [u8])
 fn sum_pixels<const N: usize>(row: &mut [u8])
     requires some { 0 < N }
     requires whole { length row.old / N * N ≡ length row.old }
-    ensures { Became 1 (summed_number 1 N row.old) row.old row.new }
+    ensures { Became 1 (summed_number LittleEndian 1 N row.old) row.old row.new }
 {
     let mut last = [0; N];
     for k in 0..row.len() / N {
@@ -197,7 +198,7 @@ fn sum_pixels<const N: usize>(row: &mut [u8])
 pub fn undo_horizontal(row: &mut [u8], size: usize, stored: usize)
     requires size { IsSize size }
     requires stored { 0 < stored }
-    ensures { Became size (summed_number size stored row.old) row.old row.new }
+    ensures { Became size (summed_number LittleEndian size stored row.old) row.old row.new }
 {
     match (size, stored) {
         (1, 1) => sum_numbers(row, 1, 1),

@@ -10,7 +10,7 @@ ghost use Rattle.tiff_page.specs.BufferPositions.{WritesNext, top_of, left_of};
 ghost use Rattle.tiff_page.specs.Rect.{rect, chunks_of_plane};
 ghost use Rattle.tiff_page.specs.PageView as view;
 
-use crate::chunk_rows::{Corner, read_rows};
+use crate::chunk_rows::{ChunkReader, Corner};
 use crate::faults::form_fault;
 use crate::layout::{PlaneLayout, chunk_data_dimensions, chunks_of_plane, rect, row_bits};
 use crate::page::Page;
@@ -21,6 +21,31 @@ use tiff_base::error::TiffResult;
 use tiff_base::io::Source;
 use tiff_base::tags::ByteOrder;
 use tiff_ifd::limits::Limits;
+
+/// What reads the pixels of a page.
+#[derive(Clone, Copy)]
+pub struct PageReader<'a> {
+    pub(crate) alloc: Global,
+    pub(crate) order: ByteOrder,
+    pub(crate) page: &'a Page,
+    pub(crate) limits: &'a Limits,
+}
+
+/// So many planes of an image, by its layout.
+#[derive(Clone, Copy, Debug)]
+pub struct ImagePart {
+    pub layout: PlaneLayout,
+    pub planes: u16,
+}
+
+/// A chunk in a color, or that of each of so many planes, its rows so many bytes apart.
+#[derive(Clone, Copy, Debug)]
+pub struct UnitPart {
+    pub color: ColorType,
+    pub index: u32,
+    pub planes: u16,
+    pub stride: usize,
+}
 
 // Where a chunk of a plane goes in a buffer of the planes of an image.
 fn image_corner(page: &Page, layout: PlaneLayout, plane: u16, chunk: u32) -> Corner
@@ -38,137 +63,136 @@ fn image_corner(page: &Page, layout: PlaneLayout, plane: u16, chunk: u32) -> Cor
     }
 }
 
-// Reads a chunk of an image in all planes that are asked for.
-fn fill_chunk<R: Source, T, W: RowWriter<T>>(
-    alloc: Global,
-    source: &mut R,
-    order: ByteOrder,
-    page: &Page,
-    limits: &Limits,
-    layout: PlaneLayout,
-    planes: u16,
-    chunk: u32,
-    writer: &mut W,
-    buf: &mut [T],
-) -> TiffResult<()>
-    requires laid { layout_of (view.page page.now) page.now.width page.now.height ≡ Ok
-        (record { color = layout.color; row_bytes = layout.row_bytes; plane_stride = layout.plane_stride }) }
-    requires room { planes * layout.plane_stride ≤ length (W.bytes buf.old) }
-    requires few { planes * layout.plane_stride < 2 ^ 64 }
-    requires chunk { chunk < chunks_of_plane (view.page page.now) }
-    ensures kept { IsKept R.bytes R.failures result source.old source.new }
-    ensures ok { OnOk result (WritesNext (R.bytes source.old) order (view.page page.now) layout.color layout.row_bytes planes
-        chunk (W.bytes buf.old) (W.bytes buf.new)) }
-    ensures answer { Answers (λ _. tt) result (each_below (λ plane. chunk_fault (view.page page.now) limits.now
-        (is_short (R.bytes source.old) order (view.page page.now) layout.color) layout.color
-        (plane * chunks_of_plane (view.page page.now) + (0 + chunk))) planes) (R.failures source.old) (R.failures source.new) }
-{
-    let chunks = chunks_of_plane(page) as usize;
-    for plane in 0..planes {
-        let index = usize::from(plane) * chunks + chunk as usize;
-        match form_fault(page, limits, layout.color, index) {
-            Ok(()) => {}
-            Err(fault) => return Err(fault),
+impl PageReader<'_> {
+    // Reads a chunk of an image in all planes that are asked for.
+    fn fill_chunk<R: Source, T, W: RowWriter<T>>(
+        &self,
+        source: &mut R,
+        part: ImagePart,
+        chunk: u32,
+        writer: &mut W,
+        buf: &mut [T],
+    ) -> TiffResult<()>
+        requires laid { layout_of (view.page self.now.page.now) self.now.page.now.width self.now.page.now.height ≡ Ok
+            (record { color = part.layout.color; row_bytes = part.layout.row_bytes; plane_stride = part.layout.plane_stride }) }
+        requires room { part.planes * part.layout.plane_stride ≤ length (W.bytes buf.old) }
+        requires few { part.planes * part.layout.plane_stride < 2 ^ 64 }
+        requires chunk { chunk < chunks_of_plane (view.page self.now.page.now) }
+        ensures kept { IsKept R.bytes R.failures result source.old source.new }
+        ensures ok { OnOk result (WritesNext (R.bytes source.old) self.now.order (view.page self.now.page.now) part.layout.color
+            part.layout.row_bytes part.planes chunk (W.bytes buf.old) (W.bytes buf.new)) }
+        ensures answer { Answers (λ _. tt) result (each_below (λ plane. chunk_fault (view.page self.now.page.now)
+            self.now.limits.now (is_short (R.bytes source.old) self.now.order (view.page self.now.page.now) part.layout.color)
+            part.layout.color (plane * chunks_of_plane (view.page self.now.page.now) + (0 + chunk))) part.planes)
+            (R.failures source.old) (R.failures source.new) }
+    {
+        let page = self.page;
+        let color = part.layout.color;
+        let chunks = chunks_of_plane(page) as usize;
+        for plane in 0..part.planes {
+            let index = usize::from(plane) * chunks + chunk as usize;
+            match form_fault(page, self.limits, color, index) {
+                Ok(()) => {}
+                Err(fault) => return Err(fault),
+            }
+            let corner = image_corner(page, part.layout, plane, chunk);
+            let (width, height) = chunk_data_dimensions(page, index as u32);
+            let reader = ChunkReader {
+                page,
+                order: self.order,
+                color,
+                index: index as u32,
+                width,
+                height,
+            };
+            match reader.read_rows(source, corner, writer, buf) {
+                Ok(()) => {}
+                Err(fault) => return Err(fault),
+            }
         }
-        let corner = image_corner(page, layout, plane, chunk);
-        match read_rows(
-            alloc,
-            source,
-            order,
-            page,
-            layout.color,
-            index as u32,
-            writer,
-            buf,
-            corner,
-        ) {
-            Ok(()) => {}
-            Err(fault) => return Err(fault),
-        }
+        Ok(())
     }
-    Ok(())
-}
 
-/// Reads all chunks of an image into the bytes of a list, in so many planes one behind the other, or answers the first fault: of the first
-/// chunk, and in it of the first plane, that has one.
-pub fn fill_image<R: Source, T, W: RowWriter<T>>(
-    alloc: Global,
-    source: &mut R,
-    order: ByteOrder,
-    page: &Page,
-    limits: &Limits,
-    layout: PlaneLayout,
-    planes: u16,
-    writer: &mut W,
-    buf: &mut [T],
-) -> TiffResult<()>
-    requires laid { layout_of (view.page page.now) page.now.width page.now.height ≡ Ok
-        (record { color = layout.color; row_bytes = layout.row_bytes; plane_stride = layout.plane_stride }) }
-    requires some { 0 < planes }
-    requires room { planes * layout.plane_stride ≤ length (W.bytes buf.old) }
-    requires few { planes * layout.plane_stride < 2 ^ 64 }
-    ensures kept { IsKept R.bytes R.failures result source.old source.new }
-    ensures answer { Answers (λ _. W.bytes buf.new) result (filled (R.bytes source.old) order (view.page page.now) limits.now
-        layout.color (image_part (R.bytes source.old) order (view.page page.now) planes layout.row_bytes) (W.bytes buf.old))
-        (R.failures source.old) (R.failures source.new) }
-{
-    for chunk in 0..chunks_of_plane(page) {
-        match fill_chunk(
-            alloc, source, order, page, limits, layout, planes, chunk, writer, buf,
-        ) {
-            Ok(()) => {}
-            Err(fault) => return Err(fault),
+    /// Reads all chunks of an image into the bytes of a list, in so many planes one behind the other, or answers the first
+    /// fault: of the first chunk, and in it of the first plane, that has one.
+    pub(crate) fn fill_image<R: Source, T, W: RowWriter<T>>(
+        &self,
+        source: &mut R,
+        part: ImagePart,
+        writer: &mut W,
+        buf: &mut [T],
+    ) -> TiffResult<()>
+        requires laid { layout_of (view.page self.now.page.now) self.now.page.now.width self.now.page.now.height ≡ Ok
+            (record { color = part.layout.color; row_bytes = part.layout.row_bytes; plane_stride = part.layout.plane_stride }) }
+        requires some { 0 < part.planes }
+        requires room { part.planes * part.layout.plane_stride ≤ length (W.bytes buf.old) }
+        requires few { part.planes * part.layout.plane_stride < 2 ^ 64 }
+        ensures kept { IsKept R.bytes R.failures result source.old source.new }
+        ensures answer { Answers (λ _. W.bytes buf.new) result (filled (R.bytes source.old) self.now.order
+            (view.page self.now.page.now) self.now.limits.now part.layout.color
+            (image_part (view.page self.now.page.now) part.planes part.layout.row_bytes)
+            (W.bytes buf.old)) (R.failures source.old) (R.failures source.new) }
+    {
+        for chunk in 0..chunks_of_plane(self.page) {
+            match self.fill_chunk(source, part, chunk, writer, buf) {
+                Ok(()) => {}
+                Err(fault) => return Err(fault),
+            }
         }
+        Ok(())
     }
-    Ok(())
-}
 
-/// Reads a chunk into the bytes of a list, its rows a stride apart, or that of each of so many planes one behind the other; or answers
-/// the first fault.
-pub fn fill_unit<R: Source, T, W: RowWriter<T>>(
-    alloc: Global,
-    source: &mut R,
-    order: ByteOrder,
-    page: &Page,
-    limits: &Limits,
-    color: ColorType,
-    index: u32,
-    planes: u16,
-    stride: usize,
-    writer: &mut W,
-    buf: &mut [T],
-) -> TiffResult<()>
-    requires colored { color_of (view.page page.now) ≡ Ok color }
-    requires columns { row_bytes (view.page page.now) color (rect (view.page page.now) index).width ≤ stride }
-    requires some { 0 < planes }
-    requires room { planes * ((rect (view.page page.now) index).height * stride) ≤ length (W.bytes buf.old) }
-    requires few { planes * ((rect (view.page page.now) index).height * stride) < 2 ^ 64 }
-    requires which { (planes ≡ 1) ⊎ (index < chunks_of_plane (view.page page.now)) }
-    ensures kept { IsKept R.bytes R.failures result source.old source.new }
-    ensures answer { Answers (λ _. W.bytes buf.new) result (filled (R.bytes source.old) order (view.page page.now) limits.now
-        color (chunk_part (R.bytes source.old) order (view.page page.now) index planes stride) (W.bytes buf.old))
-        (R.failures source.old) (R.failures source.new) }
-{
-    let (_, height) = chunk_data_dimensions(page, index);
-    let chunks = chunks_of_plane(page) as usize;
-    for plane in 0..planes {
-        let at = usize::from(plane) * chunks + index as usize;
-        match form_fault(page, limits, color, at) {
-            Ok(()) => {}
-            Err(fault) => return Err(fault),
+    /// Reads a chunk into the bytes of a list, its rows a stride apart, or that of each of so many planes one behind the
+    /// other; or answers the first fault.
+    pub(crate) fn fill_unit<R: Source, T, W: RowWriter<T>>(
+        &self,
+        source: &mut R,
+        unit: UnitPart,
+        writer: &mut W,
+        buf: &mut [T],
+    ) -> TiffResult<()>
+        requires colored { color_of (view.page self.now.page.now) ≡ Ok unit.color }
+        requires columns { row_bytes (view.page self.now.page.now) unit.color
+            (rect (view.page self.now.page.now) unit.index).width ≤ unit.stride }
+        requires some { 0 < unit.planes }
+        requires room { unit.planes * ((rect (view.page self.now.page.now) unit.index).height * unit.stride)
+            ≤ length (W.bytes buf.old) }
+        requires few { unit.planes * ((rect (view.page self.now.page.now) unit.index).height * unit.stride) < 2 ^ 64 }
+        requires which { (unit.planes ≡ 1) ⊎ (unit.index < chunks_of_plane (view.page self.now.page.now)) }
+        ensures kept { IsKept R.bytes R.failures result source.old source.new }
+        ensures answer { Answers (λ _. W.bytes buf.new) result (filled (R.bytes source.old) self.now.order
+            (view.page self.now.page.now) self.now.limits.now unit.color
+            (chunk_part (view.page self.now.page.now) unit.index unit.planes unit.stride)
+            (W.bytes buf.old)) (R.failures source.old) (R.failures source.new) }
+    {
+        let page = self.page;
+        let (_, rows) = chunk_data_dimensions(page, unit.index);
+        let chunks = chunks_of_plane(page) as usize;
+        for plane in 0..unit.planes {
+            let index = usize::from(plane) * chunks + unit.index as usize;
+            match form_fault(page, self.limits, unit.color, index) {
+                Ok(()) => {}
+                Err(fault) => return Err(fault),
+            }
+            let corner = Corner {
+                top: usize::from(plane) * rows as usize,
+                left: 0,
+                stride: unit.stride,
+            };
+            let (width, height) = chunk_data_dimensions(page, index as u32);
+            let reader = ChunkReader {
+                page,
+                order: self.order,
+                color: unit.color,
+                index: index as u32,
+                width,
+                height,
+            };
+            match reader.read_rows(source, corner, writer, buf) {
+                Ok(()) => {}
+                Err(fault) => return Err(fault),
+            }
         }
-        let top = usize::from(plane) * height as usize;
-        let corner = Corner {
-            top,
-            left: 0,
-            stride,
-        };
-        match read_rows(
-            alloc, source, order, page, color, at as u32, writer, buf, corner,
-        ) {
-            Ok(()) => {}
-            Err(fault) => return Err(fault),
-        }
+        Ok(())
     }
-    Ok(())
 }

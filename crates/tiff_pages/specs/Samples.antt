@@ -2,7 +2,8 @@
 use Rattle.std.specs.Prelude.{ℕ, List, Result, Ok}
 use Rattle.tiff_base.specs.declared.error.TiffError.{TiffError}
 use Rattle.tiff.specs.Answers.{◌>>=◌}
-use Rattle.tiff.specs.Image.{Decoded, image_of}
+use Rattle.tiff.specs.Image.{Decoded}
+use Rattle.tiff.specs.PixelCalls.{image_of}
 use Rattle.tiff.specs.Machine.{Decoding}
 use Rattle.tiff.specs.Result.{bytes_of}
 

@@ -29,6 +29,8 @@ impl Source for ScriptedSource {
 
     ghost failures = { λ s. failed s.failure };
 
+    ghost reach = { λ _. 0 };
+
     ghost offsets = { λ s. s.inner.offsets };
 
     ghost octets = { λ s. s.inner.octets };

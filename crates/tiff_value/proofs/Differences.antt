@@ -8,29 +8,24 @@ use Rattle.std.proofs.lemmas.List.FromFn.{get_or-map-range_with_len}
 use Rattle.std.proofs.lemmas.List.Sums.{sum_by_push}
 use Rattle.std.proofs.lemmas.Nat.{div-add-mod'}
 use Rattle.std.proofs.Math.Nat.{mod-eq_of_lt, mul-le-mul_right, mod-add-mod, add-mod-mod, add-mod_right, mod-lt}
+use Rattle.tiff_base.proofs.Common.{range_more}
 use Rattle.tiff_base.specs.declared.tags.Predictor.TheVariants.{Horizontal}
 use Rattle.tiff_value.specs.Differences.{stored_difference, differences, predicted_row, restored_number, IsUndone}
 
-range_more : (a n : ℕ) → range_with_len a (suc n) ≡ range_with_len a n ++ (a + n) ∷ []
-range_more a zero = let e : a ≡ a + 0 = omega arith in ap (λ (k : ℕ). k ∷ []) e
-range_more a (suc n) =
-    let e : (a + 1) + n ≡ a + suc n = omega arith in
-    ap (λ (l : List ℕ). a ∷ l) (range_more (a + 1) n) ∙ ap (λ (k : ℕ). a ∷ (range_with_len (a + 1) n ++ k ∷ [])) e
-
 -- the first numbers, summed
-abbrev total : (ℕ → ℕ) → ℕ → ℕ
+abbrev pub total : (ℕ → ℕ) → ℕ → ℕ
 total d n = sum_by d (range_with_len 0 n)
 
-total_more : (d : ℕ → ℕ) (n : ℕ) → total d (suc n) ≡ total d n + d n
+pub total_more : (d : ℕ → ℕ) (n : ℕ) → total d (suc n) ≡ total d n + d n
 total_more d n =
     let e : 0 + n ≡ n = omega arith in
     ap (sum_by d) (range_more 0 n) ∙ sum_by_push d (range_with_len 0 n) (0 + n) ∙ ap (λ (k : ℕ). total d n + d k) e
 
-one_total : (d : ℕ → ℕ) → total d (suc zero) ≡ d 0
+pub one_total : (d : ℕ → ℕ) → total d (suc zero) ≡ d 0
 one_total d = total_more d zero ∙ omega arith
 
 -- what differs by d, summed, is x
-undone : (x d : ℕ → ℕ) (m last : ℕ) → ((c : ℕ) → x c < m) → d 0 ≡ x 0 → ((c : ℕ) → c < last → d (suc c) ≡ (x (suc c) + m - x c) % m)
+pub undone : (x d : ℕ → ℕ) (m last : ℕ) → ((c : ℕ) → x c < m) → d 0 ≡ x 0 → ((c : ℕ) → c < last → d (suc c) ≡ (x (suc c) + m - x c) % m)
     → (c : ℕ) → c ≤ last → total d (suc c) % m ≡ x c
 undone x d m last b z e zero h = rw (one_total d, z) (mod-eq_of_lt (b 0))
 undone x d m last b z e (suc c) h =

@@ -17,10 +17,10 @@ put-put file at xs ys h =
     ∙ paste_all file at (xs ++ ys) (length (xs ++ ys)) refl
 
 -- a piece at the end
-pub put_end : (file xs : List ℕ) (at : ℕ) → at ≡ length file → put file at xs ≡ file ++ xs
-put_end file xs at e =
-    let t : take at file ≡ file = take_all at file (omega arith) in
-    let d : drop (at + length xs) file ≡ [] = drop_all _ file (omega arith) in
+pub put_end : (file xs : List ℕ) (at : ℕ) → length file ≤ at → put file at xs ≡ file ++ xs
+put_end file xs at h =
+    let t : take at file ≡ file = take_all at file h in
+    let d : drop (at + length xs) file ≡ [] = drop_all _ file (omega (arith, h)) in
     ap (λ p. p ++ (xs ++ drop (at + length xs) file)) t ∙ ap (λ q. file ++ (xs ++ q)) d ∙ ap (λ q. file ++ q) (append-nil xs)
 
 pub take_split : (xs : List ℕ) (d n : ℕ) → take d xs ++ take n (drop d xs) ≡ take (d + n) xs

@@ -92,6 +92,8 @@ impl Source for FailingSource {
 
     ghost failures = { λ s. s.failed };
 
+    ghost reach = { λ _. 0 };
+
     ghost offsets = { λ s. s.inner.offsets };
 
     ghost octets = { λ s. s.inner.octets };

@@ -5,6 +5,7 @@ use Rattle.std.proofs.lemmas.Bool.{leb-false}
 use Rattle.std.proofs.lemmas.List.FromFn.{length-map-range_with_len}
 use Rattle.std.specs.List.{range_with_len}
 use Rattle.std.specs.Prelude.{not}
+use Rattle.tiff_base.proofs.Common.{neither}
 use Rattle.tiff_base.specs.declared.color.ChunkType.{ChunkType}
 use Rattle.tiff_base.specs.declared.color.ChunkType.TheVariants.{Strip, Tile}
 use Rattle.tiff_base.specs.declared.tags.PlanarConfiguration.{PlanarConfiguration}
@@ -18,7 +19,6 @@ use Rattle.tiff_encode.specs.Chunks.{all_samples, image_page, is_tile, is_planar
 use Rattle.tiff_encode.specs.Causes.{image_samples, write_image_data_cause}
 use Rattle.tiff_encode.specs.ImageData.{AreNumbers}
 use Rattle.tiff_encode.proofs.Open.Settings.{fresh, first_test}
-use Rattle.tiff_encode.proofs.Open.Tags.{neither}
 
 -- ---- small numbers
 

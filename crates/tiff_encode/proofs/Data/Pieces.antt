@@ -1,14 +1,13 @@
--- The samples that a chunk is handed, and the bytes that stand for them.
-use Rattle.std.proofs.Common.{◌≡◌, ℕ, ◌-◌, ◌*◌, ◌^◌, ◌<◌, min, true, false, cond, List, length, map, take, drop, Result, Ok, Err, MatchResult, ap, sym, ◌∙◌, subst, arith}
+-- The samples that a chunk is handed.
+use Rattle.std.proofs.Common.{◌≡◌, ℕ, ◌-◌, ◌*◌, ◌^◌, ◌<◌, min, true, false, cond, List, length, map, take, drop, Result, Ok, Err, ap, sym, ◌∙◌, subst, arith}
 use Rattle.std.proofs.lemmas.List.{length-map, take-map, drop-map}
 use Rattle.std.proofs.lemmas.List.FromFn.{length-map-range_with_len}
 use Rattle.tiff_base.specs.declared.error.TiffError.{TiffError}
-use Rattle.tiff_base.specs.declared.error.TiffError.TheVariants.{OutOfMemory}
-use Rattle.tiff_value.specs.Packed.{IsStored}
+use Rattle.tiff_encode.specs.Calls.{write_chunk}
 use Rattle.tiff_encode.specs.Chunks.{image_page, row_samples, chunk_samples, is_in_order, is_left, next_chunk_sample_count, cut_out}
-use Rattle.tiff_encode.specs.Machine.{OpenImage}
-use Rattle.tiff_encode.specs.Parts.{next_slice, next_part}
-use Rattle.tiff_encode.specs.Stored.{unpacked_chunk}
+use Rattle.tiff_encode.specs.Machine.{FileState, OpenImage}
+use Rattle.tiff_encode.specs.Parts.{next_slice, next_part, WritesPart}
+use Rattle.tiff_encode.specs.Storing.{StoresChunk}
 
 module _ {X : Type 0} (number : X → ℕ) (i : OpenImage) (samples : List X) (k : ℕ) where
   -- samples in their order
@@ -37,12 +36,12 @@ module _ {X : Type 0} (number : X → ℕ) (i : OpenImage) (samples : List X) (k
       let least : length part ≡ min (chunk_samples (image_page i) (length i.chunks)) (2 ^ 64 - 1) = omega (arith, same, few) in
       least ∙ ap (λ b. cond b (min (chunk_samples (image_page i) (length i.chunks)) (2 ^ 64 - 1)) 0) (sym left)
 
-module _ {X V : Type 0} (number : X → ℕ) (items : V → List ℕ) (i : OpenImage) (part : List X) (whole : List ℕ) (same : map number part ≡ whole)
-    (counted : length part ≡ next_chunk_sample_count i) where
-  -- the bytes that stand for them
-  pub part_stored : (r : Result V TiffError)
-      → MatchResult r (λ v. IsStored i.method (items v) (unpacked_chunk i (map number part))) (λ e. e ≡ OutOfMemory)
-      → MatchResult r (λ v. (length whole ≡ next_chunk_sample_count i) × IsStored i.method (items v) (unpacked_chunk i whole)) (λ e. e ≡ OutOfMemory)
-  part_stored (Ok v) h =
-      (ap (λ xs. length xs) (sym same) ∙ length-map part number ∙ counted, subst (λ xs. IsStored i.method (items v) (unpacked_chunk i xs)) same h)
-  part_stored (Err e) h = h
+module _ (i : OpenImage) (part whole : List ℕ) (same : part ≡ whole) (old new : FileState) (next : OpenImage) where
+  -- a chunk that is stored has its part of the image
+  pub part_written : (r : Result (Unit {0}) TiffError) → StoresChunk write_chunk i part r old new next → WritesPart i whole r old new next
+  part_written (Ok x) h =
+      let r : Result (Unit {0}) TiffError = Ok x in
+      subst (λ xs. WritesPart i xs r old new next) same h
+  part_written (Err e) h =
+      let r : Result (Unit {0}) TiffError = Err e in
+      subst (λ xs. WritesPart i xs r old new next) same h.1

@@ -3,6 +3,7 @@ use Rattle.std.proofs.Common.{◌≡◌, ℕ, Bool, true, false, List, [], ◌�
 use Rattle.std.specs.Prelude.{not, ◌||◌}
 use Rattle.std.specs.FinMap.{entries}
 use Rattle.std.specs.List.{list_any}
+use Rattle.tiff_base.proofs.Common.{neither}
 use Rattle.tiff_base.specs.declared.error.TiffError.{TiffError}
 use Rattle.tiff_base.specs.Field.{Field}
 use Rattle.tiff_encode.specs.declared.encoder.script.DirectoryStep.{DirectoryStep}
@@ -23,7 +24,6 @@ use Rattle.tiff_base.specs.Tags.{tag_number}
 use Rattle.tiff_base.specs.declared.tags.Tag.{Tag}
 use Rattle.tiff_encode.proofs.Open.Held.{grown_open}
 use Rattle.tiff_encode.proofs.Open.Kept.{tags_keep_open, fields_keep_open}
-use Rattle.tiff_encode.proofs.Open.Tags.{neither}
 
 is_not : (b : Bool) → not b ≡ true → b ≡ false
 is_not true h = absurd cc

@@ -3,6 +3,7 @@ use Rattle.std.proofs.Common.{◌≡◌, ℕ, zero, suc, ◌*◌, ◌^◌, ◌<�
 use Rattle.std.proofs.Math.Nat.{div-le_self, min-le_left}
 use Rattle.std.proofs.lemmas.Grind.{div_ceil_times}
 use Rattle.std.specs.Prelude.{◌/◌, ◌%◌, ◌==◌}
+use Rattle.tiff_base.proofs.Common.{neither}
 use Rattle.tiff_base.specs.declared.error.TiffError.{TiffError}
 use Rattle.tiff_base.specs.declared.tags.CompressionMethod.{CompressionMethod}
 use Rattle.tiff_base.specs.declared.tags.CompressionMethod.TheVariants as method
@@ -31,7 +32,7 @@ use Rattle.tiff_encode.proofs.Slices.{ok_inj}
 use Rattle.tiff_encode.proofs.Runs.{uncaused}
 use Rattle.tiff_encode.proofs.Joining.{adding, begin_adds}
 use Rattle.tiff_encode.proofs.Open.Held.{none_held}
-use Rattle.tiff_encode.proofs.Open.Tags.{both_held, caused_held, tags_adding, tags_held, after, after_joined, neither}
+use Rattle.tiff_encode.proofs.Open.Tags.{both_held, caused_held, tags_adding, tags_held, after, after_joined}
 use Rattle.tiff_encode.proofs.Open.Settings.{fresh, first_test, above}
 
 -- ---- its tags

@@ -5,6 +5,7 @@ use Rattle.std.proofs.Math.Seq.{get_or-append_seam}
 use Rattle.std.proofs.lemmas.Bool.{eqb-true, ltb-true, leb-false, cases_lt, false≢true}
 use Rattle.std.proofs.lemmas.List.{length-append, length-map, map-append, get_or_append_left}
 use Rattle.std.specs.Prelude.{not, ◌==◌, slice_index}
+use Rattle.tiff_base.proofs.Common.{neither}
 use Rattle.tiff_value.specs.Packed.{IsStored}
 use Rattle.tiff_page.specs.Counts.{all_chunks}
 use Rattle.tiff_page.specs.Rect.{rect}
@@ -20,7 +21,7 @@ use Rattle.tiff_encode.specs.Open.{HoldsChunks, HoldsOpen, model_by, ChunksKeepO
 use Rattle.tiff_encode.proofs.Slices.{ok_inj}
 use Rattle.tiff_encode.proofs.CallFits.{offset_fits}
 use Rattle.tiff_encode.proofs.Open.Held.{holds_grown}
-use Rattle.tiff_encode.proofs.Open.Tags.{caused_held, neither}
+use Rattle.tiff_encode.proofs.Open.Tags.{caused_held}
 use Rattle.tiff_encode.proofs.Open.Kept.{tells_kept, open_kept}
 use Rattle.tiff_encode.proofs.Open.Settings.{fresh, first_test}
 use Rattle.tiff_encode.proofs.Deeds.{deeds_grow}

@@ -2,6 +2,7 @@
 use Rattle.std.proofs.Common.{◌≡◌, ℕ, false, List, [], ◌∷◌, Option, Some, Ok, refl, ap, sym, ◌∙◌, subst}
 use Rattle.std.specs.List.{list_any}
 use Rattle.std.specs.FinMap.{insert}
+use Rattle.tiff_base.proofs.Common.{neither}
 use Rattle.tiff_base.specs.declared.color.ChunkType.{ChunkType}
 use Rattle.tiff_base.specs.declared.color.ChunkType.TheVariants.{Strip, Tile}
 use Rattle.tiff_base.specs.declared.error.TiffError.{TiffError}
@@ -21,7 +22,7 @@ use Rattle.tiff_encode.specs.Open.{TellsForm, TellsOpen, IsOpen, HoldsChunks, Ho
 use Rattle.tiff_encode.proofs.Slices.{ok_inj}
 use Rattle.tiff_encode.proofs.Deeds.{deeds_grow}
 use Rattle.tiff_encode.proofs.Open.Held.{chunks_grown, other_held}
-use Rattle.tiff_encode.proofs.Open.Tags.{both_held, caused_held, tags_adding, other_tag_held, other_buf_held, others_held, neither}
+use Rattle.tiff_encode.proofs.Open.Tags.{both_held, caused_held, tags_adding, other_tag_held, other_buf_held, others_held}
 
 -- ---- one part
 

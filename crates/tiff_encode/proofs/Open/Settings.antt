@@ -2,6 +2,7 @@
 use Rattle.std.proofs.Common.{◌≡◌, ℕ, ◌+◌, ◌^◌, ◌<◌, ◌≤◌, inl, Bool, true, false, cond, List, [], ◌∷◌, length, get_or, Option, Some, None, Ok, refl, ap, sym, ◌∙◌, subst, arith}
 use Rattle.std.proofs.lemmas.Bool.{ltb-false, eqb-false}
 use Rattle.std.specs.Prelude.{◌==◌}
+use Rattle.tiff_base.proofs.Common.{neither}
 use Rattle.tiff_base.specs.declared.color.ChunkType.TheVariants.{Strip, Tile}
 use Rattle.tiff_base.specs.declared.error.TiffError.{TiffError}
 use Rattle.tiff_base.specs.declared.io.SinkFault.{SinkFault}
@@ -24,7 +25,7 @@ use Rattle.tiff_encode.proofs.Slices.{ok_inj}
 use Rattle.tiff_encode.proofs.Deeds.{deeds_grow}
 use Rattle.tiff_encode.proofs.Joining.{adding, tag_adds}
 use Rattle.tiff_encode.proofs.Open.Held.{chunks_grown, set, unset_held}
-use Rattle.tiff_encode.proofs.Open.Tags.{both_held, caused_held, tags_adding, tag_held, tags_held, after, neither}
+use Rattle.tiff_encode.proofs.Open.Tags.{both_held, caused_held, tags_adding, tag_held, tags_held, after}
 use Rattle.tiff_encode.proofs.Open.Kept.{form_kept}
 
 -- ---- what its causes say

@@ -3,6 +3,7 @@ use Rattle.std.proofs.Common.{◌≡◌, ℕ, Bool, true, false, cond, List, [],
 use Rattle.std.proofs.lemmas.List.{length-take-le, length-append}
 use Rattle.std.specs.Prelude.{replicate, ◌||◌}
 use Rattle.std.specs.List.{list_any}
+use Rattle.tiff_base.proofs.Common.{neither}
 use Rattle.tiff_base.specs.declared.error.TiffError.{TiffError}
 use Rattle.tiff_base.specs.declared.tags.FileKind.{FileKind}
 use Rattle.tiff_base.specs.declared.tags.Tag.{Tag}
@@ -175,11 +176,6 @@ pub other_buf_held : (d : OpenDirectory) (t : Tag) (b : BufferRecord) (file : Fi
     → HoldsValues (model_by file m (write_tag_buf d t b file)) next.fields given
 unfolding write_tag_buf
 other_buf_held d t b file m given next q o h = other_by (write_entry_buf b) d t file m given next (buf_adds b file) q o h
-
--- neither of two tests
-pub neither : (a b : Bool) → (a || b) ≡ false → (a ≡ false) × (b ≡ false)
-neither true b h = absurd cc
-neither false b h = (refl, h)
 
 -- several of them
 pub others_held : (d : OpenDirectory) (values : List (Tag × Scalars)) (file : FileState) (m : Model) (given : Given) (next : OpenDirectory)

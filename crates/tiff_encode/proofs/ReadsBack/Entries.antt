@@ -1,10 +1,11 @@
 -- A page that shows an image is read as its samples.
 use Rattle.std.proofs.Common.{◌≡◌, ℕ, ◌+◌, ◌*◌, ◌/◌, ◌%◌, ◌^◌, ◌<◌, ◌≤◌, min, true, false, List, length, Result, Ok, refl, ap, sym, ◌∙◌, subst, arith}
-use Rattle.std.specs.Prelude.{nat_lt, nat_le, not, ◌==◌, slice_index}
+use Rattle.std.specs.Prelude.{replicate, nat_lt, nat_le, not, ◌==◌, slice_index}
 use Rattle.std.specs.Int.{div_ceil}
 use Rattle.std.proofs.lemmas.Bool.{lt-ltb, le-ltb, lt-leb, eq-eqb, and_right}
 use Rattle.std.proofs.lemmas.Nat.{div-mul-add, mod-mul-add}
 use Rattle.std.proofs.Math.Nat.{mul-mod_left, le-div_iff_mul-le, le-mul_of_pos_right}
+use Rattle.tiff_base.proofs.Common.{bind_ok}
 use Rattle.tiff_base.specs.declared.color.ColorType.{ColorType}
 use Rattle.tiff_base.specs.declared.error.TiffError.{TiffError}
 use Rattle.tiff_base.specs.declared.tags.ByteOrder.TheVariants.{LittleEndian}
@@ -24,18 +25,22 @@ use Rattle.tiff_page.specs.Page.{PageRecord}
 use Rattle.tiff_page.specs.Counts.{all_chunks, parts}
 use Rattle.tiff_page.specs.Rect.{chunks_of_plane}
 use Rattle.tiff_page.specs.Layout.{LayoutRecord, row_bits, row_bytes, shown, planes, wide, aligned, layout_of, sample_type_from, sample_type_of, size_of}
-use Rattle.tiff_page.specs.PixelFault.{is_whole, depth_fault, form_fault, chunk_fault, each_below, samples_fault}
+use Rattle.tiff_page.specs.PixelFault.{is_whole, depth_fault, form_fault, chunk_fault, samples_fault}
 use Rattle.tiff_page.specs.Row.{IsSize}
-use Rattle.tiff_page.specs.Pixels.{is_short, image_bytes, numbers_in}
-use Rattle.tiff_page.specs.Image.{Decoded, decoded_samples, image_of}
+use Rattle.tiff_page.specs.Pixels.{is_short, image_region, numbers_in}
+use Rattle.tiff_page.specs.Buffers.{planes_layout}
+use Rattle.tiff_page.specs.PixelCalls as calls
+use Rattle.tiff_page.specs.PixelCalls.{Part, placed, part_fault, filled, image_part, image_of}
+use Rattle.tiff_page.specs.Image.{Decoded, decoded_samples}
 use Rattle.tiff_page.proofs.Sizes.{planes_some}
 use Rattle.tiff_page.proofs.Rows.{by_size, some_size}
 use Rattle.tiff_page.proofs.PositionLaws.{no_fault}
-use Rattle.tiff_page.proofs.Planes.{layout_gives, color_shows}
+use Rattle.tiff_page.proofs.Planes.{layout_gives, color_shows, first_plane_fault}
+use Rattle.tiff_page.proofs.Portions.{placed_in_zeros}
 use Rattle.tiff_page.proofs.Planes as plane
 use Rattle.tiff_encode.specs.Shows.{Image, Shows}
 use Rattle.tiff_encode.specs.ReadsBack.{samples_shown, HasSamplesOf, IsReadable, LetsPass, ReadsShown, ReadsBack}
-use Rattle.tiff_encode.proofs.Slices.{bind_ok, ok_inj}
+use Rattle.tiff_encode.proofs.Slices.{ok_inj}
 use Rattle.tiff_encode.proofs.ReadsBack.Numbers.{all_are, sample_within, column_within, row_within, numbers_are}
 use Rattle.tiff_encode.proofs.ReadsBack.Page.{IsListed, page_listed}
 
@@ -71,6 +76,22 @@ planes_there Planar color h = h
 at_least : (n k m : ℕ) → 0 < k → n * k ≤ m → n ≤ m / k
 at_least n k m b h = (le-div_iff_mul-le b).1 h
 
+-- samples that are read are the numbers of what is placed in zeros
+samples_give : (file : List ℕ) (p : PageRecord) (limits : Limits) (color : ColorType) (part : Part) (len : ℕ) (d : Decoded)
+    → calls.samples file LittleEndian p limits color part len ≡ Ok d
+    → (t : DecodingSampleType) × ((sample_type_of p ≡ Ok t)
+    × (decoded_samples t (placed file LittleEndian p color part.region part.stride part.planes (replicate len 0)) ≡ d))
+unfolding calls.samples filled
+samples_give file p limits color part len d e =
+    let zeros : List ℕ = replicate len 0 in
+    let all : List ℕ = placed file LittleEndian p color part.region part.stride part.planes zeros in
+    let type = bind_ok (sample_type_of p) _ _ e in
+    let passed = bind_ok (samples_fault limits (size_of type.0) len) _ _ type.1.1 in
+    let made = bind_ok (filled file LittleEndian p limits color part zeros) _ _ passed.1.1 in
+    let whole = bind_ok (part_fault file LittleEndian p limits color part) _ _ made.1.0 in
+    let here : all ≡ made.0 = ok_inj all made.0 whole.1.1 in
+    (type.0, (type.1.0, ap (decoded_samples type.0) here ∙ ok_inj (decoded_samples type.0 made.0) d made.1.1))
+
 -- ---- of a page that shows an image
 module _ (kind : FileKind) (file : List ℕ) (offset : ℕ) (i : Image) (size : ℕ) (limits : Limits) (s : Shows kind file offset i) (h : HasSamplesOf i size) where
   abbrev p : PageRecord
@@ -93,11 +114,17 @@ module _ (kind : FileKind) (file : List ℕ) (offset : ℕ) (i : Image) (size : 
   some : 0 < num_samples color
   some = subst plane.Shows s.is_color (color_shows p listed.some)
 
-  -- the numbers of its bytes are the samples that it shows
-  bytes_are : numbers_in size (image_bytes file LittleEndian p color) ≡ samples_shown i p color
+  -- its bytes, of rows of so many bytes
+  abbrev bytes : ColorType → ℕ → ℕ → List ℕ
+  bytes c row all = placed file LittleEndian p c (image_region p) row 1 (replicate all 0)
+
+  -- the numbers of these are the samples that it shows
+  bytes_are : numbers_in size (bytes color (row_bytes p color p.width) (row_bytes p color p.width * p.height)) ≡ samples_shown i p color
   bytes_are =
       let n : ℕ = shown p.planar color in
-      numbers_are file p color size deep h.is_size (λ k. i.sample_at (k / n % p.width) (k / n / p.width) (k % n))
+      let row : ℕ = row_bytes p color p.width in
+      ap (numbers_in size) (placed_in_zeros file LittleEndian p color (image_region p) row 1 (row * p.height))
+      ∙ numbers_are file p color size deep h.is_size (λ k. i.sample_at (k / n % p.width) (k / n / p.width) (k % n))
       (λ k b.
       let few : k % n < num_samples color = omega (arith, sample_within file p color size deep h.is_size k b, shown_few p.planar color some) in
       s.shows (k / n % p.width) (k / n / p.width) (k % n)
@@ -110,28 +137,33 @@ module _ (kind : FileKind) (file : List ℕ) (offset : ℕ) (i : Image) (size : 
   type_is t e = type_sized p.format size t h.is_size (sym (ap (λ (n : ℕ). sample_type_from p.format n) deep) ∙ e)
 
   numbers_of : (t : DecodingSampleType) (c : ColorType) → sample_type_of p ≡ Ok t → c ≡ color
-      → numbers_in (size_of t) (image_bytes file LittleEndian p c) ≡ samples_shown i p color
+      → numbers_in (size_of t) (bytes c (row_bytes p c p.width) (row_bytes p c p.width * p.height)) ≡ samples_shown i p color
   numbers_of t c e f =
-      ap (λ (n : ℕ). numbers_in n (image_bytes file LittleEndian p c)) (type_is t e)
-      ∙ ap (λ (k : ColorType). numbers_in size (image_bytes file LittleEndian p k)) f
+      ap (λ (n : ℕ). numbers_in n (bytes c (row_bytes p c p.width) (row_bytes p c p.width * p.height))) (type_is t e)
+      ∙ ap (λ (k : ColorType). numbers_in size (bytes k (row_bytes p k p.width) (row_bytes p k p.width * p.height))) f
       ∙ bytes_are
 
   -- whatever is read of it are these samples
   shown_read : (d : Decoded) → image_of file LittleEndian p limits ≡ Ok d
       → (d.numbers ≡ samples_shown i p color) × (sample_type_of p ≡ Ok d.sample_type)
-  unfolding image_of
+  unfolding image_of planes_layout
   shown_read d e =
-      let layout = bind_ok (layout_of p p.width p.height) _ _ e in
-      let l : LayoutRecord = layout.0 in
-      let given = layout_gives p p.width p.height l layout.1.0 in
+      let whole = bind_ok (planes_layout p p.width p.height) _ _ e in
+      let laid = bind_ok (layout_of p p.width p.height) _ _ whole.1.0 in
+      let l : LayoutRecord = laid.0 in
+      let fits = bind_ok (wide (l.plane_stride * planes p.planar l.color)) _ _ laid.1.1 in
+      let is_l : l ≡ whole.0 = ok_inj l whole.0 fits.1.1 in
+      let given = layout_gives p p.width p.height l laid.1.0 in
       let same : l.color ≡ color = ok_inj l.color color (sym given.1.0 ∙ s.is_color) in
-      let fits = bind_ok (wide (l.plane_stride * planes p.planar l.color)) _ _ layout.1.1 in
-      let type = bind_ok (sample_type_of p) _ _ fits.1.1 in
-      let passed = bind_ok (samples_fault limits (size_of type.0) l.plane_stride) _ _ type.1.1 in
-      let chunks = bind_ok (each_below (chunk_fault p limits (is_short file LittleEndian p l.color) l.color) (chunks_of_plane p)) _ _ passed.1.1 in
-      let is_d : decoded_samples type.0 (image_bytes file LittleEndian p l.color) ≡ d = ok_inj (decoded_samples type.0 (image_bytes file LittleEndian p l.color)) d chunks.1.1 in (
-        sym (ap (λ (x : Decoded). x.numbers) is_d) ∙ numbers_of type.0 l.color type.1.0 same,
-        type.1.0 ∙ ap (λ (x : Decoded). Ok x.sample_type) is_d,
+      let read : calls.samples file LittleEndian p limits l.color (image_part p 1 l.row_bytes) l.plane_stride ≡ Ok d =
+      (λ t. calls.samples file LittleEndian p limits (is_l t).color (image_part p 1 (is_l t).row_bytes) (is_l t).plane_stride) ∙ whole.1.1 in
+      let a = samples_give file p limits l.color (image_part p 1 l.row_bytes) l.plane_stride d read in
+      let numbers : d.numbers ≡ numbers_in (size_of a.0) (bytes l.color l.row_bytes l.plane_stride) = ap (λ (x : Decoded). x.numbers) (sym a.1.1) in
+      let type : sample_type_of p ≡ Ok d.sample_type = a.1.0 ∙ ap (λ (x : Decoded). Ok x.sample_type) a.1.1 in (
+        numbers
+            ∙ (λ t. numbers_in (size_of a.0) (bytes l.color (given.0.0 t) (given.0.1 t)))
+            ∙ numbers_of a.0 l.color a.1.0 same,
+        type,
       )
 
   -- ---- where it is readable and the limits let it pass
@@ -201,12 +233,12 @@ module _ (kind : FileKind) (file : List ℕ) (offset : ℕ) (i : Image) (size : 
     chunk_is : (k : ℕ) → k < chunks_of_plane p → chunk_fault p limits (is_short file LittleEndian p color) color k ≡ Ok tt
     chunk_is k b = rw (form_is k b, s.whole k (chunk_listed k b)) refl
 
-    chunks_are : each_below (chunk_fault p limits (is_short file LittleEndian p color) color) (chunks_of_plane p) ≡ Ok tt
-    chunks_are = (no_fault (chunk_fault p limits (is_short file LittleEndian p color) color) (chunks_of_plane p)).1 chunk_is
+    chunks_are : part_fault file LittleEndian p limits color (image_part p 1 row) ≡ Ok tt
+    chunks_are = first_plane_fault file LittleEndian p limits color row ∙ (no_fault (chunk_fault p limits (is_short file LittleEndian p color) color) (chunks_of_plane p)).1 chunk_is
 
     -- it is read
     is_read : image_of file LittleEndian p limits ≡ Ok (record { sample_type = type; numbers = samples_shown i p color })
-    unfolding image_of
+    unfolding image_of planes_layout calls.samples filled
     is_read =
         let decoded_by : List ℕ → Result Decoded TiffError = λ numbers. Ok (record { sample_type = type; numbers = numbers }) in
         let fits : nat_lt (all * planes p.planar color) (2 ^ 64) ≡ true = lt-ltb (all * planes p.planar color) (2 ^ 64) l.whole in

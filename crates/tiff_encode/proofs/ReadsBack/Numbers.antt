@@ -15,7 +15,7 @@ use Rattle.tiff_base.specs.Number.{number}
 use Rattle.tiff_page.specs.Page.{PageRecord}
 use Rattle.tiff_page.specs.Layout.{row_bits, row_bytes, shown}
 use Rattle.tiff_page.specs.Row.{IsSize}
-use Rattle.tiff_page.specs.Pixels.{each_to, width_of, planar_or, shown_sample, number_byte, region_byte, image_region, byte_at, image_bytes, numbers_in}
+use Rattle.tiff_page.specs.Pixels.{each_to, width_of, planar_or, shown_sample, number_byte, region_byte, image_region, byte_at, numbers_in}
 use Rattle.tiff_page.proofs.ChunkRows.{bits_are}
 use Rattle.tiff_page.proofs.Rows.{each_same, digits, little_digits, some_size}
 
@@ -63,8 +63,12 @@ module _ (file : List ℕ) (p : PageRecord) (color : ColorType) (size : ℕ) (de
   unfolding row_bits
   stride_is = bits_are p.width p.depth size s (omega (arith, deep))
 
-  abbrev bytes : List ℕ
-  bytes = image_bytes file LittleEndian p color
+  -- the byte at a position
+  abbrev at : ℕ → ℕ
+  at i = unwrap_or (byte_at file LittleEndian p color (image_region p) stride 1 i) 0
+
+  abbrev pub bytes : List ℕ
+  bytes = each_to (stride * p.height) at
 
   -- the bytes of the image are those of its samples
   pub all_are : stride * p.height ≡ p.height * p.width * s * size
@@ -163,7 +167,7 @@ module _ (file : List ℕ) (p : PageRecord) (color : ColorType) (size : ℕ) (de
       abbrev x : ℕ
       x = shown_sample file LittleEndian p (n / s % p.width) (n / s / p.width) (n % s)
 
-      number_byte_is : number_byte file LittleEndian p color (image_region file LittleEndian p) (0 + 0) (n / s / p.width) k ≡ x / 256 ^ j % 256
+      number_byte_is : number_byte file LittleEndian p color (image_region p) (0 + 0) (n / s / p.width) k ≡ x / 256 ^ j % 256
       number_byte_is =
           let a : 0 + k / (p.depth / 8) / s ≡ n / s % p.width = ap (λ (m : ℕ). 0 + m / s) number_is ∙ omega (arith, column_is) in
           let b : 0 + n / s / p.width ≡ n / s / p.width = omega arith in
@@ -173,7 +177,7 @@ module _ (file : List ℕ) (p : PageRecord) (color : ColorType) (size : ℕ) (de
           ∙ first_plane p.planar n color in
           λ t. shown_sample file LittleEndian p (a t) (b t) (d t) / 256 ^ offset_is t % 256
 
-      byte_is : byte_at file LittleEndian p color (image_region file LittleEndian p) stride 1 i ≡ Some (x / 256 ^ j % 256)
+      byte_is : byte_at file LittleEndian p color (image_region p) stride 1 i ≡ Some (x / 256 ^ j % 256)
       unfolding byte_at
       byte_is =
           let first : i / (stride * p.height) ≡ 0 = div-eq_of_lt i_within in
@@ -181,13 +185,11 @@ module _ (file : List ℕ) (p : PageRecord) (color : ColorType) (size : ℕ) (de
           let row : i % (stride * p.height) / stride ≡ n / s / p.width = ap (λ (m : ℕ). m / stride) rest ∙ row_is in
           let tested : nat_lt k stride ≡ true = lt-ltb k stride (omega (arith, k_within, stride_is)) in
           let deep_enough : nat_lt p.depth 8 ≡ false = le-ltb p.depth 8 (omega (arith, deep, some_size size is_size)) in
-          let P : ℕ → Type 0 = λ m. cond (nat_lt (i / (stride * p.height)) 1 && nat_lt m stride) (Some (region_byte file LittleEndian p color (image_region file LittleEndian p) (0 + i / (stride * p.height)) (i % (stride * p.height) / stride) m)) None ≡ Some (x / 256 ^ j % 256) in
+          let P : ℕ → Type 0 = λ m. cond (nat_lt (i / (stride * p.height)) 1 && nat_lt m stride) (Some (region_byte file LittleEndian p color (image_region p) (0 + i / (stride * p.height)) (i % (stride * p.height) / stride) m)) None ≡ Some (x / 256 ^ j % 256) in
           subst P (sym rest_is) (rw (first, tested, deep_enough, row) (ap (λ (m : ℕ). Some m) number_byte_is))
 
       pub byte_there : slice_index bytes i ≡ x / 256 ^ j % 256
-      unfolding image_bytes
       byte_there =
-          let at : ℕ → ℕ = λ m. unwrap_or (byte_at file LittleEndian p color (image_region file LittleEndian p) stride 1 m) 0 in
           get_or-map-range_with_len at 0 (stride * p.height) i i 0 i_within (omega arith)
           ∙ ap (λ o. unwrap_or o 0) byte_is
 
@@ -204,9 +206,7 @@ module _ (file : List ℕ) (p : PageRecord) (color : ColorType) (size : ℕ) (de
 
   -- so many numbers are there
   count_is : div_ceil (length bytes) size ≡ p.height * p.width * s
-  unfolding image_bytes
   count_is =
-      let at : ℕ → ℕ = λ m. unwrap_or (byte_at file LittleEndian p color (image_region file LittleEndian p) stride 1 m) 0 in
       let l : length bytes ≡ stride * p.height = length-map-range_with_len at 0 (stride * p.height) in
       let n : ℕ = p.height * p.width * s in
       let e : n * size ≡ n * size + 0 = omega arith in
@@ -220,7 +220,7 @@ module _ (file : List ℕ) (p : PageRecord) (color : ColorType) (size : ℕ) (de
   -- and each is the sample
   pub numbers_are : (f : ℕ → ℕ) → ((n : ℕ) → n < p.height * p.width * s → shown_sample file LittleEndian p (n / s % p.width) (n / s / p.width) (n % s) ≡ f n)
       → ((n : ℕ) → f n < 256 ^ size)
-      → numbers_in size (image_bytes file LittleEndian p color) ≡ each_to (p.height * p.width * s) f
+      → numbers_in size bytes ≡ each_to (p.height * p.width * s) f
   unfolding numbers_in
   numbers_are f shows small =
       let number_at : ℕ → ℕ = λ n. number LittleEndian (width_of size) (each_to size (λ j. slice_index bytes (n * size + j))) in

@@ -2,6 +2,7 @@
 use Rattle.std.proofs.Common.{zero, suc, ◌≡◌, ℕ, ◌^◌, ◌<◌, true, false, cond, Bool, length, Result, Ok, Err, refl, sym, subst, arith, ⊎_elim}
 use Rattle.std.specs.Prelude.{nat_lt, ◌==◌, ◌&&◌}
 use Rattle.std.proofs.lemmas.Bool.{eqb-true}
+use Rattle.tiff_base.proofs.Common.{bind_ok}
 use Rattle.tiff_base.specs.declared.color.ChunkType.{ChunkType}
 use Rattle.tiff_base.specs.declared.color.ChunkType.TheVariants.{Strip, Tile}
 use Rattle.tiff_base.specs.declared.error.TiffError.{TiffError}
@@ -14,7 +15,7 @@ use Rattle.tiff_page.specs.Page.{PageRecord, Chunks}
 use Rattle.tiff_page.specs.Counts.{chunk_count, planes_of, all_chunks}
 use Rattle.tiff_page.specs.Checks.{size_in, interpretation_in, method_in, some_samples, samples_in, extra_in, format_in, depth_in, predictor_in, planar_in, subsampling_in, chunk_type_in, some_rows, some_side, inconsistent, chunks_counted, strips_in, tiles_in, chunks_in, page_of}
 use Rattle.tiff_page.proofs.Planes.{cases_of, given_bind}
-use Rattle.tiff_encode.proofs.Slices.{bind_ok, ok_inj}
+use Rattle.tiff_encode.proofs.Slices.{ok_inj}
 
 -- what a choice of an answer and a fault is
 chosen : {A : Type 0} (b : Bool) (x y : A) (e : TiffError) → cond b (Ok x) (Err e) ≡ Ok y → (b ≡ true) × (x ≡ y)

@@ -59,12 +59,12 @@ module _ (kind : FileKind) (file : List ℕ) (i : OpenImage) (samples : List (Li
       let xs : List ℕ = samples_of_chunk samples k in
       let bytes : List ℕ = unpacked_chunk i xs in
       let rows : ℕ = chunk_rows p k in
-      let n : needed file LittleEndian p tinted.color k ≤ rows * stored_row_bytes p = needed_within p sides file LittleEndian tinted.color k tinted.few in
+      let n : needed p tinted.color k ≤ rows * stored_row_bytes p = needed_within p sides tinted.color k tinted.few in
       let r : rows * stored_row_bytes p ≡ rows * (row_samples p * i.size) = ap (λ (m : ℕ). rows * m) (row_is i tinted) in
       let a : rows * row_samples p * i.size ≡ rows * (row_samples p * i.size) = mul_assoc rows (row_samples p) i.size in
       let l : length bytes ≡ rows * row_samples p * i.size = length_bytes i tinted xs ∙ ap (λ (m : ℕ). m * i.size) (h.lengths k b) in
       let d : length (chunk_data file LittleEndian p k) ≡ length bytes + length t.0 = ap length t.1 ∙ length-append bytes t.0 in
-      le-ltb (length (chunk_data file LittleEndian p k)) (needed file LittleEndian p tinted.color k) (omega (arith, n, r, a, l, d))
+      le-ltb (length (chunk_data file LittleEndian p k)) (needed p tinted.color k) (omega (arith, n, r, a, l, d))
 
   -- a sample is the one that was handed
   sample_shown : (x y sample : ℕ) → x < p.width → y < p.height → sample < num_samples tinted.color
@@ -83,7 +83,7 @@ module _ (kind : FileKind) (file : List ℕ) (i : OpenImage) (samples : List (Li
       let xs : List ℕ = samples_of_chunk samples k in
       let within : row * row_samples p + (column * stored_samples p + one) < length xs =
       subst (λ (n : ℕ). row * row_samples p + (column * stored_samples p + one) < n) (sym (h.lengths k b)) (offset_within p sides plane x y xl yl one f) in
-      tinted.upright file LittleEndian p (2 ^ p.depth) (stored_number file LittleEndian p k row column one)
+      tinted.upright (2 ^ p.depth) (stored_number file LittleEndian p k row column one)
       ∙ number_is i tinted xs file t.0 k t.1 (h.small k) w.predicted_by row column one f (mod_below x p.chunk_width sides.chunk_wide) within
       ∙ ap (λ (n : ℕ). get_or xs n 0) (offset_same p sides row column one)
 

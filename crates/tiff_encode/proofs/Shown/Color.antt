@@ -4,7 +4,6 @@ use Rattle.std.proofs.lemmas.Bool.{ne_eqb}
 use Rattle.std.proofs.lemmas.List.{length-replicate}
 use Rattle.tiff_base.specs.declared.color.ColorType.{ColorType}
 use Rattle.tiff_base.specs.declared.color.ColorType.TheVariants.{Gray, RGB, RGBA, CMYK, CMYKA, YCbCr, Multiband}
-use Rattle.tiff_base.specs.declared.tags.ByteOrder.{ByteOrder}
 use Rattle.tiff_base.specs.declared.tags.ExtraSamples.{ExtraSamples}
 use Rattle.tiff_base.specs.declared.tags.PhotometricInterpretation.{PhotometricInterpretation}
 use Rattle.tiff_base.specs.declared.tags.PhotometricInterpretation.TheVariants as meaning
@@ -152,14 +151,14 @@ module _ (p : PageRecord) (most : ℕ) (all : p.samples ≤ most) where
   family_has ThreeYcbcr e h = (YCbCr p.depth, (rw h refl, omega (arith, all, e)))
 
 -- nothing is inverted
-plain_family : (file : List ℕ) (order : ByteOrder) (p : PageRecord) (f : Family) (limit v : ℕ)
-    → inverted file order p (meaning_of f) limit v ≡ v
-plain_family file order p OneGray limit v = refl
-plain_family file order p ThreeRgb limit v = refl
-plain_family file order p FourRgb limit v = refl
-plain_family file order p FourCmyk limit v = refl
-plain_family file order p FiveCmyk limit v = refl
-plain_family file order p ThreeYcbcr limit v = refl
+plain_family : (f : Family) (limit v : ℕ)
+    → inverted (meaning_of f) limit v ≡ v
+plain_family OneGray limit v = refl
+plain_family ThreeRgb limit v = refl
+plain_family FourRgb limit v = refl
+plain_family FourCmyk limit v = refl
+plain_family FiveCmyk limit v = refl
+plain_family ThreeYcbcr limit v = refl
 
 -- the first of alike numbers
 first_of : (f : Family) (x : ℕ) → get_or (replicate (count_of f) x) 0 0 ≡ x
@@ -177,7 +176,7 @@ pub record IsColored (i : OpenImage) : Type 0 where
   pub few : num_samples color ≤ all_samples i
   pub depth : (image_page i).depth ≡ 8 * i.size
   pub is_size : IsSize i.size
-  pub upright : (file : List ℕ) (order : ByteOrder) (p : PageRecord) (limit v : ℕ) → inverted file order p i.color.interpretation limit v ≡ v
+  pub upright : (limit v : ℕ) → inverted i.color.interpretation limit v ≡ v
 
 -- an image of a color type of a family
 pub colored : (i : OpenImage) → IsOf i.color i.size → IsColored i
@@ -193,7 +192,7 @@ colored i c =
       few = has.1.1;
       depth = ap (λ (l : List ℕ). get_or l 0 0) c.bits ∙ first_of f (8 * i.size);
       is_size = c.is_size;
-      upright = λ file order q limit v.
-          ap (λ (m : PhotometricInterpretation). inverted file order q m limit v) c.interpretation
-          ∙ plain_family file order q f limit v;
+      upright = λ limit v.
+          ap (λ (m : PhotometricInterpretation). inverted m limit v) c.interpretation
+          ∙ plain_family f limit v;
     }

@@ -3,7 +3,8 @@ use Rattle.std.proofs.Common.{◌≡◌, ℕ, ◌+◌, ◌-◌, ◌*◌, ◌/◌
 use Rattle.std.specs.Prelude.{nat_lt, slice_index, sum_by}
 use Rattle.std.specs.List.{range_with_len, flat_map}
 use Rattle.std.proofs.lemmas.Bool.{le-ltb}
-use Rattle.std.proofs.lemmas.List.{take-append-drop}
+use Rattle.std.proofs.lemmas.List.{take-append-drop, get_or-take, get_or-drop}
+use Rattle.std.proofs.lemmas.Nat.{div-mul-add, mod-mul-add}
 use Rattle.std.proofs.lemmas.List.FromFn.{length-map-range_with_len, get_or-map-range_with_len}
 use Rattle.std.proofs.Math.Nat.{mul-le-mul_right, mul_assoc}
 use lib.Pow.{pow_pos}
@@ -20,7 +21,7 @@ use Rattle.tiff_value.specs.Differences.{stored_difference, differences}
 use Rattle.tiff_value.specs.Packed.{IsStored}
 use Rattle.tiff_value.proofs.Packing.{unpacks}
 use Rattle.tiff_page.specs.Page.{PageRecord}
-use Rattle.tiff_page.specs.Pixels.{each_to, width_of, stored_samples, stored_row_bytes, data_by_method, chunk_data, raw_number, number_by, stored_number}
+use Rattle.tiff_page.specs.Pixels.{each_to, width_of, stored_samples, stored_row_bytes, data_by_method, chunk_data, stored_row, number_size, row_number, number_by, stored_number}
 use Rattle.tiff_page.proofs.ChunkRows.{bits_are}
 use Rattle.tiff_encode.specs.Machine.{OpenImage}
 use Rattle.tiff_encode.specs.Chunks.{image_page, row_samples}
@@ -131,22 +132,29 @@ module _ (i : OpenImage) (c : IsColored i) where
       abbrev at : ℕ → ℕ → ℕ
       at column sample = row * l + (column * s + sample)
 
+      -- the row, as it is stored
+      abbrev stored : List ℕ
+      stored = stored_row file LittleEndian p k row
+
       -- a number as it stands is what was kept
-      raw_is : (column sample : ℕ) → at column sample < length xs
-          → raw_number file LittleEndian p k row column sample ≡ kept_of (at column sample)
-      raw_is column sample h =
+      raw_is : (column sample : ℕ) → column * s + sample < l → at column sample < length xs
+          → row_number LittleEndian (number_size p) stored (column * s + sample) ≡ kept_of (at column sample)
+      raw_is column sample inside h =
           let here : List ℕ = chunk_data file LittleEndian p k in
           let n : ℕ = at column sample in
           let q : ℕ = column * s + sample in
-          let f : ℕ → ℕ → ℕ = λ size j. slice_index here (row * stored_row_bytes p + (q * size + j)) in
+          let f : ℕ → ℕ → ℕ = λ size j. slice_index stored (q * size + j) in
           let there : get_or kept_all n 0 ≡ kept_of n = get_or-map-range_with_len kept_of 0 (length xs) n n 0 h (omega arith) in
           let long : length kept_all ≡ length xs = length-map-range_with_len kept_of 0 (length xs) in
           let fits : kept_of n < 256 ^ i.size = kept_small i.predictor (256 ^ i.size) l s xs n way (some_of i.size c.is_size) small in
           let r : row * stored_row_bytes p ≡ row * (l * i.size) = ap (λ (m : ℕ). row * m) row_is in
           let a : row * (l * i.size) ≡ row * l * i.size = sym (mul_assoc row l i.size) in
-          let e : (j : ℕ) → f i.size j ≡ get_or (flat_map (le i.size) kept_all ++ rest) (n * i.size + j) 0 = λ j.
+          let u : (q + 1) * i.size ≤ l * i.size = mul-le-mul_right i.size (omega (arith, inside)) in
+          let e : (j : ℕ) → j < i.size → f i.size j ≡ get_or (flat_map (le i.size) kept_all ++ rest) (n * i.size + j) 0 = λ j b.
           let z : row * stored_row_bytes p + (q * i.size + j) ≡ n * i.size + j = omega (arith, r, a) in
-          ap (λ (m : ℕ). slice_index here m) z
+          get_or-take (stored_row_bytes p) (drop (row * stored_row_bytes p) here) (q * i.size + j) 0 (omega (arith, u, b, row_is))
+          ∙ get_or-drop (row * stored_row_bytes p) here (q * i.size + j) 0
+          ∙ ap (λ (m : ℕ). slice_index here m) z
           ∙ ap (λ (b : List ℕ). get_or b (n * i.size + j) 0) (begins ∙ ap (λ (b : List ℕ). b ++ rest) bytes_are) in
           ap (λ (m : ℕ). number LittleEndian (width_of m) (each_to m (f m))) size_is
           ∙ number_found i.size kept_all rest n (f i.size) c.is_size (omega (arith, h, long))
@@ -158,16 +166,17 @@ module _ (i : OpenImage) (c : IsColored i) where
           → stored_number file LittleEndian p k row column sample ≡ get_or xs (at column sample) 0
       number_is column sample first inside h =
           let m : ℕ = 256 ^ i.size in
-          let raw : ℕ → ℕ = λ j. raw_number file LittleEndian p k row j sample in
-          let P : Predictor → Type 0 = λ q. ((j : ℕ) → j ≤ column → raw j ≡ stored_difference q m l s xs (at j sample))
-          → number_by file LittleEndian p q k row column sample ≡ get_or xs (at column sample) 0 in
+          let q : ℕ = column * s + sample in
+          let raw : ℕ → ℕ = λ j. row_number LittleEndian (number_size p) stored (j * s + sample) in
+          let P : Predictor → Type 0 = λ w. ((j : ℕ) → j ≤ column → raw j ≡ stored_difference w m l s xs (at j sample))
+          → number_by w LittleEndian p stored q ≡ get_or xs (at column sample) 0 in
           let u : (column + 1) * s ≤ p.chunk_width * s = mul-le-mul_right s (omega (arith, inside)) in
           let way_of : P i.predictor = elim way as (λ _. P i.predictor) [
             | inl e ↦ subst P (sym e) (λ f. f column (omega arith))
             | inr e ↦ subst P (sym e) (λ f.
-                ap (λ (n : ℕ). sum_by raw (range_with_len 0 (column + 1)) % n) (ap (λ (d : ℕ). 2 ^ d) c.depth ∙ bits_of i.size c.is_size)
+                (λ t. sum_by (λ j. row_number LittleEndian (number_size p) stored (j * s + mod-mul-add column s sample first t)) (range_with_len 0 (div-mul-add column s sample first t + 1)) % 256 ^ size_is t)
                 ∙ summed m l s xs small row sample column first (omega (arith, u, first)) raw f)
           ] in
           way_of (λ j b.
           let v : j * s ≤ column * s = mul-le-mul_right s b in
-          raw_is j sample (omega (arith, v, h)))
+          raw_is j sample (omega (arith, v, u, first)) (omega (arith, v, h)))

@@ -1,11 +1,10 @@
 -- Where a pixel's samples are among those of its chunk, and how many bytes of a chunk are needed.
-use Rattle.std.proofs.Common.{◌≡◌, ℕ, ◌+◌, ◌-◌, ◌*◌, ◌/◌, ◌%◌, ◌<◌, ◌≤◌, min, Bool, true, false, cond, List, ap, sym, subst, arith}
+use Rattle.std.proofs.Common.{◌≡◌, ℕ, ◌+◌, ◌-◌, ◌*◌, ◌/◌, ◌%◌, ◌<◌, ◌≤◌, min, Bool, true, false, cond, ap, sym, subst, arith}
 use Rattle.std.proofs.lemmas.Nat.{mod_below, div-add-mod'}
 use Rattle.std.proofs.Math.Nat.{mul_comm, mul_assoc, mul-le-mul_left, mul-le-mul_right}
 use Rattle.tiff_base.specs.declared.color.ChunkType.{ChunkType}
 use Rattle.tiff_base.specs.declared.color.ChunkType.TheVariants.{Strip, Tile}
 use Rattle.tiff_base.specs.declared.color.ColorType.{ColorType}
-use Rattle.tiff_base.specs.declared.tags.ByteOrder.{ByteOrder}
 use Rattle.tiff_base.specs.declared.tags.PlanarConfiguration.{PlanarConfiguration}
 use Rattle.tiff_base.specs.declared.tags.PlanarConfiguration.TheVariants.{Chunky, Planar}
 use Rattle.tiff_base.specs.Color.{num_samples}
@@ -13,7 +12,7 @@ use Rattle.tiff_page.specs.Page.{PageRecord}
 use Rattle.tiff_page.specs.Counts.{planes_of, all_chunks}
 use Rattle.tiff_page.specs.Rect.{across, chunks_of_plane, rect, chunk_of_pixel}
 use Rattle.tiff_page.specs.Layout.{row_bits, row_bytes, shown}
-use Rattle.tiff_page.specs.Pixels.{planar_or, stored_samples, stored_row_bytes, needs_whole_rows, needed_of_last, needed}
+use Rattle.tiff_page.specs.Pixels.{planar_or, stored_samples, stored_row_bytes, needs_whole_rows, needed_of_row, needed}
 use Rattle.tiff_page.specs.Laws.{HasSides}
 use Rattle.tiff_page.proofs.Chunks.{fewer_bytes}
 use Rattle.tiff_page.proofs.PositionLaws.{one_below, j_below, row_is, chunks_within}
@@ -105,10 +104,10 @@ module _ (p : PageRecord) (sides : HasSides p) where
       omega (arith, e)
 
   -- what is needed of the last row is no more than a row
-  last_within : (file : List ℕ) (order : ByteOrder) (color : ColorType) (i : ℕ) → num_samples color ≤ p.samples
-      → needed_of_last file order p color i ≤ stored_row_bytes p
+  last_within : (color : ColorType) (i : ℕ) → num_samples color ≤ p.samples
+      → needed_of_row p color (row_bytes p color (rect p i).width) ≤ stored_row_bytes p
   unfolding row_bits
-  last_within file order color i few =
+  last_within color i few =
       let w : ℕ = (rect p i).width in
       let n : ℕ = shown p.planar color in
       let a : (w * p.depth * n + 7) / 8 ≤ (p.chunk_width * p.depth * n + 7) / 8 = fewer_bytes w p.chunk_width p.depth n (width_within i) in
@@ -120,13 +119,13 @@ module _ (p : PageRecord) (sides : HasSides p) where
       ]
 
   -- a chunk's rows are all that is needed of it
-  pub needed_within : (file : List ℕ) (order : ByteOrder) (color : ColorType) (i : ℕ) → num_samples color ≤ p.samples
-      → needed file order p color i ≤ chunk_rows p i * stored_row_bytes p
-  needed_within file order color i few =
+  pub needed_within : (color : ColorType) (i : ℕ) → num_samples color ≤ p.samples
+      → needed p color i ≤ chunk_rows p i * stored_row_bytes p
+  needed_within color i few =
       let h : ℕ = (rect p i).height in
       let r : ℕ = stored_row_bytes p in
       let some : 0 < h = (chunks_within p i sides).some_row in
-      let a : needed_of_last file order p color i ≤ r = last_within file order color i few in
+      let a : needed_of_row p color (row_bytes p color (rect p i).width) ≤ r = last_within color i few in
       let e : h - 1 + 1 ≡ h = omega (arith, some) in
       let d : (h - 1 + 1) * r ≡ (h - 1) * r + r = omega arith in
       let c : (h - 1 + 1) * r ≡ h * r = ap (λ (n : ℕ). n * r) e in

@@ -8,7 +8,6 @@ use Rattle.std.proofs.lemmas.Nat.{mod_below, div-add-mod', div-mul-add, mod-mul-
 use Rattle.std.proofs.Math.Nat.{mul_assoc, mul-le-mul_right, div-eq_of_lt, mod-eq_of_lt}
 use Rattle.tiff_base.specs.declared.color.ChunkType.{ChunkType}
 use Rattle.tiff_base.specs.declared.color.ChunkType.TheVariants.{Strip, Tile}
-use Rattle.tiff_base.specs.declared.tags.ByteOrder.TheVariants.{LittleEndian}
 use Rattle.tiff_base.specs.declared.tags.CompressionMethod.TheVariants as method
 use Rattle.tiff_base.specs.declared.tags.Predictor.TheVariants as predictor
 use Rattle.tiff_base.specs.declared.tags.PlanarConfiguration.{PlanarConfiguration}
@@ -119,18 +118,18 @@ module _ (p : PageRecord) (samples : List ℕ) (x y sample : ℕ) (sides : HasSi
 
   column_in : column < (rect p k).width
   column_in =
-      let r : x < (rect p k).x + (rect p k).width = (has_pixel p plane x y sides xl yl [] LittleEndian).right in
+      let r : x < (rect p k).x + (rect p k).width = (has_pixel p plane x y sides xl yl).right in
       let e : (rect p k).x + column ≡ x = left_is in
       omega (arith, r, e)
 
   row_in : row < (rect p k).height
   row_in =
-      let b : y < (rect p k).y + (rect p k).height = (has_pixel p plane x y sides xl yl [] LittleEndian).bottom in
+      let b : y < (rect p k).y + (rect p k).height = (has_pixel p plane x y sides xl yl).bottom in
       let e : (rect p k).y + row ≡ y = top_is in
       omega (arith, b, e)
 
   plane_there : (rect p k).plane ≡ plane
-  plane_there = (has_pixel p plane x y sides xl yl [] LittleEndian).of_plane
+  plane_there = (has_pixel p plane x y sides xl yl).of_plane
 
   -- what is cut out at an index
   abbrev cut_at : ℕ → ℕ

@@ -10,36 +10,8 @@ use Rattle.tiff_base.specs.declared.tags.Predictor.{Predictor}
 use Rattle.tiff_base.specs.declared.tags.Predictor.TheVariants as predictor
 use Rattle.tiff_base.specs.declared.tags.Predictor.TheVariants.{Horizontal}
 use Rattle.tiff_value.specs.Differences.{stored_difference}
+use Rattle.tiff_value.proofs.Differences.{total, undone}
 use Rattle.tiff_page.proofs.Rows.{sum_same}
-
--- one more number of a range
-range_more : (a n : ℕ) → range_with_len a (suc n) ≡ range_with_len a n ++ (a + n) ∷ []
-range_more a zero = let e : a ≡ a + 0 = omega arith in ap (λ (k : ℕ). k ∷ []) e
-range_more a (suc n) =
-    let e : (a + 1) + n ≡ a + suc n = omega arith in
-    ap (λ (l : List ℕ). a ∷ l) (range_more (a + 1) n) ∙ ap (λ (k : ℕ). a ∷ (range_with_len (a + 1) n ++ k ∷ [])) e
-
--- the first numbers, summed
-abbrev total : (ℕ → ℕ) → ℕ → ℕ
-total d n = sum_by d (range_with_len 0 n)
-
-total_more : (d : ℕ → ℕ) (n : ℕ) → total d (suc n) ≡ total d n + d n
-total_more d n =
-    let e : 0 + n ≡ n = omega arith in
-    ap (sum_by d) (range_more 0 n) ∙ sum_by_push d (range_with_len 0 n) (0 + n) ∙ ap (λ (k : ℕ). total d n + d k) e
-
-one_total : (d : ℕ → ℕ) → total d (suc zero) ≡ d 0
-one_total d = total_more d zero ∙ omega arith
-
--- what differs by d, summed, is x
-undone : (x d : ℕ → ℕ) (m last : ℕ) → ((c : ℕ) → x c < m) → d 0 ≡ x 0
-    → ((c : ℕ) → c < last → d (suc c) ≡ (x (suc c) + m - x c) % m)
-    → (c : ℕ) → c ≤ last → total d (suc c) % m ≡ x c
-undone x d m last b z e zero h = rw (one_total d, z) (mod-eq_of_lt (b 0))
-undone x d m last b z e (suc c) h =
-    let ih : total d (suc c) % m ≡ x c = undone x d m last b z e c (omega (arith, h)) in
-    let w : x c + (x (suc c) + m - x c) ≡ x (suc c) + m = omega (arith, b c) in
-    rw (total_more d (suc c), ← mod-add-mod, ih, e c (omega (arith, h)), add-mod-mod, w, add-mod_right) (mod-eq_of_lt (b (suc c)))
 
 -- rows of l numbers, a pixel having s
 module _ (m l s : ℕ) (numbers : List ℕ) (small : (k : ℕ) → get_or numbers k 0 < m) (row sample last : ℕ)

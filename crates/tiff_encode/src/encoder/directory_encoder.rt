@@ -59,21 +59,17 @@ impl<W: Sink, K: TiffKind> TiffEncoder<W, K> {
         ensures leaves { (m : Model) → Stands self.entry.now.kind self.entry.now.bytes m
             → IfOk result (λ d. Stands self.entry.now.kind d.encoder.now.bytes (model_after self.entry.now.kind self.entry.now.bytes m (calls.image_directory self.entry.now).deeds)) }
     {
-        match self.pad() {
-            Ok(()) => {
-                let parent = Some(self.chain);
-                let directory = Directory::empty(self.alloc);
-                Ok(DirectoryEncoder {
-                    encoder: self,
-                    state: Fields {
-                        directory,
-                        parent,
-                        chained: true,
-                    },
-                })
-            }
-            Err(fault) => Err(fault),
-        }
+        self.pad()?;
+        let parent = Some(self.chain);
+        let directory = Directory::empty(self.alloc);
+        Ok(DirectoryEncoder {
+            encoder: self,
+            state: Fields {
+                directory,
+                parent,
+                chained: true,
+            },
+        })
     }
 
     /// Begins a directory that is linked from nowhere, unless `set_parent` names a parent: padding to a multiple of 4.
@@ -86,20 +82,16 @@ impl<W: Sink, K: TiffKind> TiffEncoder<W, K> {
         ensures leaves { (m : Model) → Stands self.entry.now.kind self.entry.now.bytes m
             → IfOk result (λ d. Stands self.entry.now.kind d.encoder.now.bytes (model_after self.entry.now.kind self.entry.now.bytes m (calls.extra_directory self.entry.now).deeds)) }
     {
-        match self.pad() {
-            Ok(()) => {
-                let directory = Directory::empty(self.alloc);
-                Ok(DirectoryEncoder {
-                    encoder: self,
-                    state: Fields {
-                        directory,
-                        parent: None,
-                        chained: false,
-                    },
-                })
-            }
-            Err(fault) => Err(fault),
-        }
+        self.pad()?;
+        let directory = Directory::empty(self.alloc);
+        Ok(DirectoryEncoder {
+            encoder: self,
+            state: Fields {
+                directory,
+                parent: None,
+                chained: false,
+            },
+        })
     }
 }
 
@@ -125,13 +117,9 @@ impl<'a, W: Sink, K: TiffKind, D: State> DirectoryEncoder<'a, W, K, D> {
         ensures leaves { (m : Model) → Stands self.old.encoder.now.kind self.old.encoder.now.bytes m
             → Leaves (calls.write_entry (T.field_data value) self.old.encoder.now) result self.old.encoder.now self.new.encoder.now m }
     {
-        match self.encoder.place_value(&value) {
-            Ok(entry) => {
-                self.encoder.fits();
-                return Ok(entry);
-            }
-            Err(fault) => return Err(fault),
-        }
+        let entry = self.encoder.place_value(&value)?;
+        self.encoder.fits();
+        Ok(entry)
     }
 
     /// Writes the values of a buffer, as `write_entry` does. Bytes behind the last whole value are left out. In place of a
@@ -147,13 +135,9 @@ impl<'a, W: Sink, K: TiffKind, D: State> DirectoryEncoder<'a, W, K, D> {
             → Leaves (calls.write_entry_buf buffer.now self.old.encoder.now) result self.old.encoder.now self.new.encoder.now m }
     {
         fits_short(buffer);
-        match self.encoder.place_buffer(buffer) {
-            Ok(entry) => {
-                self.encoder.fits();
-                return Ok(entry);
-            }
-            Err(fault) => return Err(fault),
-        }
+        let entry = self.encoder.place_buffer(buffer)?;
+        self.encoder.fits();
+        Ok(entry)
     }
 
     /// Writes bytes as the values of a type, as `write_entry` does. In place of a text, bytes that end within a value are
@@ -168,13 +152,9 @@ impl<'a, W: Sink, K: TiffKind, D: State> DirectoryEncoder<'a, W, K, D> {
         ensures leaves { (m : Model) → Stands self.old.encoder.now.kind self.old.encoder.now.bytes m
             → Leaves (calls.write_entry_bytes field_type bytes.now self.old.encoder.now) result self.old.encoder.now self.new.encoder.now m }
     {
-        match self.encoder.place_entry_bytes(field_type, bytes) {
-            Ok(entry) => {
-                self.encoder.fits();
-                return Ok(entry);
-            }
-            Err(fault) => return Err(fault),
-        }
+        let entry = self.encoder.place_entry_bytes(field_type, bytes)?;
+        self.encoder.fits();
+        Ok(entry)
     }
 
     /// Writes a value as `write_entry` does, and then sets the field of a tag, in place of one that it had. Errors are those
@@ -191,15 +171,10 @@ impl<'a, W: Sink, K: TiffKind, D: State> DirectoryEncoder<'a, W, K, D> {
         ensures leaves { (m : Model) → Stands self.old.encoder.now.kind self.old.encoder.now.bytes m
             → Leaves (calls.write_tag (D.open_directory self.old.state) tag (T.field_data value) self.old.encoder.now) result self.old.encoder.now self.new.encoder.now m }
     {
-        let entry = match self.encoder.place_value(&value) {
-            Ok(entry) => entry,
-            Err(fault) => return Err(fault),
-        };
+        let entry = self.encoder.place_value(&value)?;
         self.encoder.fits();
-        match self.state.set(tag, entry) {
-            Ok(()) => return Ok(()),
-            Err(fault) => return Err(fault),
-        }
+        self.state.set(tag, entry)?;
+        Ok(())
     }
 
     /// Writes the values of a buffer as `write_entry_buf` does, and then sets the field of a tag, in place of one that it had.
@@ -217,15 +192,10 @@ impl<'a, W: Sink, K: TiffKind, D: State> DirectoryEncoder<'a, W, K, D> {
             → Leaves (calls.write_tag_buf (D.open_directory self.old.state) tag buffer.now self.old.encoder.now) result self.old.encoder.now self.new.encoder.now m }
     {
         fits_short(buffer);
-        let entry = match self.encoder.place_buffer(buffer) {
-            Ok(entry) => entry,
-            Err(fault) => return Err(fault),
-        };
+        let entry = self.encoder.place_buffer(buffer)?;
         self.encoder.fits();
-        match self.state.set(tag, entry) {
-            Ok(()) => return Ok(()),
-            Err(fault) => return Err(fault),
-        }
+        self.state.set(tag, entry)?;
+        Ok(())
     }
 
     /// Writes the bytes of a buffer, a ragged end too, and answers their offset, in bytes from the file's start. In place of a
@@ -241,10 +211,7 @@ impl<'a, W: Sink, K: TiffKind, D: State> DirectoryEncoder<'a, W, K, D> {
         ensures leaves { (m : Model) → Stands self.old.encoder.now.kind self.old.encoder.now.bytes m
             → Leaves (calls.write_data_buf buffer.now self.old.encoder.now) result self.old.encoder.now self.new.encoder.now m }
     {
-        match self.encoder.append_buffer(buffer) {
-            Ok(offset) => return Ok(offset),
-            Err(fault) => return Err(fault),
-        }
+        self.encoder.append_buffer(buffer)
     }
 
     /// Sets each field of a directory in turn, in place of one that it had for its tag. It writes nothing, and has no refusal,
@@ -256,10 +223,7 @@ impl<'a, W: Sink, K: TiffKind, D: State> DirectoryEncoder<'a, W, K, D> {
             (D.open_directory self.new.state) result }
         ensures rest { self.new.state ≡ D.with_directory self.old.state (D.open_directory self.new.state) }
     {
-        match self.state.extend_from(directory) {
-            Ok(()) => return Ok(()),
-            Err(fault) => return Err(fault),
-        }
+        self.state.extend_from(directory)
     }
 }
 
@@ -277,10 +241,7 @@ impl<'a, W: Sink, K: TiffKind> DirectoryEncoder<'a, W, K, Fields> {
         ensures leaves { (m : Model) → Stands self.old.encoder.now.kind self.old.encoder.now.bytes m
             → Leaves (calls.write_data (T.field_data value) self.old.encoder.now) result self.old.encoder.now self.new.encoder.now m }
     {
-        match self.encoder.append_value(&value) {
-            Ok(offset) => return Ok(offset),
-            Err(fault) => return Err(fault),
-        }
+        self.encoder.append_value(&value)
     }
 
     /// Has the link of a directory that was finished point to this one, when it ends. It writes nothing.
@@ -308,10 +269,8 @@ impl<'a, W: Sink, K: TiffKind> DirectoryEncoder<'a, W, K, Fields> {
         let DirectoryEncoder { encoder, state } = self;
         encoder.fits();
         state.fits();
-        match encoder.finish_directory(&state) {
-            Ok(_) => return Ok(()),
-            Err(fault) => return Err(fault),
-        }
+        encoder.finish_directory(&state)?;
+        Ok(())
     }
 
     /// Ends the directory as `finish` does, and answers where it and its link stand. Errors are those of `finish`.
@@ -346,10 +305,8 @@ impl<'a, W: Sink, K: TiffKind> DirectoryEncoder<'a, W, K, Fields> {
         } = self;
         encoder.fits();
         discarded.fits();
-        match encoder.finish_directory(&discarded) {
-            Ok(_) => return Ok(()),
-            Err(fault) => return Err(fault),
-        }
+        encoder.finish_directory(&discarded)?;
+        Ok(())
     }
 }
 
@@ -366,9 +323,6 @@ impl<'a, W: Sink, K: TiffKind, C: ColorType> DirectoryEncoder<'a, W, K, Drawing<
         ensures leaves { (m : Model) → Stands self.old.encoder.now.kind self.old.encoder.now.bytes m
             → Leaves (calls.write_data (T.field_data value) self.old.encoder.now) result self.old.encoder.now self.new.encoder.now m }
     {
-        match self.encoder.append_value(&value) {
-            Ok(offset) => return Ok(offset),
-            Err(fault) => return Err(fault),
-        }
+        self.encoder.append_value(&value)
     }
 }

@@ -87,17 +87,11 @@ impl<C: ColorType> State for Drawing<C> {
     ghost with_directory = { with_directory_of };
 
     fn set(&mut self, tag: Tag, entry: Entry) -> TiffResult<()> {
-        match self.directory.set(tag, entry) {
-            Ok(()) => return Ok(()),
-            Err(fault) => return Err(fault),
-        }
+        self.directory.set(tag, entry)
     }
 
     fn extend_from(&mut self, directory: &Directory) -> TiffResult<()> {
-        match self.directory.extend_from(directory) {
-            Ok(()) => return Ok(()),
-            Err(fault) => return Err(fault),
-        }
+        self.directory.extend_from(directory)
     }
 
     ghost given_directory = { λ i d. refl };

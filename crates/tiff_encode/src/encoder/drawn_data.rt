@@ -6,13 +6,11 @@ ghost use Rattle.tiff_page.specs.Counts.{all_chunks};
 ghost use Rattle.tiff_page.specs.Pixels.{each_to, stored_samples};
 ghost use Rattle.tiff_page.specs.Rect.{rect};
 ghost use Rattle.tiff_value.specs.ColorType.{sample_number};
-ghost use Rattle.tiff_value.specs.Packed.{IsStored};
 ghost use Rattle.tiff_encode.specs.Causes.{image_samples, write_image_data_cause};
 ghost use Rattle.tiff_encode.specs.Chunks.{image_page, is_in_order, is_left, next_chunk_sample_count, parts_left, row_samples};
 ghost use Rattle.tiff_encode.specs.Chunks as chunks;
 ghost use Rattle.tiff_encode.specs.ImageData.{WritesChunks, WritesImage, WritesImageData};
 ghost use Rattle.tiff_encode.specs.Parts.{next_part, next_slice, pixel_sample, rect_of, row_sample, IsPatch, WritesPart};
-ghost use Rattle.tiff_encode.specs.Stored.{unpacked_chunk};
 
 use crate::encoder::TiffEncoder;
 use crate::encoder::drawing::{Drawing, parts_of};
@@ -183,28 +181,6 @@ impl<C: ColorType> Drawing<C> {
         let end = start + self.next_samples();
         &samples[start as usize..end as usize]
     }
-
-    // The bytes that stand for the samples of the next chunk, where so many were written of all samples. Its only error is
-    // `OutOfMemory`.
-    fn stored_part(&self, alloc: Global, samples: &[C::Inner], written: u64) -> TiffResult<Vec<u8>>
-        requires left { is_left self.now ≡ true }
-        requires known { written ≤ length self.now.chunks }
-        requires fits { image_samples self.now < 2 ^ 64 }
-        requires whole { image_samples self.now ≤ length samples.now }
-        ensures { MatchResult result
-            (λ v. (length (next_part self.now (map (sample_number (type_size C.Inner.value_type) C.Inner.bits) samples.now) written) ≡ next_chunk_sample_count self.now)
-            × IsStored self.now.method v.items (unpacked_chunk self.now (next_part self.now (map (sample_number (type_size C.Inner.value_type) C.Inner.bits) samples.now) written)))
-            (λ e. e ≡ TiffError.OutOfMemory) }
-    {
-        if self.is_in_order() {
-            return self.stored_bytes(alloc, self.slice_out(samples, written));
-        }
-        let part = self.cut_out(alloc, samples, self.chunks.len() as u64)?;
-        if part.len() == usize::MAX {
-            return Err(TiffError::OutOfMemory);
-        }
-        self.stored_bytes(alloc, &part)
-    }
 }
 
 impl<W: Sink, K: TiffKind> TiffEncoder<W, K> {
@@ -222,15 +198,15 @@ impl<W: Sink, K: TiffKind> TiffEncoder<W, K> {
         ensures { WritesPart image.old (next_part image.old (map (sample_number (type_size C.Inner.value_type) C.Inner.bits)
             samples.now) written) result self.old self.new image.new }
     {
-        let stored = match image.stored_part(self.alloc, samples, written) {
-            Ok(stored) => stored,
-            Err(fault) => return Err(fault),
-        };
-        let count = image.next_samples() as usize;
-        match self.append_chunk(image, count, &stored) {
-            Ok(()) => return Ok(()),
-            Err(fault) => return Err(fault),
+        if image.is_in_order() {
+            let part = image.slice_out(samples, written);
+            return self.put_chunk(image, part);
         }
+        let part = image.cut_out(self.alloc, samples, image.chunks.len() as u64)?;
+        if part.len() == usize::MAX {
+            return Err(TiffError::OutOfMemory);
+        }
+        self.put_chunk(image, &part)
     }
 
     // The chunks that are left, one after another. After an error the first ones are written.
@@ -244,10 +220,7 @@ impl<W: Sink, K: TiffKind> TiffEncoder<W, K> {
             (map (sample_number (type_size C.Inner.value_type) C.Inner.bits) samples.now)) result self.old self.new image.new }
     {
         for written in 0..image.chunks_left() {
-            match self.write_part(image, samples, written) {
-                Ok(()) => {}
-                Err(fault) => return Err(fault),
-            }
+            self.write_part(image, samples, written)?;
         }
         Ok(())
     }
@@ -259,10 +232,7 @@ impl<W: Sink, K: TiffKind> TiffEncoder<W, K> {
             (λ _. write_image_data_cause self.now image.now count ≡ None)
             (λ e. write_image_data_cause self.now image.now count ≡ Some e) }
     {
-        match self.end() {
-            Ok(_) => {}
-            Err(fault) => return Err(fault),
-        }
+        self.end()?;
         let Some(all) = image.image_samples() else {
             return Err(TiffError::IoError(IoKind::InvalidInput));
         };
@@ -287,18 +257,10 @@ impl<W: Sink, K: TiffKind> TiffEncoder<W, K> {
         ensures { WritesImageData image.old (map (sample_number (type_size C.Inner.value_type) C.Inner.bits) samples.now) result
             self.old self.new }
     {
-        match self.check_data(image, samples.len()) {
-            Ok(()) => {}
-            Err(fault) => return Err(fault),
-        }
-        match self.write_chunks_left(image, samples) {
-            Ok(()) => {}
-            Err(fault) => return Err(fault),
-        }
-        match self.finish_image(image) {
-            Ok(_) => return Ok(()),
-            Err(fault) => return Err(fault),
-        }
+        self.check_data(image, samples.len())?;
+        self.write_chunks_left(image, samples)?;
+        self.finish_image(image)?;
+        Ok(())
     }
 
     // `write_image`: a new image, whole.
@@ -311,13 +273,8 @@ impl<W: Sink, K: TiffKind> TiffEncoder<W, K> {
         ensures { WritesImage C.described (type_size C.Inner.value_type) width height
             (map (sample_number (type_size C.Inner.value_type) C.Inner.bits) samples.now) result self.old self.new }
     {
-        let mut image = match self.begin_image::<C>(width, height) {
-            Ok(image) => image,
-            Err(fault) => return Err(fault),
-        };
-        match self.write_image_data(&mut image, samples) {
-            Ok(()) => return Ok(()),
-            Err(fault) => return Err(fault),
-        }
+        let mut image = self.begin_image::<C>(width, height)?;
+        self.write_image_data(&mut image, samples)?;
+        Ok(())
     }
 }

@@ -216,18 +216,13 @@ impl<W: Sink, K: TiffKind> TiffEncoder<W, K> {
         ensures { Ends (λ _. fields.new) (write_fields fields.old (fields_of (bits_tags bits.now extra)) self.old) result
             self.old self.new }
     {
-        match self.set_tag(fields, Tag::BitsPerSample, &Repeated::of(bits, extra)) {
-            Ok(()) => {}
-            Err(fault) => return Err(fault),
-        }
+        self.set_tag(fields, Tag::BitsPerSample, &Repeated::of(bits, extra))?;
         if extra == 0 {
             return Ok(());
         }
         let samples = (bits.len() + extra) as u16;
-        match self.set_tag(fields, Tag::SamplesPerPixel, &samples) {
-            Ok(()) => return Ok(()),
-            Err(fault) => return Err(fault),
-        }
+        self.set_tag(fields, Tag::SamplesPerPixel, &samples)?;
+        Ok(())
     }
 
     // The same, and the format of each sample.
@@ -243,14 +238,9 @@ impl<W: Sink, K: TiffKind> TiffEncoder<W, K> {
         ensures { Ends (λ _. fields.new) (write_fields fields.old (fields_of (samples_tags bits.now formats.now extra)) self.old)
             result self.old self.new }
     {
-        match self.set_bits(fields, bits, extra) {
-            Ok(()) => {}
-            Err(fault) => return Err(fault),
-        }
-        match self.set_tag(fields, Tag::SampleFormat, &Repeated::of(formats, extra)) {
-            Ok(()) => return Ok(()),
-            Err(fault) => return Err(fault),
-        }
+        self.set_bits(fields, bits, extra)?;
+        self.set_tag(fields, Tag::SampleFormat, &Repeated::of(formats, extra))?;
+        Ok(())
     }
 
     // A number of each chunk.
@@ -269,10 +259,7 @@ impl<W: Sink, K: TiffKind> TiffEncoder<W, K> {
             part,
             kind: PhantomData,
         };
-        match self.set_tag(fields, tag, &offsets) {
-            Ok(()) => return Ok(()),
-            Err(fault) => return Err(fault),
-        }
+        self.set_tag(fields, tag, &offsets)
     }
 
     // Where the chunks stand, and how many bytes each has there.
@@ -286,14 +273,9 @@ impl<W: Sink, K: TiffKind> TiffEncoder<W, K> {
             result self.old self.new }
     {
         let (offsets, byte_counts) = tags_of(chunk_type);
-        match self.set_offsets(fields, offsets, chunks, Part::Offset) {
-            Ok(()) => {}
-            Err(fault) => return Err(fault),
-        }
-        match self.set_offsets(fields, byte_counts, chunks, Part::Stored) {
-            Ok(()) => return Ok(()),
-            Err(fault) => return Err(fault),
-        }
+        self.set_offsets(fields, offsets, chunks, Part::Offset)?;
+        self.set_offsets(fields, byte_counts, chunks, Part::Stored)?;
+        Ok(())
     }
 
     // The tags that the end of an image writes. After an error the image isn't to be used.
@@ -304,19 +286,14 @@ impl<W: Sink, K: TiffKind> TiffEncoder<W, K> {
         self.is_of_kind();
         let extra = image.extra.len();
         let chunk_type = image.form.chunk_type;
-        match self.set_samples(
+        self.set_samples(
             &mut image.directory,
             C::bits_per_sample(),
             C::sample_format(),
             extra,
-        ) {
-            Ok(()) => {}
-            Err(fault) => return Err(fault),
-        }
-        match self.set_lists(&mut image.directory, chunk_type, &image.chunks) {
-            Ok(()) => return Ok(()),
-            Err(fault) => return Err(fault),
-        }
+        )?;
+        self.set_lists(&mut image.directory, chunk_type, &image.chunks)?;
+        Ok(())
     }
 
     // `finish` of an image: its last tags, then the end of its directory. After an error the image isn't to be used.
@@ -326,14 +303,8 @@ impl<W: Sink, K: TiffKind> TiffEncoder<W, K> {
     ) -> TiffResult<DirectoryOffset<K>>
         ensures { Ends (λ d. d) (calls.finish_image image.old self.old) result self.old self.new }
     {
-        match self.set_last(image) {
-            Ok(()) => {}
-            Err(fault) => return Err(fault),
-        }
-        match self.finish_directory(&image.directory) {
-            Ok(offset) => return Ok(offset),
-            Err(fault) => return Err(fault),
-        }
+        self.set_last(image)?;
+        self.finish_directory(&image.directory)
     }
 }
 

@@ -29,10 +29,8 @@ impl<W: Sink, K: TiffKind> TiffEncoder<W, K> {
         let Ok(bytes) = list_directory(self.alloc, kind, &fields.directory) else {
             return Err(TiffError::OutOfMemory);
         };
-        match self.append(&bytes) {
-            Ok(()) => return Ok(self.writer.offset() - offset_size(kind)),
-            Err(fault) => return Err(fault),
-        }
+        self.append(&bytes)?;
+        Ok(self.writer.offset() - offset_size(kind))
     }
 
     // The parent's link, where there is one, is pointed to a directory.
@@ -45,10 +43,7 @@ impl<W: Sink, K: TiffKind> TiffEncoder<W, K> {
         let Some(offset) = parent else {
             return Ok(());
         };
-        match self.link(offset, directory) {
-            Ok(()) => return Ok(()),
-            Err(fault) => return Err(fault),
-        }
+        self.link(offset, directory)
     }
 
     // The file is of the encoder's kind.
@@ -65,14 +60,9 @@ impl<W: Sink, K: TiffKind> TiffEncoder<W, K> {
             (λ e. finish_cause self.now fields.now ≡ Some e) }
     {
         self.is_of_kind();
-        let end = match self.end() {
-            Ok(end) => end,
-            Err(fault) => return Err(fault),
-        };
-        match check_end(K::file_kind(), end, fields) {
-            Ok(()) => return Ok(end),
-            Err(fault) => return Err(fault),
-        }
+        let end = self.end()?;
+        check_end(K::file_kind(), end, fields)?;
+        Ok(end)
     }
 
     // The chain goes on with a directory that is chained.
@@ -90,18 +80,9 @@ impl<W: Sink, K: TiffKind> TiffEncoder<W, K> {
         ensures { Ends (λ d. d) (calls.finish fields.now self.old) result self.old self.new }
     {
         self.is_of_kind();
-        let end = match self.end_offset(fields) {
-            Ok(end) => end,
-            Err(fault) => return Err(fault),
-        };
-        let link = match self.append_listed(fields) {
-            Ok(link) => link,
-            Err(fault) => return Err(fault),
-        };
-        match self.link_from(fields.parent, end) {
-            Ok(()) => {}
-            Err(fault) => return Err(fault),
-        }
+        let end = self.end_offset(fields)?;
+        let link = self.append_listed(fields)?;
+        self.link_from(fields.parent, end)?;
         self.chain_with(fields.chained, link);
         Ok(DirectoryOffset::at(end, link))
     }

@@ -52,16 +52,12 @@ impl<W: Sink, K: TiffKind> TiffEncoder<W, K> {
         ensures leaves { (m : Model) → Stands self.entry.now.kind self.entry.now.bytes m
             → IfOk result (λ i. Stands self.entry.now.kind i.encoder.now.bytes (model_by self.entry.now m (calls.new_image C.described (type_size C.Inner.value_type) width height self.entry.now))) }
     {
-        match self.begin_image::<C>(width, height) {
-            Ok(image) => {
-                self.fits();
-                Ok(DirectoryEncoder {
-                    encoder: self,
-                    state: image,
-                })
-            }
-            Err(fault) => Err(fault),
-        }
+        let image = self.begin_image::<C>(width, height)?;
+        self.fits();
+        Ok(DirectoryEncoder {
+            encoder: self,
+            state: image,
+        })
     }
 
     /// Writes an image of a color type whole: `new_image`, then `write_data` of its samples, row by row and pixel by pixel, which

@@ -20,10 +20,8 @@ use tiff_value::encoder::tiff_value::Rational;
 fn replied(answer: TiffResult<()>) -> TiffResult<StepReply>
     ensures { result ≡ reply_to answer }
 {
-    match answer {
-        Ok(()) => Ok(StepReply::Nothing),
-        Err(fault) => Err(fault),
-    }
+    answer?;
+    Ok(StepReply::Nothing)
 }
 
 // A copy of a fraction.
@@ -44,10 +42,7 @@ impl<'a, W: Sink, K: TiffKind, C: ColorType> DirectoryEncoder<'a, W, K, Drawing<
         ensures draws { StripDraws self.old.state numbers.now result self.old.encoder.now self.new.encoder.now self.new.state }
     {
         self.state.is_of_type();
-        let samples = match cut_samples::<C::Inner>(self.encoder.alloc(), numbers) {
-            Ok(samples) => samples,
-            Err(fault) => return Err(fault),
-        };
+        let samples = cut_samples::<C::Inner>(self.encoder.alloc(), numbers)?;
         self.encoder.is_short();
         let answer = self.write_strip(&samples);
         self.encoder.is_short();
@@ -61,10 +56,7 @@ impl<'a, W: Sink, K: TiffKind, C: ColorType> DirectoryEncoder<'a, W, K, Drawing<
         ensures draws { ChunkDraws self.old.state numbers.now result self.old.encoder.now self.new.encoder.now self.new.state }
     {
         self.state.is_of_type();
-        let samples = match cut_samples::<C::Inner>(self.encoder.alloc(), numbers) {
-            Ok(samples) => samples,
-            Err(fault) => return Err(fault),
-        };
+        let samples = cut_samples::<C::Inner>(self.encoder.alloc(), numbers)?;
         self.encoder.is_short();
         let answer = self.write_chunk(&samples);
         self.encoder.is_short();

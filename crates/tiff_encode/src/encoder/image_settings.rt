@@ -33,10 +33,8 @@ impl<W: Sink, K: TiffKind> TiffEncoder<W, K> {
         ensures { Checks (field_cause self.now (data_of (extras extra.now))) result }
     {
         let values = Slice(extra);
-        match check_field(self.file_kind(), end, values.count() as u64, values.bytes()) {
-            Ok(()) => return Ok(()),
-            Err(fault) => return Err(fault),
-        }
+        check_field(self.file_kind(), end, values.count() as u64, values.bytes())?;
+        Ok(())
     }
 
     // `extra_samples`'s cause
@@ -51,20 +49,14 @@ impl<W: Sink, K: TiffKind> TiffEncoder<W, K> {
             (λ e. causes.extra_samples_cause self.now image.now extra.now ≡ Some e) }
     {
         let _form = &image.form;
-        let end = match self.end() {
-            Ok(end) => end,
-            Err(fault) => return Err(fault),
-        };
+        let end = self.end()?;
         if image.is_begun() {
             return Err(TiffError::UsageError(UsageError::ReconfiguredAfterImageWrite));
         }
         if is_past_samples(C::bits_per_sample().len(), extra.len()) {
             return Err(TiffError::IntSizeError);
         }
-        match self.check_extras(end, extra) {
-            Ok(()) => return Ok(()),
-            Err(fault) => return Err(fault),
-        }
+        self.check_extras(end, extra)
     }
 
     // `rows_per_strip`'s cause
@@ -74,10 +66,7 @@ impl<W: Sink, K: TiffKind> TiffEncoder<W, K> {
             (λ _. (causes.rows_per_strip_cause self.now image.now rows ≡ None) × (0 < rows))
             (λ e. causes.rows_per_strip_cause self.now image.now rows ≡ Some e) }
     {
-        match self.end() {
-            Ok(_) => {}
-            Err(fault) => return Err(fault),
-        }
+        self.end()?;
         if rows == 0 || image.is_begun() || image.form.chunk_type == ChunkType::Tile {
             return Err(TiffError::IoError(IoKind::InvalidInput));
         }
@@ -96,10 +85,7 @@ impl<W: Sink, K: TiffKind> TiffEncoder<W, K> {
             (λ _. (causes.tiles_cause self.now image.now width length ≡ None) × (0 < width) × (0 < length))
             (λ e. causes.tiles_cause self.now image.now width length ≡ Some e) }
     {
-        match self.end() {
-            Ok(_) => {}
-            Err(fault) => return Err(fault),
-        }
+        self.end()?;
         if image.is_begun() {
             return Err(TiffError::UsageError(UsageError::ReconfiguredAfterImageWrite));
         }
@@ -114,10 +100,7 @@ impl<W: Sink, K: TiffKind> TiffEncoder<W, K> {
     fn check_planar<C: ColorType>(&self, image: &Drawing<C>) -> TiffResult<()>
         ensures { Checks (causes.planar_cause self.now image.now) result }
     {
-        match self.end() {
-            Ok(_) => {}
-            Err(fault) => return Err(fault),
-        }
+        self.end()?;
         if image.is_begun() {
             return Err(TiffError::UsageError(UsageError::ReconfiguredAfterImageWrite));
         }
@@ -129,10 +112,7 @@ impl<W: Sink, K: TiffKind> TiffEncoder<W, K> {
     fn check_resolution(&self) -> TiffResult<()>
         ensures { Checks (causes.resolution_cause self.now) result }
     {
-        let end = match self.end() {
-            Ok(end) => end,
-            Err(fault) => return Err(fault),
-        };
+        let end = self.end()?;
         if is_past_resolution(self.file_kind(), end) {
             return Err(TiffError::IntSizeError);
         }
@@ -144,14 +124,8 @@ impl<W: Sink, K: TiffKind> TiffEncoder<W, K> {
     fn check_one_resolution(&self) -> TiffResult<()>
         ensures { Checks (causes.one_resolution_cause self.now) result }
     {
-        let end = match self.end() {
-            Ok(end) => end,
-            Err(fault) => return Err(fault),
-        };
-        match check_field(self.file_kind(), end, 1, 8) {
-            Ok(()) => return Ok(()),
-            Err(fault) => return Err(fault),
-        }
+        let end = self.end()?;
+        check_field(self.file_kind(), end, 1, 8)
     }
 
     // `resolution_unit`'s cause
@@ -159,10 +133,8 @@ impl<W: Sink, K: TiffKind> TiffEncoder<W, K> {
     fn check_resolution_unit(&self) -> TiffResult<()>
         ensures { Checks (causes.resolution_unit_cause self.now) result }
     {
-        match self.end() {
-            Ok(_) => return Ok(()),
-            Err(fault) => return Err(fault),
-        }
+        self.end()?;
+        Ok(())
     }
 }
 
@@ -202,17 +174,11 @@ impl<W: Sink, K: TiffKind> TiffEncoder<W, K> {
         ensures stays { OnErr result (image.new ≡ image.old) }
         ensures answer { Ends (λ _. image.new) (calls.extra_samples image.old extra.now self.old) result self.old self.new }
     {
-        match self.check_extra_samples(image, extra) {
-            Ok(()) => {}
-            Err(fault) => return Err(fault),
-        }
+        self.check_extra_samples(image, extra)?;
         let Ok(samples) = Vec::from_slice(self.alloc, extra) else {
             return Err(TiffError::OutOfMemory);
         };
-        match self.set_tag(&mut image.directory, Tag::ExtraSamples, &Slice(extra)) {
-            Ok(()) => {}
-            Err(fault) => return Err(fault),
-        }
+        self.set_tag(&mut image.directory, Tag::ExtraSamples, &Slice(extra))?;
         image.extra = samples;
         Ok(())
     }
@@ -226,14 +192,8 @@ impl<W: Sink, K: TiffKind> TiffEncoder<W, K> {
         ensures stays { OnErr result (image.new ≡ image.old) }
         ensures answer { Ends (λ _. image.new) (calls.set_rows_per_strip image.old rows self.old) result self.old self.new }
     {
-        match self.check_rows_per_strip(image, rows) {
-            Ok(()) => {}
-            Err(fault) => return Err(fault),
-        }
-        match self.set_tag(&mut image.directory, Tag::RowsPerStrip, &rows) {
-            Ok(()) => {}
-            Err(fault) => return Err(fault),
-        }
+        self.check_rows_per_strip(image, rows)?;
+        self.set_tag(&mut image.directory, Tag::RowsPerStrip, &rows)?;
         image.form = Form {
             chunk_type: ChunkType::Strip,
             chunk_width: image.width,
@@ -253,22 +213,13 @@ impl<W: Sink, K: TiffKind> TiffEncoder<W, K> {
         ensures stays { OnErr result (image.new ≡ image.old) }
         ensures answer { Ends (λ _. image.new) (calls.tiles image.old width length self.old) result self.old self.new }
     {
-        match self.check_tiles(image, width, length) {
-            Ok(()) => {}
-            Err(fault) => return Err(fault),
-        }
-        let mut fields = match image.directory.copy(self.alloc) {
-            Ok(fields) => fields,
-            Err(fault) => return Err(fault),
-        };
+        self.check_tiles(image, width, length)?;
+        let mut fields = image.directory.copy(self.alloc)?;
         let sides = [
             TagValue::long(Tag::TileWidth, width),
             TagValue::long(Tag::TileLength, length),
         ];
-        match self.set_tags(&mut fields, &sides) {
-            Ok(()) => {}
-            Err(fault) => return Err(fault),
-        }
+        self.set_tags(&mut fields, &sides)?;
         fields.remove(Tag::RowsPerStrip);
         image.directory = fields;
         image.form = Form {
@@ -285,18 +236,12 @@ impl<W: Sink, K: TiffKind> TiffEncoder<W, K> {
         ensures stays { OnErr result (image.new ≡ image.old) }
         ensures answer { Ends (λ _. image.new) (calls.planar image.old self.old) result self.old self.new }
     {
-        match self.check_planar(image) {
-            Ok(()) => {}
-            Err(fault) => return Err(fault),
-        }
-        match self.set_tag(
+        self.check_planar(image)?;
+        self.set_tag(
             &mut image.directory,
             Tag::PlanarConfiguration,
             &PlanarConfiguration::Planar,
-        ) {
-            Ok(()) => {}
-            Err(fault) => return Err(fault),
-        }
+        )?;
         image.form.planar = PlanarConfiguration::Planar;
         Ok(())
     }
@@ -311,15 +256,10 @@ impl<W: Sink, K: TiffKind> TiffEncoder<W, K> {
         ensures part { IfErr result (λ e. StopsResolving image.old unit (value.n, value.d) e self.old self.new image.new) }
         ensures answer { Ends (λ _. image.new) (calls.resolution image.old unit (value.n, value.d) self.old) result self.old self.new }
     {
-        match self.check_resolution() {
-            Ok(()) => {}
-            Err(fault) => return Err(fault),
-        }
+        self.check_resolution()?;
         let values = resolution_values(unit, value);
-        match self.set_tags(&mut image.directory, &values) {
-            Ok(()) => return Ok(()),
-            Err(fault) => return Err(fault),
-        }
+        self.set_tags(&mut image.directory, &values)?;
+        Ok(())
     }
 
     // `x_resolution`
@@ -331,14 +271,9 @@ impl<W: Sink, K: TiffKind> TiffEncoder<W, K> {
         ensures stays { OnErr result (image.new ≡ image.old) }
         ensures answer { Ends (λ _. image.new) (calls.x_resolution image.old (value.n, value.d) self.old) result self.old self.new }
     {
-        match self.check_one_resolution() {
-            Ok(()) => {}
-            Err(fault) => return Err(fault),
-        }
-        match self.set_tag(&mut image.directory, Tag::XResolution, &value) {
-            Ok(()) => return Ok(()),
-            Err(fault) => return Err(fault),
-        }
+        self.check_one_resolution()?;
+        self.set_tag(&mut image.directory, Tag::XResolution, &value)?;
+        Ok(())
     }
 
     // `y_resolution`
@@ -350,14 +285,9 @@ impl<W: Sink, K: TiffKind> TiffEncoder<W, K> {
         ensures stays { OnErr result (image.new ≡ image.old) }
         ensures answer { Ends (λ _. image.new) (calls.y_resolution image.old (value.n, value.d) self.old) result self.old self.new }
     {
-        match self.check_one_resolution() {
-            Ok(()) => {}
-            Err(fault) => return Err(fault),
-        }
-        match self.set_tag(&mut image.directory, Tag::YResolution, &value) {
-            Ok(()) => return Ok(()),
-            Err(fault) => return Err(fault),
-        }
+        self.check_one_resolution()?;
+        self.set_tag(&mut image.directory, Tag::YResolution, &value)?;
+        Ok(())
     }
 
     // `resolution_unit`
@@ -369,14 +299,9 @@ impl<W: Sink, K: TiffKind> TiffEncoder<W, K> {
         ensures stays { OnErr result (image.new ≡ image.old) }
         ensures answer { Ends (λ _. image.new) (calls.resolution_unit image.old unit self.old) result self.old self.new }
     {
-        match self.check_resolution_unit() {
-            Ok(()) => {}
-            Err(fault) => return Err(fault),
-        }
-        match self.set_tag(&mut image.directory, Tag::ResolutionUnit, &unit) {
-            Ok(()) => return Ok(()),
-            Err(fault) => return Err(fault),
-        }
+        self.check_resolution_unit()?;
+        self.set_tag(&mut image.directory, Tag::ResolutionUnit, &unit)?;
+        Ok(())
     }
 }
 

@@ -109,20 +109,15 @@ impl<W: Sink, K: TiffKind> TiffEncoder<W, K> {
             (λ _. (self.now.fault ≡ None) × (0 < width) × (0 < height) × (new_image_cause self.now C.described width height ≡ None))
             (λ e. new_image_cause self.now C.described width height ≡ Some e) }
     {
-        let end = match self.end() {
-            Ok(end) => end,
-            Err(fault) => return Err(fault),
-        };
-        match check_image(
+        let end = self.end()?;
+        check_image(
             self.file_kind(),
             end,
             self.predictor,
             C::sample_format(),
             (width, height),
-        ) {
-            Ok(()) => return Ok(()),
-            Err(fault) => return Err(fault),
-        }
+        )?;
+        Ok(())
     }
 
     // An image without chunks, in a directory of the chain without fields.
@@ -207,22 +202,14 @@ impl<W: Sink, K: TiffKind> TiffEncoder<W, K> {
         ensures { Ends (λ i. i) (calls.new_image C.described (type_size C.Inner.value_type) width height self.old) result
             self.old self.new }
     {
-        match self.check_new_image::<C>(width, height) {
-            Ok(()) => {}
-            Err(fault) => return Err(fault),
-        }
+        self.check_new_image::<C>(width, height)?;
         let mut image = self.blank::<C>(width, height);
         let Ok(values) = first_values(self.alloc, &image) else {
             return Err(TiffError::OutOfMemory);
         };
-        match self.pad() {
-            Ok(()) => {}
-            Err(fault) => return Err(fault),
-        }
-        match self.set_tags(&mut image.directory, &values) {
-            Ok(()) => return Ok(image),
-            Err(fault) => return Err(fault),
-        }
+        self.pad()?;
+        self.set_tags(&mut image.directory, &values)?;
+        Ok(image)
     }
 }
 

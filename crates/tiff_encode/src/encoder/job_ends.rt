@@ -28,15 +28,11 @@ impl<'a, W: Sink, K: TiffKind> DirectoryEncoder<'a, W, K, Fields> {
     {
         self.encoder.fits();
         self.state.fits();
-        match self.finish_with_offsets() {
-            Ok(offsets) => {
-                return Ok(EndReply::Offsets {
-                    pointer: offsets.pointer.0,
-                    link: offsets.link(),
-                });
-            }
-            Err(fault) => return Err(fault),
-        }
+        let offsets = self.finish_with_offsets()?;
+        Ok(EndReply::Offsets {
+            pointer: offsets.pointer.0,
+            link: offsets.link(),
+        })
     }
 
     // `discard`
@@ -46,10 +42,8 @@ impl<'a, W: Sink, K: TiffKind> DirectoryEncoder<'a, W, K, Fields> {
     {
         self.encoder.fits();
         self.state.fits();
-        match self.discard() {
-            Ok(()) => return Ok(EndReply::Nothing),
-            Err(fault) => return Err(fault),
-        }
+        self.discard()?;
+        Ok(EndReply::Nothing)
     }
 
     /// Ends a directory.
@@ -84,10 +78,8 @@ impl<'a, W: Sink, K: TiffKind, C: ColorType> DirectoryEncoder<'a, W, K, Drawing<
     {
         self.state.fits();
         self.state.is_of_type();
-        match self.write_data(samples) {
-            Ok(()) => return Ok(EndReply::Nothing),
-            Err(fault) => return Err(fault),
-        }
+        self.write_data(samples)?;
+        Ok(EndReply::Nothing)
     }
 
     // The same of samples that are cut, where there is memory for them.
@@ -113,10 +105,8 @@ impl<'a, W: Sink, K: TiffKind, C: ColorType> DirectoryEncoder<'a, W, K, Drawing<
             self.entry.state.directory.parent self.entry.encoder.now self.exit.0.now (ImageHeld self.entry.state ImageEnd.Finish) }
     {
         self.state.fits();
-        match self.finish() {
-            Ok(()) => return Ok(EndReply::Nothing),
-            Err(fault) => return Err(fault),
-        }
+        self.finish()?;
+        Ok(EndReply::Nothing)
     }
 
     // `discard`
@@ -126,10 +116,8 @@ impl<'a, W: Sink, K: TiffKind, C: ColorType> DirectoryEncoder<'a, W, K, Drawing<
             (ImageHeld self.entry.state ImageEnd.Discard) }
     {
         self.state.fits();
-        match self.discard() {
-            Ok(()) => return Ok(EndReply::Nothing),
-            Err(fault) => return Err(fault),
-        }
+        self.discard()?;
+        Ok(EndReply::Nothing)
     }
 
     /// Ends an image. Where there is no memory for its samples, it has no directory.

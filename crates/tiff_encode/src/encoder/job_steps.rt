@@ -41,14 +41,9 @@ impl<'a, W: Sink, K: TiffKind, D: State> DirectoryEncoder<'a, W, K, D> {
         ensures leaves { (m : Model) → Stands self.old.encoder.now.kind self.old.encoder.now.bytes m
             → Leaves (calls.write_tag (D.open_directory self.old.state) tag (value_data value.now) self.old.encoder.now) result self.old.encoder.now self.new.encoder.now m }
     {
-        let entry = match self.encoder.place_job_value(value) {
-            Ok(entry) => entry,
-            Err(fault) => return Err(fault),
-        };
-        match self.state.set(tag, entry) {
-            Ok(()) => return Ok(()),
-            Err(fault) => return Err(fault),
-        }
+        let entry = self.encoder.place_job_value(value)?;
+        self.state.set(tag, entry)?;
+        Ok(())
     }
 
     // `write_tag_buf` of a buffer of a job.
@@ -62,14 +57,9 @@ impl<'a, W: Sink, K: TiffKind, D: State> DirectoryEncoder<'a, W, K, D> {
         ensures leaves { (m : Model) → Stands self.old.encoder.now.kind self.old.encoder.now.bytes m
             → Leaves (calls.write_tag_buf (D.open_directory self.old.state) tag (buffer_in buffer.now) self.old.encoder.now) result self.old.encoder.now self.new.encoder.now m }
     {
-        let entry = match self.encoder.place_job_buffer(buffer) {
-            Ok(entry) => entry,
-            Err(fault) => return Err(fault),
-        };
-        match self.state.set(tag, entry) {
-            Ok(()) => return Ok(()),
-            Err(fault) => return Err(fault),
-        }
+        let entry = self.encoder.place_job_buffer(buffer)?;
+        self.state.set(tag, entry)?;
+        Ok(())
     }
 
     /// A step of its directory.
@@ -80,40 +70,38 @@ impl<'a, W: Sink, K: TiffKind, D: State> DirectoryEncoder<'a, W, K, D> {
             (D.open_directory self.new.state)) self.old.encoder.now self.new.encoder.now }
     {
         match step {
-            DirectoryStep::WriteTag(tag, value) => match self.write_job_tag(*tag, value) {
-                Ok(()) => Ok(StepReply::Nothing),
-                Err(fault) => Err(fault),
-            },
-            DirectoryStep::WriteTagBuf(tag, buffer) => match self.write_job_tag_buf(*tag, buffer) {
-                Ok(()) => Ok(StepReply::Nothing),
-                Err(fault) => Err(fault),
-            },
-            DirectoryStep::WriteData(value) => match self.encoder.append_job_value(value) {
-                Ok(offset) => Ok(StepReply::Number(offset)),
-                Err(fault) => Err(fault),
-            },
-            DirectoryStep::WriteDataBuf(buffer) => match self.encoder.append_job_buffer(buffer) {
-                Ok(offset) => Ok(StepReply::Number(offset)),
-                Err(fault) => Err(fault),
-            },
-            DirectoryStep::WriteEntry(value) => match self.encoder.place_job_value(value) {
-                Ok(entry) => Ok(StepReply::Written(entry)),
-                Err(fault) => Err(fault),
-            },
-            DirectoryStep::WriteEntryBuf(buffer) => match self.encoder.place_job_buffer(buffer) {
-                Ok(entry) => Ok(StepReply::Written(entry)),
-                Err(fault) => Err(fault),
-            },
-            DirectoryStep::WriteEntryBytes(field_type, bytes) => {
-                match self.write_entry_bytes(*field_type, bytes) {
-                    Ok(entry) => Ok(StepReply::Written(entry)),
-                    Err(fault) => Err(fault),
-                }
+            DirectoryStep::WriteTag(tag, value) => {
+                self.write_job_tag(*tag, value)?;
+                Ok(StepReply::Nothing)
             }
-            DirectoryStep::ExtendFrom(directory) => match self.extend_from(directory) {
-                Ok(()) => Ok(StepReply::Nothing),
-                Err(fault) => Err(fault),
-            },
+            DirectoryStep::WriteTagBuf(tag, buffer) => {
+                self.write_job_tag_buf(*tag, buffer)?;
+                Ok(StepReply::Nothing)
+            }
+            DirectoryStep::WriteData(value) => {
+                let offset = self.encoder.append_job_value(value)?;
+                Ok(StepReply::Number(offset))
+            }
+            DirectoryStep::WriteDataBuf(buffer) => {
+                let offset = self.encoder.append_job_buffer(buffer)?;
+                Ok(StepReply::Number(offset))
+            }
+            DirectoryStep::WriteEntry(value) => {
+                let entry = self.encoder.place_job_value(value)?;
+                Ok(StepReply::Written(entry))
+            }
+            DirectoryStep::WriteEntryBuf(buffer) => {
+                let entry = self.encoder.place_job_buffer(buffer)?;
+                Ok(StepReply::Written(entry))
+            }
+            DirectoryStep::WriteEntryBytes(field_type, bytes) => {
+                let entry = self.write_entry_bytes(*field_type, bytes)?;
+                Ok(StepReply::Written(entry))
+            }
+            DirectoryStep::ExtendFrom(directory) => {
+                self.extend_from(directory)?;
+                Ok(StepReply::Nothing)
+            }
         }
     }
 }

@@ -136,13 +136,9 @@ impl<W: Sink, K: TiffKind> TiffEncoder<W, K> {
         ensures leaves { (m : Model) → Stands self.old.kind self.old.bytes m
             → Leaves (calls.write_entry (T.field_data value.now) self.old) result self.old self.new m }
     {
-        match self.place_value(value) {
-            Ok(entry) => {
-                self.fits();
-                return Ok(entry);
-            }
-            Err(fault) => return Err(fault),
-        }
+        let entry = self.place_value(value)?;
+        self.fits();
+        Ok(entry)
     }
 
     // `write_data` of a value, which leaves what stood.
@@ -151,10 +147,7 @@ impl<W: Sink, K: TiffKind> TiffEncoder<W, K> {
         ensures leaves { (m : Model) → Stands self.old.kind self.old.bytes m
             → Leaves (calls.write_data (T.field_data value.now) self.old) result self.old self.new m }
     {
-        match self.append_value(value) {
-            Ok(offset) => return Ok(offset),
-            Err(fault) => return Err(fault),
-        }
+        self.append_value(value)
     }
 
     /// `write_entry` of a value of a job.
@@ -181,13 +174,9 @@ impl<W: Sink, K: TiffKind> TiffEncoder<W, K> {
         ensures leaves { (m : Model) → Stands self.old.kind self.old.bytes m
             → Leaves (calls.write_entry_buf (buffer_in buffer.now) self.old) result self.old self.new m }
     {
-        match self.place_ordered(buffer.order, buffer.data_type, &buffer.bytes) {
-            Ok(entry) => {
-                self.fits();
-                return Ok(entry);
-            }
-            Err(fault) => return Err(fault),
-        }
+        let entry = self.place_ordered(buffer.order, buffer.data_type, &buffer.bytes)?;
+        self.fits();
+        Ok(entry)
     }
 
     /// `write_data_buf` of a buffer of a job.
@@ -196,9 +185,6 @@ impl<W: Sink, K: TiffKind> TiffEncoder<W, K> {
         ensures leaves { (m : Model) → Stands self.old.kind self.old.bytes m
             → Leaves (calls.write_data_buf (buffer_in buffer.now) self.old) result self.old self.new m }
     {
-        match self.append_ordered(buffer.order, &buffer.bytes) {
-            Ok(offset) => return Ok(offset),
-            Err(fault) => return Err(fault),
-        }
+        self.append_ordered(buffer.order, &buffer.bytes)
     }
 }

@@ -102,14 +102,9 @@ impl TiffKind for TiffKindStandard {
     }
 
     fn write_header<W: Sink>(writer: &mut TiffWriter<W>) -> TiffResult<()> {
-        match write_tiff_header(writer) {
-            Ok(()) => {}
-            Err(fault) => return Err(fault),
-        }
-        match writer.write_u32(0) {
-            Ok(()) => return Ok(()),
-            Err(fault) => return Err(fault),
-        }
+        write_tiff_header(writer)?;
+        writer.write_u32(0)?;
+        Ok(())
     }
 }
 
@@ -147,14 +142,9 @@ impl TiffKind for TiffKindBig {
     }
 
     fn write_header<W: Sink>(writer: &mut TiffWriter<W>) -> TiffResult<()> {
-        match write_bigtiff_header(writer) {
-            Ok(()) => {}
-            Err(fault) => return Err(fault),
-        }
-        match writer.write_u64(0) {
-            Ok(()) => return Ok(()),
-            Err(fault) => return Err(fault),
-        }
+        write_bigtiff_header(writer)?;
+        writer.write_u64(0)?;
+        Ok(())
     }
 }
 

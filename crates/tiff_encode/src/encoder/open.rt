@@ -118,10 +118,8 @@ impl Fields {
             parent: self.parent,
             chained: self.chained,
         };
-        match copy.extend_from(&self.directory) {
-            Ok(()) => return Ok(copy),
-            Err(fault) => return Err(fault),
-        }
+        copy.extend_from(&self.directory)?;
+        Ok(copy)
     }
 
     /// Its fields are entries that a directory can have, and fewer than 2^64.

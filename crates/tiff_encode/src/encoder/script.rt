@@ -227,10 +227,7 @@ fn run_new<W: Sink + Drop, K: TiffKind>(
     requires room { vec_len replies.old + length jobs.now ≤ vec_capacity replies.old }
     ensures { RunsJobs W.told W.failures W.fault K.kind jobs.now sink replies.old.items replies.new.items result }
 {
-    let mut encoder = match TiffEncoder::<W, K>::new_generic(alloc, sink) {
-        Ok(encoder) => encoder,
-        Err(fault) => return Err(fault),
-    };
+    let mut encoder = TiffEncoder::<W, K>::new_generic(alloc, sink)?;
     run_all(&mut encoder, jobs, rooms, replies);
     Ok(encoder.into_inner())
 }
@@ -250,10 +247,7 @@ pub fn run_jobs<W: Sink + Drop, K: TiffKind>(
         Ok(()) => {}
         Err(_) => return Err(TiffError::OutOfMemory),
     }
-    let mut rooms = match rooms(alloc, jobs) {
-        Ok(rooms) => rooms,
-        Err(fault) => return Err(fault),
-    };
+    let mut rooms = rooms(alloc, jobs)?;
     let answer = run_new::<W, K>(alloc, sink, jobs, &mut rooms, replies);
     let_go(rooms);
     answer

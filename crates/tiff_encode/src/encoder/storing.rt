@@ -1,6 +1,6 @@
 //! Chunks are written.
 
-ghost use Rattle.std.specs.Prelude.{◌≡◌, ℕ, ◌-◌, ◌^◌, ◌<◌, length, map, MatchResult, None, Some};
+ghost use Rattle.std.specs.Prelude.{◌≡◌, ℕ, ◌-◌, ◌^◌, ◌<◌, length, map, IfSome, MatchResult, None, Some};
 ghost use Rattle.tiff_base.specs.Types.{type_size};
 ghost use Rattle.tiff_value.specs.ColorType.{sample_number};
 ghost use Rattle.tiff_value.specs.Packed.{IsStored};
@@ -9,7 +9,7 @@ ghost use Rattle.tiff_encode.specs.Causes.{end_of, write_chunk_cause, write_stri
 ghost use Rattle.tiff_encode.specs.Chunks.{next_chunk_sample_count};
 ghost use Rattle.tiff_encode.specs.Machine.{compression_method};
 ghost use Rattle.tiff_encode.specs.Placing.{Checks};
-ghost use Rattle.tiff_encode.specs.Storing.{chunk_test, AppendsChunk, WritesStoredChunk};
+ghost use Rattle.tiff_encode.specs.Storing.{chunk_test, AppendsChunk, StoresChunk, WritesStoredChunk};
 ghost use Rattle.tiff_encode.specs.Stored as stored;
 
 use crate::encoder::TiffEncoder;
@@ -21,10 +21,11 @@ use std::alloc::Global;
 use tiff_base::color::ChunkType;
 use tiff_base::error::{TiffError, TiffResult, UsageError};
 use tiff_base::io::{IoKind, Sink};
-use tiff_base::tags::FileKind;
+use tiff_base::tags::{FileKind, Predictor};
 use tiff_value::encoder::chunk::push_chunk;
 use tiff_value::encoder::colortype::ColorType;
 use tiff_value::encoder::compression::pack_bits;
+use tiff_value::encoder::differences::Sample;
 
 // The bytes that stand for others by a packing.
 fn pack(alloc: Global, compression: Compression, bytes: Vec<u8>) -> TiffResult<Vec<u8>>
@@ -53,9 +54,9 @@ impl<C: ColorType> Drawing<C> {
         Ok(bytes)
     }
 
-    /// The bytes that stand for the samples of the next chunk. Its only error is `OutOfMemory`: so many samples as a number
-    /// can tell are in no memory.
-    pub(crate) fn stored_bytes(&self, alloc: Global, samples: &[C::Inner]) -> TiffResult<Vec<u8>>
+    // The bytes that stand for the samples of the next chunk. Its only error is `OutOfMemory`: so many samples as a number
+    // can tell are in no memory.
+    fn stored_bytes(&self, alloc: Global, samples: &[C::Inner]) -> TiffResult<Vec<u8>>
         requires { length samples.now ≡ next_chunk_sample_count self.now }
         ensures { MatchResult result
             (λ v. IsStored self.now.method v.items (stored.unpacked_chunk self.now (map (sample_number (type_size C.Inner.value_type) C.Inner.bits) samples.now)))
@@ -66,6 +67,21 @@ impl<C: ColorType> Drawing<C> {
         }
         let bytes = self.chunk_bytes(alloc, samples)?;
         pack(alloc, self.compression, bytes)
+    }
+
+    // The bytes that are stored for the samples of the next chunk, without a copy: those of 8 bits, where they are neither
+    // packed nor written as differences.
+    fn lent_bytes<'a>(&self, samples: &'a [C::Inner]) -> Option<&'a [u8]>
+        ensures { IfSome result (λ b. IsStored self.now.method b.now (stored.unpacked_chunk self.now
+            (map (sample_number (type_size C.Inner.value_type) C.Inner.bits) samples.now))) }
+    {
+        match self.compression {
+            Compression::Uncompressed => match self.predictor {
+                Predictor::None => C::Inner::as_bytes(samples),
+                _ => None,
+            },
+            Compression::Packbits => None,
+        }
     }
 
     // Whether a chunk of so many samples may be written at the end of a file: the causes that no packing changes.
@@ -99,22 +115,16 @@ impl<W: Sink, K: TiffKind> TiffEncoder<W, K> {
             (λ end. (self.now.fault ≡ None) × (end ≡ end_of self.now) × (write_chunk_cause self.now image.now count stored ≡ None))
             (λ e. write_chunk_cause self.now image.now count stored ≡ Some e) }
     {
-        let end = match self.end() {
-            Ok(end) => end,
-            Err(fault) => return Err(fault),
-        };
-        match image.check_chunk(self.file_kind(), end, count) {
-            Ok(()) => {}
-            Err(fault) => return Err(fault),
-        }
+        let end = self.end()?;
+        image.check_chunk(self.file_kind(), end, count)?;
         if is_past_offset(self.file_kind(), stored as u64) {
             return Err(TiffError::IntSizeError);
         }
         Ok(end)
     }
 
-    /// A chunk of so many samples, which is stored as these bytes.
-    pub(crate) fn append_chunk<C: ColorType>(
+    // A chunk of so many samples, which is stored as these bytes.
+    fn append_chunk<C: ColorType>(
         &mut self,
         image: &mut Drawing<C>,
         count: usize,
@@ -122,22 +132,33 @@ impl<W: Sink, K: TiffKind> TiffEncoder<W, K> {
     ) -> TiffResult<()>
         ensures { AppendsChunk (calls.write_chunk image.old count stored.now self.old) image.old result self.old self.new image.new }
     {
-        let offset = match self.chunk_offset(image, count, stored.len()) {
-            Ok(offset) => offset,
-            Err(fault) => return Err(fault),
-        };
+        let offset = self.chunk_offset(image, count, stored.len())?;
         let Ok(()) = image.chunks.reserve(1) else {
             return Err(TiffError::OutOfMemory);
         };
-        match self.append(stored) {
-            Ok(()) => {}
-            Err(fault) => return Err(fault),
-        }
+        self.append(stored)?;
         image.chunks.push_reserved(Chunk {
             offset,
             stored: stored.len() as u64,
         });
         Ok(())
+    }
+
+    /// The next chunk, of as many samples as it has. Samples of 8 bits that are stored as they lie are lent to the sink.
+    pub(crate) fn put_chunk<C: ColorType>(
+        &mut self,
+        image: &mut Drawing<C>,
+        samples: &[C::Inner],
+    ) -> TiffResult<()>
+        requires { length samples.now ≡ next_chunk_sample_count image.old }
+        ensures { StoresChunk calls.write_chunk image.old (map (sample_number (type_size C.Inner.value_type) C.Inner.bits)
+            samples.now) result self.old self.new image.new }
+    {
+        if let Some(bytes) = image.lent_bytes(samples) {
+            return self.append_chunk(image, samples.len(), bytes);
+        }
+        let stored = image.stored_bytes(self.alloc, samples)?;
+        self.append_chunk(image, samples.len(), &stored)
     }
 
     /// `write_chunk`: what no packing changes is told before the samples are packed.
@@ -149,18 +170,8 @@ impl<W: Sink, K: TiffKind> TiffEncoder<W, K> {
         ensures { WritesStoredChunk calls.write_chunk (write_chunk_cause self.old image.old (length samples.now) 0) image.old
             (map (sample_number (type_size C.Inner.value_type) C.Inner.bits) samples.now) result self.old self.new image.new }
     {
-        match self.chunk_offset(image, samples.len(), 0) {
-            Ok(_) => {}
-            Err(fault) => return Err(fault),
-        }
-        let stored = match image.stored_bytes(self.alloc, samples) {
-            Ok(stored) => stored,
-            Err(fault) => return Err(fault),
-        };
-        match self.append_chunk(image, samples.len(), &stored) {
-            Ok(()) => return Ok(()),
-            Err(fault) => return Err(fault),
-        }
+        self.chunk_offset(image, samples.len(), 0)?;
+        self.put_chunk(image, samples)
     }
 
     // `write_strip`: a tile is none
@@ -172,10 +183,7 @@ impl<W: Sink, K: TiffKind> TiffEncoder<W, K> {
         ensures { WritesStoredChunk calls.write_strip (write_strip_cause self.old image.old (length samples.now) 0) image.old
             (map (sample_number (type_size C.Inner.value_type) C.Inner.bits) samples.now) result self.old self.new image.new }
     {
-        match self.end() {
-            Ok(_) => {}
-            Err(fault) => return Err(fault),
-        }
+        self.end()?;
         if let ChunkType::Tile = image.form.chunk_type {
             return Err(TiffError::UsageError(UsageError::InvalidChunkType(
                 ChunkType::Strip,

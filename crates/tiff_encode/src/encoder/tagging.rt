@@ -129,14 +129,9 @@ impl<W: Sink, K: TiffKind> TiffEncoder<W, K> {
         ensures answer { Ends (λ _. fields.new) (calls.write_tag fields.old tag (T.field_data value.now) self.old) result
             self.old self.new }
     {
-        let entry = match self.place_value(value) {
-            Ok(entry) => entry,
-            Err(fault) => return Err(fault),
-        };
-        match fields.set(tag, entry) {
-            Ok(()) => return Ok(()),
-            Err(fault) => return Err(fault),
-        }
+        let entry = self.place_value(value)?;
+        fields.set(tag, entry)?;
+        Ok(())
     }
 
     // The same, of a value that takes no memory (but for the directory's).
@@ -145,14 +140,9 @@ impl<W: Sink, K: TiffKind> TiffEncoder<W, K> {
         ensures answer { Ends (λ _. fields.new) (calls.write_tag fields.old value.now.0 (Ok value.now.1) self.old) result
             self.old self.new }
     {
-        let entry = match self.place_entry_bytes(value.field_type, &value.bytes[..value.len]) {
-            Ok(entry) => entry,
-            Err(fault) => return Err(fault),
-        };
-        match fields.set(value.tag, entry) {
-            Ok(()) => return Ok(()),
-            Err(fault) => return Err(fault),
-        }
+        let entry = self.place_entry_bytes(value.field_type, &value.bytes[..value.len])?;
+        fields.set(value.tag, entry)?;
+        Ok(())
     }
 
     // Tags one after another, of values that take no memory (but for the directory's). After an error the first ones are set.
@@ -161,10 +151,7 @@ impl<W: Sink, K: TiffKind> TiffEncoder<W, K> {
         ensures answer { Ends (λ _. fields.new) (write_fields fields.old values.now self.old) result self.old self.new }
     {
         for value in values {
-            match self.set_value(fields, value) {
-                Ok(()) => {}
-                Err(fault) => return Err(fault),
-            }
+            self.set_value(fields, value)?;
         }
         Ok(())
     }

@@ -59,37 +59,20 @@ impl<W: Sink, K: TiffKind> TiffEncoder<W, K> {
             return Ok(Entry::new_u64(field_type, count, fill(bytes)));
         }
         let offset = self.writer.offset();
-        match self.append(bytes) {
-            Ok(()) => return Ok(Entry::new_u64(field_type, count, offset.to_le_bytes())),
-            Err(fault) => return Err(fault),
-        }
+        self.append(bytes)?;
+        Ok(Entry::new_u64(field_type, count, offset.to_le_bytes()))
     }
 
     // `write_entry`
     pub(crate) fn place_value<T: TiffValue>(&mut self, value: &T) -> TiffResult<Entry>
         ensures { Ends (λ e. e) (calls.write_entry (T.field_data value.now) self.old) result self.old self.new }
     {
-        let end = match self.end() {
-            Ok(end) => end,
-            Err(fault) => return Err(fault),
-        };
-        match value.check() {
-            Ok(()) => {}
-            Err(fault) => return Err(fault),
-        }
+        let end = self.end()?;
+        value.check()?;
         let count = value.count() as u64;
-        match check_field(self.file_kind(), end, count, value.bytes()) {
-            Ok(()) => {}
-            Err(fault) => return Err(fault),
-        }
-        let data = match value.data(self.alloc) {
-            Ok(data) => data,
-            Err(fault) => return Err(fault),
-        };
-        match self.place_entry(T::field_type(), count, &data) {
-            Ok(entry) => return Ok(entry),
-            Err(fault) => return Err(fault),
-        }
+        check_field(self.file_kind(), end, count, value.bytes())?;
+        let data = value.data(self.alloc)?;
+        self.place_entry(T::field_type(), count, &data)
     }
 
     // Bytes are handed in for a field, as values of a type; a ragged end is left out.
@@ -102,14 +85,8 @@ impl<W: Sink, K: TiffKind> TiffEncoder<W, K> {
         let size = usize::from(field_type.byte_len());
         let count = bytes.len() / size;
         let whole = &bytes[..count * size];
-        match check_field(self.file_kind(), end, count as u64, whole.len()) {
-            Ok(()) => {}
-            Err(fault) => return Err(fault),
-        }
-        match self.place_entry(field_type, count as u64, whole) {
-            Ok(entry) => return Ok(entry),
-            Err(fault) => return Err(fault),
-        }
+        check_field(self.file_kind(), end, count as u64, whole.len())?;
+        self.place_entry(field_type, count as u64, whole)
     }
 
     // `write_entry_buf`, of values of a type as bytes in an order
@@ -122,18 +99,9 @@ impl<W: Sink, K: TiffKind> TiffEncoder<W, K> {
         ensures { Ends (λ e. e) (calls.write_entry_buf (record { order = order; data_type = field_type; bytes = bytes.now })
             self.old) result self.old self.new }
     {
-        let end = match self.end() {
-            Ok(end) => end,
-            Err(fault) => return Err(fault),
-        };
-        match check_order(order) {
-            Ok(()) => {}
-            Err(fault) => return Err(fault),
-        }
-        match self.place_data(end, field_type, bytes) {
-            Ok(entry) => return Ok(entry),
-            Err(fault) => return Err(fault),
-        }
+        let end = self.end()?;
+        check_order(order)?;
+        self.place_data(end, field_type, bytes)
     }
 
     // The same of a buffer.
@@ -147,10 +115,7 @@ impl<W: Sink, K: TiffKind> TiffEncoder<W, K> {
     pub(crate) fn place_entry_bytes(&mut self, field_type: Type, bytes: &[u8]) -> TiffResult<Entry>
         ensures { Ends (λ e. e) (calls.write_entry_bytes field_type bytes.now self.old) result self.old self.new }
     {
-        let end = match self.end() {
-            Ok(end) => end,
-            Err(fault) => return Err(fault),
-        };
+        let end = self.end()?;
         let found = bytes.len();
         if found % usize::from(field_type.byte_len()) != 0 {
             return Err(TiffError::UsageError(UsageError::MismatchedEntryLength {
@@ -158,32 +123,18 @@ impl<W: Sink, K: TiffKind> TiffEncoder<W, K> {
                 found,
             }));
         }
-        match self.place_data(end, field_type, bytes) {
-            Ok(entry) => return Ok(entry),
-            Err(fault) => return Err(fault),
-        }
+        self.place_data(end, field_type, bytes)
     }
 
     // `write_data` of a directory
     pub(crate) fn append_value<T: TiffValue>(&mut self, value: &T) -> TiffResult<u64>
         ensures { Ends (λ n. n) (calls.write_data (T.field_data value.now) self.old) result self.old self.new }
     {
-        let end = match self.end() {
-            Ok(end) => end,
-            Err(fault) => return Err(fault),
-        };
-        match value.check() {
-            Ok(()) => {}
-            Err(fault) => return Err(fault),
-        }
-        let data = match value.data(self.alloc) {
-            Ok(data) => data,
-            Err(fault) => return Err(fault),
-        };
-        match self.append(&data) {
-            Ok(()) => return Ok(end),
-            Err(fault) => return Err(fault),
-        }
+        let end = self.end()?;
+        value.check()?;
+        let data = value.data(self.alloc)?;
+        self.append(&data)?;
+        Ok(end)
     }
 
     // `write_data_buf`, of bytes in an order: they are written as they are, whatever their type
@@ -191,18 +142,10 @@ impl<W: Sink, K: TiffKind> TiffEncoder<W, K> {
         ensures { (data_type : «Type») → Ends (λ n. n) (calls.write_data_buf
             (record { order = order; data_type = data_type; bytes = bytes.now }) self.old) result self.old self.new }
     {
-        let end = match self.end() {
-            Ok(end) => end,
-            Err(fault) => return Err(fault),
-        };
-        match check_order(order) {
-            Ok(()) => {}
-            Err(fault) => return Err(fault),
-        }
-        match self.append(bytes) {
-            Ok(()) => return Ok(end),
-            Err(fault) => return Err(fault),
-        }
+        let end = self.end()?;
+        check_order(order)?;
+        self.append(bytes)?;
+        Ok(end)
     }
 
     // The same of a buffer.

@@ -46,6 +46,15 @@ read_past_end = λ r. omega (arith, r.in_bytes)
 pub read_elsewhere : s.read_elsewhere
 read_elsewhere = λ r. (let e = ap (λ l. get_or l 0 0) r.next in omega (arith, e))
 
+pub reach_of_six : s.reach_of_six
+reach_of_six = λ n before end. end
+
+pub reach_one_more : s.reach_one_more
+reach_one_more = λ r. omega (arith, r 6 (omega arith) (omega arith))
+
+pub reach_of_before : s.reach_of_before
+reach_of_before = λ n before end. before
+
 pub read_into_none : s.read_into_none
 read_into_none = record { in_buffer = omega arith; in_bytes = omega arith; some = λ a b. absurd (omega (arith, a)); next = refl }
 

@@ -21,12 +21,12 @@ use Rattle.tiff_ifd.specs.Look.{Look, look_in, require}
 use Rattle.tiff_page.specs.Buffers as layouts
 use Rattle.tiff_page.specs.Buffers.{planes_layout}
 use Rattle.tiff_page.specs.Counts as counts
-use Rattle.tiff_page.specs.Image.{image_of}
+use Rattle.tiff_page.specs.PixelCalls.{image_of}
 use Rattle.tiff_page.specs.Layout as layout
 use Rattle.tiff_page.specs.Layout.{color_of, layout_of, row_bits, sample_type_of}
 use Rattle.tiff_page.specs.PixelCalls as pixels
 use Rattle.tiff_page.specs.PixelFault.{form_fault, depth_fault, predictor_fault, white_fault}
-use Rattle.tiff_page.specs.Pixels.{byte_at, shown_sample, image_bytes, numbers_in}
+use Rattle.tiff_page.specs.Pixels.{byte_at, shown_sample, numbers_in}
 use Rattle.tiff_page.specs.Rect.{rect}
 use Rattle.tiff_decode.specs.Machine.{stays}
 use Rattle.tiff_decode.specs.Outcome as outcome
@@ -247,15 +247,15 @@ unfolding outcome.image_coding_unit_layout layouts.image_coding_unit_layout layo
 unit_past = refl
 
 pub image_read : s.image_read
-unfolding outcome.read_image image_of image_bytes layout_of color_of row_bits planes_layout sample_type_of rect pixels.filled pixels.samples pixels.placed byte_at shown_sample number numbers_in form_fault depth_fault predictor_fault white_fault
+unfolding outcome.read_image image_of layout_of color_of row_bits planes_layout sample_type_of rect pixels.filled pixels.samples pixels.placed byte_at shown_sample number numbers_in form_fault depth_fault predictor_fault white_fault
 image_read = refl
 
 pub image_cut : s.image_cut
-unfolding outcome.read_image image_of image_bytes layout_of color_of row_bits planes_layout sample_type_of rect pixels.filled pixels.samples pixels.placed byte_at shown_sample number numbers_in form_fault depth_fault predictor_fault white_fault
+unfolding outcome.read_image image_of layout_of color_of row_bits planes_layout sample_type_of rect pixels.filled pixels.samples pixels.placed byte_at shown_sample number numbers_in form_fault depth_fault predictor_fault white_fault
 image_cut = refl
 
 pub image_limited : s.image_limited
-unfolding outcome.read_image image_of layout_of color_of row_bits sample_type_of
+unfolding outcome.read_image image_of planes_layout pixels.samples layout_of color_of row_bits sample_type_of
 image_limited = refl
 
 pub buffer_read : s.buffer_read

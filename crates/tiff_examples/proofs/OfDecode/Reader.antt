@@ -1,11 +1,11 @@
 -- The worked examples of Fits hold.
-use Rattle.std.specs.Prelude.{refl, get_or, length}
+use Rattle.std.specs.Prelude.{refl, get_or, length, option_map}
 use Rattle.std.proofs.Common.{◌≡◌, ℕ, ◌≤◌, List, [], ◌∷◌, ◌++◌, Option, Some, None, Result, Ok, Err, ap, sym, subst, inl, inr, arith, lit<, lit≤}
 use Rattle.tiff_base.specs.declared.error.TiffError.{TiffError}
 use Rattle.tiff_base.specs.declared.error.TiffError.TheVariants.{FormatError}
 use Rattle.tiff_base.specs.declared.error.TiffFormatError.TheVariants.{InvalidTagValueType, InvalidTypeForTag, RequiredTagNotFound}
 use Rattle.tiff_base.specs.declared.tags.Tag.TheVariants as tag
-use Rattle.tiff_decode.specs.Reader.{EachGives}
+use Rattle.tiff_decode.specs.Reader.{reader_of, EachGives}
 use Rattle.tiff_examples.specs.Decode.Reader as s
 
 abbrev number_of : Result ℕ TiffError → ℕ
@@ -116,6 +116,18 @@ held_moved = λ d e p q h. omega (arith, p, q, ap (λ x. x.state.offset) h.state
 
 pub held_forgotten : s.held_forgotten
 held_forgotten = λ d e p q h. omega (arith, p, q, h.failures)
+
+pub reading_own : s.reading_own
+reading_own = λ r h. ap (λ o. reader_of r.decoder.now (option_map (λ d. d.now) o)) h
+
+pub reading_another : s.reading_another
+reading_another = λ r s answer n k. n k.other
+
+pub reading_counted : s.reading_counted
+reading_counted = λ r s k. k.swallowed
+
+pub tags_eight : s.tags_eight
+tags_eight = λ r s t. omega (arith, ap number_of t.answer)
 
 pub fits : s.fits
 fits = (refl, lit< tt)

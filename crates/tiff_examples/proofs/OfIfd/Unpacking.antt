@@ -42,6 +42,9 @@ pub in_run : s.in_run
 unfolding runs_after
 in_run = refl
 
+pub end_of_packed : s.end_of_packed
+end_of_packed = refl
+
 pub two_read : s.two_read
 two_read = record { in_buffer = lit≤ tt; next = refl; behind = refl; none = λ o z. absurd (omega (arith, z)) }
 

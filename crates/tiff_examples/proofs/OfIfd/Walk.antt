@@ -4,6 +4,7 @@ use Rattle.std.proofs.Common.{Less, Equal, Greater, ◌≡◌, ◌⊎◌, ℕ, L
 use Rattle.std.specs.List.{list_any}
 use Rattle.std.specs.Ordering.{eq_by_cmp, is_eq, nat_cmp}
 use Rattle.std.specs.FinMap.{get}
+use Rattle.tiff_base.proofs.Common.{neither}
 use Rattle.tiff_base.specs.declared.error.TiffError.{TiffError}
 use Rattle.tiff_base.specs.declared.error.TiffError.TheVariants.{FormatError}
 use Rattle.tiff_base.specs.declared.error.TiffFormatError.TheVariants.{CycleInOffsets}
@@ -37,10 +38,6 @@ next_of (Ok directory) = offset_of directory.next
 next_of (Err e) = 0
 
 -- ---- accepted links
-
-neither : (b c : Bool) → (b || c) ≡ false → (b ≡ false) × (c ≡ false)
-neither true c h = absurd (true_false h)
-neither false c h = (refl, h)
 
 apart_by : (b c : Bool) → c ≡ false → is_eq (cond b Less (cond c Equal Greater)) ≡ false
 apart_by true c h = refl

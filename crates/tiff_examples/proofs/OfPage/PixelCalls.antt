@@ -4,14 +4,13 @@ use Rattle.tiff_base.specs.Number.{number}
 use Rattle.tiff_page.specs.Rect.{rect}
 use Rattle.tiff_page.specs.Layout.{color_of, sample_type_of, layout_of, row_bits}
 use Rattle.tiff_page.specs.Buffers.{planes_layout}
-use Rattle.tiff_page.specs.Pixels.{shown_sample, byte_at, image_bytes, numbers_in}
+use Rattle.tiff_page.specs.Pixels.{shown_sample, byte_at, numbers_in}
 use Rattle.tiff_page.specs.PixelFault.{depth_fault, predictor_fault, white_fault, form_fault}
-use Rattle.tiff_page.specs.Image.{image_of}
-use Rattle.tiff_page.specs.PixelCalls.{placed, filled, samples, read_image_bytes, read_image_to_buffer, read_chunk, read_chunk_bytes, read_chunk_to_buffer, read_coding_unit_bytes}
+use Rattle.tiff_page.specs.PixelCalls.{image_of, placed, filled, samples, read_image_bytes, read_image_to_buffer, read_chunk, read_chunk_bytes, read_chunk_to_buffer, read_coding_unit_bytes}
 use Rattle.tiff_examples.specs.Page.PixelCalls as s
 
 pub plane_read : s.plane_read
-unfolding image_of numbers_in image_bytes planes_layout layout_of color_of row_bits sample_type_of rect form_fault depth_fault predictor_fault white_fault number byte_at shown_sample
+unfolding image_of samples filled numbers_in placed planes_layout layout_of color_of row_bits sample_type_of rect form_fault depth_fault predictor_fault white_fault number byte_at shown_sample
 plane_read = refl
 
 pub both_planes : s.both_planes
@@ -50,23 +49,23 @@ unfolding read_image_bytes read_image_to_buffer read_chunk read_chunk_bytes read
 too_many_bytes = refl
 
 pub image_planes : s.image_planes
-unfolding image_of numbers_in image_bytes planes_layout layout_of color_of row_bits sample_type_of rect form_fault depth_fault predictor_fault white_fault number byte_at shown_sample
+unfolding image_of samples filled numbers_in placed planes_layout layout_of color_of row_bits sample_type_of rect form_fault depth_fault predictor_fault white_fault number byte_at shown_sample
 image_planes = refl
 
 pub past_count : s.past_count
-unfolding image_of numbers_in image_bytes planes_layout layout_of color_of row_bits sample_type_of rect form_fault depth_fault predictor_fault white_fault number byte_at shown_sample
+unfolding image_of samples filled numbers_in placed planes_layout layout_of color_of row_bits sample_type_of rect form_fault depth_fault predictor_fault white_fault number byte_at shown_sample
 past_count = refl
 
 pub past_end : s.past_end
-unfolding image_of numbers_in image_bytes planes_layout layout_of color_of row_bits sample_type_of rect form_fault depth_fault predictor_fault white_fault number byte_at shown_sample
+unfolding image_of samples filled numbers_in placed planes_layout layout_of color_of row_bits sample_type_of rect form_fault depth_fault predictor_fault white_fault number byte_at shown_sample
 past_end = refl
 
 pub float_8 : s.float_8
-unfolding image_of numbers_in image_bytes planes_layout layout_of color_of row_bits sample_type_of rect form_fault depth_fault predictor_fault white_fault number byte_at shown_sample
+unfolding image_of samples filled numbers_in placed planes_layout layout_of color_of row_bits sample_type_of rect form_fault depth_fault predictor_fault white_fault number byte_at shown_sample
 float_8 = refl
 
 pub void : s.void
-unfolding image_of numbers_in image_bytes planes_layout layout_of color_of row_bits sample_type_of rect form_fault depth_fault predictor_fault white_fault number byte_at shown_sample
+unfolding image_of samples filled numbers_in placed planes_layout layout_of color_of row_bits sample_type_of rect form_fault depth_fault predictor_fault white_fault number byte_at shown_sample
 void = refl
 
 pub tile_placed : s.tile_placed

@@ -6,7 +6,7 @@ use Rattle.tiff_base.specs.declared.tags.ByteOrder.TheVariants.{LittleEndian, Bi
 use Rattle.tiff_base.specs.declared.tags.FileKind.TheVariants.{Classic, Big}
 use Rattle.tiff_base.specs.declared.tags.Tag.TheVariants as tag
 use Rattle.tiff_base.specs.declared.tags.«Type».TheVariants.{BYTE, ASCII, SHORT, SBYTE}
-use Rattle.tiff_base.specs.SourceAndSink.{bytes_at, AreOctets, Reads, Appends, Overwrites}
+use Rattle.tiff_base.specs.SourceAndSink.{bytes_at, AreOctets, Reads, ReachesTo, Appends, Overwrites}
 use Rattle.tiff_base.specs.Directory.{entry_of, last_of_each}
 use Rattle.tiff_base.specs.Field.{Field}
 use Rattle.tiff_base.specs.FieldBytes.{field_bytes}
@@ -56,6 +56,17 @@ read_at_end =
 abbrev pub read_past_end : Type 0
 read_past_end =
     Reads (0x0a ∷ 0x0b ∷ 0x0c ∷ []) 2 (0x00 ∷ 0x00 ∷ []) 2 (0x0c ∷ 0x00 ∷ []) → ⊥
+
+-- a source that was asked for six bytes reached to 6, and no byte further
+abbrev pub reach_of_six : Type 0
+reach_of_six = ReachesTo 6 0 6
+
+abbrev pub reach_one_more : Type 0
+reach_one_more = ReachesTo 6 0 7 → ⊥
+
+-- one that had been asked for nine bytes before stays there
+abbrev pub reach_of_before : Type 0
+reach_of_before = ReachesTo 6 9 9
 
 -- nor other bytes
 abbrev pub read_elsewhere : Type 0

@@ -9,8 +9,9 @@ use Rattle.tiff_base.specs.declared.error.TiffFormatError.TheVariants.{InvalidTa
 use Rattle.tiff_base.specs.declared.io.IoKind.TheVariants.{Device, UnexpectedEof}
 use Rattle.tiff_base.specs.declared.tags.Tag.TheVariants as tag
 use Rattle.tiff_base.specs.Field.{DirectoryRecord}
+use Rattle.tiff_decode.specs.declared.ifd_decoder.IfdDecoder.{IfdDecoder}
 use Rattle.tiff_decode.specs.Machine.{Decoding, stays}
-use Rattle.tiff_decode.specs.Reader.{directory_or, reader_of, TagsRead, IsBorrowed, IsNumber, NumberAs, NumberIfAs, EachGives, FirstUnfit, NumbersAs, NumbersIfAs}
+use Rattle.tiff_decode.specs.Reader.{directory_or, reader_of, TagsRead, IsBorrowed, reading, KeepsReading, ReadsTags, IsNumber, NumberAs, NumberIfAs, EachGives, FirstUnfit, NumbersAs, NumbersIfAs}
 use Rattle.tiff_examples.specs.Decoders.{gray_fields, gray_state, gray_decoder}
 
 -- ---- the directory
@@ -80,6 +81,25 @@ held_moved = (d e : MutBor Decoding) → d.now.state.offset ≡ 8 → e.now.stat
 
 abbrev pub held_forgotten : Type 0
 held_forgotten = (d e : MutBor Decoding) → d.now.failures ≡ 1 → e.now.failures ≡ 0 → IsBorrowed d e → ⊥
+
+-- a reader of tags, of any source
+abbrev pub TagReader : Type 0
+TagReader = IfdDecoder (Unit {0})
+
+-- without another directory it reads those of its decoder
+abbrev pub reading_own : Type 0
+reading_own = (r : TagReader) → r.other ≡ None → reading r ≡ r.decoder.now
+
+-- it doesn't go on with another directory, nor pass over a failed read
+abbrev pub reading_another : Type 0
+reading_another = (r s : TagReader) (answer : Result ℕ TiffError) → (s.other ≡ r.other → ⊥) → KeepsReading answer r s → ⊥
+
+abbrev pub reading_counted : Type 0
+reading_counted = (r s : TagReader) → KeepsReading {X = ℕ} (Ok 7) r s → s.decoder.now.failures ≡ r.decoder.now.failures
+
+-- it doesn't answer 8 where 7 is given
+abbrev pub tags_eight : Type 0
+tags_eight = (r s : TagReader) → ReadsTags (λ (n : ℕ). n) (stays gray_decoder (Ok 7)) (Ok 8) r s → ⊥
 
 -- ---- one number
 

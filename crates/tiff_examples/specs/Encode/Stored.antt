@@ -17,7 +17,7 @@ use Rattle.tiff_ifd.specs.Limits.{unlimited}
 use Rattle.tiff_page.specs.Page.{PageRecord}
 use Rattle.tiff_page.specs.Counts.{all_chunks}
 use Rattle.tiff_page.specs.Layout.{color_of}
-use Rattle.tiff_page.specs.Image.{image_of}
+use Rattle.tiff_page.specs.PixelCalls.{image_of}
 use Rattle.tiff_encode.specs.Machine.{OpenImage}
 use Rattle.tiff_encode.specs.Chunks.{image_page, next_chunk_sample_count, parts_left, sample_in}
 use Rattle.tiff_encode.specs.Calls as calls

@@ -1,11 +1,13 @@
 -- Worked samples: what a page shows, and the faults of reading it.
-use Rattle.std.specs.Prelude.{◌≡◌, ℕ, List, [], ◌∷◌, Some, None, Ok, Err, true, false, take, replicate}
+use Rattle.std.specs.Prelude.{◌≡◌, ℕ, ◌*◌, List, [], ◌∷◌, Some, None, Ok, Err, true, false, take, replicate}
 use Rattle.tiff_base.specs.declared.color.ChunkType.TheVariants.{Strip, Tile}
+use Rattle.tiff_base.specs.declared.color.ColorType.{ColorType}
 use Rattle.tiff_base.specs.declared.color.ColorType.TheVariants as color
 use Rattle.tiff_base.specs.declared.error.TiffError.TheVariants.{FormatError, UnsupportedError, IoError, LimitsExceeded}
 use Rattle.tiff_base.specs.declared.error.TiffFormatError.TheVariants.{InconsistentSizesEncountered}
 use Rattle.tiff_base.specs.declared.error.TiffUnsupportedError.TheVariants.{UnsupportedColorType, HorizontalPredictor, FloatingPointPredictor, UnsupportedCompressionMethod, UnknownInterpretation, UnsupportedSampleDepth, InterpretationWithBits}
 use Rattle.tiff_base.specs.declared.io.IoKind.TheVariants.{UnexpectedEof}
+use Rattle.tiff_base.specs.declared.tags.ByteOrder.{ByteOrder}
 use Rattle.tiff_base.specs.declared.tags.ByteOrder.TheVariants.{LittleEndian, BigEndian}
 use Rattle.tiff_base.specs.declared.tags.CompressionMethod.TheVariants as method
 use Rattle.tiff_base.specs.declared.tags.ExtraSamples.TheVariants as extra
@@ -16,10 +18,11 @@ use Rattle.tiff_base.specs.declared.tags.SampleFormat.TheVariants as format
 use Rattle.tiff_ifd.specs.declared.limits.Limits.{Limits}
 use Rattle.tiff_ifd.specs.Limits.{unlimited}
 use Rattle.tiff_page.specs.declared.layout.DecodingSampleType.TheVariants as type
+use Rattle.tiff_page.specs.Layout.{row_bytes}
 use Rattle.tiff_page.specs.Page.{PageRecord}
 use Rattle.tiff_page.specs.PixelFault.{form_fault}
-use Rattle.tiff_page.specs.Pixels.{shown_sample, byte_at, image_bytes, numbers_in, image_region, chunk_region}
-use Rattle.tiff_page.specs.Image.{image_of}
+use Rattle.tiff_page.specs.Pixels.{shown_sample, byte_at, numbers_in, image_region, chunk_region}
+use Rattle.tiff_page.specs.PixelCalls.{image_of, placed}
 use Rattle.tiff_examples.specs.Files.{gray_file}
 use Rattle.tiff_examples.specs.Page.Layout.{gray_page}
 
@@ -61,6 +64,11 @@ row_page width = record pixel_page {
   offsets = 0 ∷ [];
   byte_counts = 99 ∷ [];
 }
+
+-- the bytes of the first plane of an image
+abbrev pub image_bytes : List ℕ → ByteOrder → PageRecord → ColorType → List ℕ
+image_bytes file order p shade =
+    let row = row_bytes p shade p.width in placed file order p shade (image_region p) row 1 (replicate (row * p.height) 0)
 
 -- two RGB pixels
 abbrev pub rgb_row : PageRecord
@@ -176,30 +184,30 @@ tiled_bytes =
 -- a buffer of rows 4 apart: position 4 is the second row's first pixel, and position 3 a gap
 abbrev pub second_row : Type 0
 second_row =
-    byte_at tiled_file LittleEndian tiled_page (color.Gray 8) (image_region tiled_file LittleEndian tiled_page) 4 1 4
+    byte_at tiled_file LittleEndian tiled_page (color.Gray 8) (image_region tiled_page) 4 1 4
     ≡ Some 4
 
 abbrev pub in_gap : Type 0
 in_gap =
-    byte_at tiled_file LittleEndian tiled_page (color.Gray 8) (image_region tiled_file LittleEndian tiled_page) 4 1 3
+    byte_at tiled_file LittleEndian tiled_page (color.Gray 8) (image_region tiled_page) 4 1 3
     ≡ None
 
 -- past the only plane
 abbrev pub past_plane : Type 0
 past_plane =
-    byte_at tiled_file LittleEndian tiled_page (color.Gray 8) (image_region tiled_file LittleEndian tiled_page) 4 1 12
+    byte_at tiled_file LittleEndian tiled_page (color.Gray 8) (image_region tiled_page) 4 1 12
     ≡ None
 
 -- of the tile in the lower right corner there is one pixel
 abbrev pub corner : Type 0
 corner =
-    byte_at tiled_file LittleEndian tiled_page (color.Gray 8) (chunk_region tiled_file LittleEndian tiled_page 3) 4
+    byte_at tiled_file LittleEndian tiled_page (color.Gray 8) (chunk_region tiled_page 3) 4
     1 0
     ≡ Some 9
 
 abbrev pub corner_gap : Type 0
 corner_gap =
-    byte_at tiled_file LittleEndian tiled_page (color.Gray 8) (chunk_region tiled_file LittleEndian tiled_page 3) 4
+    byte_at tiled_file LittleEndian tiled_page (color.Gray 8) (chunk_region tiled_page 3) 4
     1 1
     ≡ None
 
@@ -214,7 +222,7 @@ first_plane = image_bytes (0x01 ∷ 0x04 ∷ 0x02 ∷ 0x05 ∷ 0x03 ∷ 0x06 ∷
 abbrev pub third_plane : Type 0
 third_plane =
     byte_at (0x01 ∷ 0x04 ∷ 0x02 ∷ 0x05 ∷ 0x03 ∷ 0x06 ∷ []) LittleEndian planar_row (color.RGB 8)
-    (image_region (0x01 ∷ 0x04 ∷ 0x02 ∷ 0x05 ∷ 0x03 ∷ 0x06 ∷ []) LittleEndian planar_row) 2 3 5
+    (image_region planar_row) 2 3 5
     ≡ Some 6
 
 -- numbers of two bytes each; the last is filled up by zeros
@@ -444,7 +452,7 @@ inverted_16_bits =
 abbrev pub tile_4_bits : Type 0
 tile_4_bits =
     byte_at (0x12 ∷ 0x34 ∷ 0x56 ∷ 0x78 ∷ []) LittleEndian tiles_page (color.Gray 4)
-    (chunk_region (0x12 ∷ 0x34 ∷ 0x56 ∷ 0x78 ∷ []) LittleEndian tiles_page 1) 1 1 0
+    (chunk_region tiles_page 1) 1 1 0
     ≡ Some 0x56
 
 abbrev pub planar_4_page : PageRecord
@@ -459,7 +467,7 @@ planar_4_page = record (row_page 2) {
 abbrev pub planar_4_bits : Type 0
 planar_4_bits =
     byte_at (0x12 ∷ 0x34 ∷ []) LittleEndian planar_4_page (color.Multiband 4 2)
-    (image_region (0x12 ∷ 0x34 ∷ []) LittleEndian planar_4_page) 1 2 1
+    (image_region planar_4_page) 1 2 1
     ≡ Some 0x34
 
 -- a packed strip is cut at its byte count

@@ -1,7 +1,8 @@
 -- Worked numbers of a row, undone.
 use Rattle.std.specs.Prelude.{◌≡◌, ℕ, List, [], ◌∷◌}
 use Rattle.tiff_base.specs.declared.tags.ByteOrder.TheVariants.{LittleEndian, BigEndian}
-use Rattle.tiff_page.specs.Row.{row_number, summed_number, summed_byte_in, joined_number, Became}
+use Rattle.tiff_page.specs.Pixels.{row_number, summed_number, summed_byte, joined_number}
+use Rattle.tiff_page.specs.Row.{Became}
 
 -- the second number of two bytes, in either order
 abbrev pub little_second : Type 0
@@ -18,24 +19,24 @@ abbrev pub pixels : List ℕ
 pixels = 0x01 ∷ 0x10 ∷ 0x02 ∷ 0x20 ∷ 0xff ∷ 0x40 ∷ []
 
 abbrev pub first_stays : Type 0
-first_stays = summed_number 1 2 pixels 1 ≡ 0x10
+first_stays = summed_number LittleEndian 1 2 pixels 1 ≡ 0x10
 
 abbrev pub second_summed : Type 0
-second_summed = summed_number 1 2 pixels 3 ≡ 0x30
+second_summed = summed_number LittleEndian 1 2 pixels 3 ≡ 0x30
 
 abbrev pub third_wraps : Type 0
-third_wraps = summed_number 1 2 pixels 4 ≡ 0x02
+third_wraps = summed_number LittleEndian 1 2 pixels 4 ≡ 0x02
 
 -- numbers of two bytes are summed whole
 abbrev pub carried : Type 0
-carried = summed_number 2 1 (0xff ∷ 0x00 ∷ 0x01 ∷ 0x00 ∷ []) 1 ≡ 0x0100
+carried = summed_number LittleEndian 2 1 (0xff ∷ 0x00 ∷ 0x01 ∷ 0x00 ∷ []) 1 ≡ 0x0100
 
 -- a byte of planes, with those a pixel before it: of two samples every other one
 abbrev pub byte_summed : Type 0
-byte_summed = summed_byte_in 2 pixels 4 ≡ 0x02
+byte_summed = summed_byte 2 pixels 4 ≡ 0x02
 
 abbrev pub byte_first : Type 0
-byte_first = summed_byte_in 2 pixels 1 ≡ 0x10
+byte_first = summed_byte 2 pixels 1 ≡ 0x10
 
 -- two numbers of four bytes, 1.0 and 2.0 as floating numbers, by the differences of their planes
 abbrev pub planes : List ℕ

@@ -6,7 +6,7 @@ ghost use Rattle.tiff_examples.specs.Decode.Reader as s;
 pub fn directories()
     ensures { s.own_chosen × s.other_chosen × s.own_read × s.other_read × s.seven_read × s.eight_read ×
         s.failures_swallowed × s.failures_forgotten × s.offset_moved × s.seven_wanting × s.seven_failed × s.seven_not_failed ×
-        s.held × s.held_moved × s.held_forgotten }
+        s.held × s.held_moved × s.held_forgotten × s.reading_own × s.reading_another × s.reading_counted × s.tags_eight }
 {}
 
 /// A number as another type.

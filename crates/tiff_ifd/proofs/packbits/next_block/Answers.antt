@@ -49,6 +49,8 @@ loop-len-preserved g c =
     record {
       same_bytes = c.in-Ok.ensures.kept.told ∙ c.loop-len.invariant.same_bytes;
       count = omega (arith, c.in-Ok.ensures.kept.swallowed, c.loop-len.invariant.count);
+      asked = λ n before end. c.in-Ok.ensures.asked n (c.loop-len.invariant.asked n before end) (omega (arith, end, c.loop-len.invariant.end, c.loop-len-test.true));
+      end = omega (arith, c.loop-len.invariant.end, c.loop-len-test.true);
       same_rest = c.loop-len.invariant.same_rest
           ∙ nothing_told (g.R.Source.bytes c.args.source.now) c.loop-len.at c.loop-len.len c.loop-len-test.true b.0 (sym b.1 ∙ omega arith);
     }
@@ -56,3 +58,14 @@ loop-len-preserved g c =
 pub returns-clause-block : goal.returns-clause-block
 returns-clause-block g c =
     c.loop-len.invariant.same_rest ∙ all_read (g.R.Source.bytes c.args.source.now) c.loop-len.at c.loop-len.len (omega arith)
+
+pub returns-in-Err-clause-asked : goal.returns-in-Err-clause-asked
+returns-in-Err-clause-asked g c = λ n before end.
+    let so_far = c.loop-len.invariant.asked n before end in
+    c.in-Err.ensures.asked n so_far (omega (arith, end, c.loop-len.invariant.end, c.loop-len-test.true))
+
+pub returns-in-Err-read_byte-clause-asked : goal.returns-in-Err-read_byte-clause-asked
+returns-in-Err-read_byte-clause-asked g c = λ n before end.
+    let so_far = c.loop-len.invariant.asked n before end in
+    let header = c.in-Ok.ensures.asked n so_far (omega (arith, end, c.loop-len.invariant.end, c.loop-len-test.true)) in
+    c.in-Err-read_byte.ensures.asked n header (omega (arith, end, c.loop-len.invariant.end, c.loop-len-test.true, c.if-len-eq0.false))

@@ -1,4 +1,5 @@
-use Rattle.std.proofs.Common.{◌≡◌}
+use Rattle.std.proofs.Common.{◌≡◌, ◌+◌}
+use Rattle.tiff_base.specs.SourceAndSink.{ReachesTo}
 use Rattle.tiff_ifd.specs.Unpacking.{unpacked_at}
 use Rattle.tiff_ifd.proofs.packbits.next_block.Given as goal
 
@@ -9,6 +10,8 @@ invariant-loop-len g l =
     record {
       same_bytes : g.R.Source.bytes l.source ≡ bytes;
       count : g.R.Source.failures l.source ≡ g.R.Source.failures l.fn.source;
+      asked : ReachesTo (l.fn.at + l.fn.len) (g.R.Source.reach l.fn.source) (g.R.Source.reach l.source);
+      end : l.at + l.len ≡ l.fn.at + l.fn.len;
       same_rest : unpacked_at bytes l.fn.at l.fn.len ≡ unpacked_at bytes l.at l.len;
     }
 

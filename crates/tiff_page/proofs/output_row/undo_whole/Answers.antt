@@ -1,7 +1,7 @@
 use Rattle.std.proofs.Common.{◌≡◌, ◌∙◌, ◌*◌, ◌/◌, ℕ, length, subst, sym, ap, inr, arith}
 use Rattle.tiff_page.specs.PageView as view
-use Rattle.tiff_page.specs.Pixels.{stored_samples, is_byte_plane}
-use Rattle.tiff_page.specs.Row.{IsSize, Became, joined_number}
+use Rattle.tiff_page.specs.Pixels.{stored_samples, is_byte_plane, joined_number}
+use Rattle.tiff_page.specs.Row.{IsSize, Became}
 use Rattle.tiff_page.proofs.OutputRow.{joined_numbers, stored_count, stored_whole, no_byte_plane}
 use Rattle.tiff_page.proofs.output_row.undo_whole.Goals as goal
 

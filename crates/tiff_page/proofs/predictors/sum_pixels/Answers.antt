@@ -1,6 +1,7 @@
 use Rattle.std.proofs.Common.{◌≡◌, ℕ, ◌∙◌, ◌<◌, get_or, subst, ◌*◌, ◌+◌, ◌-◌, ◌/◌, ◌≤◌, length, take, drop, refl, arith}
 use Rattle.std.proofs.lemmas.List.{get_or-replicate, length-take, length-drop}
-use Rattle.tiff_page.specs.Row.{summed_number}
+use Rattle.tiff_base.specs.declared.tags.ByteOrder.TheVariants.{LittleEndian}
+use Rattle.tiff_page.specs.Pixels.{summed_number}
 use Rattle.tiff_page.proofs.Rows.{number_within}
 use Rattle.tiff_page.proofs.Sums.{all_summed, carries_first, pixel_carries, pixel_done, pixel_rest}
 use Rattle.tiff_page.proofs.predictors.sum_pixels.Goals as goal
@@ -35,5 +36,5 @@ returns g c =
     let s = g.row.N in
     let e : c.loop-k.k ≡ length c.args.row.now / s = omega (arith, c.loop-k-test.false, c.loop-k.auto.k-end) in
     all_summed s c.args.row.now c.loop-k.row c.requires.whole
-    (subst (λ (m : ℕ). (i : ℕ) → i < m * s → get_or c.loop-k.row i 0 ≡ summed_number 1 s c.args.row.now i) e c.loop-k.invariant.done)
+    (subst (λ (m : ℕ). (i : ℕ) → i < m * s → get_or c.loop-k.row i 0 ≡ summed_number LittleEndian 1 s c.args.row.now i) e c.loop-k.invariant.done)
     (subst (λ (m : ℕ). (i : ℕ) → m * s ≤ i → get_or c.loop-k.row i 0 ≡ get_or c.args.row.now i 0) e c.loop-k.invariant.rest)

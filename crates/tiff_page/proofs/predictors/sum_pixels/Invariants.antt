@@ -1,12 +1,13 @@
 use Rattle.std.proofs.Common.{◌≡◌, ℕ, ◌*◌, ◌<◌, ◌≤◌, get_or}
-use Rattle.tiff_page.specs.Row.{summed_number}
+use Rattle.tiff_base.specs.declared.tags.ByteOrder.TheVariants.{LittleEndian}
+use Rattle.tiff_page.specs.Pixels.{summed_number}
 use Rattle.tiff_page.proofs.Sums.{CarriesTo}
 use Rattle.tiff_page.proofs.predictors.sum_pixels.Given as goal
 
 -- the pixels before the next are summed, the rest is as it was, and the last sums give those of the next
 abbrev pub invariant-loop-k : goal.invariant-loop-k
 invariant-loop-k g l = record {
-  done : (i : ℕ) → i < l.k * g.row.N → get_or l.row i 0 ≡ summed_number 1 g.row.N l.fn.row i;
+  done : (i : ℕ) → i < l.k * g.row.N → get_or l.row i 0 ≡ summed_number LittleEndian 1 g.row.N l.fn.row i;
   rest : (i : ℕ) → l.k * g.row.N ≤ i → get_or l.row i 0 ≡ get_or l.fn.row i 0;
   carries : CarriesTo g.row.N l.fn.row l.last l.k;
 }

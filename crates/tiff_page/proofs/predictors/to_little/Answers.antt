@@ -1,6 +1,7 @@
 use Rattle.std.proofs.Common.{sym, subst}
 use Rattle.tiff_base.specs.declared.tags.ByteOrder.{ByteOrder}
-use Rattle.tiff_page.specs.Row.{row_number, Became}
+use Rattle.tiff_page.specs.Pixels.{row_number}
+use Rattle.tiff_page.specs.Row.{Became}
 use Rattle.tiff_page.proofs.Rows.{stayed}
 use Rattle.tiff_page.proofs.predictors.to_little.Goals as goal
 

@@ -1,6 +1,7 @@
 use Rattle.std.proofs.Common.{ℕ, arith, sym, subst}
 use Rattle.tiff_base.specs.declared.tags.ByteOrder.TheVariants.{BigEndian}
-use Rattle.tiff_page.specs.Row.{row_number, Became}
+use Rattle.tiff_page.specs.Pixels.{row_number}
+use Rattle.tiff_page.specs.Row.{Became}
 use Rattle.tiff_page.proofs.Rows.{bytes_stayed}
 use Rattle.tiff_page.proofs.predictors.turn_numbers.Goals as goal
 

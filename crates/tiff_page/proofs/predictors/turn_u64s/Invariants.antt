@@ -1,6 +1,6 @@
 use Rattle.std.proofs.Common.{◌≡◌, ℕ, ◌*◌, ◌/◌, ◌<◌, ◌≤◌, length, get_or}
 use Rattle.tiff_base.specs.declared.tags.ByteOrder.TheVariants.{LittleEndian, BigEndian}
-use Rattle.tiff_page.specs.Row.{row_number}
+use Rattle.tiff_page.specs.Pixels.{row_number}
 use Rattle.tiff_page.proofs.predictors.turn_u64s.Given as goal
 
 -- the numbers before the next are turned, and the rest is as it was

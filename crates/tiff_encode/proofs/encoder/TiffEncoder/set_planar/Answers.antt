@@ -1,4 +1,4 @@
-use Rattle.std.proofs.Common.{[], ◌∷◌, ap}
+use Rattle.std.proofs.Common.{rules, [], ◌∷◌, ap}
 use Rattle.tiff_base.specs.declared.tags.PlanarConfiguration.TheVariants.{Planar}
 use Rattle.tiff_base.specs.declared.tags.Tag.TheVariants as tag
 use Rattle.tiff_value.specs.Data.{Scalars, planars}
@@ -16,20 +16,24 @@ value = planars (Planar ∷ [])
 abbrev set : OpenImage → OpenDirectory → OpenImage
 set i d = record i { directory = d; form = record i.form { planar = Planar } }
 
-pub returns-in-Err-clause-answer : goal.returns-in-Err-clause-answer
+pub returns-in_err-check_planar-clause-answer : goal.returns-in_err-check_planar-clause-answer
 unfolding planar
-returns-in-Err-clause-answer g c =
+returns-in_err-check_planar-clause-answer g c =
+    let told =
     let i = c.args.image.now in
     let old = c.args.self.now in
-    set_refused (planar_cause old i) (one_tag tag.PlanarConfiguration value) (set i) i.directory old c.in-Err.fault c.in-Err.ensures
+    set_refused (planar_cause old i) (one_tag tag.PlanarConfiguration value) (set i) i.directory old c.in_err-check_planar.field-0.0 c.in_err-check_planar.ensures in
+    search rules
 
-pub returns-in-Err-set_tag-clause-answer : goal.returns-in-Err-set_tag-clause-answer
+pub returns-in_err-set_tag-clause-answer : goal.returns-in_err-set_tag-clause-answer
 unfolding planar
-returns-in-Err-set_tag-clause-answer g c =
+returns-in_err-set_tag-clause-answer g c =
+    let told =
     let i = c.args.image.now in
     let old = c.args.self.now in
-    set_fails (planar_cause old i) (one_tag tag.PlanarConfiguration value) (set i) i.directory old c.in-Err-set_tag.fault c.image.inside.directory c.set_tag.new.self
-    c.in-Ok.ensures (ap (λ x. x.directory) c.image.view_is) (one_adds tag.PlanarConfiguration value i.directory old) c.in-Err-set_tag.ensures.answer
+    set_fails (planar_cause old i) (one_tag tag.PlanarConfiguration value) (set i) i.directory old c.in_err-set_tag.field-0.0 c.image.inside.directory c.set_tag.new.self
+    c.in_ok-check_planar.ensures (ap (λ x. x.directory) c.image.view_is) (one_adds tag.PlanarConfiguration value i.directory old) c.in_err-set_tag.ensures.answer in
+    search rules
 
 pub returns-clause-answer : goal.returns-clause-answer
 unfolding planar
@@ -37,4 +41,4 @@ returns-clause-answer g c =
     let i = c.args.image.now in
     let old = c.args.self.now in
     set_so (planar_cause old i) (one_tag tag.PlanarConfiguration value) (set i) i.directory old c.image.inside.directory c.set_tag.new.fields _ c.set_tag.new.self
-    c.in-Ok.ensures (ap (λ x. x.directory) c.image.view_is) c.in-Ok-set_tag.ensures.answer (ap (λ x. set x c.set_tag.new.fields) c.image.view_is)
+    c.in_ok-check_planar.ensures (ap (λ x. x.directory) c.image.view_is) c.in_ok-set_tag.ensures.answer (ap (λ x. set x c.set_tag.new.fields) c.image.view_is)

@@ -1,4 +1,5 @@
-use Rattle.std.proofs.Common.{ℕ, [], ◌∷◌, ap, refl, inl, inr}
+use Rattle.std.proofs.Common.{rules, ℕ, [], ◌∷◌, ap, refl, inl, inr}
+use Rattle.std.proofs.lemmas.Result.{err_from_is_err_and}
 use Rattle.tiff_base.specs.declared.tags.Tag.TheVariants as tag
 use Rattle.tiff_value.specs.Data.{units, rationals}
 use Rattle.tiff_encode.specs.Causes.{resolution_cause}
@@ -6,61 +7,67 @@ use Rattle.tiff_encode.specs.Calls.{with_directory_of, write_tags, resolution_ta
 use Rattle.tiff_encode.proofs.Settings.{set_refused, set_fails, set_so, several_adds, tags_fail, tags_so, stops_so}
 use Rattle.tiff_encode.proofs.encoder.TiffEncoder.set_resolution.Goals as goal
 
-pub returns-in-Err-clause-part : goal.returns-in-Err-clause-part
+pub returns-in_err-check_resolution-clause-part : goal.returns-in_err-check_resolution-clause-part
 unfolding resolution
-returns-in-Err-clause-part g c =
+returns-in_err-check_resolution-clause-part g c =
+    let p = err_from_is_err_and c.from_residual.result c.from_residual.ensures.1 in
     let i = c.args.image.now in
     let old = c.args.self.now in
     let tags = resolution_tags c.args.unit (c.args.value.n, c.args.value.d) in
-    inl (refl, set_refused (resolution_cause old) (λ d. write_tags d tags) (with_directory_of i) i.directory old c.in-Err.fault c.in-Err.ensures)
+    rw (p.1, p.2) (inl (refl, set_refused (resolution_cause old) (λ d. write_tags d tags) (with_directory_of i) i.directory old c.in_err-check_resolution.field-0.0 c.in_err-check_resolution.ensures))
 
-pub returns-in-Err-clause-answer : goal.returns-in-Err-clause-answer
+pub returns-in_err-check_resolution-clause-answer : goal.returns-in_err-check_resolution-clause-answer
 unfolding resolution
-returns-in-Err-clause-answer g c =
+returns-in_err-check_resolution-clause-answer g c =
+    let told =
     let i = c.args.image.now in
     let old = c.args.self.now in
     let tags = resolution_tags c.args.unit (c.args.value.n, c.args.value.d) in
-    set_refused (resolution_cause old) (λ d. write_tags d tags) (with_directory_of i) i.directory old c.in-Err.fault c.in-Err.ensures
+    set_refused (resolution_cause old) (λ d. write_tags d tags) (with_directory_of i) i.directory old c.in_err-check_resolution.field-0.0 c.in_err-check_resolution.ensures in
+    search rules
 
-pub returns-in-Ok-set_tags-clause-answer : goal.returns-in-Ok-set_tags-clause-answer
+pub returns-clause-answer : goal.returns-clause-answer
 unfolding resolution
-returns-in-Ok-set_tags-clause-answer g c =
+returns-clause-answer g c =
     let i = c.args.image.now in
     let old = c.args.self.now in
     let d = c.image.inside.directory in
     let tags = resolution_tags c.args.unit (c.args.value.n, c.args.value.d) in
     set_so (resolution_cause old) (λ d. write_tags d tags) (with_directory_of i) i.directory old d c.set_tags.new.fields _ c.set_tags.new.self
-    c.in-Ok.ensures (ap (λ x. x.directory) c.image.view_is)
-    (tags_so _ tags c.resolution_values-values.ensures d c.set_tags.new.fields old c.set_tags.new.self c.in-Ok-set_tags.ensures.answer)
+    c.in_ok-check_resolution.ensures (ap (λ x. x.directory) c.image.view_is)
+    (tags_so _ tags c.resolution_values-values.ensures d c.set_tags.new.fields old c.set_tags.new.self c.in_ok-set_tags.ensures.answer)
     (ap (λ x. with_directory_of x c.set_tags.new.fields) c.image.view_is)
 
-pub returns-in-Err-set_tags-clause-part : goal.returns-in-Err-set_tags-clause-part
-returns-in-Err-set_tags-clause-part g c =
+pub returns-in_err-set_tags-clause-part : goal.returns-in_err-set_tags-clause-part
+returns-in_err-set_tags-clause-part g c =
+    let p = err_from_is_err_and c.from_residual-in_err-set_tags.result c.from_residual-in_err-set_tags.ensures.1 in
     let i = c.args.image.now in
     let old = c.args.self.now in
     let d = c.image.inside.directory in
     let tags = resolution_tags c.args.unit (c.args.value.n, c.args.value.d) in
-    inr (
-      c.in-Ok.ensures,
+    rw (p.1, p.2) (inr (
+      c.in_ok-check_resolution.ensures,
       (
         c.set_tags.new.fields,
         (
           ap (λ x. with_directory_of x c.set_tags.new.fields) c.image.view_is,
-          stops_so _ tags c.resolution_values-values.ensures i.directory d c.set_tags.new.fields c.in-Err-set_tags.fault old c.set_tags.new.self
-              (ap (λ x. x.directory) c.image.view_is) c.in-Err-set_tags.ensures.part,
+          stops_so _ tags c.resolution_values-values.ensures i.directory d c.set_tags.new.fields c.in_err-set_tags.field-0.0 old c.set_tags.new.self
+              (ap (λ x. x.directory) c.image.view_is) c.in_err-set_tags.ensures.part,
         ),
       ),
-    )
+    ))
 
-pub returns-in-Err-set_tags-clause-answer : goal.returns-in-Err-set_tags-clause-answer
+pub returns-in_err-set_tags-clause-answer : goal.returns-in_err-set_tags-clause-answer
 unfolding resolution
-returns-in-Err-set_tags-clause-answer g c =
+returns-in_err-set_tags-clause-answer g c =
+    let told =
     let i = c.args.image.now in
     let old = c.args.self.now in
     let d = c.image.inside.directory in
     let value : ℕ × ℕ = (c.args.value.n, c.args.value.d) in
     let tags = resolution_tags c.args.unit value in
-    set_fails (resolution_cause old) (λ d. write_tags d tags) (with_directory_of i) i.directory old c.in-Err-set_tags.fault d c.set_tags.new.self
-    c.in-Ok.ensures (ap (λ x. x.directory) c.image.view_is)
+    set_fails (resolution_cause old) (λ d. write_tags d tags) (with_directory_of i) i.directory old c.in_err-set_tags.field-0.0 d c.set_tags.new.self
+    c.in_ok-check_resolution.ensures (ap (λ x. x.directory) c.image.view_is)
     (several_adds tag.ResolutionUnit (units (c.args.unit ∷ [])) ((tag.XResolution, rationals (value ∷ [])) ∷ (tag.YResolution, rationals (value ∷ [])) ∷ []) i.directory old)
-    (tags_fail _ tags c.resolution_values-values.ensures d c.in-Err-set_tags.fault old c.set_tags.new.self c.in-Err-set_tags.ensures.answer)
+    (tags_fail _ tags c.resolution_values-values.ensures d c.in_err-set_tags.field-0.0 old c.set_tags.new.self c.in_err-set_tags.ensures.answer) in
+    search rules

@@ -1,4 +1,4 @@
-use Rattle.std.proofs.Common.{ℕ, [], ◌∷◌, ap}
+use Rattle.std.proofs.Common.{rules, ℕ, [], ◌∷◌, ap}
 use Rattle.tiff_base.specs.declared.tags.Tag.TheVariants as tag
 use Rattle.tiff_value.specs.Data.{Scalars, u32s}
 use Rattle.tiff_encode.specs.Machine.{OpenDirectory, OpenImage}
@@ -15,20 +15,24 @@ value rows = u32s (rows ∷ [])
 abbrev set : OpenImage → ℕ → OpenDirectory → OpenImage
 set i rows d = record i { directory = d; form = strips_of i.width rows i.form.planar }
 
-pub returns-in-Err-clause-answer : goal.returns-in-Err-clause-answer
+pub returns-in_err-check_rows_per_strip-clause-answer : goal.returns-in_err-check_rows_per_strip-clause-answer
 unfolding set_rows_per_strip
-returns-in-Err-clause-answer g c =
+returns-in_err-check_rows_per_strip-clause-answer g c =
+    let told =
     let i = c.args.image.now in
     let old = c.args.self.now in
-    set_refused (rows_per_strip_cause old i c.args.rows) (one_tag tag.RowsPerStrip (value c.args.rows)) (set i c.args.rows) i.directory old c.in-Err.fault c.in-Err.ensures
+    set_refused (rows_per_strip_cause old i c.args.rows) (one_tag tag.RowsPerStrip (value c.args.rows)) (set i c.args.rows) i.directory old c.in_err-check_rows_per_strip.field-0.0 c.in_err-check_rows_per_strip.ensures in
+    search rules
 
-pub returns-in-Err-set_tag-clause-answer : goal.returns-in-Err-set_tag-clause-answer
+pub returns-in_err-set_tag-clause-answer : goal.returns-in_err-set_tag-clause-answer
 unfolding set_rows_per_strip
-returns-in-Err-set_tag-clause-answer g c =
+returns-in_err-set_tag-clause-answer g c =
+    let told =
     let i = c.args.image.now in
     let old = c.args.self.now in
-    set_fails (rows_per_strip_cause old i c.args.rows) (one_tag tag.RowsPerStrip (value c.args.rows)) (set i c.args.rows) i.directory old c.in-Err-set_tag.fault c.image.inside.directory c.set_tag.new.self
-    c.in-Ok.ensures.0 (ap (λ x. x.directory) c.image.view_is) (one_adds tag.RowsPerStrip (value c.args.rows) i.directory old) c.in-Err-set_tag.ensures.answer
+    set_fails (rows_per_strip_cause old i c.args.rows) (one_tag tag.RowsPerStrip (value c.args.rows)) (set i c.args.rows) i.directory old c.in_err-set_tag.field-0.0 c.image.inside.directory c.set_tag.new.self
+    c.in_ok-check_rows_per_strip.ensures.0 (ap (λ x. x.directory) c.image.view_is) (one_adds tag.RowsPerStrip (value c.args.rows) i.directory old) c.in_err-set_tag.ensures.answer in
+    search rules
 
 pub returns-clause-answer : goal.returns-clause-answer
 unfolding set_rows_per_strip
@@ -36,4 +40,4 @@ returns-clause-answer g c =
     let i = c.args.image.now in
     let old = c.args.self.now in
     set_so (rows_per_strip_cause old i c.args.rows) (one_tag tag.RowsPerStrip (value c.args.rows)) (set i c.args.rows) i.directory old c.image.inside.directory c.set_tag.new.fields _ c.set_tag.new.self
-    c.in-Ok.ensures.0 (ap (λ x. x.directory) c.image.view_is) c.in-Ok-set_tag.ensures.answer (ap (λ x. set x c.args.rows c.set_tag.new.fields) c.image.view_is)
+    c.in_ok-check_rows_per_strip.ensures.0 (ap (λ x. x.directory) c.image.view_is) c.in_ok-set_tag.ensures.answer (ap (λ x. set x c.args.rows c.set_tag.new.fields) c.image.view_is)

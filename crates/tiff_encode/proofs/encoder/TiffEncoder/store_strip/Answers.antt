@@ -1,16 +1,18 @@
-use Rattle.std.proofs.Common.{length, map, ap, ◌∙◌, sym}
+use Rattle.std.proofs.Common.{rules, length, map, ap, ◌∙◌, sym}
 use Rattle.tiff_base.specs.Types.{type_size}
 use Rattle.tiff_value.specs.ColorType.{sample_number}
 use Rattle.tiff_encode.proofs.Strips.{strip_written, strip_stopped, strip_of_tiles}
 use Rattle.tiff_encode.proofs.encoder.TiffEncoder.store_strip.Goals as goal
 
-pub returns-in-Err : goal.returns-in-Err
-returns-in-Err g c =
-    strip_stopped c.args.self.now c.args.image.now (map (sample_number (type_size g.C.Inner.TiffValue.value_type) g.C.Inner.Sample.bits) c.args.samples.now) (length c.args.samples.now) c.in-Err.fault c.in-Err.ensures.0 c.in-Err.ensures.1
+pub returns-in_err-end : goal.returns-in_err-end
+returns-in_err-end g c =
+    let told =
+    strip_stopped c.args.self.now c.args.image.now (map (sample_number (type_size g.C.Inner.TiffValue.value_type) g.C.Inner.Sample.bits) c.args.samples.now) (length c.args.samples.now) c.in_err-end.field-0.0 c.in_err-end.ensures.0 c.in_err-end.ensures.1 in
+    search rules
 
 pub returns-in-Tile : goal.returns-in-Tile
 returns-in-Tile g c =
-    strip_of_tiles c.args.self.now c.args.image.now (map (sample_number (type_size g.C.Inner.TiffValue.value_type) g.C.Inner.Sample.bits) c.args.samples.now) (length c.args.samples.now) c.in-Ok.ensures.0
+    strip_of_tiles c.args.self.now c.args.image.now (map (sample_number (type_size g.C.Inner.TiffValue.value_type) g.C.Inner.Sample.bits) c.args.samples.now) (length c.args.samples.now) c.in_ok-end.ensures.0
     (ap (λ i. i.form.chunk_type) (sym c.image.view_is) ∙ c.in-Tile.is)
 
 pub returns : goal.returns

@@ -1,4 +1,5 @@
 use Rattle.std.proofs.Common.{◌≡◌, ◌<◌, length, map, subst, arith}
+use Rattle.std.proofs.lemmas.Result.{err_from_is_err_and}
 use Rattle.tiff_base.specs.Types.{type_size}
 use Rattle.tiff_value.specs.ColorType.{sample_number}
 use Rattle.tiff_encode.specs.Chunks.{chunks_left}
@@ -21,19 +22,20 @@ pub write_part-requires-clause-whole : goal.write_part-requires-clause-whole
 write_part-requires-clause-whole g c =
     data_whole c.args.self.now c.args.image.now (length c.args.samples.now) c.requires c.loop-written.image c.loop-written.invariant.same
 
-pub returns-in-Err : goal.returns-in-Err
-returns-in-Err g c =
+pub returns-in_err-write_part : goal.returns-in_err-write_part
+returns-in_err-write_part g c =
+    let p = err_from_is_err_and c.from_residual.result c.from_residual.ensures.1 in
     let numbers = map (sample_number (type_size g.C.Inner.TiffValue.value_type) g.C.Inner.Sample.bits) c.args.samples.now in
     let l : c.loop-written.written < chunks_left c.args.image.now = subst (λ n. c.loop-written.written < n) c.chunks_left-written-end.ensures c.loop-written-test.true in
-    stops_written c.args.image.now numbers c.loop-written.written c.args.self.now c.loop-written.self c.write_part.new.self c.loop-written.image c.write_part.new.image
-    l c.loop-written.invariant c.in-Err.fault (data_fresh c.args.self.now c.args.image.now (length c.args.samples.now) c.requires) c.in-Err.ensures
+    rw (p.1, p.2) (stops_written c.args.image.now numbers c.loop-written.written c.args.self.now c.loop-written.self c.write_part.new.self c.loop-written.image c.write_part.new.image
+    l c.loop-written.invariant c.in_err-write_part.field-0.0 (data_fresh c.args.self.now c.args.image.now (length c.args.samples.now) c.requires) c.in_err-write_part.ensures)
 
 pub loop-written-preserved : goal.loop-written-preserved
 loop-written-preserved g c =
     let numbers = map (sample_number (type_size g.C.Inner.TiffValue.value_type) g.C.Inner.Sample.bits) c.args.samples.now in
     let l : c.loop-written.written < chunks_left c.args.image.now = subst (λ n. c.loop-written.written < n) c.chunks_left-written-end.ensures c.loop-written-test.true in
     more_written c.args.image.now numbers c.loop-written.written c.args.self.now c.loop-written.self c.write_part.new.self c.loop-written.image c.write_part.new.image
-    l c.loop-written.invariant c.in-Ok.ensures
+    l c.loop-written.invariant c.in_ok-write_part.ensures
 
 pub returns : goal.returns
 returns g c =

@@ -1,22 +1,39 @@
-use Rattle.std.proofs.Common.{length, map, sym}
+use Rattle.std.proofs.Common.{rules, length, map, Result, Err, inr, ap, sym, ◌∙◌, subst}
+use Rattle.std.proofs.lemmas.Result.{err_from_is_err_and}
 use Rattle.std.proofs.lemmas.List.{length-map}
+use Rattle.tiff_base.specs.declared.error.TiffError.{TiffError}
 use Rattle.tiff_base.specs.Types.{type_size}
 use Rattle.tiff_value.specs.ColorType.{sample_number}
+use Rattle.tiff_encode.specs.Causes.{write_image_data_cause}
+use Rattle.tiff_encode.specs.ImageData.{WritesDataBy}
 use Rattle.tiff_encode.proofs.Data.Written.{data_done, data_fails}
 use Rattle.tiff_encode.proofs.encoder.TiffEncoder.write_image_data.Goals as goal
 
-pub returns-in-Ok-finish_image : goal.returns-in-Ok-finish_image
-returns-in-Ok-finish_image g c =
+pub returns : goal.returns
+returns g c =
     let number = sample_number (type_size g.C.Inner.TiffValue.value_type) g.C.Inner.Sample.bits in
     let numbers = map number c.args.samples.now in
     let counted = sym (length-map c.args.samples.now number) in
     data_done c.args.image.now numbers (length c.args.samples.now) counted c.args.self.now c.write_chunks_left.new.self c.finish_image.new.self c.write_chunks_left.new.image
-    c.in-Ok.ensures c.in-Ok-write_chunks_left.ensures c.in-Ok-finish_image.field-0 c.in-Ok-finish_image.ensures
+    c.in_ok-check_data.ensures c.in_ok-write_chunks_left.ensures c.in_ok-finish_image.field-0 c.in_ok-finish_image.ensures
 
-pub returns-in-Err-finish_image : goal.returns-in-Err-finish_image
-returns-in-Err-finish_image g c =
+pub returns-in_err-finish_image : goal.returns-in_err-finish_image
+returns-in_err-finish_image g c =
+    let told =
     let number = sample_number (type_size g.C.Inner.TiffValue.value_type) g.C.Inner.Sample.bits in
     let numbers = map number c.args.samples.now in
     let counted = sym (length-map c.args.samples.now number) in
     data_fails c.args.image.now numbers (length c.args.samples.now) counted c.args.self.now c.write_chunks_left.new.self c.finish_image.new.self c.write_chunks_left.new.image
-    c.in-Ok.ensures c.in-Ok-write_chunks_left.ensures c.in-Err-finish_image.fault c.in-Err-finish_image.ensures
+    c.in_ok-check_data.ensures c.in_ok-write_chunks_left.ensures c.in_err-finish_image.field-0.0 c.in_err-finish_image.ensures in
+    search rules
+
+pub returns-in_err-write_chunks_left : goal.returns-in_err-write_chunks_left
+returns-in_err-write_chunks_left g c =
+    let number = sample_number (type_size g.C.Inner.TiffValue.value_type) g.C.Inner.Sample.bits in
+    let numbers = map number c.args.samples.now in
+    let counted = length-map c.args.samples.now number in
+    let none = ap (write_image_data_cause c.args.self.now c.args.image.now) counted ∙ c.in_ok-check_data.ensures in
+    let r : Result (Unit {0}) TiffError = Err c.in_err-write_chunks_left.field-0.0 in
+    let p = err_from_is_err_and c.from_residual-in_err-write_chunks_left.result c.from_residual-in_err-write_chunks_left.ensures.1 in
+    rw (p.1, p.2) (subst (λ cause. WritesDataBy cause c.args.image.now numbers r c.args.self.now c.write_chunks_left.new.self) (sym none)
+    (inr c.in_err-write_chunks_left.ensures))

@@ -6,5 +6,5 @@ returns g c =
     let told = g.W.Sink.told in
     let failures = g.W.Sink.failures in
     jobs_run g.K.TiffKind.kind (told c.args.sink) (failures c.args.sink) c.args.jobs.now c.args.replies.now.items c.run_all.new.replies.items
-    c.in-Ok.encoder c.run_all.new.encoder (told c.into_inner.result) (failures c.into_inner.result) c.in-Ok.ensures.answer
-    c.in-Ok.ensures.leaves c.run_all.ensures c.into_inner.ensures.bytes c.into_inner.ensures.failures
+    c.in_ok-encoder.encoder c.run_all.new.encoder (told c.into_inner.result) (failures c.into_inner.result) c.in_ok-encoder.ensures.answer
+    c.in_ok-encoder.ensures.leaves c.run_all.ensures c.into_inner.ensures.bytes c.into_inner.ensures.failures

@@ -19,4 +19,8 @@ returns c = (
   p.held,
   p.held_moved,
   p.held_forgotten,
+  p.reading_own,
+  p.reading_another,
+  p.reading_counted,
+  p.tags_eight,
 )

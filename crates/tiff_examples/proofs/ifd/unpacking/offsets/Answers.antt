@@ -10,4 +10,5 @@ returns c = (
   p.none_past_end,
   p.in_literal,
   p.in_run,
+  p.end_of_packed,
 )

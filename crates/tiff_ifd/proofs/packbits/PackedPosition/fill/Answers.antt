@@ -9,7 +9,14 @@ loop-done-preserved g c =
       within = room_behind c.loop-done.buf c.read_blocks.new.buf _ c.loop-done.done _ c.in-Ok.n c.loop-done.invariant.within c.read_blocks.auto.buf c.in-Ok.ensures.piece.in_buffer;
       same_bytes = told;
       count = omega (arith, c.in-Ok.ensures.kept.swallowed, c.loop-done.invariant.count);
+      asked = λ n before end. c.in-Ok.ensures.asked n (c.loop-done.invariant.asked n before end) (omega (arith, end, c.loop-done.invariant.end));
+      end = c.in-Ok.ensures.end ∙ c.loop-done.invariant.end;
       read = more_read_at (g.R.Source.bytes c.args.source.now) (g.R.Source.bytes c.loop-done.source) (g.R.Source.bytes c.read_blocks.new.source) c.args.self.now c.loop-done.self c.read_blocks.new.self
           c.loop-done.buf c.read_blocks.new.buf _ c.loop-done.done _ c.in-Ok.n c.loop-done.invariant.same_bytes told c.loop-done.invariant.within c.read_blocks.auto.buf
           c.loop-done.invariant.read c.in-Ok.ensures.piece;
     }
+
+pub returns-in-Err-clause-asked : goal.returns-in-Err-clause-asked
+returns-in-Err-clause-asked g c = λ n before end.
+    let so_far = c.loop-done.invariant.asked n before end in
+    c.in-Err.ensures.asked n so_far (omega (arith, end, c.loop-done.invariant.end))

@@ -1,12 +1,7 @@
-use Rattle.tiff_encode.proofs.Leaving.{data_plain, data_leaves}
-use Rattle.tiff_encode.proofs.Guarding.{failed_leaves}
-use Rattle.std.proofs.Common.{Ok, ℕ}
+use Rattle.tiff_encode.proofs.Leaving.{data_leaves}
+use Rattle.std.proofs.Common.{ℕ}
 use Rattle.tiff_encode.proofs.encoder.directory_encoder.DirectoryEncoder+W+K+Fields.write_data.Goals as goal
 
-pub returns-in-Ok-clause-leaves : goal.returns-in-Ok-clause-leaves
-returns-in-Ok-clause-leaves g c m s =
-    let view : ℕ → ℕ = λ offset. offset in data_leaves view (Ok c.in-Ok.offset) c.args.self.now.encoder.now c.append_value.new.self m (g.T.TiffValue.field_data c.args.value) s c.in-Ok.ensures
-
-pub returns-in-Err-clause-leaves : goal.returns-in-Err-clause-leaves
-returns-in-Err-clause-leaves g c m s =
-    failed_leaves _ c.in-Err.fault c.args.self.now.encoder.now c.append_value.new.self m (data_plain (g.T.TiffValue.field_data c.args.value) c.args.self.now.encoder.now) c.in-Err.ensures s
+pub returns-clause-leaves : goal.returns-clause-leaves
+returns-clause-leaves g c m s =
+    let view : ℕ → ℕ = λ offset. offset in data_leaves view c.append_value.result c.args.self.now.encoder.now c.append_value.new.self m (g.T.TiffValue.field_data c.args.value) s c.append_value.ensures

@@ -1,4 +1,4 @@
-use Rattle.std.proofs.Common.{Ok, ap, sym, subst, ◌∙◌}
+use Rattle.std.proofs.Common.{rules, Ok, ap, sym, subst, ◌∙◌}
 use Rattle.tiff_encode.specs.Calls as calls
 use Rattle.tiff_encode.specs.Ends.{IsTold}
 use Rattle.tiff_encode.specs.JobValues.{value_data}
@@ -7,24 +7,30 @@ use Rattle.tiff_encode.proofs.Guarding.{tag_told, tag_fails, tag_short, failed_l
 use Rattle.tiff_encode.proofs.DirectoryMoves.{tag_kept}
 use Rattle.tiff_encode.proofs.encoder.directory_encoder.DirectoryEncoder.write_job_tag.Goals as goal
 
-pub returns-in-Err-clause-answer : goal.returns-in-Err-clause-answer
-returns-in-Err-clause-answer g c =
-    tag_fails (g.D.State.open_directory c.args.self.now.state) c.args.tag (value_data c.args.value.now) c.in-Err.fault c.args.self.now.encoder.now c.place_job_value.new.self c.in-Err.ensures.answer
+pub returns-in_err-entry-clause-answer : goal.returns-in_err-entry-clause-answer
+returns-in_err-entry-clause-answer g c =
+    let told =
+    tag_fails (g.D.State.open_directory c.args.self.now.state) c.args.tag (value_data c.args.value.now) c.in_err-entry.field-0.0 c.args.self.now.encoder.now c.place_job_value.new.self c.in_err-entry.ensures.answer in
+    search rules
 
-pub returns-in-Ok-set-clause-answer : goal.returns-in-Ok-set-clause-answer
-returns-in-Ok-set-clause-answer g c =
-    subst (λ d. IsTold (calls.write_tag (g.D.State.open_directory c.args.self.now.state) c.args.tag (value_data c.args.value.now) c.args.self.now.encoder.now) (Ok d) c.place_job_value.new.self) (sym (ap g.D.State.open_directory c.in-Ok-set.ensures ∙ g.met.D.State.given_directory c.args.self.now.state _))
-    (tag_told (g.D.State.open_directory c.args.self.now.state) c.args.tag (value_data c.args.value.now) c.in-Ok.entry c.args.self.now.encoder.now c.place_job_value.new.self c.in-Ok.ensures.answer)
+pub returns-clause-answer : goal.returns-clause-answer
+returns-clause-answer g c =
+    subst (λ d. IsTold (calls.write_tag (g.D.State.open_directory c.args.self.now.state) c.args.tag (value_data c.args.value.now) c.args.self.now.encoder.now) (Ok d) c.place_job_value.new.self) (sym (ap g.D.State.open_directory c.in_ok-set.ensures ∙ g.met.D.State.given_directory c.args.self.now.state _))
+    (tag_told (g.D.State.open_directory c.args.self.now.state) c.args.tag (value_data c.args.value.now) c.in_ok-entry.entry c.args.self.now.encoder.now c.place_job_value.new.self c.in_ok-entry.ensures.answer)
 
-pub returns-in-Ok-set-clause-leaves : goal.returns-in-Ok-set-clause-leaves
-returns-in-Ok-set-clause-leaves g c m s =
-    tag_kept (g.D.State.open_directory c.args.self.now.state) c.args.tag c.in-Ok.entry c.args.self.now.encoder.now c.place_job_value.new.self m (value_data c.args.value.now) c.in-Ok.ensures.answer (c.in-Ok.ensures.leaves m s)
+pub returns-clause-leaves : goal.returns-clause-leaves
+returns-clause-leaves g c m s =
+    tag_kept (g.D.State.open_directory c.args.self.now.state) c.args.tag c.in_ok-entry.entry c.args.self.now.encoder.now c.place_job_value.new.self m (value_data c.args.value.now) c.in_ok-entry.ensures.answer (c.in_ok-entry.ensures.leaves m s)
 
-pub returns-in-Err-set-clause-answer : goal.returns-in-Err-set-clause-answer
-returns-in-Err-set-clause-answer g c =
-    tag_short (g.D.State.open_directory c.args.self.now.state) c.args.tag (value_data c.args.value.now) c.in-Ok.entry c.in-Err-set.fault c.args.self.now.encoder.now c.place_job_value.new.self c.in-Ok.ensures.answer c.in-Err-set.ensures.0
+pub returns-in_err-set-clause-answer : goal.returns-in_err-set-clause-answer
+returns-in_err-set-clause-answer g c =
+    let told =
+    tag_short (g.D.State.open_directory c.args.self.now.state) c.args.tag (value_data c.args.value.now) c.in_ok-entry.entry c.in_err-set.field-0.0 c.args.self.now.encoder.now c.place_job_value.new.self c.in_ok-entry.ensures.answer c.in_err-set.ensures.0 in
+    search rules
 
-pub returns-in-Err-set-clause-leaves : goal.returns-in-Err-set-clause-leaves
-returns-in-Err-set-clause-leaves g c m s =
-    failed_leaves _ c.in-Err-set.fault c.args.self.now.encoder.now c.place_job_value.new.self m (tag_plain (g.D.State.open_directory c.args.self.now.state) c.args.tag (value_data c.args.value.now) c.args.self.now.encoder.now)
-    (tag_short (g.D.State.open_directory c.args.self.now.state) c.args.tag (value_data c.args.value.now) c.in-Ok.entry c.in-Err-set.fault c.args.self.now.encoder.now c.place_job_value.new.self c.in-Ok.ensures.answer c.in-Err-set.ensures.0) s
+pub returns-in_err-set-clause-leaves : goal.returns-in_err-set-clause-leaves
+returns-in_err-set-clause-leaves g c m s =
+    let told =
+    failed_leaves _ c.in_err-set.field-0.0 c.args.self.now.encoder.now c.place_job_value.new.self m (tag_plain (g.D.State.open_directory c.args.self.now.state) c.args.tag (value_data c.args.value.now) c.args.self.now.encoder.now)
+    (tag_short (g.D.State.open_directory c.args.self.now.state) c.args.tag (value_data c.args.value.now) c.in_ok-entry.entry c.in_err-set.field-0.0 c.args.self.now.encoder.now c.place_job_value.new.self c.in_ok-entry.ensures.answer c.in_err-set.ensures.0) s in
+    search rules

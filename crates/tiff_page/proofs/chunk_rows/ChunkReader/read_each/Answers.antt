@@ -1,0 +1,135 @@
+use Rattle.std.proofs.Common.{arith, ◌≡◌, ℕ, ◌<◌, ◌∙◌, ◌+◌, ◌-◌, ◌*◌, length, refl, drop, ap, subst}
+use Rattle.tiff_page.specs.declared.page.Page.{Page}
+use Rattle.tiff_page.specs.Pixels.{chunk_data, stored_row_bytes, needed_of_row}
+use Rattle.tiff_page.specs.Counts.{all_chunks}
+use Rattle.tiff_page.specs.Laws.{HasSides}
+use Rattle.tiff_page.specs.Layout.{row_bytes}
+use Rattle.tiff_page.specs.Rect.{rect}
+use Rattle.tiff_page.specs.BufferPositions.{Writes, IsIn, in_rect, chunk_byte}
+use Rattle.tiff_page.specs.ChunkData.{bytes_left}
+use Rattle.tiff_page.specs.PageView as view
+use Rattle.tiff_page.proofs.ChunkRead.{row_below, width_within, row_some, row_bytes_are, row_held, next_row, too_short}
+use Rattle.tiff_page.proofs.Rects.{no_row, row_put_there, row_room}
+use Rattle.tiff_page.proofs.chunk_rows.ChunkReader.read_each.Goals as goal
+
+abbrev pub sides_of : (p : Page) → HasSides (view.page p)
+sides_of p = record { wide = p.wide; high = p.high; chunk_wide = p.chunk_wide; chunk_high = p.chunk_high }
+
+pub loop-row-init : goal.loop-row-init
+loop-row-init g c =
+    let bytes = g.R.Source.bytes c.args.source.now in
+    let p = view.page c.args.self.now.page.now in
+    let none : 0 ≡ 0 * stored_row_bytes p = omega arith in
+    record {
+      same_bytes = refl;
+      count = omega arith;
+      position = λ z. c.front-position.ensures bytes c.args.self.now.order ∙ ap (λ (m : ℕ). drop m (chunk_data bytes c.args.self.now.order p c.args.self.now.index)) none;
+      enough = λ z. Prim.absurd (omega (arith, z));
+      written = no_row (chunk_byte (g.R.Source.bytes c.args.source.now) c.args.self.now.order (view.page c.args.self.now.page.now) c.args.self.now.color c.args.self.now.index) c.args.corner.stride c.args.corner.top c.args.corner.left (row_bytes (view.page c.args.self.now.page.now) c.args.self.now.color (rect (view.page c.args.self.now.page.now) c.args.self.now.index).width) (g.W.RowWriter.bytes c.args.buf.now);
+    }
+
+pub overflow_add-at : goal.overflow_add-at
+overflow_add-at g c =
+    let h = c.args.self.now.high in
+    let height = (rect (view.page c.args.self.now.page.now) c.args.self.now.index).height in
+    let l = row_below c.args.corner.top height c.args.corner.stride ((c.args.corner.top + height) * c.args.corner.stride) c.loop-row.row c.requires.some (omega arith) (omega (arith, h, c.loop-row-test.true)) in
+    omega (arith, l, c.requires.few)
+
+pub read_row-requires-clause-width : goal.read_row-requires-clause-width
+read_row-requires-clause-width g c =
+    let w = c.args.self.now.wide in
+    omega (arith, w, width_within (view.page c.args.self.now.page.now) c.args.self.now.index)
+
+pub returns-in-Err-clause-answer : goal.returns-in-Err-clause-answer
+returns-in-Err-clause-answer g c =
+    let bytes = g.R.Source.bytes c.args.source.now in
+    let p = view.page c.args.self.now.page.now in
+    let len = row_bytes p c.args.self.now.color (rect p c.args.self.now.index).width in
+    let h = c.args.self.now.high in
+    let w = c.args.self.now.wide in
+    let n : c.row_len-len.result ≡ len = c.row_len-len.ensures.value ∙ ap (row_bytes p c.args.self.now.color) w in
+    let rl : c.loop-row.row < (rect p c.args.self.now.index).height = omega (arith, h, c.loop-row-test.true) in
+    let given = rw c.loop-row.invariant.same_bytes at c.in-Err.ensures.row in
+    let listed : c.args.self.now.index < all_chunks p = omega (arith, c.requires.listed, c.args.self.now.page.now.counted) in
+    too_short bytes c.args.self.now.order p c.args.self.now.color c.args.self.now.index (sides_of c.args.self.now.page.now) c.requires.read.stored listed _ _ c.loop-row.row c.row_len-len.result _ c.in-Err.fault (λ f. omega (arith, f, c.loop-row.invariant.count)) rl
+    n (c.loop-row.invariant.position rl) given
+
+pub read_row-requires-clause-room : goal.read_row-requires-clause-room
+read_row-requires-clause-room g c =
+    let p = view.page c.args.self.now.page.now in
+    let w = c.args.self.now.wide in
+    let h = c.args.self.now.high in
+    let len = row_bytes p c.args.self.now.color (rect p c.args.self.now.index).width in
+    let n : c.row_len-len.result ≡ len = c.row_len-len.ensures.value ∙ ap (row_bytes p c.args.self.now.color) w in
+    let size = length (g.W.RowWriter.bytes c.loop-row.buf) in
+    let fits = row_room c.args.corner.stride c.args.corner.top (rect p c.args.self.now.index).height c.loop-row.row c.args.corner.left len size (omega (arith, h, c.loop-row-test.true)) c.requires.columns (omega (arith, c.requires.rows, c.loop-row.invariant.written.0)) in
+    omega (arith, fits, n)
+
+pub read_row-requires-clause-fits : goal.read_row-requires-clause-fits
+read_row-requires-clause-fits g c =
+    let p = view.page c.args.self.now.page.now in
+    let w = c.args.self.now.wide in
+    let h = c.args.self.now.high in
+    let len = row_bytes p c.args.self.now.color (rect p c.args.self.now.index).width in
+    let n : c.row_len-len.result ≡ len = c.row_len-len.ensures.value ∙ ap (row_bytes p c.args.self.now.color) w in
+    let size = (c.args.corner.top + (rect p c.args.self.now.index).height) * c.args.corner.stride in
+    let fits = row_room c.args.corner.stride c.args.corner.top (rect p c.args.self.now.index).height c.loop-row.row c.args.corner.left len size (omega (arith, h, c.loop-row-test.true)) c.requires.columns (omega arith) in
+    omega (arith, fits, n, c.requires.few)
+
+pub loop-row-preserved : goal.loop-row-preserved
+loop-row-preserved g c =
+    let bytes = g.R.Source.bytes c.args.source.now in
+    let p = view.page c.args.self.now.page.now in
+    let order = c.args.self.now.order in
+    let color = c.args.self.now.color in
+    let k = c.args.self.now.index in
+    let len = row_bytes p color (rect p k).width in
+    let corner = c.args.corner in
+    let row = c.loop-row.row in
+    let at = (corner.top + row) * corner.stride + corner.left in
+    let h = c.args.self.now.high in
+    let w = c.args.self.now.wide in
+    let n : c.row_len-len.result ≡ len = c.row_len-len.ensures.value ∙ ap (row_bytes p color) w in
+    let rl : row < (rect p k).height = omega (arith, h, c.loop-row-test.true) in
+    let same = c.loop-row.invariant.same_bytes in
+    let told = c.in-Ok.ensures.kept.told ∙ same in
+    let given = rw same at c.in-Ok.ensures.row in
+    let passed = rw told at c.in-Ok-pass.ensures.passed in
+    let listed : k < all_chunks p = omega (arith, c.requires.listed, c.args.self.now.page.now.counted) in
+    let out : length given.row ≡ c.row_len-len.result = given.all in
+    let sides = sides_of c.args.self.now.page.now in
+    let stored = c.requires.read.stored in
+    let wide : 0 < (rect p k).width = omega (arith, c.args.self.now.some_columns, w) in
+    let some : 0 < len = row_some p color (rect p k).width wide c.args.self.now.page.now.deep stored.shows in
+    let left = bytes_left bytes c.loop-row.position in
+    let rest = bytes_left bytes c.in-Ok.rest in
+    let next = bytes_left bytes c.in-Ok-pass.next in
+    let from = c.loop-row.invariant.position rl in
+    let held = row_held bytes order p color k sides stored listed row left rest given.row some rl (out ∙ n) from given.takes in
+    let now : (row + 1 - 1) * stored_row_bytes p ≡ row * stored_row_bytes p = ap (λ (m : ℕ). m * stored_row_bytes p) (omega arith) in
+    let value = chunk_byte bytes order p color k in
+    let old = g.W.RowWriter.bytes c.args.buf.now in
+    let mid = g.W.RowWriter.bytes c.loop-row.buf in
+    let new = g.W.RowWriter.bytes c.read_row.new.out in
+    let after = row_put_there value corner.stride corner.top row corner.left len at given.row old mid new
+    c.requires.columns refl (out ∙ n)
+    (λ b bl. row_bytes_are bytes order p color k sides stored listed row left rest given.row rl (out ∙ n) from given.takes b bl)
+    c.loop-row.invariant.written given.put in
+    record {
+      same_bytes = c.in-Ok-pass.ensures.kept.told ∙ told;
+      count = omega (arith, c.in-Ok-pass.ensures.kept.swallowed, c.in-Ok.ensures.kept.swallowed, c.loop-row.invariant.count);
+      position = λ z. next_row bytes order p color k sides stored listed row c.gap_behind-behind.result left rest next given.row some z (out ∙ n) from given.takes
+          (c.gap_behind-behind.ensures.between (omega (arith, z, h)) ∙ (c.gap-gap.ensures ∙ ap (λ (m : ℕ). stored_row_bytes p - needed_of_row p color m) n)) passed;
+      enough = λ z. omega (arith, held, now);
+      written = after;
+    }
+
+pub returns-clause-ok : goal.returns-clause-ok
+returns-clause-ok g c =
+    let bytes = g.R.Source.bytes c.args.source.now in
+    let p = view.page c.args.self.now.page.now in
+    let len = row_bytes p c.args.self.now.color (rect p c.args.self.now.index).width in
+    let corner = c.args.corner in
+    let h = c.args.self.now.high in
+    let e : c.loop-row.row ≡ (rect p c.args.self.now.index).height = omega (arith, h, c.loop-row-test.false, c.loop-row.auto.row-end) in
+    subst (λ (m : ℕ). Writes (IsIn corner.stride corner.top m corner.left len) (in_rect (chunk_byte bytes c.args.self.now.order p c.args.self.now.color c.args.self.now.index) corner.stride corner.top corner.left) (g.W.RowWriter.bytes c.args.buf.now) (g.W.RowWriter.bytes c.loop-row.buf)) e c.loop-row.invariant.written

@@ -1,0 +1,122 @@
+use Rattle.std.proofs.Common.{arith, ◌≡◌, ℕ, ◌<◌, ◌≤◌, ◌∙◌, ◌+◌, ◌*◌, length, refl, drop, ap, subst}
+use Rattle.tiff_page.specs.declared.page.Page.{Page}
+use Rattle.tiff_page.specs.Counts.{all_chunks}
+use Rattle.tiff_page.specs.Laws.{HasSides}
+use Rattle.tiff_page.specs.Layout.{row_bytes}
+use Rattle.tiff_page.specs.Pixels.{chunk_data}
+use Rattle.tiff_page.specs.BufferPositions.{Writes, IsIn, in_rect, chunk_byte}
+use Rattle.tiff_page.specs.Rect.{rect}
+use Rattle.tiff_page.specs.ChunkData.{bytes_left}
+use Rattle.tiff_page.specs.PageView as view
+use Rattle.tiff_page.proofs.Bands.{rows_below, band_of_numbers, band_put, band_bytes_are, band_held, next_band, short_band}
+use Rattle.tiff_page.proofs.Rects.{no_row}
+use Rattle.tiff_page.proofs.chunk_rows.ChunkReader.read_together.Goals as goal
+
+abbrev pub sides_of : (p : Page) → HasSides (view.page p)
+sides_of p = record { wide = p.wide; high = p.high; chunk_wide = p.chunk_wide; chunk_high = p.chunk_high }
+
+pub loop-row-init : goal.loop-row-init
+loop-row-init g c =
+    let bytes = g.R.Source.bytes c.args.source.now in
+    let p = view.page c.args.self.now.page.now in
+    let none : 0 ≡ 0 * c.args.corner.stride = omega arith in
+    record {
+      within = omega arith;
+      same_bytes = refl;
+      count = omega arith;
+      position = c.front-position.ensures bytes c.args.self.now.order ∙ ap (λ (m : ℕ). drop m (chunk_data bytes c.args.self.now.order p c.args.self.now.index)) none;
+      enough = omega arith;
+      written = no_row (chunk_byte bytes c.args.self.now.order p c.args.self.now.color c.args.self.now.index) c.args.corner.stride c.args.corner.top c.args.corner.left (row_bytes p c.args.self.now.color (rect p c.args.self.now.index).width) (g.W.RowWriter.bytes c.args.buf.now);
+    }
+
+pub overflow_add-at : goal.overflow_add-at
+overflow_add-at g c =
+    let h = c.args.self.now.high in
+    let height = (rect (view.page c.args.self.now.page.now) c.args.self.now.index).height in
+    let f = rows_below c.args.corner.top height c.args.corner.stride ((c.args.corner.top + height) * c.args.corner.stride) c.loop-row.row c.min-more.result c.requires.some (omega arith) (omega (arith, h, c.loop-row-test.true, c.min-more.ensures)) in
+    omega (arith, f.0, c.requires.few)
+
+pub read_band-requires-clause-room : goal.read_band-requires-clause-room
+read_band-requires-clause-room g c =
+    let h = c.args.self.now.high in
+    let height = (rect (view.page c.args.self.now.page.now) c.args.self.now.index).height in
+    let size = length (g.W.RowWriter.bytes c.loop-row.buf) in
+    let f = rows_below c.args.corner.top height c.args.corner.stride size c.loop-row.row c.min-more.result c.requires.some (omega (arith, c.requires.rows, c.loop-row.invariant.written.0)) (omega (arith, h, c.loop-row-test.true, c.min-more.ensures)) in
+    omega (arith, f.1)
+
+pub read_band-requires-clause-fits : goal.read_band-requires-clause-fits
+read_band-requires-clause-fits g c =
+    let h = c.args.self.now.high in
+    let height = (rect (view.page c.args.self.now.page.now) c.args.self.now.index).height in
+    let f = rows_below c.args.corner.top height c.args.corner.stride ((c.args.corner.top + height) * c.args.corner.stride) c.loop-row.row c.min-more.result c.requires.some (omega arith) (omega (arith, h, c.loop-row-test.true, c.min-more.ensures)) in
+    omega (arith, f.1, c.requires.few)
+
+pub read_band-requires-clause-whole : goal.read_band-requires-clause-whole
+read_band-requires-clause-whole g c =
+    let p = view.page c.args.self.now.page.now in
+    let more = c.min-more.result in
+    band_of_numbers p c.args.self.now.color (rect p c.args.self.now.index).width more _ c.requires.read.stored
+    (ap (λ z. more * z) c.requires.together.in_buffer)
+
+pub returns-in-Err-clause-answer : goal.returns-in-Err-clause-answer
+returns-in-Err-clause-answer g c =
+    let bytes = g.R.Source.bytes c.args.source.now in
+    let p = view.page c.args.self.now.page.now in
+    let corner = c.args.corner in
+    let row = c.loop-row.row in
+    let more = c.min-more.result in
+    let h = c.args.self.now.high in
+    let rl : row + more ≤ (rect p c.args.self.now.index).height = omega (arith, h, c.loop-row-test.true, c.min-more.ensures) in
+    let given = rw c.loop-row.invariant.same_bytes at c.in-Err.ensures.row in
+    let listed : c.args.self.now.index < all_chunks p = omega (arith, c.requires.listed, c.args.self.now.page.now.counted) in
+    short_band bytes c.args.self.now.order p c.args.self.now.color c.args.self.now.index corner.left corner.stride (sides_of c.args.self.now.page.now) c.requires.read.stored listed c.requires.together
+    _ _ row more (more * corner.stride) _ c.in-Err.fault (λ z. omega (arith, z, c.loop-row.invariant.count)) (omega (arith, h, c.loop-row-test.true)) rl refl c.loop-row.invariant.position given
+
+pub loop-row-preserved : goal.loop-row-preserved
+loop-row-preserved g c =
+    let bytes = g.R.Source.bytes c.args.source.now in
+    let p = view.page c.args.self.now.page.now in
+    let order = c.args.self.now.order in
+    let color = c.args.self.now.color in
+    let k = c.args.self.now.index in
+    let corner = c.args.corner in
+    let row = c.loop-row.row in
+    let more = c.min-more.result in
+    let at = (corner.top + row) * corner.stride in
+    let h = c.args.self.now.high in
+    let rl : row + more ≤ (rect p k).height = omega (arith, h, c.loop-row-test.true, c.min-more.ensures) in
+    let told = c.in-Ok.ensures.kept.told ∙ c.loop-row.invariant.same_bytes in
+    let given = rw c.loop-row.invariant.same_bytes at c.in-Ok.ensures.row in
+    let listed : k < all_chunks p = omega (arith, c.requires.listed, c.args.self.now.page.now.counted) in
+    let out : length given.row ≡ more * corner.stride = given.all in
+    let sides = sides_of c.args.self.now.page.now in
+    let stored = c.requires.read.stored in
+    let together = c.requires.together in
+    let ahead = bytes_left bytes c.loop-row.position in
+    let rest = bytes_left bytes c.in-Ok.rest in
+    let from = c.loop-row.invariant.position in
+    let len = row_bytes p color (rect p k).width in
+    let old = g.W.RowWriter.bytes c.args.buf.now in
+    let mid = g.W.RowWriter.bytes c.loop-row.buf in
+    let new = g.W.RowWriter.bytes c.read_band.new.out in
+    record {
+      within = rl;
+      same_bytes = told;
+      count = omega (arith, c.in-Ok.ensures.kept.swallowed, c.loop-row.invariant.count);
+      position = next_band bytes order p color k corner.left corner.stride sides stored listed together row more ahead rest given.row out from given.takes;
+      enough = band_held bytes order p color k corner.left corner.stride sides stored listed together row more ahead rest given.row c.requires.some (omega (arith, c.loop-row-test.true, c.min-more.ensures, c.rows_at_once-band.ensures)) out from given.takes;
+      written = band_put (chunk_byte bytes order p color k) corner.stride corner.top row more corner.left len at given.row old mid new c.requires.some
+          together.from_edge together.in_buffer refl out
+          (λ i il. band_bytes_are bytes order p color k corner.left corner.stride sides stored listed together row more i ahead rest given.row c.requires.some rl out from given.takes il)
+          c.loop-row.invariant.written given.put;
+    }
+
+pub returns-clause-ok : goal.returns-clause-ok
+returns-clause-ok g c =
+    let bytes = g.R.Source.bytes c.args.source.now in
+    let p = view.page c.args.self.now.page.now in
+    let len = row_bytes p c.args.self.now.color (rect p c.args.self.now.index).width in
+    let corner = c.args.corner in
+    let h = c.args.self.now.high in
+    let e : c.loop-row.row ≡ (rect p c.args.self.now.index).height = omega (arith, h, c.loop-row-test.false, c.loop-row.invariant.within) in
+    subst (λ (m : ℕ). Writes (IsIn corner.stride corner.top m corner.left len) (in_rect (chunk_byte bytes c.args.self.now.order p c.args.self.now.color c.args.self.now.index) corner.stride corner.top corner.left) (g.W.RowWriter.bytes c.args.buf.now) (g.W.RowWriter.bytes c.loop-row.buf)) e c.loop-row.invariant.written

@@ -1,0 +1,70 @@
+use Rattle.std.proofs.Common.{arith, Ok, Err, ◌≡◌, ℕ, List, ◌∙◌, ◌+◌, ◌*◌, ◌<◌, subst}
+use Rattle.tiff_base.specs.Answers.{IsCause}
+use Rattle.tiff_page.specs.Layout.{LayoutRecord}
+use Rattle.tiff_page.specs.Laws.{HasSides}
+use Rattle.tiff_page.specs.Pixels.{is_short}
+use Rattle.tiff_page.specs.PixelFault.{chunk_fault, each_below}
+use Rattle.tiff_page.specs.BufferPositions.{Writes, IsBefore, image_byte}
+use Rattle.tiff_page.specs.Rect.{chunks_of_plane}
+use Rattle.tiff_page.specs.PageView as view
+use Rattle.tiff_page.specs.declared.page.Page.{Page}
+use Rattle.tiff_page.specs.declared.layout.PlaneLayout.{PlaneLayout}
+use Rattle.tiff_page.proofs.Covering.{planes_written}
+use Rattle.tiff_page.proofs.Filling.{chunk_cause, image_filled, of_chunk, one_more}
+use Rattle.tiff_page.proofs.read_chunks.PageReader.fill_image.Goals as goal
+
+abbrev pub sides_of : (p : Page) → HasSides (view.page p)
+sides_of p = record { wide = p.wide; high = p.high; chunk_wide = p.chunk_wide; chunk_high = p.chunk_high }
+
+abbrev pub layout : PlaneLayout → LayoutRecord
+layout l = record { color = l.color; row_bytes = l.row_bytes; plane_stride = l.plane_stride }
+
+pub returns-in-Err-clause-answer : goal.returns-in-Err-clause-answer
+returns-in-Err-clause-answer g c =
+    let p = c.args.self.now.page.now in
+    let file = g.R.Source.bytes c.args.source.now in
+    let given = subst
+    (λ (bytes : List ℕ).
+    IsCause (Unit {0}) (g.R.Source.failures c.loop-chunk.source < g.R.Source.failures c.fill_chunk.new.source) c.in-Err.fault
+    (each_below (λ plane. chunk_fault (view.page p) c.args.self.now.limits.now (is_short bytes c.args.self.now.order (view.page p) c.args.part.layout.color) c.args.part.layout.color (plane * chunks_of_plane (view.page p) + (0 + c.loop-chunk.chunk))) c.args.part.planes ≡ Err c.in-Err.fault))
+    c.loop-chunk.invariant.same_bytes c.in-Err.ensures.answer in
+    chunk_cause file c.args.self.now.order (view.page p) c.args.self.now.limits.now (layout c.args.part.layout) (sides_of p) p.sampled p.deep c.requires.laid c.args.part.planes
+    _ _ c.loop-chunk.chunk (g.W.RowWriter.bytes c.args.buf.now) c.in-Err.fault (λ f. omega (arith, f, c.loop-chunk.invariant.count)) (omega (arith, c.loop-chunk-test.true, c.chunks_of_plane-chunk-end.ensures.count)) c.loop-chunk.invariant.none given
+
+pub loop-chunk-preserved : goal.loop-chunk-preserved
+loop-chunk-preserved g c =
+    let p = c.args.self.now.page.now in
+    let file = g.R.Source.bytes c.args.source.now in
+    let color = c.args.part.layout.color in
+    let stride = c.args.part.layout.row_bytes in
+    let same = c.loop-chunk.invariant.same_bytes in
+    let given = subst
+    (λ (bytes : List ℕ).
+    each_below (λ plane. chunk_fault (view.page p) c.args.self.now.limits.now (is_short bytes c.args.self.now.order (view.page p) color) color (plane * chunks_of_plane (view.page p) + (0 + c.loop-chunk.chunk))) c.args.part.planes ≡ Ok tt)
+    same c.in-Ok.ensures.answer in
+    let wrote = subst
+    (λ (bytes : List ℕ).
+    (before : List ℕ) → Writes (IsBefore (view.page p) color stride c.args.part.planes c.loop-chunk.chunk 0) (image_byte (view.page p) color stride bytes c.args.self.now.order) before (g.W.RowWriter.bytes c.loop-chunk.buf)
+    → Writes (IsBefore (view.page p) color stride c.args.part.planes c.loop-chunk.chunk c.args.part.planes) (image_byte (view.page p) color stride bytes c.args.self.now.order) before (g.W.RowWriter.bytes c.fill_chunk.new.buf))
+    same c.in-Ok.ensures.ok in
+    record {
+      same_bytes = c.in-Ok.ensures.kept.told ∙ same;
+      count = omega (arith, c.in-Ok.ensures.kept.swallowed, c.loop-chunk.invariant.count);
+      none = one_more (of_chunk file c.args.self.now.order (view.page p) c.args.self.now.limits.now (layout c.args.part.layout) (sides_of p) p.sampled p.deep c.requires.laid c.args.part.planes) c.loop-chunk.chunk c.loop-chunk.invariant.none given;
+      written = planes_written (view.page p) color stride c.args.part.planes c.loop-chunk.chunk (image_byte (view.page p) color stride file c.args.self.now.order) (g.W.RowWriter.bytes c.args.buf.now) (g.W.RowWriter.bytes c.fill_chunk.new.buf)
+          (wrote (g.W.RowWriter.bytes c.args.buf.now) c.loop-chunk.invariant.written);
+    }
+
+pub returns-clause-answer : goal.returns-clause-answer
+returns-clause-answer g c =
+    let p = c.args.self.now.page.now in
+    let file = g.R.Source.bytes c.args.source.now in
+    let e : c.loop-chunk.chunk ≡ chunks_of_plane (view.page p) = omega (arith, c.loop-chunk-test.false, c.loop-chunk.auto.chunk-end, c.chunks_of_plane-chunk-end.ensures.count) in
+    image_filled file c.args.self.now.order (view.page p) c.args.self.now.limits.now (layout c.args.part.layout) (sides_of p) p.sampled p.deep c.requires.laid c.args.part.planes (g.W.RowWriter.bytes c.args.buf.now) (g.W.RowWriter.bytes c.loop-chunk.buf) c.requires.some
+    (subst (λ (m : ℕ). each_below (of_chunk file c.args.self.now.order (view.page p) c.args.self.now.limits.now (layout c.args.part.layout) (sides_of p) p.sampled p.deep c.requires.laid c.args.part.planes) m ≡ Ok tt) e c.loop-chunk.invariant.none)
+    (subst (λ (m : ℕ). Writes (IsBefore (view.page p) c.args.part.layout.color c.args.part.layout.row_bytes c.args.part.planes m 0) (image_byte (view.page p) c.args.part.layout.color c.args.part.layout.row_bytes file c.args.self.now.order) (g.W.RowWriter.bytes c.args.buf.now) (g.W.RowWriter.bytes c.loop-chunk.buf)) e c.loop-chunk.invariant.written)
+
+pub fill_chunk-requires-clause-room : goal.fill_chunk-requires-clause-room
+fill_chunk-requires-clause-room g c =
+    let same = g.met.W.RowWriter.same_length c.loop-chunk.buf c.args.buf.now c.loop-chunk.auto.buf in
+    omega (arith, same, c.requires.room)

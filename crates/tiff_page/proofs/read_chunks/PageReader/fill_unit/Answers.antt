@@ -1,0 +1,107 @@
+use Rattle.std.proofs.Common.{arith, Ok, Err, ◌≡◌, ℕ, List, ◌∙◌, ◌+◌, ◌*◌, ◌<◌, subst}
+use Rattle.tiff_base.specs.Answers.{IsCause}
+use Rattle.tiff_base.specs.declared.error.TiffError.TheVariants.{IoError}
+use Rattle.tiff_base.specs.declared.io.IoKind.TheVariants.{UnexpectedEof}
+use Rattle.tiff_page.specs.Laws.{HasSides}
+use Rattle.tiff_page.specs.Pixels.{is_short}
+use Rattle.tiff_page.specs.PixelFault.{each_below, unless}
+use Rattle.tiff_page.specs.BufferPositions.{Writes, IsInUnit, unit_byte}
+use Rattle.tiff_page.specs.Rect.{rect, chunks_of_plane}
+use Rattle.tiff_page.specs.PageView as view
+use Rattle.tiff_page.specs.declared.page.Page.{Page}
+use Rattle.tiff_page.proofs.Filling.{unit_form_cause, unit_rows_cause, unit_none, unit_more, unit_filled, unit_read, unit_some, unit_columns, unit_rows, in_unit}
+use Rattle.tiff_page.proofs.RowReads.{method_passed}
+use Rattle.tiff_page.proofs.read_chunks.PageReader.fill_unit.Goals as goal
+
+abbrev pub sides_of : (p : Page) → HasSides (view.page p)
+sides_of p = record { wide = p.wide; high = p.high; chunk_wide = p.chunk_wide; chunk_high = p.chunk_high }
+
+pub returns-in-Err-clause-answer : goal.returns-in-Err-clause-answer
+returns-in-Err-clause-answer g c =
+    let p = c.args.self.now.page.now in
+    let i = c.from.result * c.chunks_of_plane-chunks.result + c.args.unit.index in
+    let q : i ≡ c.loop-plane.plane * chunks_of_plane (view.page p) + c.args.unit.index = λ t. c.from.ensures t * c.chunks_of_plane-chunks.ensures.count t + c.args.unit.index in
+    unit_form_cause (g.R.Source.bytes c.args.source.now) c.args.self.now.order (view.page p) c.args.self.now.limits.now c.args.unit.color (sides_of p) p.sampled p.deep c.requires.colored c.args.unit.stride c.args.unit.index c.args.unit.planes c.requires.which
+    _ c.loop-plane.plane i (g.W.RowWriter.bytes c.args.buf.now) c.in-Err.fault q c.loop-plane-test.true c.loop-plane.invariant.none c.in-Err.ensures.answer
+
+pub read_rows-requires-clause-read : goal.read_rows-requires-clause-read
+read_rows-requires-clause-read g c =
+    let p = c.args.self.now.page.now in
+    let i = c.from.result * c.chunks_of_plane-chunks.result + c.args.unit.index in
+    let q : i ≡ c.loop-plane.plane * chunks_of_plane (view.page p) + c.args.unit.index = λ t. c.from.ensures t * c.chunks_of_plane-chunks.ensures.count t + c.args.unit.index in
+    unit_read (g.R.Source.bytes c.args.source.now) c.args.self.now.order (view.page p) c.args.self.now.limits.now c.args.unit.color (sides_of p) p.sampled p.deep c.requires.colored c.args.unit.stride c.args.unit.index c.args.unit.planes c.requires.which i c.in-Ok.ensures.answer
+
+pub read_rows-requires-clause-formed : goal.read_rows-requires-clause-formed
+read_rows-requires-clause-formed g c =
+    let p = c.args.self.now.page.now in
+    let i = c.from.result * c.chunks_of_plane-chunks.result + c.args.unit.index in
+    let q : i ≡ c.loop-plane.plane * chunks_of_plane (view.page p) + c.args.unit.index = λ t. c.from.ensures t * c.chunks_of_plane-chunks.ensures.count t + c.args.unit.index in
+    method_passed (view.page p) c.args.self.now.limits.now c.args.unit.color i c.in-Ok.ensures.answer
+
+pub read_rows-requires-clause-some : goal.read_rows-requires-clause-some
+read_rows-requires-clause-some g c =
+    let p = c.args.self.now.page.now in
+    let i = c.from.result * c.chunks_of_plane-chunks.result + c.args.unit.index in
+    let q : i ≡ c.loop-plane.plane * chunks_of_plane (view.page p) + c.args.unit.index = λ t. c.from.ensures t * c.chunks_of_plane-chunks.ensures.count t + c.args.unit.index in
+    unit_some (g.R.Source.bytes c.args.source.now) c.args.self.now.order (view.page p) c.args.self.now.limits.now c.args.unit.color (sides_of p) p.sampled p.deep c.requires.colored c.args.unit.stride c.args.unit.index c.args.unit.planes c.requires.which i c.in-Ok.ensures.answer c.requires.columns
+
+pub read_rows-requires-clause-columns : goal.read_rows-requires-clause-columns
+read_rows-requires-clause-columns g c =
+    let p = c.args.self.now.page.now in
+    let i = c.from.result * c.chunks_of_plane-chunks.result + c.args.unit.index in
+    let q : i ≡ c.loop-plane.plane * chunks_of_plane (view.page p) + c.args.unit.index = λ t. c.from.ensures t * c.chunks_of_plane-chunks.ensures.count t + c.args.unit.index in
+    unit_columns (g.R.Source.bytes c.args.source.now) c.args.self.now.order (view.page p) c.args.self.now.limits.now c.args.unit.color (sides_of p) p.sampled p.deep c.requires.colored c.args.unit.stride c.args.unit.index c.args.unit.planes c.requires.which c.loop-plane.plane i q c.loop-plane-test.true c.requires.columns
+
+pub read_rows-requires-clause-rows : goal.read_rows-requires-clause-rows
+read_rows-requires-clause-rows g c =
+    let p = c.args.self.now.page.now in
+    let i = c.from.result * c.chunks_of_plane-chunks.result + c.args.unit.index in
+    let q : i ≡ c.loop-plane.plane * chunks_of_plane (view.page p) + c.args.unit.index = λ t. c.from.ensures t * c.chunks_of_plane-chunks.ensures.count t + c.args.unit.index in
+    let t : c.from-in-loop-plane.result * c.chunk_data_dimensions-rows.result.1 ≡ c.loop-plane.plane * (rect (view.page p) c.args.unit.index).height = λ z. c.from-in-loop-plane.ensures z * (c.chunk_data_dimensions-rows.ensures.size z).1 in
+    let size = c.args.unit.planes * ((rect (view.page p) c.args.unit.index).height * c.args.unit.stride) in
+    let l = unit_rows (g.R.Source.bytes c.args.source.now) c.args.self.now.order (view.page p) c.args.self.now.limits.now c.args.unit.color (sides_of p) p.sampled p.deep c.requires.colored c.args.unit.stride c.args.unit.index c.args.unit.planes c.requires.which c.loop-plane.plane i (c.from-in-loop-plane.result * c.chunk_data_dimensions-rows.result.1) size q c.loop-plane-test.true t (omega arith) in
+    let same = g.met.W.RowWriter.same_length c.loop-plane.buf c.args.buf.now c.loop-plane.auto.buf in
+    omega (arith, l, same, c.requires.room)
+
+pub read_rows-requires-clause-few : goal.read_rows-requires-clause-few
+read_rows-requires-clause-few g c =
+    let p = c.args.self.now.page.now in
+    let i = c.from.result * c.chunks_of_plane-chunks.result + c.args.unit.index in
+    let q : i ≡ c.loop-plane.plane * chunks_of_plane (view.page p) + c.args.unit.index = λ t. c.from.ensures t * c.chunks_of_plane-chunks.ensures.count t + c.args.unit.index in
+    let t : c.from-in-loop-plane.result * c.chunk_data_dimensions-rows.result.1 ≡ c.loop-plane.plane * (rect (view.page p) c.args.unit.index).height = λ z. c.from-in-loop-plane.ensures z * (c.chunk_data_dimensions-rows.ensures.size z).1 in
+    let size = c.args.unit.planes * ((rect (view.page p) c.args.unit.index).height * c.args.unit.stride) in
+    let l = unit_rows (g.R.Source.bytes c.args.source.now) c.args.self.now.order (view.page p) c.args.self.now.limits.now c.args.unit.color (sides_of p) p.sampled p.deep c.requires.colored c.args.unit.stride c.args.unit.index c.args.unit.planes c.requires.which c.loop-plane.plane i (c.from-in-loop-plane.result * c.chunk_data_dimensions-rows.result.1) size q c.loop-plane-test.true t (omega arith) in
+    omega (arith, l, c.requires.few)
+
+pub returns-in-Err-read_rows-clause-answer : goal.returns-in-Err-read_rows-clause-answer
+returns-in-Err-read_rows-clause-answer g c =
+    let p = c.args.self.now.page.now in
+    let i = c.from.result * c.chunks_of_plane-chunks.result + c.args.unit.index in
+    let q : i ≡ c.loop-plane.plane * chunks_of_plane (view.page p) + c.args.unit.index = λ t. c.from.ensures t * c.chunks_of_plane-chunks.ensures.count t + c.args.unit.index in
+    let given = subst (λ (bytes : List ℕ). IsCause (Unit {0}) (g.R.Source.failures c.loop-plane.source < g.R.Source.failures c.read_rows.new.source) c.in-Err-read_rows.fault (unless (is_short bytes c.args.self.now.order (view.page p) c.args.unit.color i) (IoError UnexpectedEof) ≡ Err c.in-Err-read_rows.fault)) c.loop-plane.invariant.same_bytes c.in-Err-read_rows.ensures.answer in
+    unit_rows_cause (g.R.Source.bytes c.args.source.now) c.args.self.now.order (view.page p) c.args.self.now.limits.now c.args.unit.color (sides_of p) p.sampled p.deep c.requires.colored c.args.unit.stride c.args.unit.index c.args.unit.planes c.requires.which
+    _ _ c.loop-plane.plane i (g.W.RowWriter.bytes c.args.buf.now) c.in-Err-read_rows.fault q (λ f. omega (arith, f, c.loop-plane.invariant.count)) c.loop-plane-test.true c.loop-plane.invariant.none c.in-Ok.ensures.answer given
+
+pub loop-plane-preserved : goal.loop-plane-preserved
+loop-plane-preserved g c =
+    let p = c.args.self.now.page.now in
+    let i = c.from.result * c.chunks_of_plane-chunks.result + c.args.unit.index in
+    let q : i ≡ c.loop-plane.plane * chunks_of_plane (view.page p) + c.args.unit.index = λ t. c.from.ensures t * c.chunks_of_plane-chunks.ensures.count t + c.args.unit.index in
+    let t : c.from-in-loop-plane.result * c.chunk_data_dimensions-rows.result.1 ≡ c.loop-plane.plane * (rect (view.page p) c.args.unit.index).height = λ z. c.from-in-loop-plane.ensures z * (c.chunk_data_dimensions-rows.ensures.size z).1 in
+    let same = c.loop-plane.invariant.same_bytes in
+    let given = subst (λ (bytes : List ℕ). unless (is_short bytes c.args.self.now.order (view.page p) c.args.unit.color i) (IoError UnexpectedEof) ≡ Ok tt) same c.in-Ok-read_rows.ensures.answer in
+    record {
+      same_bytes = c.in-Ok-read_rows.ensures.kept.told ∙ same;
+      count = omega (arith, c.in-Ok-read_rows.ensures.kept.swallowed, c.loop-plane.invariant.count);
+      none = unit_none (g.R.Source.bytes c.args.source.now) c.args.self.now.order (view.page p) c.args.self.now.limits.now c.args.unit.color (sides_of p) p.sampled p.deep c.requires.colored c.args.unit.stride c.args.unit.index c.args.unit.planes c.requires.which c.loop-plane.plane i q c.loop-plane.invariant.none c.in-Ok.ensures.answer given;
+      written = unit_more (g.R.Source.bytes c.args.source.now) c.args.self.now.order (view.page p) c.args.self.now.limits.now c.args.unit.color (sides_of p) p.sampled p.deep c.requires.colored c.args.unit.stride c.args.unit.index c.args.unit.planes c.requires.which c.loop-plane.plane i (c.from-in-loop-plane.result * c.chunk_data_dimensions-rows.result.1) (g.R.Source.bytes c.loop-plane.source) (g.W.RowWriter.bytes c.args.buf.now) (g.W.RowWriter.bytes c.loop-plane.buf) (g.W.RowWriter.bytes c.read_rows.new.buf) q c.loop-plane-test.true t same
+          c.loop-plane.invariant.written c.in-Ok-read_rows.ensures.ok;
+    }
+
+pub returns-clause-answer : goal.returns-clause-answer
+returns-clause-answer g c =
+    let p = c.args.self.now.page.now in
+    let e : c.loop-plane.plane ≡ c.args.unit.planes = omega (arith, c.loop-plane-test.false, c.loop-plane.auto.plane-end) in
+    unit_filled (g.R.Source.bytes c.args.source.now) c.args.self.now.order (view.page p) c.args.self.now.limits.now c.args.unit.color (sides_of p) p.sampled p.deep c.requires.colored c.args.unit.stride c.args.unit.index c.args.unit.planes c.requires.which (g.W.RowWriter.bytes c.args.buf.now) (g.W.RowWriter.bytes c.loop-plane.buf) c.requires.columns
+    (subst (λ (m : ℕ). each_below (in_unit (g.R.Source.bytes c.args.source.now) c.args.self.now.order (view.page p) c.args.self.now.limits.now c.args.unit.color (sides_of p) p.sampled p.deep c.requires.colored c.args.unit.stride c.args.unit.index c.args.unit.planes c.requires.which) m ≡ Ok tt) e c.loop-plane.invariant.none)
+    (subst (λ (m : ℕ). Writes (IsInUnit (view.page p) c.args.unit.color c.args.unit.stride c.args.unit.index m) (unit_byte (g.R.Source.bytes c.args.source.now) c.args.self.now.order (view.page p) c.args.unit.color c.args.unit.stride c.args.unit.index) (g.W.RowWriter.bytes c.args.buf.now) (g.W.RowWriter.bytes c.loop-plane.buf)) e c.loop-plane.invariant.written)

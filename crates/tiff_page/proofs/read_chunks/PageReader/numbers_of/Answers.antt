@@ -1,0 +1,24 @@
+use Rattle.std.proofs.Common.{rules, Ok, ◌≡◌, ◌∙◌, ◌++◌, map, take, drop, length, ap}
+use Rattle.tiff_page.specs.Laws.{HasSides}
+use Rattle.tiff_page.specs.Samples.{color_in, first_in, room_of}
+use Rattle.tiff_page.specs.PageView as view
+use Rattle.tiff_page.specs.declared.page.Page.{Page}
+use Rattle.tiff_page.proofs.Portions.{numbers_given, room_in, all_written}
+use Rattle.tiff_page.proofs.read_chunks.PageReader.numbers_of.Goals as goal
+
+abbrev pub sides_of : (p : Page) → HasSides (view.page p)
+sides_of p = record { wide = p.wide; high = p.high; chunk_wide = p.chunk_wide; chunk_high = p.chunk_high }
+
+pub fill-requires-clause-room : goal.fill-requires-clause-room
+fill-requires-clause-room g c =
+    room_in g.row.N c.args.len (room_of (view.page c.args.self.now.page.now) c.args.portion) (map g.T.Number.bits c.deref_mut.result.now) g.met.T.Number.sized c.requires.room
+    (ap (map g.T.Number.bits) c.deref_mut.ensures.value ∙ c.in-Ok.ensures.zeros)
+
+pub returns-in-Ok-fill-clause-answer : goal.returns-in-Ok-fill-clause-answer
+returns-in-Ok-fill-clause-answer g c =
+    let p = c.args.self.now.page.now in
+    let back : c.fill.new.out ≡ take c.in-Ok.numbers.len (c.fill.new.out ++ drop (length c.fill.new.out) c.in-Ok.numbers.items) = all_written c.fill.new.out c.in-Ok.numbers.items c.in-Ok.numbers.len (search rules) in
+    numbers_given (g.R.Source.bytes c.args.source.now) c.args.self.now.order (view.page p) c.args.self.now.limits.now c.args.portion (sides_of p) c.requires.laid (color_in c.args.portion) c.args.sample_type g.row.N (first_in c.args.portion) c.args.len
+    (map g.T.Number.bits c.deref_mut.result.now) (map g.T.Number.bits c.fill.new.out) g.met.T.Number.sized c.requires.size c.requires.typed c.in-Ok.ensures.answer c.requires.room
+    (ap (map g.T.Number.bits) c.deref_mut.ensures.value ∙ c.in-Ok.ensures.zeros) (rw c.in-Ok.ensures.kept.told at c.in-Ok-fill.ensures.answer)
+    ∙ (λ i. Ok (record { sample_type = c.args.sample_type; numbers = map g.T.Number.bits (back i) }))
