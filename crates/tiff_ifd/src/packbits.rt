@@ -50,10 +50,8 @@ fn read_byte<R: Source>(source: &mut R, at: u64) -> TiffResult<u8>
     ensures asked { ReachesTo (at + 1) (R.reach source.old) (R.reach source.new) }
 {
     let mut byte = [0u8; 1];
-    match read_exact_at(source, at, &mut byte) {
-        Ok(()) => Ok(byte[0]),
-        Err(fault) => Err(fault),
-    }
+    read_exact_at(source, at, &mut byte)?;
+    Ok(byte[0])
 }
 
 // The next block of packed bytes. Headers that stand for nothing are passed.
@@ -66,10 +64,7 @@ fn next_block<R: Source>(source: &mut R, at: u64, len: u64) -> TiffResult<Option
     let mut at = at;
     let mut len = len;
     while len > 0 {
-        let header = match read_byte(source, at) {
-            Ok(header) => header,
-            Err(fault) => return Err(fault),
-        };
+        let header = read_byte(source, at)?;
         at += 1;
         len -= 1;
         if header < 128 {
@@ -80,10 +75,7 @@ fn next_block<R: Source>(source: &mut R, at: u64, len: u64) -> TiffResult<Option
             if len == 0 {
                 return Err(TiffError::IoError(IoKind::UnexpectedEof));
             }
-            let value = match read_byte(source, at) {
-                Ok(value) => value,
-                Err(fault) => return Err(fault),
-            };
+            let value = read_byte(source, at)?;
             return Ok(Some(PackedPosition {
                 block: Block::Run(value, 257 - usize::from(header)),
                 at: at + 1,
@@ -127,10 +119,7 @@ fn read_literal<R: Source>(
     ensures end { IfOk result (λ r. packed_end r.1 ≡ packed_end offset) }
 {
     let most = (count.min(buf.len()) as u64).min(offset.len) as usize;
-    let n = match source.read_at(offset.at, &mut buf[..most]) {
-        Ok(n) => n,
-        Err(fault) => return Err(fault.into()),
-    };
+    let n = source.read_at(offset.at, &mut buf[..most])?;
     Ok((
         n,
         PackedPosition {
@@ -256,18 +245,12 @@ impl PackedPosition {
         if buf.is_empty() {
             return Ok(0);
         }
-        let offset = match begun_block(source, *self) {
-            Ok(Some(offset)) => offset,
-            Ok(None) => return Ok(0),
-            Err(fault) => return Err(fault),
+        let Some(offset) = begun_block(source, *self)? else {
+            return Ok(0);
         };
-        match read_block(source, offset, buf) {
-            Ok((n, rest)) => {
-                *self = rest;
-                Ok(n)
-            }
-            Err(fault) => Err(fault),
-        }
+        let (n, rest) = read_block(source, offset, buf)?;
+        *self = rest;
+        Ok(n)
     }
 
     // Reads as `read` does, but all blocks at once that are whole in some packed bytes that are read ahead.
@@ -283,10 +266,7 @@ impl PackedPosition {
         let mut ahead = [0u8; AHEAD];
         let wanted = AHEAD.min(buf.len().saturating_add(2));
         let most = (wanted as u64).min(self.len) as usize;
-        let held = match source.read_at(self.at, &mut ahead[..most]) {
-            Ok(held) => held,
-            Err(fault) => return Err(fault.into()),
-        };
+        let held = source.read_at(self.at, &mut ahead[..most])?;
         let (used, n) = unpack_blocks(&ahead[..held], buf);
         if n == 0 {
             return self.read(source, buf);
@@ -307,10 +287,7 @@ impl PackedPosition {
     {
         let mut done = 0;
         while done < buf.len() {
-            let n = match self.read_blocks(source, &mut buf[done..]) {
-                Ok(n) => n,
-                Err(fault) => return Err(fault),
-            };
+            let n = self.read_blocks(source, &mut buf[done..])?;
             if n == 0 {
                 return Err(TiffError::IoError(IoKind::UnexpectedEof));
             }
@@ -327,13 +304,9 @@ impl PackedPosition {
         ensures end { packed_end self.new ≡ packed_end self.old }
     {
         let mut offset = *self;
-        match offset.fill(source, buf) {
-            Ok(()) => {
-                *self = offset;
-                Ok(())
-            }
-            Err(fault) => Err(fault),
-        }
+        offset.fill(source, buf)?;
+        *self = offset;
+        Ok(())
     }
 }
 

@@ -91,10 +91,7 @@ impl ChunkReader<'_> {
             let at = (corner.top + row) * corner.stride;
             let len = more * corner.stride;
             let next = NextBytes { position, len, at };
-            position = match writer.read_band(source, self, next, buf) {
-                Ok(rest) => rest,
-                Err(fault) => return Err(fault),
-            };
+            position = writer.read_band(source, self, next, buf)?;
             row += more;
         }
         Ok(())

@@ -65,14 +65,14 @@ impl Stored {
         ensures taken { Takes (R.bytes source.old) self ⊥ (R.failures source.old < R.failures source.new) (length buf.old) buf.new result }
     {
         match self {
-            Stored::Plain(at) => match read_exact_at(source, at, buf) {
-                Ok(()) => Ok(Stored::Plain(at + buf.len() as u64)),
-                Err(fault) => Err(fault),
-            },
-            Stored::Packed(mut position) => match position.read_exact(source, buf) {
-                Ok(()) => Ok(Stored::Packed(position)),
-                Err(fault) => Err(fault),
-            },
+            Stored::Plain(at) => {
+                read_exact_at(source, at, buf)?;
+                Ok(Stored::Plain(at + buf.len() as u64))
+            }
+            Stored::Packed(mut position) => {
+                position.read_exact(source, buf)?;
+                Ok(Stored::Packed(position))
+            }
             Stored::Ended => {
                 if buf.is_empty() {
                     return Ok(self);
@@ -99,10 +99,7 @@ impl Stored {
         while row.len() < len {
             let from = row.len();
             row.resize(from + (len - from).min(PIECE), 0)?;
-            match position.read(source, &mut row[from..]) {
-                Ok(rest) => position = rest,
-                Err(fault) => return Err(fault),
-            }
+            position = position.read(source, &mut row[from..])?;
         }
         Ok(position)
     }

@@ -16,7 +16,7 @@ ghost use Rattle.tiff_page.specs.ChunkData.{bytes_left};
 ghost use Rattle.tiff_page.specs.PageView as view;
 
 use crate::chunk_data::Stored;
-use crate::output_row::{hand_row, hand_whole_row, needs_whole_rows, row_len, stored_row_bytes};
+use crate::output_row::{hand_row, needs_whole_rows, row_len, stored_row_bytes};
 use crate::page::Page;
 use crate::writer::RowWriter;
 use std::alloc::Global;
@@ -102,22 +102,11 @@ impl ChunkReader<'_> {
             (R.failures source.old < R.failures source.new) out.new result }
     {
         let page = self.page;
-        let rest = match position.read_grown(source, &mut room.row, stored_row_bytes(page)) {
-            Ok(rest) => rest,
-            Err(fault) => return Err(fault),
-        };
+        let rest = position.read_grown(source, &mut room.row, stored_row_bytes(page))?;
         if matches!(page.predictor, Predictor::FloatingPoint) {
             room.planes.resize(room.row.len(), 0)?;
         }
-        hand_whole_row(
-            page,
-            self.order,
-            self.color,
-            self.width,
-            &mut room.row,
-            &mut room.planes,
-            out,
-        );
+        self.hand_whole_row(&mut room.row, &mut room.planes, out);
         Ok(rest)
     }
 
@@ -137,10 +126,7 @@ impl ChunkReader<'_> {
         ensures row { RowRead (R.bytes source.old) self.now.order (view.page self.now.page.now) self.now.color position (Unit {0})
             (R.failures source.old < R.failures source.new) out.new result }
     {
-        let rest = match position.read(source, out) {
-            Ok(rest) => rest,
-            Err(fault) => return Err(fault),
-        };
+        let rest = position.read(source, out)?;
         hand_row(self.page, self.order, self.color, out);
         Ok(rest)
     }
@@ -223,15 +209,9 @@ impl ChunkReader<'_> {
         for row in 0..rows {
             let at = (corner.top + row) * corner.stride + corner.left;
             let next = NextBytes { position, len, at };
-            let rest = match writer.read_row(source, self, next, buf) {
-                Ok(rest) => rest,
-                Err(fault) => return Err(fault),
-            };
+            let rest = writer.read_row(source, self, next, buf)?;
             let behind = gap_behind(gap, row, rows);
-            position = match rest.pass(source, behind) {
-                Ok(next) => next,
-                Err(fault) => return Err(fault),
-            };
+            position = rest.pass(source, behind)?;
         }
         Ok(())
     }

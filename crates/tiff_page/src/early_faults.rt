@@ -14,12 +14,12 @@ use crate::faults::form_fault;
 use crate::layout::chunk_data_dimensions;
 use crate::output_row::{needs_whole_rows, row_len, stored_row_bytes};
 use crate::page::Page;
+use crate::read_chunks::PageReader;
 use tiff_base::color::ColorType;
 use tiff_base::error::{TiffError, TiffResult};
 use tiff_base::io::{IoKind, Source};
 use tiff_base::read::read_exact_at;
 use tiff_base::tags::CompressionMethod;
-use tiff_ifd::limits::Limits;
 
 fn is_packed(method: CompressionMethod) -> bool
     ensures { result ≡ spec.is_packed method }
@@ -102,20 +102,21 @@ fn cut_fault<R: Source>(source: &mut R, page: &Page, color: ColorType, index: u3
     reach(source, at, needed)
 }
 
-/// The first fault of a chunk, as far as it is found before memory is taken for its samples: of its form, or too few bytes
-/// in the source for its data, `IoError(UnexpectedEof)`. One byte is read.
-pub(crate) fn early_fault<R: Source>(
-    source: &mut R,
-    page: &Page,
-    limits: &Limits,
-    color: ColorType,
-    index: u32,
-) -> TiffResult<()>
-    ensures kept { IsKept R.bytes R.failures result source.old source.new }
-    ensures answer { AnswersWithoutMemory (λ _. tt) result (chunk_fault (view.page page.now) limits.now
-        (spec.is_cut (R.bytes source.old) (view.page page.now) color) color index) (R.failures source.old)
-        (R.failures source.new) }
-{
-    form_fault(page, limits, color, index as usize)?;
-    cut_fault(source, page, color, index)
+impl PageReader<'_> {
+    /// The first fault of a chunk, as far as it is found before memory is taken for its samples: of its form, or too few bytes
+    /// in the source for its data, `IoError(UnexpectedEof)`. One byte is read.
+    pub(crate) fn early_fault<R: Source>(
+        &self,
+        source: &mut R,
+        color: ColorType,
+        index: u32,
+    ) -> TiffResult<()>
+        ensures kept { IsKept R.bytes R.failures result source.old source.new }
+        ensures answer { AnswersWithoutMemory (λ _. tt) result (chunk_fault (view.page self.now.page.now) self.now.limits.now
+            (spec.is_cut (R.bytes source.old) (view.page self.now.page.now) color) color index) (R.failures source.old)
+            (R.failures source.new) }
+    {
+        form_fault(self.page, self.limits, color, index as usize)?;
+        cut_fault(source, self.page, color, index)
+    }
 }

@@ -8,6 +8,7 @@ ghost use Rattle.tiff_page.specs.OutputRow.{handed_byte};
 ghost use Rattle.tiff_page.specs.ReadablePage.{FormRead, IsRead};
 ghost use Rattle.tiff_page.specs.PageView as view;
 
+use crate::chunk_rows::ChunkReader;
 use crate::layout::{bits, row_bits, shown};
 use crate::page::Page;
 use crate::predictors::{invert, to_little, undo_byte_plane, undo_horizontal};
@@ -108,67 +109,72 @@ fn undo_whole(page: &Page, order: ByteOrder, row: &mut [u8], room: &mut [u8])
     }
 }
 
-// Keeps the first bytes of each pixel of a row. Where `whole` and `kept` are constants, the loop is compiled for these.
+// The bytes of a pixel in a stored row, and the first of them that are handed out.
+#[derive(Clone, Copy)]
+struct PixelBytes {
+    stored: usize,
+    shown: usize,
+    ghost some: { 0 < shown },
+    ghost within: { shown ≤ stored },
+}
+
+// Keeps the shown bytes of each pixel of a row. Where their counts are constants, the loop is compiled for these.
 #[inline(always)]
-fn keep_bytes(row: &[u8], whole: usize, out: &mut [u8], kept: usize, width: usize)
-    requires some { 0 < kept }
-    requires within { kept ≤ whole }
-    requires row { width * whole ≤ length row.now }
-    requires out { length out.old ≡ width * kept }
-    ensures { EachIndex out.new (λ i. slice_index out.new i ≡ slice_index row.now (i / kept * whole + i % kept)) }
+fn keep_bytes(row: &[u8], pixel: PixelBytes, out: &mut [u8], width: usize)
+    requires row { width * pixel.stored ≤ length row.now }
+    requires out { length out.old ≡ width * pixel.shown }
+    ensures { EachIndex out.new (λ i. slice_index out.new i
+        ≡ slice_index row.now (i / pixel.shown * pixel.stored + i % pixel.shown)) }
 {
     for column in 0..width {
-        let from = column * whole;
-        let to = column * kept;
-        out[to..to + kept].copy_from_slice(&row[from..from + kept]);
+        let from = column * pixel.stored;
+        let to = column * pixel.shown;
+        out[to..to + pixel.shown].copy_from_slice(&row[from..from + pixel.shown]);
     }
 }
 
 // The same: at once where pixels are kept whole, and by constants for three samples of four.
-fn keep_pixels(row: &[u8], whole: usize, out: &mut [u8], kept: usize, width: usize)
-    requires some { 0 < kept }
-    requires within { kept ≤ whole }
-    requires row { width * whole ≤ length row.now }
-    requires out { length out.old ≡ width * kept }
-    ensures { EachIndex out.new (λ i. slice_index out.new i ≡ slice_index row.now (i / kept * whole + i % kept)) }
+fn keep_pixels(row: &[u8], pixel: PixelBytes, out: &mut [u8], width: usize)
+    requires row { width * pixel.stored ≤ length row.now }
+    requires out { length out.old ≡ width * pixel.shown }
+    ensures { EachIndex out.new (λ i. slice_index out.new i
+        ≡ slice_index row.now (i / pixel.shown * pixel.stored + i % pixel.shown)) }
 {
-    if kept == whole {
-        out.copy_from_slice(&row[..width * whole]);
+    if pixel.shown == pixel.stored {
+        out.copy_from_slice(&row[..width * pixel.stored]);
         return;
     }
-    match (whole, kept) {
-        (4, 3) => keep_bytes(row, 4, out, 3, width),
-        (8, 6) => keep_bytes(row, 8, out, 6, width),
-        _ => keep_bytes(row, whole, out, kept, width),
+    match (pixel.stored, pixel.shown) {
+        (stored @ 4, shown @ 3) => keep_bytes(row, PixelBytes { stored, shown }, out, width),
+        (stored @ 8, shown @ 6) => keep_bytes(row, PixelBytes { stored, shown }, out, width),
+        _ => keep_bytes(row, pixel, out, width),
     }
 }
 
-/// Makes a whole stored row the row that is handed out of its first `width` columns, in `out`: byte planes are joined, and of
-/// each pixel the shown samples are kept. Byte planes need `room` of the row's length. What stands in `row` and `room`
-/// afterwards is open.
-pub fn hand_whole_row(
-    page: &Page,
-    order: ByteOrder,
-    color: ColorType,
-    width: u32,
-    row: &mut [u8],
-    room: &mut [u8],
-    out: &mut [u8],
-)
-    requires read { IsRead (view.page page.now) color }
-    requires whole { pixels.needs_whole_rows (view.page page.now) color ≡ true }
-    requires width { width ≤ page.now.chunk_width }
-    requires row { length row.old ≡ pixels.stored_row_bytes (view.page page.now) }
-    requires room { pixels.is_byte_plane page.now.predictor ≡ true → length room.old ≡ length row.old }
-    requires out { length out.old ≡ layouts.row_bytes (view.page page.now) color width }
-    ensures { EachIndex out.new (λ b. slice_index out.new b ≡ handed_byte order (view.page page.now) row.old color b) }
-{
-    let size = usize::from(page.depth / 8);
-    let whole = usize::from(stored_samples(page)) * size;
-    let kept = usize::from(shown(page, color)) * size;
-    undo_whole(page, order, row, room);
-    keep_pixels(row, whole, out, kept, width as usize);
-    complement(page, out);
+impl ChunkReader<'_> {
+    /// Makes a whole stored row the row that is handed out of the chunk's columns, in `out`: byte planes are joined, and of
+    /// each pixel the shown samples are kept. Byte planes need `room` of the row's length. What stands in `row` and `room`
+    /// afterwards is open.
+    pub(crate) fn hand_whole_row(&self, row: &mut [u8], room: &mut [u8], out: &mut [u8])
+        requires read { IsRead (view.page self.now.page.now) self.now.color }
+        requires whole { pixels.needs_whole_rows (view.page self.now.page.now) self.now.color ≡ true }
+        requires width { self.now.width ≤ self.now.page.now.chunk_width }
+        requires row { length row.old ≡ pixels.stored_row_bytes (view.page self.now.page.now) }
+        requires room { pixels.is_byte_plane self.now.page.now.predictor ≡ true → length room.old ≡ length row.old }
+        requires out { length out.old ≡ layouts.row_bytes (view.page self.now.page.now) self.now.color self.now.width }
+        ensures { EachIndex out.new (λ b. slice_index out.new b
+            ≡ handed_byte self.now.order (view.page self.now.page.now) row.old self.now.color b) }
+    {
+        let page = self.page;
+        let size = usize::from(page.depth / 8);
+        let pixel = PixelBytes {
+            stored: usize::from(stored_samples(page)) * size,
+            shown: usize::from(shown(page, self.color)) * size,
+        };
+        undo_whole(page, self.order, row, room);
+        keep_pixels(row, pixel, out, self.width as usize);
+        complement(page, out);
+    }
 }
 
 /// A page that passes the tests of its form is read.

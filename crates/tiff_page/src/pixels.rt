@@ -23,7 +23,6 @@ ghost use Rattle.tiff_page.specs.PageView as view;
 ghost use Rattle.tiff_page.specs.declared.layout.DecodingSampleType.TheVariants as type;
 
 use crate::buffers::{all_planes, planes_layout, unit_fault};
-use crate::early_faults::early_fault;
 use crate::faults::samples_fault;
 use crate::layout::{
     BufferLayoutPreference, DecodingSampleType, PlaneLayout, chunk_data_dimensions, planes,
@@ -169,13 +168,7 @@ impl PageReader<'_> {
         ensures zeros { IfOk result (λ v. map T.bits v.items ≡ replicate (div_ceil len N) 0) }
     {
         samples_fault(self.limits, size_of(sample_type), len)?;
-        early_fault(
-            source,
-            self.page,
-            self.limits,
-            portion.color(),
-            portion.first(),
-        )?;
+        self.early_fault(source, portion.color(), portion.first())?;
         Ok(T::zeros(self.alloc, len.div_ceil(N))?)
     }
 
@@ -229,15 +222,10 @@ impl PageReader<'_> {
             (color_in portion) (part_of (R.bytes source.old) self.now.order (view.page self.now.page.now) portion) len)
             (R.failures source.old) (R.failures source.new) }
     {
-        let mut bytes: Vec<u8> = match self.zeros(source, portion, DecodingSampleType::U8, len) {
-            Ok(bytes) => bytes,
-            Err(fault) => return Err(fault),
-        };
+        let mut bytes: Vec<u8> = self.zeros(source, portion, DecodingSampleType::U8, len)?;
         let mut writer = InPlace::new(self.alloc);
-        match self.fill(source, portion, &mut writer, &mut bytes) {
-            Ok(()) => Ok(bytes),
-            Err(fault) => Err(fault),
-        }
+        self.fill(source, portion, &mut writer, &mut bytes)?;
+        Ok(bytes)
     }
 
     // The numbers of an image or a chunk whose samples are of a number type.
@@ -260,15 +248,10 @@ impl PageReader<'_> {
             (color_in portion) (part_of (R.bytes source.old) self.now.order (view.page self.now.page.now) portion) len)
             (R.failures source.old) (R.failures source.new) }
     {
-        let mut numbers: Vec<T> = match self.zeros(source, portion, sample_type, len) {
-            Ok(numbers) => numbers,
-            Err(fault) => return Err(fault),
-        };
+        let mut numbers: Vec<T> = self.zeros(source, portion, sample_type, len)?;
         let mut writer = NumberRoom::<N>::new(self.alloc);
-        match self.fill(source, portion, &mut writer, &mut numbers) {
-            Ok(()) => Ok(numbers),
-            Err(fault) => Err(fault),
-        }
+        self.fill(source, portion, &mut writer, &mut numbers)?;
+        Ok(numbers)
     }
 
     // The samples of an image or a chunk, in so many bytes.
@@ -374,10 +357,8 @@ pub fn read_image_to_buffer<R: Source>(
     let planes = planes_within(page, limits, layout);
     let len = layout.plane_stride * usize::from(planes);
     let portion = Portion::Image(layout, planes);
-    match reader.samples_of(source, portion, len) {
-        Ok(samples) => Ok((preference, samples)),
-        Err(fault) => Err(fault),
-    }
+    let samples = reader.samples_of(source, portion, len)?;
+    Ok((preference, samples))
 }
 
 /// Reads an image into a slice, as many planes as it takes whole, one behind the other; bytes behind them stay. Less room

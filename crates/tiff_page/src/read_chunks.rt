@@ -38,6 +38,13 @@ pub struct ImagePart {
     pub planes: u16,
 }
 
+// The chunk of each plane of a part of an image.
+#[derive(Clone, Copy, Debug)]
+struct ImageChunk {
+    part: ImagePart,
+    chunk: u32,
+}
+
 /// A chunk in a color, or that of each of so many planes, its rows so many bytes apart.
 #[derive(Clone, Copy, Debug)]
 pub struct UnitPart {
@@ -68,47 +75,44 @@ impl PageReader<'_> {
     fn fill_chunk<R: Source, T, W: RowWriter<T>>(
         &self,
         source: &mut R,
-        part: ImagePart,
-        chunk: u32,
+        next: ImageChunk,
         writer: &mut W,
         buf: &mut [T],
     ) -> TiffResult<()>
-        requires laid { layout_of (view.page self.now.page.now) self.now.page.now.width self.now.page.now.height ≡ Ok
-            (record { color = part.layout.color; row_bytes = part.layout.row_bytes; plane_stride = part.layout.plane_stride }) }
-        requires room { part.planes * part.layout.plane_stride ≤ length (W.bytes buf.old) }
-        requires few { part.planes * part.layout.plane_stride < 2 ^ 64 }
-        requires chunk { chunk < chunks_of_plane (view.page self.now.page.now) }
+        requires laid { layout_of (view.page self.now.page.now) self.now.page.now.width self.now.page.now.height ≡ Ok (record {
+          color = next.part.layout.color;
+          row_bytes = next.part.layout.row_bytes;
+          plane_stride = next.part.layout.plane_stride;
+        }) }
+        requires room { next.part.planes * next.part.layout.plane_stride ≤ length (W.bytes buf.old) }
+        requires few { next.part.planes * next.part.layout.plane_stride < 2 ^ 64 }
+        requires chunk { next.chunk < chunks_of_plane (view.page self.now.page.now) }
         ensures kept { IsKept R.bytes R.failures result source.old source.new }
-        ensures ok { OnOk result (WritesNext (R.bytes source.old) self.now.order (view.page self.now.page.now) part.layout.color
-            part.layout.row_bytes part.planes chunk (W.bytes buf.old) (W.bytes buf.new)) }
+        ensures ok { OnOk result (WritesNext (R.bytes source.old) self.now.order (view.page self.now.page.now)
+            next.part.layout.color next.part.layout.row_bytes next.part.planes next.chunk (W.bytes buf.old) (W.bytes buf.new)) }
         ensures answer { Answers (λ _. tt) result (each_below (λ plane. chunk_fault (view.page self.now.page.now)
-            self.now.limits.now (is_short (R.bytes source.old) self.now.order (view.page self.now.page.now) part.layout.color)
-            part.layout.color (plane * chunks_of_plane (view.page self.now.page.now) + (0 + chunk))) part.planes)
+            self.now.limits.now (is_short (R.bytes source.old) self.now.order (view.page self.now.page.now)
+            next.part.layout.color) next.part.layout.color
+            (plane * chunks_of_plane (view.page self.now.page.now) + (0 + next.chunk))) next.part.planes)
             (R.failures source.old) (R.failures source.new) }
     {
         let page = self.page;
-        let color = part.layout.color;
+        let layout = next.part.layout;
         let chunks = chunks_of_plane(page) as usize;
-        for plane in 0..part.planes {
-            let index = usize::from(plane) * chunks + chunk as usize;
-            match form_fault(page, self.limits, color, index) {
-                Ok(()) => {}
-                Err(fault) => return Err(fault),
-            }
-            let corner = image_corner(page, part.layout, plane, chunk);
+        for plane in 0..next.part.planes {
+            let index = usize::from(plane) * chunks + next.chunk as usize;
+            form_fault(page, self.limits, layout.color, index)?;
+            let corner = image_corner(page, layout, plane, next.chunk);
             let (width, height) = chunk_data_dimensions(page, index as u32);
             let reader = ChunkReader {
                 page,
                 order: self.order,
-                color,
+                color: layout.color,
                 index: index as u32,
                 width,
                 height,
             };
-            match reader.read_rows(source, corner, writer, buf) {
-                Ok(()) => {}
-                Err(fault) => return Err(fault),
-            }
+            reader.read_rows(source, corner, writer, buf)?;
         }
         Ok(())
     }
@@ -134,10 +138,7 @@ impl PageReader<'_> {
             (W.bytes buf.old)) (R.failures source.old) (R.failures source.new) }
     {
         for chunk in 0..chunks_of_plane(self.page) {
-            match self.fill_chunk(source, part, chunk, writer, buf) {
-                Ok(()) => {}
-                Err(fault) => return Err(fault),
-            }
+            self.fill_chunk(source, ImageChunk { part, chunk }, writer, buf)?;
         }
         Ok(())
     }
@@ -170,10 +171,7 @@ impl PageReader<'_> {
         let chunks = chunks_of_plane(page) as usize;
         for plane in 0..unit.planes {
             let index = usize::from(plane) * chunks + unit.index as usize;
-            match form_fault(page, self.limits, unit.color, index) {
-                Ok(()) => {}
-                Err(fault) => return Err(fault),
-            }
+            form_fault(page, self.limits, unit.color, index)?;
             let corner = Corner {
                 top: usize::from(plane) * rows as usize,
                 left: 0,
@@ -188,10 +186,7 @@ impl PageReader<'_> {
                 width,
                 height,
             };
-            match reader.read_rows(source, corner, writer, buf) {
-                Ok(()) => {}
-                Err(fault) => return Err(fault),
-            }
+            reader.read_rows(source, corner, writer, buf)?;
         }
         Ok(())
     }

@@ -137,10 +137,7 @@ impl<T: Number<N>, const N: usize> RowWriter<T> for NumberRoom<N> {
         out: &mut [T],
     ) -> TiffResult<Stored> {
         self.row.resize(next.len, 0)?;
-        let rest = match reader.read_row(source, next.position, &mut self.room, &mut self.row) {
-            Ok(rest) => rest,
-            Err(fault) => return Err(fault),
-        };
+        let rest = reader.read_row(source, next.position, &mut self.room, &mut self.row)?;
         put_row(out, next.at, &self.row);
         Ok(rest)
     }
@@ -154,10 +151,7 @@ impl<T: Number<N>, const N: usize> RowWriter<T> for NumberRoom<N> {
         out: &mut [T],
     ) -> TiffResult<Stored> {
         self.row.resize(next.len, 0)?;
-        let rest = match reader.read_handed(source, next.position, &mut self.row) {
-            Ok(rest) => rest,
-            Err(fault) => return Err(fault),
-        };
+        let rest = reader.read_handed(source, next.position, &mut self.row)?;
         put_row(out, next.at, &self.row);
         Ok(rest)
     }

@@ -158,10 +158,8 @@ impl<W: Sink> TiffWriter<W> {
         }
         let mut done = 0;
         while done < bytes.len() {
-            match self.write_some(&bytes[done..]) {
-                Ok(n) => done += n,
-                Err(fault) => return Err(fault),
-            }
+            let n = self.write_some(&bytes[done..])?;
+            done += n;
         }
         Ok(())
     }
@@ -186,13 +184,9 @@ impl<W: Sink> TiffWriter<W> {
     pub fn write_plain(&mut self, bytes: &[u8]) -> TiffResult<()>
         ensures { WritesCounted bytes.now self.old self.new result }
     {
-        match self.write_raw(bytes) {
-            Ok(()) => {
-                self.last = bytes.len() as u64;
-                Ok(())
-            }
-            Err(fault) => Err(fault),
-        }
+        self.write_raw(bytes)?;
+        self.last = bytes.len() as u64;
+        Ok(())
     }
 
     /// Writes a byte. Errors are those of `write_plain`.

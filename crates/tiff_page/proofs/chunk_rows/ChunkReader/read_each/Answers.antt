@@ -1,4 +1,5 @@
 use Rattle.std.proofs.Common.{arith, ◌≡◌, ℕ, ◌<◌, ◌∙◌, ◌+◌, ◌-◌, ◌*◌, length, refl, drop, ap, subst}
+use Rattle.std.proofs.lemmas.Result.{err_from_is_err_and}
 use Rattle.tiff_page.specs.declared.page.Page.{Page}
 use Rattle.tiff_page.specs.Pixels.{chunk_data, stored_row_bytes, needed_of_row}
 use Rattle.tiff_page.specs.Counts.{all_chunks}
@@ -40,8 +41,8 @@ read_row-requires-clause-width g c =
     let w = c.args.self.now.wide in
     omega (arith, w, width_within (view.page c.args.self.now.page.now) c.args.self.now.index)
 
-pub returns-in-Err-clause-answer : goal.returns-in-Err-clause-answer
-returns-in-Err-clause-answer g c =
+pub returns-in_err-rest-clause-answer : goal.returns-in_err-rest-clause-answer
+returns-in_err-rest-clause-answer g c =
     let bytes = g.R.Source.bytes c.args.source.now in
     let p = view.page c.args.self.now.page.now in
     let len = row_bytes p c.args.self.now.color (rect p c.args.self.now.index).width in
@@ -49,10 +50,11 @@ returns-in-Err-clause-answer g c =
     let w = c.args.self.now.wide in
     let n : c.row_len-len.result ≡ len = c.row_len-len.ensures.value ∙ ap (row_bytes p c.args.self.now.color) w in
     let rl : c.loop-row.row < (rect p c.args.self.now.index).height = omega (arith, h, c.loop-row-test.true) in
-    let given = rw c.loop-row.invariant.same_bytes at c.in-Err.ensures.row in
+    let given = rw c.loop-row.invariant.same_bytes at c.in_err-rest.ensures.row in
     let listed : c.args.self.now.index < all_chunks p = omega (arith, c.requires.listed, c.args.self.now.page.now.counted) in
-    too_short bytes c.args.self.now.order p c.args.self.now.color c.args.self.now.index (sides_of c.args.self.now.page.now) c.requires.read.stored listed _ _ c.loop-row.row c.row_len-len.result _ c.in-Err.fault (λ f. omega (arith, f, c.loop-row.invariant.count)) rl
-    n (c.loop-row.invariant.position rl) given
+    let answered = err_from_is_err_and c.from_residual.result c.from_residual.ensures.1 in
+    rw (answered.1, answered.2) (too_short bytes c.args.self.now.order p c.args.self.now.color c.args.self.now.index (sides_of c.args.self.now.page.now) c.requires.read.stored listed _ _ c.loop-row.row c.row_len-len.result _ c.in_err-rest.field-0.0 (λ f. omega (arith, f, c.loop-row.invariant.count)) rl
+    n (c.loop-row.invariant.position rl) given)
 
 pub read_row-requires-clause-room : goal.read_row-requires-clause-room
 read_row-requires-clause-room g c =
@@ -92,9 +94,9 @@ loop-row-preserved g c =
     let n : c.row_len-len.result ≡ len = c.row_len-len.ensures.value ∙ ap (row_bytes p color) w in
     let rl : row < (rect p k).height = omega (arith, h, c.loop-row-test.true) in
     let same = c.loop-row.invariant.same_bytes in
-    let told = c.in-Ok.ensures.kept.told ∙ same in
-    let given = rw same at c.in-Ok.ensures.row in
-    let passed = rw told at c.in-Ok-pass.ensures.passed in
+    let told = c.in_ok-rest.ensures.kept.told ∙ same in
+    let given = rw same at c.in_ok-rest.ensures.row in
+    let passed = rw told at c.in_ok-position.ensures.passed in
     let listed : k < all_chunks p = omega (arith, c.requires.listed, c.args.self.now.page.now.counted) in
     let out : length given.row ≡ c.row_len-len.result = given.all in
     let sides = sides_of c.args.self.now.page.now in
@@ -102,8 +104,8 @@ loop-row-preserved g c =
     let wide : 0 < (rect p k).width = omega (arith, c.args.self.now.some_columns, w) in
     let some : 0 < len = row_some p color (rect p k).width wide c.args.self.now.page.now.deep stored.shows in
     let left = bytes_left bytes c.loop-row.position in
-    let rest = bytes_left bytes c.in-Ok.rest in
-    let next = bytes_left bytes c.in-Ok-pass.next in
+    let rest = bytes_left bytes c.in_ok-rest.rest in
+    let next = bytes_left bytes c.in_ok-position.position in
     let from = c.loop-row.invariant.position rl in
     let held = row_held bytes order p color k sides stored listed row left rest given.row some rl (out ∙ n) from given.takes in
     let now : (row + 1 - 1) * stored_row_bytes p ≡ row * stored_row_bytes p = ap (λ (m : ℕ). m * stored_row_bytes p) (omega arith) in
@@ -116,8 +118,8 @@ loop-row-preserved g c =
     (λ b bl. row_bytes_are bytes order p color k sides stored listed row left rest given.row rl (out ∙ n) from given.takes b bl)
     c.loop-row.invariant.written given.put in
     record {
-      same_bytes = c.in-Ok-pass.ensures.kept.told ∙ told;
-      count = omega (arith, c.in-Ok-pass.ensures.kept.swallowed, c.in-Ok.ensures.kept.swallowed, c.loop-row.invariant.count);
+      same_bytes = c.in_ok-position.ensures.kept.told ∙ told;
+      count = omega (arith, c.in_ok-position.ensures.kept.swallowed, c.in_ok-rest.ensures.kept.swallowed, c.loop-row.invariant.count);
       position = λ z. next_row bytes order p color k sides stored listed row c.gap_behind-behind.result left rest next given.row some z (out ∙ n) from given.takes
           (c.gap_behind-behind.ensures.between (omega (arith, z, h)) ∙ (c.gap-gap.ensures ∙ ap (λ (m : ℕ). stored_row_bytes p - needed_of_row p color m) n)) passed;
       enough = λ z. omega (arith, held, now);

@@ -1,4 +1,5 @@
 use Rattle.std.proofs.Common.{arith, ◌≡◌, ℕ, ◌<◌, ◌≤◌, ◌∙◌, ◌+◌, ◌*◌, length, refl, drop, ap, subst}
+use Rattle.std.proofs.lemmas.Result.{err_from_is_err_and}
 use Rattle.tiff_page.specs.declared.page.Page.{Page}
 use Rattle.tiff_page.specs.Counts.{all_chunks}
 use Rattle.tiff_page.specs.Laws.{HasSides}
@@ -58,8 +59,8 @@ read_band-requires-clause-whole g c =
     band_of_numbers p c.args.self.now.color (rect p c.args.self.now.index).width more _ c.requires.read.stored
     (ap (λ z. more * z) c.requires.together.in_buffer)
 
-pub returns-in-Err-clause-answer : goal.returns-in-Err-clause-answer
-returns-in-Err-clause-answer g c =
+pub returns-in_err-position-clause-answer : goal.returns-in_err-position-clause-answer
+returns-in_err-position-clause-answer g c =
     let bytes = g.R.Source.bytes c.args.source.now in
     let p = view.page c.args.self.now.page.now in
     let corner = c.args.corner in
@@ -67,10 +68,11 @@ returns-in-Err-clause-answer g c =
     let more = c.min-more.result in
     let h = c.args.self.now.high in
     let rl : row + more ≤ (rect p c.args.self.now.index).height = omega (arith, h, c.loop-row-test.true, c.min-more.ensures) in
-    let given = rw c.loop-row.invariant.same_bytes at c.in-Err.ensures.row in
+    let given = rw c.loop-row.invariant.same_bytes at c.in_err-position.ensures.row in
     let listed : c.args.self.now.index < all_chunks p = omega (arith, c.requires.listed, c.args.self.now.page.now.counted) in
-    short_band bytes c.args.self.now.order p c.args.self.now.color c.args.self.now.index corner.left corner.stride (sides_of c.args.self.now.page.now) c.requires.read.stored listed c.requires.together
-    _ _ row more (more * corner.stride) _ c.in-Err.fault (λ z. omega (arith, z, c.loop-row.invariant.count)) (omega (arith, h, c.loop-row-test.true)) rl refl c.loop-row.invariant.position given
+    let answered = err_from_is_err_and c.from_residual.result c.from_residual.ensures.1 in
+    rw (answered.1, answered.2) (short_band bytes c.args.self.now.order p c.args.self.now.color c.args.self.now.index corner.left corner.stride (sides_of c.args.self.now.page.now) c.requires.read.stored listed c.requires.together
+    _ _ row more (more * corner.stride) _ c.in_err-position.field-0.0 (λ z. omega (arith, z, c.loop-row.invariant.count)) (omega (arith, h, c.loop-row-test.true)) rl refl c.loop-row.invariant.position given)
 
 pub loop-row-preserved : goal.loop-row-preserved
 loop-row-preserved g c =
@@ -85,15 +87,15 @@ loop-row-preserved g c =
     let at = (corner.top + row) * corner.stride in
     let h = c.args.self.now.high in
     let rl : row + more ≤ (rect p k).height = omega (arith, h, c.loop-row-test.true, c.min-more.ensures) in
-    let told = c.in-Ok.ensures.kept.told ∙ c.loop-row.invariant.same_bytes in
-    let given = rw c.loop-row.invariant.same_bytes at c.in-Ok.ensures.row in
+    let told = c.in_ok-position.ensures.kept.told ∙ c.loop-row.invariant.same_bytes in
+    let given = rw c.loop-row.invariant.same_bytes at c.in_ok-position.ensures.row in
     let listed : k < all_chunks p = omega (arith, c.requires.listed, c.args.self.now.page.now.counted) in
     let out : length given.row ≡ more * corner.stride = given.all in
     let sides = sides_of c.args.self.now.page.now in
     let stored = c.requires.read.stored in
     let together = c.requires.together in
     let ahead = bytes_left bytes c.loop-row.position in
-    let rest = bytes_left bytes c.in-Ok.rest in
+    let rest = bytes_left bytes c.in_ok-position.position in
     let from = c.loop-row.invariant.position in
     let len = row_bytes p color (rect p k).width in
     let old = g.W.RowWriter.bytes c.args.buf.now in
@@ -102,7 +104,7 @@ loop-row-preserved g c =
     record {
       within = rl;
       same_bytes = told;
-      count = omega (arith, c.in-Ok.ensures.kept.swallowed, c.loop-row.invariant.count);
+      count = omega (arith, c.in_ok-position.ensures.kept.swallowed, c.loop-row.invariant.count);
       position = next_band bytes order p color k corner.left corner.stride sides stored listed together row more ahead rest given.row out from given.takes;
       enough = band_held bytes order p color k corner.left corner.stride sides stored listed together row more ahead rest given.row c.requires.some (omega (arith, c.loop-row-test.true, c.min-more.ensures, c.rows_at_once-band.ensures)) out from given.takes;
       written = band_put (chunk_byte bytes order p color k) corner.stride corner.top row more corner.left len at given.row old mid new c.requires.some

@@ -1,4 +1,5 @@
 use Rattle.std.proofs.Common.{rules, arith, Ok, ◌≡◌, ◌∙◌, ◌++◌, take, drop, length, refl}
+use Rattle.std.proofs.lemmas.Result.{err_from_is_err_and}
 use Rattle.tiff_page.specs.Laws.{HasSides}
 use Rattle.tiff_page.specs.Samples.{color_in, first_in}
 use Rattle.tiff_page.specs.PageView as view
@@ -10,23 +11,25 @@ use Rattle.tiff_page.proofs.read_chunks.PageReader.bytes_of.Goals as goal
 abbrev pub sides_of : (p : Page) → HasSides (view.page p)
 sides_of p = record { wide = p.wide; high = p.high; chunk_wide = p.chunk_wide; chunk_high = p.chunk_high }
 
-pub returns-in-Err-clause-answer : goal.returns-in-Err-clause-answer
-returns-in-Err-clause-answer g c =
+pub returns-in_err-bytes-clause-answer : goal.returns-in_err-bytes-clause-answer
+returns-in_err-bytes-clause-answer g c =
     let p = c.args.self.now.page.now in
-    portion_early _ _ (g.R.Source.bytes c.args.source.now) c.args.self.now.order (view.page p) c.args.self.now.limits.now c.args.portion (color_in c.args.portion) type.U8 (first_in c.args.portion) c.args.len c.in-Err.fault
-    (sides_of p) c.requires.laid c.requires.typed refl refl c.in-Err.ensures.answer
+    let answered = err_from_is_err_and c.from_residual.result c.from_residual.ensures.1 in
+    rw (answered.1, answered.2) (portion_early _ _ (g.R.Source.bytes c.args.source.now) c.args.self.now.order (view.page p) c.args.self.now.limits.now c.args.portion (color_in c.args.portion) type.U8 (first_in c.args.portion) c.args.len c.in_err-bytes.field-0.0
+    (sides_of p) c.requires.laid c.requires.typed refl refl c.in_err-bytes.ensures.answer)
 
-pub returns-in-Ok-fill-clause-answer : goal.returns-in-Ok-fill-clause-answer
-returns-in-Ok-fill-clause-answer g c =
+pub returns-clause-answer : goal.returns-clause-answer
+returns-clause-answer g c =
     let p = c.args.self.now.page.now in
-    let back : c.fill.new.out ≡ take c.in-Ok.bytes.len (c.fill.new.out ++ drop (length c.fill.new.out) c.in-Ok.bytes.items) = all_written c.fill.new.out c.in-Ok.bytes.items c.in-Ok.bytes.len (search rules) in
+    let back : c.fill.new.out ≡ take c.in_ok-bytes.bytes.len (c.fill.new.out ++ drop (length c.fill.new.out) c.in_ok-bytes.bytes.items) = all_written c.fill.new.out c.in_ok-bytes.bytes.items c.in_ok-bytes.bytes.len (search rules) in
     bytes_given (g.R.Source.bytes c.args.source.now) c.args.self.now.order (view.page p) c.args.self.now.limits.now c.args.portion (sides_of p) c.requires.laid (color_in c.args.portion) type.U8 (first_in c.args.portion) c.args.len
-    c.deref_mut.result.now c.fill.new.out refl c.requires.typed c.in-Ok.ensures.answer
-    (c.deref_mut.ensures.value ∙ plain_zeros c.in-Ok.bytes.items c.args.len c.in-Ok.ensures.zeros) (rw c.in-Ok.ensures.kept.told at c.in-Ok-fill.ensures.answer)
+    c.deref_mut.result.now c.fill.new.out refl c.requires.typed c.in_ok-bytes.ensures.answer
+    (c.deref_mut.ensures.value ∙ plain_zeros c.in_ok-bytes.bytes.items c.args.len c.in_ok-bytes.ensures.zeros) (rw c.in_ok-bytes.ensures.kept.told at c.in_ok-fill.ensures.answer)
     ∙ (λ i. Ok (record { sample_type = type.U8; numbers = back i }))
 
-pub returns-in-Err-fill-clause-answer : goal.returns-in-Err-fill-clause-answer
-returns-in-Err-fill-clause-answer g c =
+pub returns-in_err-fill-clause-answer : goal.returns-in_err-fill-clause-answer
+returns-in_err-fill-clause-answer g c =
     let p = c.args.self.now.page.now in
-    filling_cause (g.R.Source.bytes c.args.source.now) c.args.self.now.order (view.page p) c.args.self.now.limits.now c.args.portion (sides_of p) c.requires.laid _ _ (color_in c.args.portion) type.U8 (first_in c.args.portion) c.args.len
-    c.deref_mut.result.now c.in-Err-fill.fault (λ f. omega (arith, f, c.in-Ok.ensures.kept.failures)) c.requires.typed c.in-Ok.ensures.answer (rw c.in-Ok.ensures.kept.told at c.in-Err-fill.ensures.answer)
+    let answered = err_from_is_err_and c.from_residual-in_err-fill.result c.from_residual-in_err-fill.ensures.1 in
+    rw (answered.1, answered.2) (filling_cause (g.R.Source.bytes c.args.source.now) c.args.self.now.order (view.page p) c.args.self.now.limits.now c.args.portion (sides_of p) c.requires.laid _ _ (color_in c.args.portion) type.U8 (first_in c.args.portion) c.args.len
+    c.deref_mut.result.now c.in_err-fill.field-0.0 (λ f. omega (arith, f, c.in_ok-bytes.ensures.kept.failures)) c.requires.typed c.in_ok-bytes.ensures.answer (rw c.in_ok-bytes.ensures.kept.told at c.in_err-fill.ensures.answer))

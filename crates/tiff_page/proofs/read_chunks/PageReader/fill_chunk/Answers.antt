@@ -1,4 +1,5 @@
 use Rattle.std.proofs.Common.{arith, Ok, Err, ◌≡◌, ℕ, List, ◌∙◌, ◌+◌, ◌*◌, ◌<◌, subst}
+use Rattle.std.proofs.lemmas.Result.{err_from_is_err_and}
 use Rattle.tiff_base.specs.Answers.{IsCause}
 use Rattle.tiff_base.specs.declared.error.TiffError.TheVariants.{IoError}
 use Rattle.tiff_base.specs.declared.io.IoKind.TheVariants.{UnexpectedEof}
@@ -21,91 +22,93 @@ sides_of p = record { wide = p.wide; high = p.high; chunk_wide = p.chunk_wide; c
 abbrev pub layout : PlaneLayout → LayoutRecord
 layout l = record { color = l.color; row_bytes = l.row_bytes; plane_stride = l.plane_stride }
 
-pub returns-in-Err-clause-answer : goal.returns-in-Err-clause-answer
-returns-in-Err-clause-answer g c =
+pub returns-in_err-form_fault-clause-answer : goal.returns-in_err-form_fault-clause-answer
+returns-in_err-form_fault-clause-answer g c =
     let p = c.args.self.now.page.now in
-    let i = c.from.result * c.chunks_of_plane-chunks.result + c.args.chunk in
-    let q : i ≡ c.loop-plane.plane * chunks_of_plane (view.page p) + c.args.chunk = λ t. c.from.ensures t * c.chunks_of_plane-chunks.ensures.count t + c.args.chunk in
-    form_cause (g.R.Source.bytes c.args.source.now) c.args.self.now.order (view.page p) c.args.self.now.limits.now (layout c.args.part.layout) (sides_of p) p.sampled p.deep c.requires.laid
-    c.args.part.planes c.args.chunk c.requires.chunk _ c.loop-plane.plane i c.in-Err.fault q c.loop-plane-test.true c.loop-plane.invariant.none c.in-Err.ensures.answer
+    let i = c.from.result * c.chunks_of_plane-chunks.result + c.args.next.chunk in
+    let q : i ≡ c.loop-plane.plane * chunks_of_plane (view.page p) + c.args.next.chunk = λ t. c.from.ensures t * c.chunks_of_plane-chunks.ensures.count t + c.args.next.chunk in
+    let answered = err_from_is_err_and c.from_residual.result c.from_residual.ensures.1 in
+    rw (answered.1, answered.2) (form_cause (g.R.Source.bytes c.args.source.now) c.args.self.now.order (view.page p) c.args.self.now.limits.now (layout c.args.next.part.layout) (sides_of p) p.sampled p.deep c.requires.laid
+    c.args.next.part.planes c.args.next.chunk c.requires.chunk _ c.loop-plane.plane i c.in_err-form_fault.field-0.0 q c.loop-plane-test.true c.loop-plane.invariant.none c.in_err-form_fault.ensures.answer)
 
 pub read_rows-requires-clause-read : goal.read_rows-requires-clause-read
 read_rows-requires-clause-read g c =
     let p = c.args.self.now.page.now in
-    let i = c.from.result * c.chunks_of_plane-chunks.result + c.args.chunk in
-    let q : i ≡ c.loop-plane.plane * chunks_of_plane (view.page p) + c.args.chunk = λ t. c.from.ensures t * c.chunks_of_plane-chunks.ensures.count t + c.args.chunk in
-    is_formed (g.R.Source.bytes c.args.source.now) c.args.self.now.order (view.page p) c.args.self.now.limits.now (layout c.args.part.layout) (sides_of p) p.sampled p.deep c.requires.laid i c.in-Ok.ensures.answer
+    let i = c.from.result * c.chunks_of_plane-chunks.result + c.args.next.chunk in
+    let q : i ≡ c.loop-plane.plane * chunks_of_plane (view.page p) + c.args.next.chunk = λ t. c.from.ensures t * c.chunks_of_plane-chunks.ensures.count t + c.args.next.chunk in
+    is_formed (g.R.Source.bytes c.args.source.now) c.args.self.now.order (view.page p) c.args.self.now.limits.now (layout c.args.next.part.layout) (sides_of p) p.sampled p.deep c.requires.laid i c.in_ok-form_fault.ensures.answer
 
 pub read_rows-requires-clause-formed : goal.read_rows-requires-clause-formed
 read_rows-requires-clause-formed g c =
     let p = c.args.self.now.page.now in
-    let i = c.from.result * c.chunks_of_plane-chunks.result + c.args.chunk in
-    let q : i ≡ c.loop-plane.plane * chunks_of_plane (view.page p) + c.args.chunk = λ t. c.from.ensures t * c.chunks_of_plane-chunks.ensures.count t + c.args.chunk in
-    method_passed (view.page p) c.args.self.now.limits.now c.args.part.layout.color i c.in-Ok.ensures.answer
+    let i = c.from.result * c.chunks_of_plane-chunks.result + c.args.next.chunk in
+    let q : i ≡ c.loop-plane.plane * chunks_of_plane (view.page p) + c.args.next.chunk = λ t. c.from.ensures t * c.chunks_of_plane-chunks.ensures.count t + c.args.next.chunk in
+    method_passed (view.page p) c.args.self.now.limits.now c.args.next.part.layout.color i c.in_ok-form_fault.ensures.answer
 
 pub read_rows-requires-clause-some : goal.read_rows-requires-clause-some
 read_rows-requires-clause-some g c =
     let p = c.args.self.now.page.now in
-    let l = stride_some (g.R.Source.bytes c.args.source.now) c.args.self.now.order (view.page p) c.args.self.now.limits.now (layout c.args.part.layout) (sides_of p) p.sampled p.deep c.requires.laid in
+    let l = stride_some (g.R.Source.bytes c.args.source.now) c.args.self.now.order (view.page p) c.args.self.now.limits.now (layout c.args.next.part.layout) (sides_of p) p.sampled p.deep c.requires.laid in
     omega (arith, l, c.image_corner-corner.ensures.stride)
 
 pub read_rows-requires-clause-columns : goal.read_rows-requires-clause-columns
 read_rows-requires-clause-columns g c =
     let p = c.args.self.now.page.now in
-    let i = c.from.result * c.chunks_of_plane-chunks.result + c.args.chunk in
-    let q : i ≡ c.loop-plane.plane * chunks_of_plane (view.page p) + c.args.chunk = λ t. c.from.ensures t * c.chunks_of_plane-chunks.ensures.count t + c.args.chunk in
-    let l = columns_in (g.R.Source.bytes c.args.source.now) c.args.self.now.order (view.page p) c.args.self.now.limits.now (layout c.args.part.layout) (sides_of p) p.sampled p.deep c.requires.laid c.args.part.planes c.args.chunk c.requires.chunk c.loop-plane.plane i q c.in-Ok.ensures.answer in
+    let i = c.from.result * c.chunks_of_plane-chunks.result + c.args.next.chunk in
+    let q : i ≡ c.loop-plane.plane * chunks_of_plane (view.page p) + c.args.next.chunk = λ t. c.from.ensures t * c.chunks_of_plane-chunks.ensures.count t + c.args.next.chunk in
+    let l = columns_in (g.R.Source.bytes c.args.source.now) c.args.self.now.order (view.page p) c.args.self.now.limits.now (layout c.args.next.part.layout) (sides_of p) p.sampled p.deep c.requires.laid c.args.next.part.planes c.args.next.chunk c.requires.chunk c.loop-plane.plane i q c.in_ok-form_fault.ensures.answer in
     omega (arith, l, c.image_corner-corner.ensures.left, c.image_corner-corner.ensures.stride)
 
 pub read_rows-requires-clause-rows : goal.read_rows-requires-clause-rows
 read_rows-requires-clause-rows g c =
     let p = c.args.self.now.page.now in
-    let i = c.from.result * c.chunks_of_plane-chunks.result + c.args.chunk in
-    let q : i ≡ c.loop-plane.plane * chunks_of_plane (view.page p) + c.args.chunk = λ t. c.from.ensures t * c.chunks_of_plane-chunks.ensures.count t + c.args.chunk in
-    let size = c.args.part.planes * c.args.part.layout.plane_stride in
-    let l = rows_in (g.R.Source.bytes c.args.source.now) c.args.self.now.order (view.page p) c.args.self.now.limits.now (layout c.args.part.layout) (sides_of p) p.sampled p.deep c.requires.laid c.args.part.planes c.args.chunk c.requires.chunk c.loop-plane.plane i size q c.loop-plane-test.true (omega arith) in
+    let i = c.from.result * c.chunks_of_plane-chunks.result + c.args.next.chunk in
+    let q : i ≡ c.loop-plane.plane * chunks_of_plane (view.page p) + c.args.next.chunk = λ t. c.from.ensures t * c.chunks_of_plane-chunks.ensures.count t + c.args.next.chunk in
+    let size = c.args.next.part.planes * c.args.next.part.layout.plane_stride in
+    let l = rows_in (g.R.Source.bytes c.args.source.now) c.args.self.now.order (view.page p) c.args.self.now.limits.now (layout c.args.next.part.layout) (sides_of p) p.sampled p.deep c.requires.laid c.args.next.part.planes c.args.next.chunk c.requires.chunk c.loop-plane.plane i size q c.loop-plane-test.true (omega arith) in
     let same = g.met.W.RowWriter.same_length c.loop-plane.buf c.args.buf.now c.loop-plane.auto.buf in
     rw (c.image_corner-corner.ensures.top, c.image_corner-corner.ensures.stride) (omega (arith, l, same, c.requires.room))
 
 pub read_rows-requires-clause-few : goal.read_rows-requires-clause-few
 read_rows-requires-clause-few g c =
     let p = c.args.self.now.page.now in
-    let i = c.from.result * c.chunks_of_plane-chunks.result + c.args.chunk in
-    let q : i ≡ c.loop-plane.plane * chunks_of_plane (view.page p) + c.args.chunk = λ t. c.from.ensures t * c.chunks_of_plane-chunks.ensures.count t + c.args.chunk in
-    let size = c.args.part.planes * c.args.part.layout.plane_stride in
-    let l = rows_in (g.R.Source.bytes c.args.source.now) c.args.self.now.order (view.page p) c.args.self.now.limits.now (layout c.args.part.layout) (sides_of p) p.sampled p.deep c.requires.laid c.args.part.planes c.args.chunk c.requires.chunk c.loop-plane.plane i size q c.loop-plane-test.true (omega arith) in
+    let i = c.from.result * c.chunks_of_plane-chunks.result + c.args.next.chunk in
+    let q : i ≡ c.loop-plane.plane * chunks_of_plane (view.page p) + c.args.next.chunk = λ t. c.from.ensures t * c.chunks_of_plane-chunks.ensures.count t + c.args.next.chunk in
+    let size = c.args.next.part.planes * c.args.next.part.layout.plane_stride in
+    let l = rows_in (g.R.Source.bytes c.args.source.now) c.args.self.now.order (view.page p) c.args.self.now.limits.now (layout c.args.next.part.layout) (sides_of p) p.sampled p.deep c.requires.laid c.args.next.part.planes c.args.next.chunk c.requires.chunk c.loop-plane.plane i size q c.loop-plane-test.true (omega arith) in
     rw (c.image_corner-corner.ensures.top, c.image_corner-corner.ensures.stride) (omega (arith, l, c.requires.few))
 
-pub returns-in-Err-read_rows-clause-answer : goal.returns-in-Err-read_rows-clause-answer
-returns-in-Err-read_rows-clause-answer g c =
+pub returns-in_err-read_rows-clause-answer : goal.returns-in_err-read_rows-clause-answer
+returns-in_err-read_rows-clause-answer g c =
     let p = c.args.self.now.page.now in
-    let i = c.from.result * c.chunks_of_plane-chunks.result + c.args.chunk in
-    let q : i ≡ c.loop-plane.plane * chunks_of_plane (view.page p) + c.args.chunk = λ t. c.from.ensures t * c.chunks_of_plane-chunks.ensures.count t + c.args.chunk in
-    let given = subst (λ (bytes : List ℕ). IsCause (Unit {0}) (g.R.Source.failures c.loop-plane.source < g.R.Source.failures c.read_rows.new.source) c.in-Err-read_rows.fault (unless (is_short bytes c.args.self.now.order (view.page p) c.args.part.layout.color i) (IoError UnexpectedEof) ≡ Err c.in-Err-read_rows.fault)) c.loop-plane.invariant.same_bytes c.in-Err-read_rows.ensures.answer in
-    rows_cause (g.R.Source.bytes c.args.source.now) c.args.self.now.order (view.page p) c.args.self.now.limits.now (layout c.args.part.layout) (sides_of p) p.sampled p.deep c.requires.laid
-    c.args.part.planes c.args.chunk c.requires.chunk _ _ c.loop-plane.plane i c.in-Err-read_rows.fault q (λ f. omega (arith, f, c.loop-plane.invariant.count)) c.loop-plane-test.true c.loop-plane.invariant.none c.in-Ok.ensures.answer given
+    let i = c.from.result * c.chunks_of_plane-chunks.result + c.args.next.chunk in
+    let q : i ≡ c.loop-plane.plane * chunks_of_plane (view.page p) + c.args.next.chunk = λ t. c.from.ensures t * c.chunks_of_plane-chunks.ensures.count t + c.args.next.chunk in
+    let given = subst (λ (bytes : List ℕ). IsCause (Unit {0}) (g.R.Source.failures c.loop-plane.source < g.R.Source.failures c.read_rows.new.source) c.in_err-read_rows.field-0.0 (unless (is_short bytes c.args.self.now.order (view.page p) c.args.next.part.layout.color i) (IoError UnexpectedEof) ≡ Err c.in_err-read_rows.field-0.0)) c.loop-plane.invariant.same_bytes c.in_err-read_rows.ensures.answer in
+    let answered = err_from_is_err_and c.from_residual-in_err-read_rows.result c.from_residual-in_err-read_rows.ensures.1 in
+    rw (answered.1, answered.2) (rows_cause (g.R.Source.bytes c.args.source.now) c.args.self.now.order (view.page p) c.args.self.now.limits.now (layout c.args.next.part.layout) (sides_of p) p.sampled p.deep c.requires.laid
+    c.args.next.part.planes c.args.next.chunk c.requires.chunk _ _ c.loop-plane.plane i c.in_err-read_rows.field-0.0 q (λ f. omega (arith, f, c.loop-plane.invariant.count)) c.loop-plane-test.true c.loop-plane.invariant.none c.in_ok-form_fault.ensures.answer given)
 
 pub loop-plane-preserved : goal.loop-plane-preserved
 loop-plane-preserved g c =
     let p = c.args.self.now.page.now in
-    let i = c.from.result * c.chunks_of_plane-chunks.result + c.args.chunk in
-    let q : i ≡ c.loop-plane.plane * chunks_of_plane (view.page p) + c.args.chunk = λ t. c.from.ensures t * c.chunks_of_plane-chunks.ensures.count t + c.args.chunk in
+    let i = c.from.result * c.chunks_of_plane-chunks.result + c.args.next.chunk in
+    let q : i ≡ c.loop-plane.plane * chunks_of_plane (view.page p) + c.args.next.chunk = λ t. c.from.ensures t * c.chunks_of_plane-chunks.ensures.count t + c.args.next.chunk in
     let same = c.loop-plane.invariant.same_bytes in
-    let given = subst (λ (bytes : List ℕ). unless (is_short bytes c.args.self.now.order (view.page p) c.args.part.layout.color i) (IoError UnexpectedEof) ≡ Ok tt) same c.in-Ok-read_rows.ensures.answer in
-    let wrote = moved c.args.self.now.order (view.page p) c.args.part.layout.color i (rect (view.page p) i).height (row_bytes (view.page p) c.args.part.layout.color (rect (view.page p) i).width) (g.W.RowWriter.bytes c.loop-plane.buf) (g.W.RowWriter.bytes c.read_rows.new.buf) (g.R.Source.bytes c.loop-plane.source) (g.R.Source.bytes c.args.source.now)
-    c.image_corner-corner.result.stride c.args.part.layout.row_bytes c.image_corner-corner.result.top (top_of (view.page p) c.args.part.layout.color c.args.part.layout.row_bytes c.loop-plane.plane c.args.chunk)
-    c.image_corner-corner.result.left (left_of (view.page p) c.args.part.layout.color c.args.part.layout.row_bytes c.loop-plane.plane c.args.chunk)
-    same c.image_corner-corner.ensures.stride c.image_corner-corner.ensures.top c.image_corner-corner.ensures.left c.in-Ok-read_rows.ensures.ok in
+    let given = subst (λ (bytes : List ℕ). unless (is_short bytes c.args.self.now.order (view.page p) c.args.next.part.layout.color i) (IoError UnexpectedEof) ≡ Ok tt) same c.in_ok-read_rows.ensures.answer in
+    let wrote = moved c.args.self.now.order (view.page p) c.args.next.part.layout.color i (rect (view.page p) i).height (row_bytes (view.page p) c.args.next.part.layout.color (rect (view.page p) i).width) (g.W.RowWriter.bytes c.loop-plane.buf) (g.W.RowWriter.bytes c.read_rows.new.buf) (g.R.Source.bytes c.loop-plane.source) (g.R.Source.bytes c.args.source.now)
+    c.image_corner-corner.result.stride c.args.next.part.layout.row_bytes c.image_corner-corner.result.top (top_of (view.page p) c.args.next.part.layout.color c.args.next.part.layout.row_bytes c.loop-plane.plane c.args.next.chunk)
+    c.image_corner-corner.result.left (left_of (view.page p) c.args.next.part.layout.color c.args.next.part.layout.row_bytes c.loop-plane.plane c.args.next.chunk)
+    same c.image_corner-corner.ensures.stride c.image_corner-corner.ensures.top c.image_corner-corner.ensures.left c.in_ok-read_rows.ensures.ok in
     record {
-      same_bytes = c.in-Ok-read_rows.ensures.kept.told ∙ same;
-      count = omega (arith, c.in-Ok-read_rows.ensures.kept.swallowed, c.loop-plane.invariant.count);
-      none = plane_none (g.R.Source.bytes c.args.source.now) c.args.self.now.order (view.page p) c.args.self.now.limits.now (layout c.args.part.layout) (sides_of p) p.sampled p.deep c.requires.laid c.args.part.planes c.args.chunk c.requires.chunk c.loop-plane.plane i q c.loop-plane.invariant.none c.in-Ok.ensures.answer given;
-      written = λ before a. plane_written (g.R.Source.bytes c.args.source.now) c.args.self.now.order (view.page p) c.args.self.now.limits.now (layout c.args.part.layout) (sides_of p) p.sampled p.deep c.requires.laid c.args.part.planes c.args.chunk c.requires.chunk c.loop-plane.plane i before (g.W.RowWriter.bytes c.loop-plane.buf) (g.W.RowWriter.bytes c.read_rows.new.buf) q c.loop-plane-test.true c.in-Ok.ensures.answer
+      same_bytes = c.in_ok-read_rows.ensures.kept.told ∙ same;
+      count = omega (arith, c.in_ok-read_rows.ensures.kept.swallowed, c.loop-plane.invariant.count);
+      none = plane_none (g.R.Source.bytes c.args.source.now) c.args.self.now.order (view.page p) c.args.self.now.limits.now (layout c.args.next.part.layout) (sides_of p) p.sampled p.deep c.requires.laid c.args.next.part.planes c.args.next.chunk c.requires.chunk c.loop-plane.plane i q c.loop-plane.invariant.none c.in_ok-form_fault.ensures.answer given;
+      written = λ before a. plane_written (g.R.Source.bytes c.args.source.now) c.args.self.now.order (view.page p) c.args.self.now.limits.now (layout c.args.next.part.layout) (sides_of p) p.sampled p.deep c.requires.laid c.args.next.part.planes c.args.next.chunk c.requires.chunk c.loop-plane.plane i before (g.W.RowWriter.bytes c.loop-plane.buf) (g.W.RowWriter.bytes c.read_rows.new.buf) q c.loop-plane-test.true c.in_ok-form_fault.ensures.answer
           (c.loop-plane.invariant.written before a) wrote;
     }
 
 pub returns-clause-ok : goal.returns-clause-ok
 returns-clause-ok g c =
     let p = c.args.self.now.page.now in
-    let e : c.loop-plane.plane ≡ c.args.part.planes = omega (arith, c.loop-plane-test.false, c.loop-plane.auto.plane-end) in
-    λ before a. subst (λ (m : ℕ). Writes (IsBefore (view.page p) c.args.part.layout.color c.args.part.layout.row_bytes c.args.part.planes c.args.chunk m) (image_byte (view.page p) c.args.part.layout.color c.args.part.layout.row_bytes (g.R.Source.bytes c.args.source.now) c.args.self.now.order) before (g.W.RowWriter.bytes c.loop-plane.buf)) e (c.loop-plane.invariant.written before a)
+    let e : c.loop-plane.plane ≡ c.args.next.part.planes = omega (arith, c.loop-plane-test.false, c.loop-plane.auto.plane-end) in
+    λ before a. subst (λ (m : ℕ). Writes (IsBefore (view.page p) c.args.next.part.layout.color c.args.next.part.layout.row_bytes c.args.next.part.planes c.args.next.chunk m) (image_byte (view.page p) c.args.next.part.layout.color c.args.next.part.layout.row_bytes (g.R.Source.bytes c.args.source.now) c.args.self.now.order) before (g.W.RowWriter.bytes c.loop-plane.buf)) e (c.loop-plane.invariant.written before a)

@@ -11,12 +11,12 @@ abbrev pub invariant-loop-plane : goal.invariant-loop-plane
 invariant-loop-plane g l =
     let bytes = g.R.Source.bytes l.fn.source in
     let p = view.page l.self.page.now in
-    let color = l.part.layout.color in
-    let stride = l.part.layout.row_bytes in
+    let color = l.next.part.layout.color in
+    let stride = l.next.part.layout.row_bytes in
     record {
       same_bytes : g.R.Source.bytes l.source ≡ bytes;
       count : g.R.Source.failures l.source ≡ g.R.Source.failures l.fn.source;
-      none : each_below (λ plane. chunk_fault p l.self.limits.now (is_short bytes l.self.order p color) color (plane * chunks_of_plane p + (0 + l.chunk))) l.plane ≡ Ok tt;
-      written : (before : List ℕ) → Writes (IsBefore p color stride l.part.planes l.chunk 0) (image_byte p color stride bytes l.self.order) before (g.W.RowWriter.bytes l.fn.buf)
-          → Writes (IsBefore p color stride l.part.planes l.chunk l.plane) (image_byte p color stride bytes l.self.order) before (g.W.RowWriter.bytes l.buf);
+      none : each_below (λ plane. chunk_fault p l.self.limits.now (is_short bytes l.self.order p color) color (plane * chunks_of_plane p + (0 + l.next.chunk))) l.plane ≡ Ok tt;
+      written : (before : List ℕ) → Writes (IsBefore p color stride l.next.part.planes l.next.chunk 0) (image_byte p color stride bytes l.self.order) before (g.W.RowWriter.bytes l.fn.buf)
+          → Writes (IsBefore p color stride l.next.part.planes l.next.chunk l.plane) (image_byte p color stride bytes l.self.order) before (g.W.RowWriter.bytes l.buf);
     }

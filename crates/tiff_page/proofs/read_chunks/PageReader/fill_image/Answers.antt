@@ -1,4 +1,5 @@
 use Rattle.std.proofs.Common.{arith, Ok, Err, ◌≡◌, ℕ, List, ◌∙◌, ◌+◌, ◌*◌, ◌<◌, subst}
+use Rattle.std.proofs.lemmas.Result.{err_from_is_err_and}
 use Rattle.tiff_base.specs.Answers.{IsCause}
 use Rattle.tiff_page.specs.Layout.{LayoutRecord}
 use Rattle.tiff_page.specs.Laws.{HasSides}
@@ -19,17 +20,18 @@ sides_of p = record { wide = p.wide; high = p.high; chunk_wide = p.chunk_wide; c
 abbrev pub layout : PlaneLayout → LayoutRecord
 layout l = record { color = l.color; row_bytes = l.row_bytes; plane_stride = l.plane_stride }
 
-pub returns-in-Err-clause-answer : goal.returns-in-Err-clause-answer
-returns-in-Err-clause-answer g c =
+pub returns-in_err-fill_chunk-clause-answer : goal.returns-in_err-fill_chunk-clause-answer
+returns-in_err-fill_chunk-clause-answer g c =
     let p = c.args.self.now.page.now in
     let file = g.R.Source.bytes c.args.source.now in
     let given = subst
     (λ (bytes : List ℕ).
-    IsCause (Unit {0}) (g.R.Source.failures c.loop-chunk.source < g.R.Source.failures c.fill_chunk.new.source) c.in-Err.fault
-    (each_below (λ plane. chunk_fault (view.page p) c.args.self.now.limits.now (is_short bytes c.args.self.now.order (view.page p) c.args.part.layout.color) c.args.part.layout.color (plane * chunks_of_plane (view.page p) + (0 + c.loop-chunk.chunk))) c.args.part.planes ≡ Err c.in-Err.fault))
-    c.loop-chunk.invariant.same_bytes c.in-Err.ensures.answer in
-    chunk_cause file c.args.self.now.order (view.page p) c.args.self.now.limits.now (layout c.args.part.layout) (sides_of p) p.sampled p.deep c.requires.laid c.args.part.planes
-    _ _ c.loop-chunk.chunk (g.W.RowWriter.bytes c.args.buf.now) c.in-Err.fault (λ f. omega (arith, f, c.loop-chunk.invariant.count)) (omega (arith, c.loop-chunk-test.true, c.chunks_of_plane-chunk-end.ensures.count)) c.loop-chunk.invariant.none given
+    IsCause (Unit {0}) (g.R.Source.failures c.loop-chunk.source < g.R.Source.failures c.fill_chunk.new.source) c.in_err-fill_chunk.field-0.0
+    (each_below (λ plane. chunk_fault (view.page p) c.args.self.now.limits.now (is_short bytes c.args.self.now.order (view.page p) c.args.part.layout.color) c.args.part.layout.color (plane * chunks_of_plane (view.page p) + (0 + c.loop-chunk.chunk))) c.args.part.planes ≡ Err c.in_err-fill_chunk.field-0.0))
+    c.loop-chunk.invariant.same_bytes c.in_err-fill_chunk.ensures.answer in
+    let answered = err_from_is_err_and c.from_residual.result c.from_residual.ensures.1 in
+    rw (answered.1, answered.2) (chunk_cause file c.args.self.now.order (view.page p) c.args.self.now.limits.now (layout c.args.part.layout) (sides_of p) p.sampled p.deep c.requires.laid c.args.part.planes
+    _ _ c.loop-chunk.chunk (g.W.RowWriter.bytes c.args.buf.now) c.in_err-fill_chunk.field-0.0 (λ f. omega (arith, f, c.loop-chunk.invariant.count)) (omega (arith, c.loop-chunk-test.true, c.chunks_of_plane-chunk-end.ensures.count)) c.loop-chunk.invariant.none given)
 
 pub loop-chunk-preserved : goal.loop-chunk-preserved
 loop-chunk-preserved g c =
@@ -41,15 +43,15 @@ loop-chunk-preserved g c =
     let given = subst
     (λ (bytes : List ℕ).
     each_below (λ plane. chunk_fault (view.page p) c.args.self.now.limits.now (is_short bytes c.args.self.now.order (view.page p) color) color (plane * chunks_of_plane (view.page p) + (0 + c.loop-chunk.chunk))) c.args.part.planes ≡ Ok tt)
-    same c.in-Ok.ensures.answer in
+    same c.in_ok-fill_chunk.ensures.answer in
     let wrote = subst
     (λ (bytes : List ℕ).
     (before : List ℕ) → Writes (IsBefore (view.page p) color stride c.args.part.planes c.loop-chunk.chunk 0) (image_byte (view.page p) color stride bytes c.args.self.now.order) before (g.W.RowWriter.bytes c.loop-chunk.buf)
     → Writes (IsBefore (view.page p) color stride c.args.part.planes c.loop-chunk.chunk c.args.part.planes) (image_byte (view.page p) color stride bytes c.args.self.now.order) before (g.W.RowWriter.bytes c.fill_chunk.new.buf))
-    same c.in-Ok.ensures.ok in
+    same c.in_ok-fill_chunk.ensures.ok in
     record {
-      same_bytes = c.in-Ok.ensures.kept.told ∙ same;
-      count = omega (arith, c.in-Ok.ensures.kept.swallowed, c.loop-chunk.invariant.count);
+      same_bytes = c.in_ok-fill_chunk.ensures.kept.told ∙ same;
+      count = omega (arith, c.in_ok-fill_chunk.ensures.kept.swallowed, c.loop-chunk.invariant.count);
       none = one_more (of_chunk file c.args.self.now.order (view.page p) c.args.self.now.limits.now (layout c.args.part.layout) (sides_of p) p.sampled p.deep c.requires.laid c.args.part.planes) c.loop-chunk.chunk c.loop-chunk.invariant.none given;
       written = planes_written (view.page p) color stride c.args.part.planes c.loop-chunk.chunk (image_byte (view.page p) color stride file c.args.self.now.order) (g.W.RowWriter.bytes c.args.buf.now) (g.W.RowWriter.bytes c.fill_chunk.new.buf)
           (wrote (g.W.RowWriter.bytes c.args.buf.now) c.loop-chunk.invariant.written);

@@ -1,4 +1,5 @@
 use Rattle.std.proofs.Common.{arith, Ok, Err, ◌≡◌, ℕ, List, ◌∙◌, ◌+◌, ◌*◌, ◌<◌, subst}
+use Rattle.std.proofs.lemmas.Result.{err_from_is_err_and}
 use Rattle.tiff_base.specs.Answers.{IsCause}
 use Rattle.tiff_base.specs.declared.error.TiffError.TheVariants.{IoError}
 use Rattle.tiff_base.specs.declared.io.IoKind.TheVariants.{UnexpectedEof}
@@ -16,34 +17,35 @@ use Rattle.tiff_page.proofs.read_chunks.PageReader.fill_unit.Goals as goal
 abbrev pub sides_of : (p : Page) → HasSides (view.page p)
 sides_of p = record { wide = p.wide; high = p.high; chunk_wide = p.chunk_wide; chunk_high = p.chunk_high }
 
-pub returns-in-Err-clause-answer : goal.returns-in-Err-clause-answer
-returns-in-Err-clause-answer g c =
+pub returns-in_err-form_fault-clause-answer : goal.returns-in_err-form_fault-clause-answer
+returns-in_err-form_fault-clause-answer g c =
     let p = c.args.self.now.page.now in
     let i = c.from.result * c.chunks_of_plane-chunks.result + c.args.unit.index in
     let q : i ≡ c.loop-plane.plane * chunks_of_plane (view.page p) + c.args.unit.index = λ t. c.from.ensures t * c.chunks_of_plane-chunks.ensures.count t + c.args.unit.index in
-    unit_form_cause (g.R.Source.bytes c.args.source.now) c.args.self.now.order (view.page p) c.args.self.now.limits.now c.args.unit.color (sides_of p) p.sampled p.deep c.requires.colored c.args.unit.stride c.args.unit.index c.args.unit.planes c.requires.which
-    _ c.loop-plane.plane i (g.W.RowWriter.bytes c.args.buf.now) c.in-Err.fault q c.loop-plane-test.true c.loop-plane.invariant.none c.in-Err.ensures.answer
+    let answered = err_from_is_err_and c.from_residual.result c.from_residual.ensures.1 in
+    rw (answered.1, answered.2) (unit_form_cause (g.R.Source.bytes c.args.source.now) c.args.self.now.order (view.page p) c.args.self.now.limits.now c.args.unit.color (sides_of p) p.sampled p.deep c.requires.colored c.args.unit.stride c.args.unit.index c.args.unit.planes c.requires.which
+    _ c.loop-plane.plane i (g.W.RowWriter.bytes c.args.buf.now) c.in_err-form_fault.field-0.0 q c.loop-plane-test.true c.loop-plane.invariant.none c.in_err-form_fault.ensures.answer)
 
 pub read_rows-requires-clause-read : goal.read_rows-requires-clause-read
 read_rows-requires-clause-read g c =
     let p = c.args.self.now.page.now in
     let i = c.from.result * c.chunks_of_plane-chunks.result + c.args.unit.index in
     let q : i ≡ c.loop-plane.plane * chunks_of_plane (view.page p) + c.args.unit.index = λ t. c.from.ensures t * c.chunks_of_plane-chunks.ensures.count t + c.args.unit.index in
-    unit_read (g.R.Source.bytes c.args.source.now) c.args.self.now.order (view.page p) c.args.self.now.limits.now c.args.unit.color (sides_of p) p.sampled p.deep c.requires.colored c.args.unit.stride c.args.unit.index c.args.unit.planes c.requires.which i c.in-Ok.ensures.answer
+    unit_read (g.R.Source.bytes c.args.source.now) c.args.self.now.order (view.page p) c.args.self.now.limits.now c.args.unit.color (sides_of p) p.sampled p.deep c.requires.colored c.args.unit.stride c.args.unit.index c.args.unit.planes c.requires.which i c.in_ok-form_fault.ensures.answer
 
 pub read_rows-requires-clause-formed : goal.read_rows-requires-clause-formed
 read_rows-requires-clause-formed g c =
     let p = c.args.self.now.page.now in
     let i = c.from.result * c.chunks_of_plane-chunks.result + c.args.unit.index in
     let q : i ≡ c.loop-plane.plane * chunks_of_plane (view.page p) + c.args.unit.index = λ t. c.from.ensures t * c.chunks_of_plane-chunks.ensures.count t + c.args.unit.index in
-    method_passed (view.page p) c.args.self.now.limits.now c.args.unit.color i c.in-Ok.ensures.answer
+    method_passed (view.page p) c.args.self.now.limits.now c.args.unit.color i c.in_ok-form_fault.ensures.answer
 
 pub read_rows-requires-clause-some : goal.read_rows-requires-clause-some
 read_rows-requires-clause-some g c =
     let p = c.args.self.now.page.now in
     let i = c.from.result * c.chunks_of_plane-chunks.result + c.args.unit.index in
     let q : i ≡ c.loop-plane.plane * chunks_of_plane (view.page p) + c.args.unit.index = λ t. c.from.ensures t * c.chunks_of_plane-chunks.ensures.count t + c.args.unit.index in
-    unit_some (g.R.Source.bytes c.args.source.now) c.args.self.now.order (view.page p) c.args.self.now.limits.now c.args.unit.color (sides_of p) p.sampled p.deep c.requires.colored c.args.unit.stride c.args.unit.index c.args.unit.planes c.requires.which i c.in-Ok.ensures.answer c.requires.columns
+    unit_some (g.R.Source.bytes c.args.source.now) c.args.self.now.order (view.page p) c.args.self.now.limits.now c.args.unit.color (sides_of p) p.sampled p.deep c.requires.colored c.args.unit.stride c.args.unit.index c.args.unit.planes c.requires.which i c.in_ok-form_fault.ensures.answer c.requires.columns
 
 pub read_rows-requires-clause-columns : goal.read_rows-requires-clause-columns
 read_rows-requires-clause-columns g c =
@@ -73,14 +75,15 @@ read_rows-requires-clause-few g c =
     let l = unit_rows (g.R.Source.bytes c.args.source.now) c.args.self.now.order (view.page p) c.args.self.now.limits.now c.args.unit.color (sides_of p) p.sampled p.deep c.requires.colored c.args.unit.stride c.args.unit.index c.args.unit.planes c.requires.which c.loop-plane.plane i (c.from-in-loop-plane.result * c.chunk_data_dimensions-rows.result.1) size q c.loop-plane-test.true t (omega arith) in
     omega (arith, l, c.requires.few)
 
-pub returns-in-Err-read_rows-clause-answer : goal.returns-in-Err-read_rows-clause-answer
-returns-in-Err-read_rows-clause-answer g c =
+pub returns-in_err-read_rows-clause-answer : goal.returns-in_err-read_rows-clause-answer
+returns-in_err-read_rows-clause-answer g c =
     let p = c.args.self.now.page.now in
     let i = c.from.result * c.chunks_of_plane-chunks.result + c.args.unit.index in
     let q : i ≡ c.loop-plane.plane * chunks_of_plane (view.page p) + c.args.unit.index = λ t. c.from.ensures t * c.chunks_of_plane-chunks.ensures.count t + c.args.unit.index in
-    let given = subst (λ (bytes : List ℕ). IsCause (Unit {0}) (g.R.Source.failures c.loop-plane.source < g.R.Source.failures c.read_rows.new.source) c.in-Err-read_rows.fault (unless (is_short bytes c.args.self.now.order (view.page p) c.args.unit.color i) (IoError UnexpectedEof) ≡ Err c.in-Err-read_rows.fault)) c.loop-plane.invariant.same_bytes c.in-Err-read_rows.ensures.answer in
-    unit_rows_cause (g.R.Source.bytes c.args.source.now) c.args.self.now.order (view.page p) c.args.self.now.limits.now c.args.unit.color (sides_of p) p.sampled p.deep c.requires.colored c.args.unit.stride c.args.unit.index c.args.unit.planes c.requires.which
-    _ _ c.loop-plane.plane i (g.W.RowWriter.bytes c.args.buf.now) c.in-Err-read_rows.fault q (λ f. omega (arith, f, c.loop-plane.invariant.count)) c.loop-plane-test.true c.loop-plane.invariant.none c.in-Ok.ensures.answer given
+    let given = subst (λ (bytes : List ℕ). IsCause (Unit {0}) (g.R.Source.failures c.loop-plane.source < g.R.Source.failures c.read_rows.new.source) c.in_err-read_rows.field-0.0 (unless (is_short bytes c.args.self.now.order (view.page p) c.args.unit.color i) (IoError UnexpectedEof) ≡ Err c.in_err-read_rows.field-0.0)) c.loop-plane.invariant.same_bytes c.in_err-read_rows.ensures.answer in
+    let answered = err_from_is_err_and c.from_residual-in_err-read_rows.result c.from_residual-in_err-read_rows.ensures.1 in
+    rw (answered.1, answered.2) (unit_rows_cause (g.R.Source.bytes c.args.source.now) c.args.self.now.order (view.page p) c.args.self.now.limits.now c.args.unit.color (sides_of p) p.sampled p.deep c.requires.colored c.args.unit.stride c.args.unit.index c.args.unit.planes c.requires.which
+    _ _ c.loop-plane.plane i (g.W.RowWriter.bytes c.args.buf.now) c.in_err-read_rows.field-0.0 q (λ f. omega (arith, f, c.loop-plane.invariant.count)) c.loop-plane-test.true c.loop-plane.invariant.none c.in_ok-form_fault.ensures.answer given)
 
 pub loop-plane-preserved : goal.loop-plane-preserved
 loop-plane-preserved g c =
@@ -89,13 +92,13 @@ loop-plane-preserved g c =
     let q : i ≡ c.loop-plane.plane * chunks_of_plane (view.page p) + c.args.unit.index = λ t. c.from.ensures t * c.chunks_of_plane-chunks.ensures.count t + c.args.unit.index in
     let t : c.from-in-loop-plane.result * c.chunk_data_dimensions-rows.result.1 ≡ c.loop-plane.plane * (rect (view.page p) c.args.unit.index).height = λ z. c.from-in-loop-plane.ensures z * (c.chunk_data_dimensions-rows.ensures.size z).1 in
     let same = c.loop-plane.invariant.same_bytes in
-    let given = subst (λ (bytes : List ℕ). unless (is_short bytes c.args.self.now.order (view.page p) c.args.unit.color i) (IoError UnexpectedEof) ≡ Ok tt) same c.in-Ok-read_rows.ensures.answer in
+    let given = subst (λ (bytes : List ℕ). unless (is_short bytes c.args.self.now.order (view.page p) c.args.unit.color i) (IoError UnexpectedEof) ≡ Ok tt) same c.in_ok-read_rows.ensures.answer in
     record {
-      same_bytes = c.in-Ok-read_rows.ensures.kept.told ∙ same;
-      count = omega (arith, c.in-Ok-read_rows.ensures.kept.swallowed, c.loop-plane.invariant.count);
-      none = unit_none (g.R.Source.bytes c.args.source.now) c.args.self.now.order (view.page p) c.args.self.now.limits.now c.args.unit.color (sides_of p) p.sampled p.deep c.requires.colored c.args.unit.stride c.args.unit.index c.args.unit.planes c.requires.which c.loop-plane.plane i q c.loop-plane.invariant.none c.in-Ok.ensures.answer given;
+      same_bytes = c.in_ok-read_rows.ensures.kept.told ∙ same;
+      count = omega (arith, c.in_ok-read_rows.ensures.kept.swallowed, c.loop-plane.invariant.count);
+      none = unit_none (g.R.Source.bytes c.args.source.now) c.args.self.now.order (view.page p) c.args.self.now.limits.now c.args.unit.color (sides_of p) p.sampled p.deep c.requires.colored c.args.unit.stride c.args.unit.index c.args.unit.planes c.requires.which c.loop-plane.plane i q c.loop-plane.invariant.none c.in_ok-form_fault.ensures.answer given;
       written = unit_more (g.R.Source.bytes c.args.source.now) c.args.self.now.order (view.page p) c.args.self.now.limits.now c.args.unit.color (sides_of p) p.sampled p.deep c.requires.colored c.args.unit.stride c.args.unit.index c.args.unit.planes c.requires.which c.loop-plane.plane i (c.from-in-loop-plane.result * c.chunk_data_dimensions-rows.result.1) (g.R.Source.bytes c.loop-plane.source) (g.W.RowWriter.bytes c.args.buf.now) (g.W.RowWriter.bytes c.loop-plane.buf) (g.W.RowWriter.bytes c.read_rows.new.buf) q c.loop-plane-test.true t same
-          c.loop-plane.invariant.written c.in-Ok-read_rows.ensures.ok;
+          c.loop-plane.invariant.written c.in_ok-read_rows.ensures.ok;
     }
 
 pub returns-clause-answer : goal.returns-clause-answer

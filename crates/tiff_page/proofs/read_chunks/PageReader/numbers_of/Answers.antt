@@ -12,13 +12,13 @@ sides_of p = record { wide = p.wide; high = p.high; chunk_wide = p.chunk_wide; c
 pub fill-requires-clause-room : goal.fill-requires-clause-room
 fill-requires-clause-room g c =
     room_in g.row.N c.args.len (room_of (view.page c.args.self.now.page.now) c.args.portion) (map g.T.Number.bits c.deref_mut.result.now) g.met.T.Number.sized c.requires.room
-    (ap (map g.T.Number.bits) c.deref_mut.ensures.value ∙ c.in-Ok.ensures.zeros)
+    (ap (map g.T.Number.bits) c.deref_mut.ensures.value ∙ c.in_ok-numbers.ensures.zeros)
 
-pub returns-in-Ok-fill-clause-answer : goal.returns-in-Ok-fill-clause-answer
-returns-in-Ok-fill-clause-answer g c =
+pub returns-clause-answer : goal.returns-clause-answer
+returns-clause-answer g c =
     let p = c.args.self.now.page.now in
-    let back : c.fill.new.out ≡ take c.in-Ok.numbers.len (c.fill.new.out ++ drop (length c.fill.new.out) c.in-Ok.numbers.items) = all_written c.fill.new.out c.in-Ok.numbers.items c.in-Ok.numbers.len (search rules) in
+    let back : c.fill.new.out ≡ take c.in_ok-numbers.numbers.len (c.fill.new.out ++ drop (length c.fill.new.out) c.in_ok-numbers.numbers.items) = all_written c.fill.new.out c.in_ok-numbers.numbers.items c.in_ok-numbers.numbers.len (search rules) in
     numbers_given (g.R.Source.bytes c.args.source.now) c.args.self.now.order (view.page p) c.args.self.now.limits.now c.args.portion (sides_of p) c.requires.laid (color_in c.args.portion) c.args.sample_type g.row.N (first_in c.args.portion) c.args.len
-    (map g.T.Number.bits c.deref_mut.result.now) (map g.T.Number.bits c.fill.new.out) g.met.T.Number.sized c.requires.size c.requires.typed c.in-Ok.ensures.answer c.requires.room
-    (ap (map g.T.Number.bits) c.deref_mut.ensures.value ∙ c.in-Ok.ensures.zeros) (rw c.in-Ok.ensures.kept.told at c.in-Ok-fill.ensures.answer)
+    (map g.T.Number.bits c.deref_mut.result.now) (map g.T.Number.bits c.fill.new.out) g.met.T.Number.sized c.requires.size c.requires.typed c.in_ok-numbers.ensures.answer c.requires.room
+    (ap (map g.T.Number.bits) c.deref_mut.ensures.value ∙ c.in_ok-numbers.ensures.zeros) (rw c.in_ok-numbers.ensures.kept.told at c.in_ok-fill.ensures.answer)
     ∙ (λ i. Ok (record { sample_type = c.args.sample_type; numbers = map g.T.Number.bits (back i) }))
