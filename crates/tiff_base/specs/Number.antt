@@ -1,6 +1,7 @@
 -- Numbers in a byte order (TIFF 6.0 section 2).
-use Rattle.std.specs.Prelude.{ℕ, List, Result, Ok}
+use Rattle.std.specs.Prelude.{ℕ, ◌+◌, ◌*◌, ◌/◌, ◌%◌, List, sum_by, Result, Ok}
 use Rattle.std.specs.Int.{Width, byte_len, from_le_bytes, from_be_bytes, bytes_low_first}
+use Rattle.std.specs.List.{range_with_len}
 use Rattle.tiff_base.specs.declared.error.TiffError.{TiffError}
 use Rattle.tiff_base.specs.declared.tags.ByteOrder.{ByteOrder}
 use Rattle.tiff_base.specs.declared.tags.ByteOrder.TheVariants.{LittleEndian, BigEndian}
@@ -21,3 +22,8 @@ number_at order w bytes at = do
 -- the lowest k bytes of a number, the least first
 abbrev pub le : ℕ → ℕ → List ℕ
 le k n = bytes_low_first 0 k n
+
+-- what the horizontal predictor undoes (TIFF 6.0 section 14): the sum, modulo m, of number k of a row and of those of its
+-- sample before it, a pixel having so many numbers
+abbrev pub sample_sum : ℕ → ℕ → (ℕ → ℕ) → ℕ → ℕ
+sample_sum m stored value k = sum_by (λ c. value (c * stored + k % stored)) (range_with_len 0 (k / stored + 1)) % m

@@ -1,28 +1,23 @@
 -- A step of a directory leads from a standing of the file that it finds to one of the file that it leaves.
-use Rattle.std.proofs.Common.{◌≡◌, ℕ, List, [], ◌∷◌, take, Result, Ok, Err, refl, ap, sym, ◌∙◌, subst, append-nil}
-use Rattle.std.specs.FinMap.{entries}
+use Rattle.std.proofs.Common.{◌≡◌, List, Result, Ok, Err, refl, sym, subst, append-nil}
 use Rattle.tiff_base.specs.declared.error.TiffError.{TiffError}
 use Rattle.tiff_base.specs.declared.tags.Tag.{Tag}
 use Rattle.tiff_base.specs.Field.{Field}
 use Rattle.tiff_value.specs.Buffer.{BufferRecord}
 use Rattle.tiff_value.specs.Data.{FieldData}
 use Rattle.tiff_encode.specs.declared.encoder.script.DirectoryStep.{DirectoryStep}
-use Rattle.tiff_encode.specs.declared.encoder.script.DirectoryStep.TheVariants as step
 use Rattle.tiff_encode.specs.declared.encoder.script.StepReply.{StepReply}
 use Rattle.tiff_encode.specs.declared.encoder.script.StepReply.TheVariants as reply
 use Rattle.tiff_encode.specs.Model.{Model, Stands}
 use Rattle.tiff_encode.specs.Deeds.{Deed, model_after}
 use Rattle.tiff_encode.specs.Machine.{FileState, OpenDirectory, WriteOutcome, Writing, answers, gives, and_then, ◌>>=◌}
 use Rattle.tiff_encode.specs.Causes.{write_buf_cause, write_data_cause, write_data_buf_cause}
-use Rattle.tiff_encode.specs.Calls.{with_field, placed_field, appends, write_entry, write_entry_buf, write_tag, write_tag_buf, write_data, write_data_buf, write_entry_bytes, extend_from}
+use Rattle.tiff_encode.specs.Calls.{with_field, placed_field, appends, write_entry, write_entry_buf, write_tag, write_tag_buf, write_data, write_data_buf}
 use Rattle.tiff_encode.specs.Value.{buffer_data}
 use Rattle.tiff_encode.specs.Ends.{IsTold, CallFails}
-use Rattle.tiff_encode.specs.JobValues.{buffer_in, value_data}
-use Rattle.tiff_encode.specs.Jobs.{Standing, Changes, Replies, ExtendStep, DirectoryStepped, AllStepped}
+use Rattle.tiff_encode.specs.Jobs.{Standing, Changes, Replies, DirectoryStepped}
 use Rattle.tiff_encode.specs.Stepping.{Moves}
 use Rattle.tiff_encode.proofs.Joining.{Adds, adding, bind_adds, answers_adding, refusal_adds, caused_adds, appends_adds, placed_adds}
-use Rattle.tiff_encode.proofs.Leaving.{ok_err}
-use Rattle.tiff_encode.proofs.Slices.{ok_inj}
 use Rattle.tiff_encode.proofs.Moving.{Seen, moves_so}
 
 -- ---- which calls append

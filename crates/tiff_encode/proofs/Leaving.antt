@@ -3,7 +3,7 @@ use Rattle.std.proofs.Common.{◌≡◌, ℕ, suc, ◌+◌, ◌*◌, ◌^◌, �
 use Rattle.std.proofs.Math.Nat.{div-add-mod'}
 use Rattle.std.proofs.lemmas.Bool.{leb-false, ltb-false}
 use Rattle.std.proofs.lemmas.List.{length-take-le}
-use Rattle.std.specs.Prelude.{◌/◌, ◌||◌}
+use Rattle.std.specs.Prelude.{◌/◌}
 use Rattle.std.specs.FinMap.{len, entries}
 use Rattle.std.specs.List.{list_any}
 use Rattle.tiff_base.proofs.Common.{neither}

@@ -1,5 +1,5 @@
 -- The last tags of an image, part by part (this project's).
-use Rattle.std.specs.Prelude.{◌≡◌, ℕ, ◌+◌, ◌==◌, List, [], ◌∷◌, ◌++◌, length, map, replicate, Ok, if◌then◌else◌}
+use Rattle.std.specs.Prelude.{ℕ, ◌+◌, ◌==◌, List, [], ◌∷◌, ◌++◌, length, map, replicate, Ok, if◌then◌else◌}
 use Rattle.std.proofs.Common.{refl}
 use Rattle.tiff_base.specs.declared.color.ChunkType.{ChunkType}
 use Rattle.tiff_base.specs.declared.color.ChunkType.TheVariants.{Strip, Tile}
@@ -11,14 +11,13 @@ use Rattle.tiff_base.specs.declared.tags.Tag.TheVariants as tag
 use Rattle.tiff_base.specs.declared.tags.«Type».{«Type»}
 use Rattle.tiff_base.specs.declared.tags.«Type».TheVariants.{LONG, LONG8}
 use Rattle.tiff_base.specs.Number.{le}
-use Rattle.tiff_value.specs.Data.{Scalars, u16s, formats, data_by, data_of}
+use Rattle.tiff_value.specs.Data.{Scalars, u16s, formats, data_of}
 use Rattle.tiff_value.specs.ValueLaws.{each_whole}
 use Rattle.tiff_value.specs.Values.{IsValue}
 use Rattle.tiff_encode.specs.declared.encoder.endings.Part.{Part}
 use Rattle.tiff_encode.specs.declared.encoder.endings.Part.TheVariants.{Offset, Stored}
 use Rattle.tiff_encode.specs.Machine.{Chunk}
 use Rattle.tiff_encode.specs.Value.{offset_values}
-use Rattle.tiff_encode.specs.FileBytes.{offset_len}
 use Rattle.tiff_encode.specs.Calls.{extended_by_first, chunk_tags}
 
 -- the first of a list so many times, if it has one

@@ -12,7 +12,7 @@ use Rattle.tiff_encode.specs.Machine.{FileState, OpenImage}
 use Rattle.tiff_encode.specs.Chunks.{image_page, row_samples, chunk_samples, is_in_order, cut_out}
 use Rattle.tiff_encode.specs.Calls as calls
 use Rattle.tiff_encode.specs.Ends.{IsTold, IsCutOff}
-use Rattle.tiff_encode.specs.Stored.{AreStored, unpacked_chunk}
+use Rattle.tiff_encode.specs.Stored.{unpacked_chunk}
 
 -- what is handed to the next chunk, where k were written of these samples: those that follow, or what is cut out
 abbrev pub next_slice : {A : Type 0} → OpenImage → List A → ℕ → List A

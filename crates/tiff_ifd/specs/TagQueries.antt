@@ -1,5 +1,5 @@
 -- What is asked of the tags of a directory: their numbers, all of them, and the bytes of a field.
-use Rattle.std.specs.Prelude.{ℕ, ◌+◌, ◌-◌, ◌^◌, not, if◌then◌else◌, nat_lt, nat_le, min, List, [], map, Option, Some, None, Result, Ok, Err}
+use Rattle.std.specs.Prelude.{ℕ, ◌+◌, ◌-◌, ◌^◌, not, if◌then◌else◌, nat_lt, nat_le, min, List, [], map, Option, Result, Ok, Err}
 use Rattle.std.specs.FinMap.{FinMap, entries}
 use Rattle.std.specs.Ordering.{nat_cmp}
 use Rattle.std.specs.Int.{byte_len}

@@ -1,17 +1,12 @@
 -- Each byte of an image's planes is of a chunk.
-use Rattle.std.proofs.Common.{◌≡◌, ℕ, ◌+◌, ◌-◌, ◌*◌, ◌/◌, ◌%◌, ◌<◌, ◌≤◌, true, false, Ok, Err, ap, sym, subst, ◌∙◌, ◌⊎◌, inl, inr, ⊎_elim, arith}
-use Rattle.std.specs.Prelude.{◌==◌, nat_lt}
-use Rattle.std.proofs.lemmas.Bool.{cases_Bool, eqb-true, ltb-false}
+use Rattle.std.proofs.Common.{◌≡◌, ℕ, ◌+◌, ◌-◌, ◌*◌, ◌/◌, ◌%◌, ◌<◌, ◌≤◌, ap, sym, subst, ◌∙◌, ◌⊎◌, ⊎_elim, arith}
 use Rattle.std.proofs.lemmas.Nat.{mod_below, div-add-mod'}
 use Rattle.std.proofs.Math.Nat.{mul_assoc, mul_comm, mul-le-mul_right, div-mul-le_self, lt-div-mul-add, one-le-mul, le-div_iff_mul-le, div-lt_iff_lt-mul}
 use Rattle.tiff_page.proofs.Planes.{aligned_rows}
-use Rattle.tiff_base.specs.declared.color.ColorType.{ColorType}
-use Rattle.tiff_base.specs.declared.error.TiffError.TheVariants.{UnsupportedError}
-use Rattle.tiff_base.specs.declared.error.TiffUnsupportedError.TheVariants.{MisalignedTileBoundaries}
 use Rattle.tiff_page.specs.Page.{PageRecord}
 use Rattle.tiff_page.specs.Counts.{parts}
 use Rattle.tiff_page.specs.Rect.{rect, across, chunks_of_plane, chunk_of_pixel}
-use Rattle.tiff_page.specs.Layout.{LayoutRecord, row_bits, shown, aligned}
+use Rattle.tiff_page.specs.Layout.{LayoutRecord, row_bits, shown}
 use Rattle.tiff_page.specs.Laws.{HasSides, HasPixel, OneChunk}
 use Rattle.tiff_laws.specs.Whole.{ByteIsOfChunk, PlanesCovered, chunk_row}
 use Rattle.tiff_laws.proofs.Laid.{IsLaid, laid}

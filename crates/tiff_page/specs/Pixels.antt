@@ -13,7 +13,7 @@ use Rattle.tiff_base.specs.declared.tags.PlanarConfiguration.{PlanarConfiguratio
 use Rattle.tiff_base.specs.declared.tags.PlanarConfiguration.TheVariants.{Chunky, Planar}
 use Rattle.tiff_base.specs.declared.tags.Predictor.{Predictor}
 use Rattle.tiff_base.specs.declared.tags.Predictor.TheVariants as predictor
-use Rattle.tiff_base.specs.Number.{number}
+use Rattle.tiff_base.specs.Number.{number, sample_sum}
 use Rattle.tiff_base.specs.Runs.{runs}
 use Rattle.tiff_base.specs.SourceAndSink.{bytes_at}
 use Rattle.tiff_page.specs.Page.{PageRecord}
@@ -71,10 +71,9 @@ in_row p column sample = column * stored_samples p + sample
 abbrev pub row_number : ByteOrder → ℕ → List ℕ → ℕ → ℕ
 row_number order size row k = number order (width_of size) (each_to size (λ j. slice_index row (k * size + j)))
 
--- the same with the horizontal predictor, a pixel having so many numbers: the sum of it and those of its sample before it
+-- the same with the horizontal predictor, a pixel having so many numbers
 abbrev pub summed_number : ByteOrder → ℕ → ℕ → List ℕ → ℕ → ℕ
-summed_number order size stored row k =
-    sum_by (λ c. row_number order size row (c * stored + k % stored)) (range_with_len 0 (k / stored + 1)) % 256 ^ size
+summed_number order size stored row k = sample_sum (256 ^ size) stored (row_number order size row) k
 
 -- byte k of a row with the byte-plane predictor: with all those before it by whole pixels
 abbrev pub summed_byte : ℕ → List ℕ → ℕ → ℕ

@@ -18,7 +18,7 @@ use Rattle.tiff_encode.specs.Machine.{FileState, OpenImage, WriteOutcome, begun_
 use Rattle.tiff_encode.specs.Calls.{Offsets, new_image, write_image_data}
 use Rattle.tiff_encode.specs.Causes.{write_image_data_cause}
 use Rattle.tiff_encode.specs.ImageData as image_data
-use Rattle.tiff_encode.specs.ImageData.{IsShortFile, LeavesImage}
+use Rattle.tiff_encode.specs.ImageData.{IsShortFile}
 use Rattle.tiff_encode.specs.Ends.{EndsSilently}
 use Rattle.tiff_encode.specs.JobValues.{cut_to}
 use Rattle.tiff_encode.specs.Jobs as jobs

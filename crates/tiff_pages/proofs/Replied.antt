@@ -9,7 +9,7 @@ use Rattle.tiff_decode.specs.declared.script.Reply.TheVariants as reply
 use Rattle.tiff_decode.specs.Machine.{Decoding}
 use Rattle.tiff_decode.specs.Step.{Step}
 use Rattle.tiff_decode.specs.Steps.{Steps}
-use Rattle.tiff_pages.specs.Replied.{IsDirectory, IsFound, IsImage, IsPointer}
+use Rattle.tiff_pages.specs.Replied.{IsFound, IsImage, IsPointer}
 
 image_step : (old new : Decoding) (r : Reply) → Step old call.ReadImage r new → IsImage r
 image_step old new (reply.ReadImage x) s = tt

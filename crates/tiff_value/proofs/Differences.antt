@@ -1,5 +1,5 @@
 -- Differences along a row, undone, are its numbers.
-use Rattle.std.proofs.Common.{◌≡◌, ℕ, zero, suc, ◌+◌, ◌-◌, ◌*◌, ◌/◌, ◌%◌, ◌<◌, ◌≤◌, List, [], ◌∷◌, ◌++◌, get_or, length, refl, ap, ◌∙◌, arith, add-one}
+use Rattle.std.proofs.Common.{◌≡◌, ℕ, zero, suc, ◌+◌, ◌-◌, ◌*◌, ◌/◌, ◌%◌, ◌<◌, ◌≤◌, List, get_or, length, refl, ap, ◌∙◌, arith, add-one}
 use Rattle.std.specs.Prelude.{sum_by, ◌==◌, false}
 use Rattle.std.specs.List.{range_with_len}
 use Rattle.std.proofs.lemmas.Bool.{lt-ltb, le-ltb}
@@ -52,23 +52,23 @@ predicted m s row some whole =
 pub is_undone : IsUndone
 is_undone m s row some whole b k h =
     let l = length row in
-    let x = λ (c : ℕ). get_or row (k % s + c * s) 0 in
-    let d = λ (c : ℕ). get_or (differences Horizontal m l s row) (k % s + c * s) 0 in
+    let x = λ (c : ℕ). get_or row (c * s + k % s) 0 in
+    let d = λ (c : ℕ). get_or (differences Horizontal m l s row) (c * s + k % s) 0 in
     let low : k % s < s = mod-lt k some in
     let whole_k : k / s * s + k % s ≡ k = div-add-mod' k s in
-    let within : (c : ℕ) → c ≤ k / s → k % s + c * s < l =
+    let within : (c : ℕ) → c ≤ k / s → c * s + k % s < l =
     λ c i. let u : c * s ≤ k / s * s = mul-le-mul_right s i in omega (arith, u, whole_k, h) in
     let z : d 0 ≡ x 0 =
-    difference_at m s row (k % s + 0 * s) (within 0 (omega arith))
-    ∙ first_kept m l s row (k % s + 0 * s) (within 0 (omega arith)) (omega (arith, low)) in
+    difference_at m s row (0 * s + k % s) (within 0 (omega arith))
+    ∙ first_kept m l s row (0 * s + k % s) (within 0 (omega arith)) (omega (arith, low)) in
     let e : (c : ℕ) → c < k / s → d (suc c) ≡ (x (suc c) + m - x c) % m =
     λ c i.
-    let back : (k % s + suc c * s) - s ≡ k % s + c * s = omega arith in
-    difference_at m s row (k % s + suc c * s) (within (suc c) (omega (arith, i)))
-    ∙ later_kept m l s row (k % s + suc c * s) (within (suc c) (omega (arith, i))) (omega arith)
+    let back : (suc c * s + k % s) - s ≡ c * s + k % s = omega arith in
+    difference_at m s row (suc c * s + k % s) (within (suc c) (omega (arith, i)))
+    ∙ later_kept m l s row (suc c * s + k % s) (within (suc c) (omega (arith, i))) (omega arith)
     ∙ ap (λ (j : ℕ). (x (suc c) + m - get_or row j 0) % m) back in
-    let there : k % s + k / s * s ≡ k = omega (arith, whole_k) in
+    let there : k / s * s + k % s ≡ k = omega (arith, whole_k) in
     ap (λ (r : List ℕ). restored_number m s r k) (predicted m s row some whole)
     ∙ ap (λ (n : ℕ). total d n % m) (add-one (k / s))
-    ∙ undone x d m (k / s) (λ c. b (k % s + c * s)) z e (k / s) (omega arith)
+    ∙ undone x d m (k / s) (λ c. b (c * s + k % s)) z e (k / s) (omega arith)
     ∙ ap (λ (j : ℕ). get_or row j 0) there

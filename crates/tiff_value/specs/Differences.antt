@@ -1,6 +1,7 @@
 -- Samples as differences along their row (TIFF 6.0 section 14).
-use Rattle.std.specs.Prelude.{◌≡◌, ℕ, ◌+◌, ◌-◌, ◌*◌, ◌/◌, ◌%◌, ◌<◌, ◌≤◌, Bool, true, false, if◌then◌else◌, ◌==◌, nat_lt, List, [], map, get_or, length, sum_by}
+use Rattle.std.specs.Prelude.{◌≡◌, ℕ, ◌+◌, ◌-◌, ◌%◌, ◌<◌, ◌≤◌, Bool, true, false, if◌then◌else◌, ◌==◌, nat_lt, List, [], map, get_or, length}
 use Rattle.std.specs.List.{range_with_len}
+use Rattle.tiff_base.specs.Number.{sample_sum}
 use Rattle.tiff_base.specs.declared.tags.Predictor.{Predictor}
 use Rattle.tiff_base.specs.declared.tags.Predictor.TheVariants.{Horizontal}
 use Rattle.tiff_base.specs.declared.tags.«Type».{«Type»}
@@ -29,9 +30,9 @@ is_floating type = false
 
 -- ---- its law
 
--- number k of a row of differences, undone: the sum of it and of those a multiple of the stride before it
+-- number k of a row of differences, undone as a reader undoes it
 abbrev pub restored_number : ℕ → ℕ → List ℕ → ℕ → ℕ
-restored_number m stride row k = sum_by (λ j. get_or row (k % stride + j * stride) 0) (range_with_len 0 (k / stride + 1)) % m
+restored_number m stride row k = sample_sum m stride (λ i. get_or row i 0) k
 
 -- Undoing gives each number of the row back.
 abbrev pub IsUndone : Type 0

@@ -17,7 +17,7 @@ use Rattle.tiff_encode.specs.Ends.{Ends}
 use Rattle.tiff_encode.specs.Leaves.{Leaves}
 use Rattle.tiff_encode.specs.Open.{HoldsOpen, KeepsOpen}
 use Rattle.tiff_encode.specs.Jobs as jobs
-use Rattle.tiff_encode.specs.Jobs.{Standing, Drawn, IsDone}
+use Rattle.tiff_encode.specs.Jobs.{Standing, Drawn}
 use Rattle.tiff_encode.specs.Stepping.{DrawMoves}
 use Rattle.tiff_encode.specs.ImageStepping.{reply_to}
 use Rattle.tiff_encode.proofs.Joining.{IsAdding, Adds, adding, answers_adding, caused_adds, bind_adds}

@@ -1,7 +1,7 @@
 -- What a model holds of a directory, it holds when a call writes tags.
 use Rattle.std.proofs.Common.{◌≡◌, ℕ, Bool, true, false, cond, List, [], ◌∷◌, ◌++◌, length, Option, Some, None, Result, Ok, Err, refl, ap, sym, ◌∙◌, subst, inl, arith}
 use Rattle.std.proofs.lemmas.List.{length-take-le, length-append}
-use Rattle.std.specs.Prelude.{replicate, ◌||◌}
+use Rattle.std.specs.Prelude.{replicate}
 use Rattle.std.specs.List.{list_any}
 use Rattle.tiff_base.proofs.Common.{neither}
 use Rattle.tiff_base.specs.declared.error.TiffError.{TiffError}

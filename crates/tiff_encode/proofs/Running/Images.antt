@@ -2,7 +2,6 @@
 -- held that was held while it was open.
 use Rattle.std.proofs.Common.{◌≡◌, ℕ, inl, inr, Bool, true, false, cond, List, ◌++◌, length, Option, Some, None, Result, Ok, Err, refl, ap, sym, ◌∙◌, subst}
 use Rattle.tiff_base.specs.declared.error.TiffError.{TiffError}
-use Rattle.tiff_base.specs.declared.error.TiffError.TheVariants.{OutOfMemory}
 use Rattle.tiff_base.specs.Field.{AreEntries}
 use Rattle.tiff_encode.specs.declared.encoder.script.EndReply.{EndReply}
 use Rattle.tiff_encode.specs.declared.encoder.script.EndReply.TheVariants as last

@@ -1,11 +1,10 @@
 -- Differences along the rows of a chunk, undone, are its numbers.
-use Rattle.std.proofs.Common.{◌≡◌, ℕ, zero, suc, ◌+◌, ◌-◌, ◌*◌, ◌%◌, ◌<◌, ◌≤◌, ◌⊎◌, List, [], ◌∷◌, ◌++◌, get_or, refl, ap, sym, ◌∙◌, subst, inl, inr, arith, add-one}
+use Rattle.std.proofs.Common.{◌≡◌, ℕ, suc, ◌+◌, ◌-◌, ◌*◌, ◌%◌, ◌<◌, ◌≤◌, ◌⊎◌, List, get_or, refl, ap, sym, ◌∙◌, subst, inl, inr, arith, add-one}
 use Rattle.std.specs.Prelude.{sum_by}
 use Rattle.std.specs.List.{range_with_len}
 use Rattle.std.proofs.lemmas.Bool.{cases_lt, lt-ltb, le-ltb}
-use Rattle.std.proofs.lemmas.List.Sums.{sum_by_push}
 use Rattle.std.proofs.lemmas.Nat.{mod-mul-add, mod_below}
-use Rattle.std.proofs.Math.Nat.{mod-eq_of_lt, mul-le-mul_right, mod-add-mod, add-mod-mod, add-mod_right}
+use Rattle.std.proofs.Math.Nat.{mul-le-mul_right}
 use Rattle.tiff_base.specs.declared.tags.Predictor.{Predictor}
 use Rattle.tiff_base.specs.declared.tags.Predictor.TheVariants as predictor
 use Rattle.tiff_base.specs.declared.tags.Predictor.TheVariants.{Horizontal}

@@ -72,3 +72,6 @@ put_one = refl
 
 pub put_two : s.put_two
 put_two = refl
+
+pub fifth_summed : s.fifth_summed
+fifth_summed = refl

@@ -24,7 +24,7 @@ use Rattle.tiff_encode.specs.Causes.{begin_cause, new_image_cause, image_cause, 
 use Rattle.tiff_encode.specs.Calls.{Offsets, new_directory, image_directory, new_image, finish, with_compression, set_parent, set_rows_per_strip, extend_from}
 use Rattle.tiff_base.specs.SourceAndSink.{sink_error}
 use Rattle.tiff_encode.specs.Jobs as jobs
-use Rattle.tiff_encode.specs.Jobs.{Standing, FinishedImage, IsDone}
+use Rattle.tiff_encode.specs.Jobs.{Standing, IsDone}
 use Rattle.tiff_encode.proofs.Header as its_header
 use Rattle.tiff_encode.proofs.Slices.{ok_inj}
 use Rattle.tiff_examples.specs.OneValue.{long_field}

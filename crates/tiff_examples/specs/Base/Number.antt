@@ -1,10 +1,10 @@
 -- Worked numbers, and the bytes at an offset.
-use Rattle.std.specs.Prelude.{◌≡◌, [], ◌∷◌, Ok, Err}
+use Rattle.std.specs.Prelude.{◌≡◌, [], ◌∷◌, get_or, Ok, Err}
 use Rattle.std.specs.Int.{w8, w16, w32, w64}
 use Rattle.tiff_base.specs.declared.error.TiffError.TheVariants.{IoError}
 use Rattle.tiff_base.specs.declared.io.IoKind.TheVariants.{UnexpectedEof}
 use Rattle.tiff_base.specs.declared.tags.ByteOrder.TheVariants.{LittleEndian, BigEndian}
-use Rattle.tiff_base.specs.Number.{number, number_at, le}
+use Rattle.tiff_base.specs.Number.{number, number_at, le, sample_sum}
 use Rattle.tiff_base.specs.SourceAndSink.{bytes_at, exactly_at, put}
 
 -- one byte is itself
@@ -81,3 +81,7 @@ put_one = put (0x0a ∷ 0x0b ∷ 0x0c ∷ []) 1 (0xff ∷ []) ≡ (0x0a ∷ 0xff
 
 abbrev pub put_two : Type 0
 put_two = put (0x0a ∷ 0x0b ∷ 0x0c ∷ []) 2 (0xfe ∷ 0xff ∷ []) ≡ (0x0a ∷ 0x0b ∷ 0xfe ∷ 0xff ∷ [])
+
+-- the fifth number of a row of pixels of two, with the first and the third: cut to its width
+abbrev pub fifth_summed : Type 0
+fifth_summed = sample_sum 256 2 (λ i. get_or (1 ∷ 9 ∷ 250 ∷ 9 ∷ 10 ∷ []) i 0) 4 ≡ 5

@@ -18,7 +18,7 @@ use Rattle.tiff_encode.specs.Value.{offset_values, data_in, buffer_data, is_long
 use Rattle.tiff_encode.specs.Deeds.{Appended, Handed, Listed, Linked}
 use Rattle.tiff_encode.specs.Machine.{FileState, OpenDirectory, WriteOutcome, ◌>>=◌}
 use Rattle.tiff_encode.specs.Calls as calls
-use Rattle.tiff_encode.specs.Calls.{Offsets, new_directory}
+use Rattle.tiff_encode.specs.Calls.{new_directory}
 use Rattle.tiff_examples.specs.OneValue.{short_field, long_field}
 use Rattle.tiff_examples.specs.Encode.Causes.{new_file, failed_file, file_with, buffer, no_text}
 

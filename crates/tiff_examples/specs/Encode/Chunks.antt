@@ -21,7 +21,7 @@ use Rattle.tiff_encode.specs.FileBytes.{header_bytes}
 use Rattle.tiff_encode.specs.Machine.{FileState, OpenImage}
 use Rattle.tiff_encode.specs.Calls as calls
 use Rattle.tiff_encode.specs.Chunks.{parts_left}
-use Rattle.tiff_encode.specs.Calls.{Offsets, new_directory, image_in, with_chunk, strips_of}
+use Rattle.tiff_encode.specs.Calls.{new_directory, image_in, with_chunk, strips_of}
 use Rattle.tiff_encode.specs.Stored.{unpacked_chunk, AreStored}
 use Rattle.tiff_examples.specs.OneValue.{short_field, long_field, rational_field, one_to_one}
 use Rattle.tiff_examples.specs.Files.{gray_file}

@@ -39,7 +39,7 @@ use Rattle.tiff_encode.specs.Extending.{Extends}
 use Rattle.tiff_value.specs.Data.{u16s, data_of}
 use Rattle.tiff_encode.specs.JobValues.{value_data, buffer_in, cut_to}
 use Rattle.tiff_encode.specs.Jobs as jobs
-use Rattle.tiff_encode.specs.Jobs.{Standing, Drawn, Run, FinishedImage}
+use Rattle.tiff_encode.specs.Jobs.{Standing, Drawn, Run}
 use Rattle.tiff_examples.specs.OneValue.{long_field}
 use Rattle.tiff_examples.specs.Encode.Causes.{new_file, failed_file, file_with, gray, pixel, written_pixel}
 use Rattle.tiff_examples.specs.Encode.Calls.{header, with_fields}

@@ -9,7 +9,7 @@ use Rattle.tiff_ifd.specs.Same.{same}
 use Rattle.std.specs.declared.alloc.Global.{Global}
 use Rattle.tiff_base.specs.declared.tags.Bits16.{Bits16}
 use Rattle.tiff_ifd.specs.Datum as d
-use Rattle.tiff_ifd.specs.Datum.{DatumList, none, more, datum_list_of, depth}
+use Rattle.tiff_ifd.specs.Datum.{none, more, depth}
 use Rattle.tiff_ifd.specs.View.{datum, datum_list}
 use Rattle.tiff_ifd.specs.declared.value.Value.TheVariants as v
 use Rattle.tiff_page.specs.declared.layout.DecodingSampleType.TheVariants as type

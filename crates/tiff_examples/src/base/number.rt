@@ -2,10 +2,10 @@
 
 ghost use Rattle.tiff_examples.specs.Base.Number as s;
 
-/// Numbers in both byte orders, bytes that stand at an offset, and bytes that don't.
+/// Numbers in both byte orders, bytes that stand at an offset, and bytes that don't; a sum of differences.
 pub fn numbers()
     ensures { s.one_little × s.one_big × s.two_little × s.two_big × s.four_little × s.four_big ×
         s.eight_little × s.eight_big × s.greatest × s.million × s.lowest_two × s.two_at_1 × s.one_too_many ×
         s.nothing_past_end × s.byte_past_end × s.fewer_at_end × s.number_at_1 × s.cut_number × s.put_one ×
-        s.put_two }
+        s.put_two × s.fifth_summed }
 {}
