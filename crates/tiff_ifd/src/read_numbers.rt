@@ -43,7 +43,9 @@ fn unsigned_of(field_type: Type, order: ByteOrder, bytes: &[u8]) -> u64
     }
 }
 
-// Makes numbers those of such a type that some bytes are, one after the other.
+// Makes numbers those of such a type that some bytes are, one after the other. Where the type and the order are constants, the
+// loop is compiled for these.
+#[inline(always)]
 #[tactic(auto, using(crate::proofs::Unsigned::unit_within))]
 fn fill_numbers(field_type: Type, order: ByteOrder, bytes: &[u8], numbers: &mut [u64])
     requires numbers { IsUnsigned field_type }
@@ -54,6 +56,29 @@ fn fill_numbers(field_type: Type, order: ByteOrder, bytes: &[u8], numbers: &mut 
     for k in 0..numbers.len() {
         let at = k * width;
         numbers[k] = unsigned_of(field_type, order, &bytes[at..at + width]);
+    }
+}
+
+// The same, by constants for the types that offsets mostly have.
+fn fill_by_type(field_type: Type, order: ByteOrder, bytes: &[u8], numbers: &mut [u64])
+    requires numbers { IsUnsigned field_type }
+    requires whole { length bytes.now ≡ length numbers.old * type_size field_type }
+    ensures { EachIndex numbers.new (λ k. slice_index numbers.new k ≡ number order (unsigned_width field_type) (bytes_at bytes.now (k * type_size field_type) (type_size field_type))) }
+{
+    match (field_type, order) {
+        (Type::SHORT, ByteOrder::LittleEndian) => {
+            fill_numbers(Type::SHORT, ByteOrder::LittleEndian, bytes, numbers);
+        }
+        (Type::SHORT, ByteOrder::BigEndian) => {
+            fill_numbers(Type::SHORT, ByteOrder::BigEndian, bytes, numbers);
+        }
+        (Type::LONG, ByteOrder::LittleEndian) => {
+            fill_numbers(Type::LONG, ByteOrder::LittleEndian, bytes, numbers);
+        }
+        (Type::LONG, ByteOrder::BigEndian) => {
+            fill_numbers(Type::LONG, ByteOrder::BigEndian, bytes, numbers);
+        }
+        _ => fill_numbers(field_type, order, bytes, numbers),
     }
 }
 
@@ -70,7 +95,7 @@ fn unsigned_from(
     ensures { AnswersWithoutSource (λ v. v.items) result (numbers_from field_type order count bytes.now) }
 {
     let mut all = vec![in alloc; 0u64; count as usize]?;
-    fill_numbers(field_type, order, bytes, &mut all);
+    fill_by_type(field_type, order, bytes, &mut all);
     Ok(all)
 }
 
