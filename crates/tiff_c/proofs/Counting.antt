@@ -19,11 +19,11 @@ use Rattle.tiff_ifd.specs.Look.{ok_or_fault}
 use Rattle.tiff_ifd.proofs.Chain.{the_chain, apart_chain, same_ok}
 use Rattle.tiff_page.specs.Page.{PageRecord}
 use Rattle.tiff_page.specs.PixelFault.{each_below}
-use Rattle.tiff_decode.specs.Machine.{State, Decoding, Outcome}
+use Rattle.tiff_decode.specs.Machine.{State, Decoding, Outcome, stays}
 use Rattle.tiff_decode.specs.Outcome.{decoder_of, chain_from, chain_of, first_directory, first_state, page_in, end_fault, offset_after, next_offset, next_outcome, next_image, enter, entry_outcome, seek_to_image, with_page}
 use Rattle.tiff_decode.specs.DefaultLimits.{default_limits}
 use Rattle.tiff_decode.proofs.ChainPosition.{next_by, past_end, sought_by}
-use Rattle.tiff_c.specs.Calls.{page_count, plain_end}
+use Rattle.tiff_c.specs.Calls.{decoder_at_page, page_count, plain_end}
 
 -- the same file, read under the same limits
 pub record SameFile (a b : Decoding) : Type 0 where
@@ -277,6 +277,8 @@ record IsOpened (file : List ℕ) (d : Decoding) : Type 0 where
   is_page : page_in d.kind d.order d.bytes d.state.limits directory ≡ Ok page
   pointer : d.state.pointer ≡ Some (record { 0 = offset })
   more : d.state.more ≡ is_some directory.next
+  holds_page : d.state.page ≡ page
+  holds_directory : d.state.directory ≡ directory
 
 was_first : (file : List ℕ) (found : Header × ℕ × DirectoryRecord) → first_directory file ≡ Ok found
     → (slice_get (chain_from found.0 file).offsets 0 ≡ Some found.1) × (directory_at found.0.kind found.0.order file found.1 ≡ Ok found.2)
@@ -304,6 +306,8 @@ was_opened file d h =
       is_page = page.1;
       pointer = refl;
       more = refl;
+      holds_page = refl;
+      holds_directory = refl;
     } in
     let P : Decoding → Type 0 = λ x. IsOpened file x in
     subst P (given _ _ _ refl page.2) here
@@ -314,6 +318,17 @@ bytes_opened file d h = (was_opened file d h).bytes
 
 pub opened_again : (file : List ℕ) (d : Decoding) → decoder_of file 0 ≡ Ok d → decoder_of d.bytes 0 ≡ Ok d
 opened_again file d h = ap (λ (b : List ℕ). decoder_of b 0) (bytes_opened file d h) ∙ h
+
+-- to go to the first page moves nothing
+seeks_first : (file : List ℕ) (d : Decoding) → decoder_of file 0 ≡ Ok d → seek_to_image d 0 ≡ stays d (Ok tt)
+unfolding seek_to_image enter
+seeks_first file d h =
+    let b = was_opened file d h in
+    rw (b.is_offset, b.is_directory, b.is_page)
+    (λ i. record { answer = Ok tt; next = record d.state { pointer = sym b.pointer i; more = sym b.more i; page = sym b.holds_page i; directory = sym b.holds_directory i } })
+
+pub at_first_page : (file : List ℕ) (page : ℕ) (d : Decoding) → page ≡ 0 → decoder_of file 0 ≡ Ok d → decoder_at_page file page ≡ Ok d
+at_first_page file page d z h = rw (z, h, seeks_first file d h) refl
 
 -- it stands at the first page, which was entered
 pub counts_first : (file : List ℕ) (d : Decoding) → decoder_of file 0 ≡ Ok d → Counting file 1 d

@@ -88,11 +88,14 @@ fn seek(decoder: &mut Decoder<SliceSource<'_>>, page: usize) -> TiffResult<()>
     answer
 }
 
-// A decoder at a page of a file.
+// A decoder at a page of a file. It is opened at the first one, whose directory isn't read again.
 fn open_at(alloc: Global, file: &[u8], page: usize) -> TiffResult<Decoder<SliceSource<'_>>>
     ensures { AnswersWithoutSource (λ d. d) result (calls.decoder_at_page file.now page) }
 {
     let mut decoder = open_first(alloc, file)?;
+    if page == 0 {
+        return Ok(decoder);
+    }
     seek(&mut decoder, page)?;
     Ok(decoder)
 }

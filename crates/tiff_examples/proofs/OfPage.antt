@@ -3,5 +3,6 @@ pub mod Layout
 pub mod Pixels
 pub mod Buffers
 pub mod PixelCalls
+pub mod EarlyFaults
 pub mod Checks
 pub mod Row

@@ -2,6 +2,7 @@
 
 pub mod buffers;
 pub mod checks;
+pub mod early_faults;
 pub mod layout;
 pub mod pixel_calls;
 pub mod pixels;

@@ -21,3 +21,4 @@ pub mod NumberBytes
 pub mod PositionsPut
 pub mod Portions
 mod Sums
+pub mod Wants

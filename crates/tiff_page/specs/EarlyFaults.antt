@@ -1,17 +1,22 @@
 -- Faults that are found before memory is taken for samples.
-use Rattle.std.specs.Prelude.{ℕ, ◌-◌, min, Bool, true, false, if◌then◌else◌, nat_lt, List, length, slice_index, Result}
+use Rattle.std.specs.Prelude.{◌≡◌, ℕ, ◌-◌, ◌*◌, min, Bool, true, false, if◌then◌else◌, nat_lt, nat_le, List, length, slice_index, Result, Ok, Err}
 use Rattle.std.specs.Int.{div_ceil}
 use Rattle.tiff_base.specs.declared.color.ColorType.{ColorType}
 use Rattle.tiff_base.specs.declared.error.TiffError.{TiffError}
+use Rattle.tiff_base.specs.declared.error.TiffError.TheVariants.{OutOfMemory}
 use Rattle.tiff_base.specs.declared.tags.CompressionMethod.{CompressionMethod}
 use Rattle.tiff_base.specs.declared.tags.CompressionMethod.TheVariants as method
 use Rattle.tiff_base.specs.Answers.{◌>>=◌}
+use Rattle.tiff_base.specs.Sparing.{IsOfRead, IsWithinLimits}
 use Rattle.tiff_ifd.specs.declared.limits.Limits.{Limits}
 use Rattle.tiff_page.specs.declared.layout.DecodingSampleType.{DecodingSampleType}
 use Rattle.tiff_page.specs.Page.{PageRecord}
-use Rattle.tiff_page.specs.Layout.{size_of}
+use Rattle.tiff_page.specs.Buffers.{planes_layout}
+use Rattle.tiff_page.specs.Layout.{planes, sample_type_of, size_of, wide}
+use Rattle.tiff_page.specs.PixelCalls.{stride_fault}
 use Rattle.tiff_page.specs.PixelFault.{samples_fault, chunk_fault}
 use Rattle.tiff_page.specs.Pixels.{needed}
+use Rattle.tiff_page.specs.Rect.{rect}
 
 abbrev pub is_packed : CompressionMethod → Bool
 is_packed method.PackBits = true
@@ -36,3 +41,54 @@ abbrev pub early_fault : List ℕ → PageRecord → Limits → ColorType → De
 early_fault file p limits color type first len = do
   _ ← samples_fault limits (size_of type) len
   chunk_fault p limits (is_cut file p color) color first
+
+-- ---- where memory is wanted
+
+-- a fault that may carry a list
+abbrev pub IsListFault : {Y : Type 0} → Result Y TiffError → Type 0
+IsListFault (Ok y) = ⊥
+IsListFault (Err e) = IsOfRead e
+
+-- Memory is wanted only where this holds.
+abbrev pub WantsWhere : {X : Type 0} → Type 0 → Result X TiffError → Type 0
+WantsWhere holds (Ok x) = Unit {0}
+WantsWhere holds (Err e) = e ≡ OutOfMemory → holds
+
+-- Memory is wanted only where no limit refuses what is asked for, and the source doesn't end before the last byte that its
+-- first chunk needs at least: where what is found early is none of these two faults.
+abbrev pub WantsAfter : {X : Type 0} → Result (Unit {0}) TiffError → Result X TiffError → Type 0
+WantsAfter early result = WantsWhere (IsWithinLimits early) result
+
+-- what is found before memory is taken for samples in so many bytes, of a color and from a first chunk on
+abbrev pub samples_early : List ℕ → PageRecord → Limits → ColorType → ℕ → ℕ → Result (Unit {0}) TiffError
+samples_early file p limits color first len = do
+  type ← sample_type_of p
+  early_fault file p limits color type first len
+
+-- the same of an image, of its first plane where it is planar
+abbrev pub image_early : List ℕ → PageRecord → Limits → Result (Unit {0}) TiffError
+image_early file p limits = do
+  layout ← planes_layout p p.width p.height
+  samples_early file p limits layout.color 0 layout.plane_stride
+
+-- of all planes, or of the first one where all aren't within the limit
+abbrev pub planes_early : List ℕ → PageRecord → Limits → Result (Unit {0}) TiffError
+planes_early file p limits = do
+  layout ← planes_layout p p.width p.height
+  let all = planes p.planar layout.color
+  let used = if nat_le (layout.plane_stride * all) limits.decoding_buffer_size then all else 1
+  samples_early file p limits layout.color 0 (layout.plane_stride * used)
+
+-- of a chunk
+abbrev pub chunk_early : List ℕ → PageRecord → Limits → ℕ → Result (Unit {0}) TiffError
+chunk_early file p limits i = do
+  layout ← planes_layout p (rect p i).width (rect p i).height
+  samples_early file p limits layout.color i layout.plane_stride
+
+-- of a chunk in rows so many bytes apart
+abbrev pub strided_early : List ℕ → PageRecord → Limits → ℕ → ℕ → Result (Unit {0}) TiffError
+strided_early file p limits i stride = do
+  layout ← planes_layout p (rect p i).width (rect p i).height
+  _ ← stride_fault stride layout.row_bytes
+  _ ← wide (stride * p.chunk_height)
+  samples_early file p limits layout.color i (stride * (rect p i).height)

@@ -3,6 +3,7 @@
 ghost use Rattle.std.specs.Prelude.{◌≡◌, ◌<◌, ◌*◌, ◌^◌, IfOk, IfSome, Ok};
 ghost use Rattle.tiff_base.specs.Answers.{AnswersWithoutSource, Gives};
 ghost use Rattle.tiff_page.specs.Buffers as spec;
+ghost use Rattle.tiff_page.specs.EarlyFaults.{IsListFault, WantsWhere};
 ghost use Rattle.tiff_page.specs.Layout as layouts;
 ghost use Rattle.tiff_page.specs.Rect as rects;
 ghost use Rattle.tiff_page.specs.PageView as view;
@@ -31,6 +32,7 @@ pub fn planes_layout(page: &Page, alloc: Global, width: u32, height: u32) -> Tif
     ensures laid { IfOk result (λ l. layouts.layout_of (view.page page.now) width height ≡ Ok
         (record { color = l.color; row_bytes = l.row_bytes; plane_stride = l.plane_stride })) }
     ensures some { IfOk result (λ l. 0 < layouts.planes page.now.planar l.color) }
+    ensures memory { WantsWhere (IsListFault (layouts.color_of (view.page page.now))) result }
 {
     let layout = layout_of(page, alloc, width, height)?;
     let planes = usize::from(planes(page, layout.color));

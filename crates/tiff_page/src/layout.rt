@@ -9,6 +9,7 @@ ghost use Rattle.tiff_base.specs.declared.color.ColorType.{ColorType};
 ghost use Rattle.tiff_page.specs.Rect as rects;
 ghost use Rattle.tiff_page.specs.Layout as spec;
 ghost use Rattle.tiff_page.specs.Buffers.{type_known};
+ghost use Rattle.tiff_page.specs.EarlyFaults.{IsListFault, WantsWhere};
 
 use crate::page::Page;
 use std::alloc::Global;
@@ -128,6 +129,7 @@ pub fn chunk_data_dimensions(page: &Page, index: u32) -> (u32, u32)
 fn no_color(page: &Page, alloc: Global) -> TiffResult<ColorType>
     ensures answer { AnswersWithoutSource (λ c. c) result (spec.no_color (view.page page.now)) }
     ensures color { (c : ColorType) → spec.no_color (view.page page.now) ≡ Ok c → result ≡ Ok c }
+    ensures memory { WantsWhere (IsListFault (spec.no_color (view.page page.now))) result }
 {
     let bits = vec![in alloc; page.depth; usize::from(page.samples)]?;
     Err(TiffUnsupportedError::InterpretationWithBits(
@@ -151,6 +153,7 @@ pub fn color_of(page: &Page, alloc: Global) -> TiffResult<ColorType>
     ensures answer { AnswersWithoutSource (λ c. c) result (spec.color_of (view.page page.now)) }
     // No memory is taken where there is a color.
     ensures color { (c : ColorType) → spec.color_of (view.page page.now) ≡ Ok c → result ≡ Ok c }
+    ensures memory { WantsWhere (IsListFault (spec.color_of (view.page page.now))) result }
 {
     let depth = page.depth;
     let alpha = first_is_alpha(page.extra.as_slice());
@@ -234,7 +237,8 @@ pub fn known_sample_type(page: &Page) -> Option<DecodingSampleType>
 #[tactic(auto, unfolding(crate::specs::Layout::sample_type_of))]
 fn no_sample_type(page: &Page, alloc: Global) -> TiffResult<DecodingSampleType>
     requires { type_known (spec.sample_type_of (view.page page.now)) ≡ None }
-    ensures { AnswersWithoutSource (λ t. t) result (spec.sample_type_of (view.page page.now)) }
+    ensures answer { AnswersWithoutSource (λ t. t) result (spec.sample_type_of (view.page page.now)) }
+    ensures memory { WantsWhere (IsListFault (spec.sample_type_of (view.page page.now))) result }
 {
     match page.format {
         SampleFormat::Uint | SampleFormat::Int | SampleFormat::IEEEFP => Err(
@@ -250,7 +254,8 @@ fn no_sample_type(page: &Page, alloc: Global) -> TiffResult<DecodingSampleType>
 /// The number type of the samples of a page. Of a depth for which its format has none: `UnsupportedSampleDepth`; of a format
 /// that isn't one of numbers: `UnsupportedSampleFormat`.
 pub fn sample_type_of(page: &Page, alloc: Global) -> TiffResult<DecodingSampleType>
-    ensures { AnswersWithoutSource (λ t. t) result (spec.sample_type_of (view.page page.now)) }
+    ensures answer { AnswersWithoutSource (λ t. t) result (spec.sample_type_of (view.page page.now)) }
+    ensures memory { WantsWhere (IsListFault (spec.sample_type_of (view.page page.now))) result }
 {
     match known_sample_type(page) {
         Some(sample_type) => Ok(sample_type),
@@ -354,6 +359,7 @@ pub fn layout_of(page: &Page, alloc: Global, width: u32, height: u32) -> TiffRes
       row_bytes = l.row_bytes;
       plane_stride = l.plane_stride;
     }) result (spec.layout_of (view.page page.now) width height) }
+    ensures memory { WantsWhere (IsListFault (spec.color_of (view.page page.now))) result }
 {
     let color = color_of(page, alloc)?;
     let row_bytes = (row_bits(page, color, width) + 7) / 8;

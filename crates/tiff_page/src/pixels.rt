@@ -12,7 +12,7 @@ ghost use Rattle.std.specs.Prelude.{◌≡◌, ◌*◌, ◌<◌, ◌≤◌, ◌^
 ghost use Rattle.tiff_base.specs.Answers.{Answers, AnswersWithoutSource, Gives, IsKept};
 ghost use Rattle.tiff_base.specs.Sparing.{AnswersSparingly};
 ghost use Rattle.tiff_page.specs.Buffers as buffers;
-ghost use Rattle.tiff_page.specs.EarlyFaults.{early_fault};
+ghost use Rattle.tiff_page.specs.EarlyFaults.{IsListFault, WantsAfter, WantsWhere, chunk_early, early_fault, image_early, planes_early, samples_early, strided_early};
 ghost use Rattle.tiff_page.specs.PixelCalls.{image_of};
 ghost use Rattle.tiff_page.specs.Layout as layouts;
 ghost use Rattle.tiff_page.specs.PixelCalls as calls;
@@ -90,6 +90,7 @@ fn chunk_layout(page: &Page, alloc: Global, index: u32) -> TiffResult<PlaneLayou
       plane_stride = l.plane_stride;
     }) result (buffers.planes_layout (view.page page.now) (rects.rect (view.page page.now) index).width
         (rects.rect (view.page page.now) index).height) }
+    ensures memory { WantsWhere (IsListFault (layouts.color_of (view.page page.now))) result }
     ensures colored { IfOk result (λ l. layouts.color_of (view.page page.now) ≡ Ok l.color) }
     ensures columns { IfOk result (λ l. layouts.row_bytes (view.page page.now) l.color
         (rects.rect (view.page page.now) index).width ≤ l.row_bytes) }
@@ -217,6 +218,8 @@ impl PageReader<'_> {
         requires room { room_of (view.page self.now.page.now) portion ≤ len }
         requires typed { layouts.sample_type_of (view.page self.now.page.now) ≡ Ok type.U8 }
         ensures kept { IsKept R.bytes R.failures result source.old source.new }
+        ensures memory { WantsAfter (early_fault (R.bytes source.old) (view.page self.now.page.now) self.now.limits.now
+            (color_in portion) type.U8 (first_in portion) len) result }
         ensures answer { Answers (λ v. record { sample_type = type.U8; numbers = v.items }) result
             (calls.samples (R.bytes source.old) self.now.order (view.page self.now.page.now) self.now.limits.now
             (color_in portion) (part_of (R.bytes source.old) self.now.order (view.page self.now.page.now) portion) len)
@@ -243,6 +246,8 @@ impl PageReader<'_> {
         requires typed { layouts.sample_type_of (view.page self.now.page.now) ≡ Ok sample_type }
         requires size { layouts.size_of sample_type ≡ N }
         ensures kept { IsKept R.bytes R.failures result source.old source.new }
+        ensures memory { WantsAfter (early_fault (R.bytes source.old) (view.page self.now.page.now) self.now.limits.now
+            (color_in portion) sample_type (first_in portion) len) result }
         ensures answer { Answers (λ v. record { sample_type = sample_type; numbers = map T.bits v.items }) result
             (calls.samples (R.bytes source.old) self.now.order (view.page self.now.page.now) self.now.limits.now
             (color_in portion) (part_of (R.bytes source.old) self.now.order (view.page self.now.page.now) portion) len)
@@ -265,6 +270,8 @@ impl PageReader<'_> {
         requires laid { IsLaid (view.page self.now.page.now) portion }
         requires room { room_of (view.page self.now.page.now) portion ≤ len }
         ensures kept { IsKept R.bytes R.failures result source.old source.new }
+        ensures memory { WantsAfter (samples_early (R.bytes source.old) (view.page self.now.page.now) self.now.limits.now
+            (color_in portion) (first_in portion) len) result }
         ensures answer { Answers samples_as result (calls.samples (R.bytes source.old) self.now.order
             (view.page self.now.page.now) self.now.limits.now (color_in portion)
             (part_of (R.bytes source.old) self.now.order (view.page self.now.page.now) portion) len) (R.failures source.old)
@@ -317,6 +324,7 @@ pub fn read_image<R: Source>(
     limits: &Limits,
 ) -> TiffResult<Samples>
     ensures kept { IsKept R.bytes R.failures result source.old source.new }
+    ensures memory { WantsAfter (image_early (R.bytes source.old) (view.page page.now) limits.now) result }
     ensures answer { Answers samples_as result (image_of (R.bytes source.old) order (view.page page.now) limits.now)
         (R.failures source.old) (R.failures source.new) }
 {
@@ -342,6 +350,7 @@ pub fn read_image_to_buffer<R: Source>(
     limits: &Limits,
 ) -> TiffResult<(BufferLayoutPreference, Samples)>
     ensures kept { IsKept R.bytes R.failures result source.old source.new }
+    ensures memory { WantsAfter (planes_early (R.bytes source.old) (view.page page.now) limits.now) result }
     ensures answer { Answers (λ r. (r.0, samples_as r.1)) result
         (calls.read_image_to_buffer (R.bytes source.old) order (view.page page.now) limits.now) (R.failures source.old)
         (R.failures source.new) }
@@ -401,6 +410,7 @@ pub fn read_chunk<R: Source>(
     index: u32,
 ) -> TiffResult<Samples>
     ensures kept { IsKept R.bytes R.failures result source.old source.new }
+    ensures memory { WantsAfter (chunk_early (R.bytes source.old) (view.page page.now) limits.now index) result }
     ensures answer { Answers samples_as result (calls.read_chunk (R.bytes source.old) order (view.page page.now) limits.now
         index) (R.failures source.old) (R.failures source.new) }
 {
@@ -462,6 +472,7 @@ pub fn read_chunk_to_buffer<R: Source>(
     stride: usize,
 ) -> TiffResult<Samples>
     ensures kept { IsKept R.bytes R.failures result source.old source.new }
+    ensures memory { WantsAfter (strided_early (R.bytes source.old) (view.page page.now) limits.now index stride) result }
     ensures answer { Answers samples_as result (calls.read_chunk_to_buffer (R.bytes source.old) order (view.page page.now)
         limits.now index stride) (R.failures source.old) (R.failures source.new) }
 {

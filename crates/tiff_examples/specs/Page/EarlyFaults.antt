@@ -1,0 +1,88 @@
+-- Worked faults that are found before memory is taken for samples, and where memory is wanted.
+use Rattle.std.specs.Prelude.{◌≡◌, ℕ, [], ◌∷◌, Ok, Err}
+use Rattle.tiff_base.specs.declared.error.TiffError.TheVariants.{UnsupportedError, UsageError, IoError, LimitsExceeded, OutOfMemory}
+use Rattle.tiff_base.specs.declared.error.TiffUnsupportedError.TheVariants.{UnsupportedCompressionMethod, UnsupportedSampleFormat}
+use Rattle.tiff_base.specs.declared.error.UsageError.TheVariants.{InsufficientOutputRowStride}
+use Rattle.tiff_base.specs.declared.io.IoKind.TheVariants.{UnexpectedEof}
+use Rattle.tiff_base.specs.declared.tags.CompressionMethod.TheVariants as method
+use Rattle.tiff_base.specs.declared.tags.SampleFormat.TheVariants as format
+use Rattle.tiff_ifd.specs.Limits.{unlimited}
+use Rattle.tiff_page.specs.Page.{PageRecord}
+use Rattle.tiff_page.specs.EarlyFaults.{IsListFault, WantsWhere, WantsAfter, image_early, planes_early, chunk_early, strided_early}
+use Rattle.tiff_examples.specs.Files.{gray_file}
+use Rattle.tiff_examples.specs.Page.Pixels.{pixel_page, limits}
+use Rattle.tiff_examples.specs.Page.PixelCalls.{two_planes, two_faults, tiles}
+
+-- a page of 16384 by 16384 pixels, in a file of a few bytes
+abbrev pub claiming_page : PageRecord
+claiming_page = record pixel_page { width = 16384; height = 16384; chunk_width = 16384; chunk_height = 16384 }
+
+-- its last byte isn't there
+abbrev pub claim_cut : Type 0
+claim_cut = image_early gray_file claiming_page unlimited ≡ Err (IoError UnexpectedEof)
+
+-- a limit is looked at before
+abbrev pub claim_past_limit : Type 0
+claim_past_limit = image_early gray_file claiming_page (limits 99 99) ≡ Err LimitsExceeded
+
+-- packed, 2^28 bytes take 2^22 at least, and fewer are counted
+abbrev pub packed_claim_cut : Type 0
+packed_claim_cut =
+    image_early gray_file (record claiming_page { method = method.PackBits; byte_counts = 4194303 ∷ [] }) unlimited
+    ≡ Err (IoError UnexpectedEof)
+
+-- nothing is found of the page of one pixel
+abbrev pub pixel_held : Type 0
+pixel_held = image_early gray_file pixel_page unlimited ≡ Ok tt
+
+-- a method that isn't unpacked is found, and samples of no number type before it
+abbrev pub unpacked_not : Type 0
+unpacked_not =
+    image_early gray_file (record pixel_page { method = method.LZW }) unlimited
+    ≡ Err (UnsupportedError (UnsupportedCompressionMethod method.LZW))
+
+abbrev pub type_first : Type 0
+type_first =
+    image_early gray_file (record pixel_page { method = method.LZW; format = format.Void }) unlimited
+    ≡ Err (UnsupportedError (UnsupportedSampleFormat (format.Void ∷ [])))
+
+-- of two planes of 9 bytes a limit of 17 takes the first, and one of 8 none
+abbrev pub first_plane_within : Type 0
+first_plane_within = planes_early tiles two_planes (limits 17 99) ≡ Ok tt
+
+abbrev pub no_plane_within : Type 0
+no_plane_within = planes_early tiles two_planes (limits 8 99) ≡ Err LimitsExceeded
+
+-- the first tile is there, the second one past the end of the file
+abbrev pub first_chunk_held : Type 0
+first_chunk_held = chunk_early tiles two_faults unlimited 0 ≡ Ok tt
+
+abbrev pub second_chunk_cut : Type 0
+second_chunk_cut = chunk_early tiles two_faults unlimited 1 ≡ Err (IoError UnexpectedEof)
+
+-- its rows are two bytes long
+abbrev pub stride_first : Type 0
+stride_first = strided_early tiles two_planes unlimited 0 1 ≡ Err (UsageError (InsufficientOutputRowStride 2 1))
+
+-- rows 7 bytes apart are 14 bytes
+abbrev pub strided_past_limit : Type 0
+strided_past_limit = strided_early tiles two_planes (limits 13 99) 0 7 ≡ Err LimitsExceeded
+
+-- want of memory isn't what a call answers of the file that claims too much
+abbrev pub claim_wants_none : Type 0
+claim_wants_none = WantsAfter {X = ℕ} (image_early gray_file claiming_page unlimited) (Err OutOfMemory) → ⊥
+
+-- of the one pixel it may be
+abbrev pub pixel_may_want : Type 0
+pixel_may_want = WantsAfter {X = ℕ} (image_early gray_file pixel_page unlimited) (Err OutOfMemory)
+
+-- a fault without a list, and no fault
+abbrev pub end_has_no_list : Type 0
+end_has_no_list = IsListFault {Y = ℕ} (Err (IoError UnexpectedEof)) → ⊥
+
+abbrev pub answer_has_no_list : Type 0
+answer_has_no_list = IsListFault {Y = ℕ} (Ok 7) → ⊥
+
+-- an answer wants nothing
+abbrev pub answer_wants_none : Type 0
+answer_wants_none = WantsWhere {X = ℕ} ⊥ (Ok 7)

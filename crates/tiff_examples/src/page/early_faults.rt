@@ -1,0 +1,16 @@
+//! Worked faults that are found before memory is taken for samples.
+
+ghost use Rattle.tiff_examples.specs.Page.EarlyFaults as s;
+
+/// Of whole images, of their planes, and of chunks.
+pub fn found()
+    ensures { s.claim_cut × s.claim_past_limit × s.packed_claim_cut × s.pixel_held × s.unpacked_not ×
+        s.type_first × s.first_plane_within × s.no_plane_within × s.first_chunk_held ×
+        s.second_chunk_cut × s.stride_first × s.strided_past_limit }
+{}
+
+/// Where memory may be wanted.
+pub fn wanted()
+    ensures { s.claim_wants_none × s.pixel_may_want × s.end_has_no_list × s.answer_has_no_list ×
+        s.answer_wants_none }
+{}
