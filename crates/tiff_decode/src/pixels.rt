@@ -1,6 +1,7 @@
 //! Pixels of the page are read: whole images, chunks, and coding units.
 
 ghost use Rattle.tiff_decode.specs.Machine.{Follows};
+ghost use Rattle.tiff_page.specs.EarlyFaults.{WantsAfter, chunk_early, image_early, planes_early, strided_early};
 ghost use Rattle.tiff_decode.specs.Outcome as outcome;
 ghost use Rattle.tiff_decode.specs.Result.{decoded_as};
 
@@ -16,13 +17,15 @@ use tiff_page::pixels;
 /// that it reads, of the first chunk, and in it of the first plane, that has one. A chunk's: no data are listed for it,
 /// `InconsistentSizesEncountered`; a depth, predictor, method or inversion that isn't read, its `UnsupportedError`; more bytes
 /// in the file than `intermediate_buffer_size`, `LimitsExceeded`; too few data, `IoError(UnexpectedEof)`. Bytes of samples
-/// are little-endian, in rows of whole bytes.
+/// are little-endian, in rows of whole bytes. Where a call hands out a list, memory for it is wanted only after its limit was
+/// looked at, and the last byte that its first chunk needs at least was found in the source.
 impl<R: Source> Decoder<R> {
     /// The samples of the page's image, row by row; of a planar page those of the first plane. Samples of no number type:
     /// `UnsupportedSampleDepth` or `UnsupportedSampleFormat`; more than `decoding_buffer_size` bytes hold: `LimitsExceeded`.
     #[tactic(auto, unfolding(crate::specs::Outcome::read_image))]
     pub fn read_image(&mut self) -> TiffResult<DecodingResult>
-        ensures { Follows decoded_as (outcome.read_image self.old) result self.old self.new }
+        ensures follows { Follows decoded_as (outcome.read_image self.old) result self.old self.new }
+        ensures memory { WantsAfter (image_early self.old.bytes self.old.state.page self.old.state.limits) result }
     {
         let (alloc, order) = (self.alloc, self.tags.order);
         let source = &mut self.tags.source;
@@ -39,7 +42,8 @@ impl<R: Source> Decoder<R> {
         &mut self,
         samples: &mut DecodingResult,
     ) -> TiffResult<BufferLayoutPreference>
-        ensures { Follows (λ layout. (layout, decoded_as samples.new)) (outcome.read_image_to_buffer self.old) result self.old self.new }
+        ensures follows { Follows (λ layout. (layout, decoded_as samples.new)) (outcome.read_image_to_buffer self.old) result self.old self.new }
+        ensures memory { WantsAfter (planes_early self.old.bytes self.old.state.page self.old.state.limits) result }
     {
         let (alloc, order) = (self.alloc, self.tags.order);
         let source = &mut self.tags.source;
@@ -69,7 +73,8 @@ impl<R: Source> Decoder<R> {
     /// `UnsupportedSampleDepth` or `UnsupportedSampleFormat`; more than `decoding_buffer_size` bytes hold: `LimitsExceeded`.
     #[tactic(auto, unfolding(crate::specs::Outcome::read_chunk))]
     pub fn read_chunk(&mut self, chunk_index: u32) -> TiffResult<DecodingResult>
-        ensures { Follows decoded_as (outcome.read_chunk self.old chunk_index) result self.old self.new }
+        ensures follows { Follows decoded_as (outcome.read_chunk self.old chunk_index) result self.old self.new }
+        ensures memory { WantsAfter (chunk_early self.old.bytes self.old.state.page self.old.state.limits chunk_index) result }
     {
         let (alloc, order) = (self.alloc, self.tags.order);
         let (source, limits) = (&mut self.tags.source, &self.tags.limits);
@@ -107,8 +112,10 @@ impl<R: Source> Decoder<R> {
         chunk_index: u32,
         output_width: usize,
     ) -> TiffResult<()>
-        ensures { Follows (λ _. decoded_as buffer.new) (outcome.read_chunk_to_buffer self.old chunk_index output_width) result
-            self.old self.new }
+        ensures follows { Follows (λ _. decoded_as buffer.new) (outcome.read_chunk_to_buffer self.old chunk_index output_width)
+            result self.old self.new }
+        ensures memory { WantsAfter (strided_early self.old.bytes self.old.state.page self.old.state.limits chunk_index
+            output_width) result }
     {
         let (alloc, order) = (self.alloc, self.tags.order);
         let (source, limits) = (&mut self.tags.source, &self.tags.limits);
