@@ -24,4 +24,5 @@ returns c = (
   p.cut_number,
   p.put_one,
   p.put_two,
+  p.fifth_summed,
 )
