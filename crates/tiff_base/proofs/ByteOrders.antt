@@ -10,7 +10,7 @@ use borrow.Rule.Slice.PartMut.{put_mid}
 use Rattle.tiff_base.specs.declared.tags.ByteOrder.TheVariants.{LittleEndian, BigEndian}
 use Rattle.tiff_base.specs.declared.tags.«Type».{«Type»}
 use Rattle.tiff_base.specs.SourceAndSink.{bytes_at}
-use Rattle.tiff_base.specs.ByteOrders.{unit_size, turned_units, turned, TurnsBack}
+use Rattle.tiff_base.specs.ByteOrders.{unit_size, turned_units, turned_numbers, TurnsBack}
 
 -- ---- the first number, and then the others
 
@@ -66,8 +66,8 @@ units_back size (suc count) bytes h =
 whole_units : (size : ℕ) (bytes : List ℕ) → size * (length bytes / size) ≤ length bytes
 whole_units size bytes = omega (arith, mod-add-div (length bytes) size)
 
-turned_back : (type : «Type») (bytes : List ℕ) → turned type (turned type bytes) ≡ bytes
-unfolding turned
+turned_back : (type : «Type») (bytes : List ℕ) → turned_numbers type (turned_numbers type bytes) ≡ bytes
+unfolding turned_numbers
 turned_back type bytes =
     let size = unit_size type in
     ap (λ (n : ℕ). turned_units size (n / size) (turned_units size (length bytes / size) bytes)) (length-turned_units size (length bytes / size) bytes (whole_units size bytes))

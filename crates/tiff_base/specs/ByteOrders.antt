@@ -19,13 +19,13 @@ abbrev pub turned_units : ℕ → ℕ → List ℕ → List ℕ
 turned_units size count bytes = flat_map (λ i. reverse (bytes_at bytes (size * i) size)) (range_with_len 0 count) ++ drop (size * count) bytes
 
 -- each whole number the other way round; a ragged end stays
-unfoldable pub turned : «Type» → List ℕ → List ℕ
-turned type bytes = turned_units (unit_size type) (length bytes / unit_size type) bytes
+unfoldable pub turned_numbers : «Type» → List ℕ → List ℕ
+turned_numbers type bytes = turned_units (unit_size type) (length bytes / unit_size type) bytes
 
 -- bytes of a type's values from the first order into the second
 abbrev pub convert : «Type» → ByteOrder → List ℕ → ByteOrder → List ℕ
-convert type LittleEndian bytes BigEndian = turned type bytes
-convert type BigEndian bytes LittleEndian = turned type bytes
+convert type LittleEndian bytes BigEndian = turned_numbers type bytes
+convert type BigEndian bytes LittleEndian = turned_numbers type bytes
 convert type from bytes to = bytes
 
 -- The law: there and back restores the bytes.

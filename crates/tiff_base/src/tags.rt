@@ -680,7 +680,7 @@ impl ByteOrder {
     }
 
     /// Turns the numbers of values of a type into another order. A rational is two numbers; a ragged end stays as it is.
-    #[tactic(auto, unfolding(crate::specs::ByteOrders::turned))]
+    #[tactic(auto, unfolding(crate::specs::ByteOrders::turned_numbers))]
     pub fn convert(self, ty: Type, buffer: &mut [u8], to: ByteOrder)
         ensures { buffer.new ≡ convert ty self buffer.old to }
     {

@@ -14,7 +14,7 @@ use Rattle.tiff_base.specs.Directory.{directory_at}
 use Rattle.tiff_base.specs.Field.{DirectoryRecord}
 use Rattle.tiff_base.specs.Header.{Header, header_at}
 use Rattle.tiff_base.proofs.Causes.{cause_along}
-use Rattle.tiff_ifd.specs.Chain.{IsChain, entered as entered_offset, link_from, unless_met}
+use Rattle.tiff_ifd.specs.Chain.{IsChain, enter_at, link_from, unless_met}
 use Rattle.tiff_ifd.specs.Look.{ok_or_fault}
 use Rattle.tiff_ifd.proofs.Chain.{the_chain, apart_chain, same_ok}
 use Rattle.tiff_page.specs.Page.{PageRecord}
@@ -66,15 +66,15 @@ fault_behind link met None ps end m e s h = absurd (cc)
 fault_behind link met (Some n) [] end m e s h = (h.0, h.2)
 fault_behind link met (Some n) (p ∷ ps) end m e s h = absurd (cc)
 
-unlinked : (link : ℕ → Result (Option ℕ) TiffError) (met : List ℕ) (n : ℕ) (after : Option ℕ) → link n ≡ Ok None → entered_offset link met n ≡ Ok after → after ≡ None
+unlinked : (link : ℕ → Result (Option ℕ) TiffError) (met : List ℕ) (n : ℕ) (after : Option ℕ) → link n ≡ Ok None → enter_at link met n ≡ Ok after → after ≡ None
 unlinked link met n after l h =
-    same_ok (entered_offset link met n) after None h (ap (λ (r : Result (Option ℕ) TiffError). r >>= unless_met (n ∷ met)) l)
+    same_ok (enter_at link met n) after None h (ap (λ (r : Result (Option ℕ) TiffError). r >>= unless_met (n ∷ met)) l)
 
 unless_cyclic : (b : Bool) (m : ℕ) (after : Option ℕ) → cond b (Err (FormatError CycleInOffsets)) (Ok (Some m)) ≡ Ok after → after ≡ Some m
 unless_cyclic true m after h = absurd (cc)
 unless_cyclic false m after h = cc
 
-linked : (link : ℕ → Result (Option ℕ) TiffError) (met : List ℕ) (n m : ℕ) (after : Option ℕ) → link n ≡ Ok (Some m) → entered_offset link met n ≡ Ok after → after ≡ Some m
+linked : (link : ℕ → Result (Option ℕ) TiffError) (met : List ℕ) (n m : ℕ) (after : Option ℕ) → link n ≡ Ok (Some m) → enter_at link met n ≡ Ok after → after ≡ Some m
 linked link met n m after l h =
     unless_cyclic (list_any (nat_eq m) (n ∷ met)) m after (sym (ap (λ (r : Result (Option ℕ) TiffError). r >>= unless_met (n ∷ met)) l) ∙ h)
 

@@ -9,7 +9,7 @@ use Rattle.tiff_base.specs.Field.{DirectoryRecord}
 use Rattle.tiff_base.specs.Header.{Header, header_at}
 use Rattle.tiff_base.proofs.Causes.{cause_along}
 use Rattle.tiff_ifd.specs.declared.limits.Limits.{Limits}
-use Rattle.tiff_ifd.specs.Chain.{Chain, chain, walk, onto, entered, link_from}
+use Rattle.tiff_ifd.specs.Chain.{Chain, chain, walk, onto, enter_at, link_from}
 use Rattle.tiff_ifd.specs.Look.{ok_or_fault}
 use Rattle.tiff_ifd.specs.Walk.{Walked, Enters, NextIsRefused, WalkSteps}
 use Rattle.tiff_page.specs.Page.{PageRecord}
@@ -28,14 +28,14 @@ of_onto offset (Ok after) rest = refl
 of_onto offset (Err e) rest = refl
 
 of_walk : (link : ℕ → Result (Option ℕ) TiffError) (steps first : ℕ)
-    → first_of (walk link steps [] (Some first)) ≡ (entered link [] first >>= λ _. Ok first)
+    → first_of (walk link steps [] (Some first)) ≡ (enter_at link [] first >>= λ _. Ok first)
 unfolding first_of
-of_walk link zero first = of_onto first (entered link [] first) _
-of_walk link (suc steps) first = of_onto first (entered link [] first) _
+of_walk link zero first = of_onto first (enter_at link [] first) _
+of_walk link (suc steps) first = of_onto first (enter_at link [] first) _
 
 -- the first offset is entered where its directory is read and isn't its own next one
 first_is : (header : Header) (bytes : List ℕ)
-    → first_of (chain_from header bytes) ≡ (entered (link_from header.kind header.order bytes) [] header.first >>= λ _. Ok header.first)
+    → first_of (chain_from header bytes) ≡ (enter_at (link_from header.kind header.order bytes) [] header.first >>= λ _. Ok header.first)
 unfolding chain first_of
 first_is header bytes = of_walk (link_from header.kind header.order bytes) (length bytes) header.first
 
@@ -46,7 +46,7 @@ rest header bytes r = r >>= λ offset. directory_at header.kind header.order byt
 -- with this header, of a chain whose first offset is entered or isn't
 with_header : (header : Header) (bytes : List ℕ) → header_at bytes ≡ Ok header
     → first_directory bytes
-    ≡ rest header bytes (entered (link_from header.kind header.order bytes) [] header.first >>= λ _. Ok header.first)
+    ≡ rest header bytes (enter_at (link_from header.kind header.order bytes) [] header.first >>= λ _. Ok header.first)
 unfolding first_directory rest first_of
 with_header header bytes h =
     ap (λ (r : Result Header TiffError). r >>= λ x. rest x bytes (first_of (chain_from x bytes))) h
@@ -77,8 +77,8 @@ unentered failed failed' bytes told header before after e f same h b c =
     (λ s. (let P : List ℕ → Type 0 = λ k. NextIsRefused header.kind header.order k before e in
     let Q : Walked → Type 0 = λ w. NextIsRefused header.kind header.order bytes w e in
     let r : NextIsRefused header.kind header.order bytes (begun_at header) e = subst Q b (subst P same s.0) in
-    let E : ℕ → Type 0 = λ p. entered (link_from header.kind header.order bytes) [] p ≡ Err e in
-    let at_first : entered (link_from header.kind header.order bytes) [] header.first ≡ Err e = subst E (same_offset header r.offset r.next) r.refused in
+    let E : ℕ → Type 0 = λ p. enter_at (link_from header.kind header.order bytes) [] p ≡ Err e in
+    let at_first : enter_at (link_from header.kind header.order bytes) [] header.first ≡ Err e = subst E (same_offset header r.offset r.next) r.refused in
     with_header header bytes h
     ∙ ap (λ (x : Result (Option ℕ) TiffError). rest header bytes (x >>= λ _. Ok header.first)) at_first))
     c
@@ -92,8 +92,8 @@ first_entered bytes told header before after d same h b s =
     let P : List ℕ → Type 0 = λ k. Enters header.kind header.order k before d after in
     let Q : Walked → Type 0 = λ w. Enters header.kind header.order bytes w d after in
     let r : Enters header.kind header.order bytes (begun_at header) d after = subst Q b (subst P same s) in
-    let E : ℕ → Type 0 = λ p. entered (link_from header.kind header.order bytes) [] p ≡ Ok d.next in
-    let at_first : entered (link_from header.kind header.order bytes) [] header.first ≡ Ok d.next = subst E (same_offset header r.offset r.next) r.entered in
+    let E : ℕ → Type 0 = λ p. enter_at (link_from header.kind header.order bytes) [] p ≡ Ok d.next in
+    let at_first : enter_at (link_from header.kind header.order bytes) [] header.first ≡ Ok d.next = subst E (same_offset header r.offset r.next) r.entered in
     let D : ℕ → Type 0 = λ p. directory_at header.kind header.order bytes p ≡ Ok d in
     let there_is : directory_at header.kind header.order bytes header.first ≡ Ok d = subst D (same_offset header r.offset r.next) r.read in
     with_header header bytes h

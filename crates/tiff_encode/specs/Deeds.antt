@@ -8,7 +8,7 @@ use Rattle.tiff_base.specs.Field.{Field}
 use Rattle.tiff_base.specs.Number.{le}
 use Rattle.tiff_base.specs.SourceAndSink.{put}
 use Rattle.tiff_encode.specs.FileBytes.{offset_len, directory_bytes}
-use Rattle.tiff_encode.specs.Model.{HandedField, Model, with_region, with_handed, with_directory, relinked}
+use Rattle.tiff_encode.specs.Model.{HandedField, Model, with_region, with_handed, with_directory, with_link}
 
 -- what is done to a file: bytes are appended; bytes are handed in for a field, which stand in it or were appended
 -- before; a directory is appended, with link 0; the link at an offset is pointed to another
@@ -51,7 +51,7 @@ abbrev pub model_after_deed : FileKind → ℕ → Model → Deed → Model
 model_after_deed kind n m (Appended more) = with_region m (record { offset = n; bytes = more })
 model_after_deed kind n m (Handed handed) = with_handed m handed
 model_after_deed kind n m (Listed fields) = with_directory kind m (record { offset = n; fields = standing_fields kind fields })
-model_after_deed kind n m (Linked offset target) = relinked kind m offset target
+model_after_deed kind n m (Linked offset target) = with_link kind m offset target
 
 abbrev pub model_after : FileKind → List ℕ → Model → List Deed → Model
 model_after kind bytes m [] = m

@@ -30,7 +30,7 @@ use Rattle.tiff_encode.specs.declared.encoder.script.StepReply.TheVariants as re
 use Rattle.tiff_encode.specs.declared.encoder.script.EndReply.{EndReply}
 use Rattle.tiff_encode.specs.declared.encoder.script.EndReply.TheVariants as last
 use Rattle.tiff_encode.specs.declared.encoder.script.JobReply.{JobReply}
-use Rattle.tiff_encode.specs.Model.{Model, In, Stands, header_model, relinked}
+use Rattle.tiff_encode.specs.Model.{Model, In, Stands, header_model, with_link}
 use Rattle.tiff_encode.specs.Shows.{Image, Shows}
 use Rattle.tiff_encode.specs.Encoder.{HeaderFails}
 use Rattle.tiff_encode.specs.Deeds.{model_after}
@@ -60,7 +60,7 @@ pub record IsDone {A : Type 0} (told : WriteOutcome A) (r : Result A TiffError) 
 pub record IsTornAway {A : Type 0} (told : WriteOutcome A) (e : TiffError) (old new : Standing) : Type 0 where
   pub torn : IsTornOff told.deeds e old.file new.file
   pub holds : ℕ
-  pub model : new.model ≡ relinked old.file.kind (model_after old.file.kind old.file.bytes old.model torn.before) torn.offset holds
+  pub model : new.model ≡ with_link old.file.kind (model_after old.file.kind old.file.bytes old.model torn.before) torn.offset holds
 
 -- The sink failed while the call appended: what stood stands.
 abbrev pub IsCutShort : {A : Type 0} → WriteOutcome A → TiffError → Standing → Standing → Type 0

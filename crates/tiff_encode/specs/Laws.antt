@@ -11,7 +11,7 @@ use Rattle.tiff_base.specs.Number.{le}
 use Rattle.tiff_base.specs.FieldBytes.{field_len, field_offset}
 use Rattle.tiff_encode.specs.FileBytes.{offset_len, count_len, header_bytes, directory_bytes}
 use Rattle.tiff_encode.specs.Deeds.{Deed, Appended, Handed, Listed, Linked, after_deed, bytes_after, all_appended, standing_fields, model_after_deed, model_after}
-use Rattle.tiff_encode.specs.Model.{In, FinishedDirectory, HandedField, ByteRegion, Model, header_link, own_link, IsLink, Stands, header_model, relinked, with_directory, with_region, with_handed, Grows}
+use Rattle.tiff_encode.specs.Model.{In, FinishedDirectory, HandedField, ByteRegion, Model, header_link, own_link, IsLink, Stands, header_model, with_link, with_directory, with_region, with_handed, Grows}
 
 -- a field that can be an entry
 pub record IsListable (kind : FileKind) (tag : ℕ) (f : Field) : Type 0 where
@@ -33,12 +33,12 @@ KeptByAppending = (kind : FileKind) (m : Model) (file more : List ℕ) → Stand
 
 abbrev pub KeptByPatching : Type 0
 KeptByPatching = (kind : FileKind) (m : Model) (file : List ℕ) (q t : ℕ) → IsLink kind m q → t < 256 ^ offset_len kind → Stands kind file m
-    → Stands kind (put file q (le (offset_len kind) t)) (relinked kind m q t)
+    → Stands kind (put file q (le (offset_len kind) t)) (with_link kind m q t)
 
 -- a patch that broke off: the link field holds some number, and all else stands
 abbrev pub KeptByTearing : Type 0
 KeptByTearing = (kind : FileKind) (m : Model) (file : List ℕ) (q : ℕ) (over : List ℕ) → IsLink kind m q → length over ≤ offset_len kind → Stands kind file m
-    → (t : ℕ) × Stands kind (put file q over) (relinked kind m q t)
+    → (t : ℕ) × Stands kind (put file q over) (with_link kind m q t)
 
 abbrev pub GrownByRegion : Type 0
 GrownByRegion = (kind : FileKind) (m : Model) (file more : List ℕ) → Stands kind file m
@@ -65,7 +65,7 @@ abbrev pub FinishStep : Type 0
 FinishStep = (kind : FileKind) (m : Model) (file : List ℕ) (fields : FinMap nat_cmp Field) (parent : ℕ) → AreListable kind fields
     → length file < 256 ^ offset_len kind → IsLink kind m parent → Stands kind file m
     → Stands kind (put (file ++ directory_bytes kind fields) parent (le (offset_len kind) (length file)))
-    (relinked kind (with_directory kind m (record { offset = length file; fields = standing_fields kind fields })) parent (length file))
+    (with_link kind (with_directory kind m (record { offset = length file; fields = standing_fields kind fields })) parent (length file))
 
 -- ---- deeds
 
@@ -123,7 +123,7 @@ abbrev pub DeedsTorn : Type 0
 DeedsTorn = (kind : FileKind) (bytes : List ℕ) (m : Model) (before : List Deed) (offset target count : ℕ) → AreAppending before
     → Stands kind bytes m → DeedsFit kind bytes m (before ++ Linked offset target ∷ [])
     → (t : ℕ) × Stands kind (put (bytes ++ all_appended kind before) offset (take count (le (offset_len kind) target)))
-    (relinked kind (model_after kind bytes m before) offset t)
+    (with_link kind (model_after kind bytes m before) offset t)
 
 -- some deeds, and more after them
 abbrev pub DeedsJoin : Type 0

@@ -2,7 +2,7 @@
 use Rattle.std.specs.Prelude.{ℕ, ◌^◌, ◌<◌, ◌⊎◌, length, Result, Ok, Err}
 use Rattle.tiff_base.specs.declared.error.TiffError.{TiffError}
 use Rattle.tiff_value.specs.Data.{FieldData, IsWhole}
-use Rattle.tiff_encode.specs.Model.{Model, Stands, relinked}
+use Rattle.tiff_encode.specs.Model.{Model, Stands, with_link}
 use Rattle.tiff_encode.specs.Deeds.{model_after}
 use Rattle.tiff_encode.specs.Machine.{FileState, WriteOutcome}
 use Rattle.tiff_encode.specs.Ends.{IsTornOff}
@@ -11,7 +11,7 @@ use Rattle.tiff_encode.specs.Ends.{IsTornOff}
 pub record LeavesTorn {A : Type 0} (told : WriteOutcome A) (e : TiffError) (old new : FileState) (m : Model) : Type 0 where
   pub torn : IsTornOff told.deeds e old new
   pub holds : ℕ
-  pub stands : Stands old.kind new.bytes (relinked old.kind (model_after old.kind old.bytes m torn.before) torn.offset holds)
+  pub stands : Stands old.kind new.bytes (with_link old.kind (model_after old.kind old.bytes m torn.before) torn.offset holds)
 
 -- A call that appends: all that it did stands; where it failed, what stood stands.
 abbrev pub Leaves : {X Y : Type 0} → WriteOutcome Y → Result X TiffError → FileState → FileState → Model → Type 0

@@ -97,8 +97,8 @@ module _ (kind : FileKind) where
   header_model = record { directories = []; handed = []; regions = []; links = λ p. 0 }
 
   -- the model with the link at q pointing to t
-  abbrev pub relinked : Model → ℕ → ℕ → Model
-  relinked m q t = record m { links = λ p. if p == q then t else m.links p }
+  abbrev pub with_link : Model → ℕ → ℕ → Model
+  with_link m q t = record m { links = λ p. if p == q then t else m.links p }
 
   -- the model with one more finished directory, whose link is 0
   abbrev pub with_directory : Model → FinishedDirectory → Model

@@ -7,7 +7,7 @@ use Rattle.tiff_ifd.specs.declared.limits.Limits.{Limits}
 use Rattle.tiff_page.specs.declared.layout.DecodingSampleType.{DecodingSampleType}
 use Rattle.tiff_page.specs.Page.{PageRecord}
 use Rattle.tiff_page.specs.Rect.{chunks_of_plane}
-use Rattle.tiff_page.specs.Layout.{shown, planes, row_bytes, whole_chroma, sample_type_of}
+use Rattle.tiff_page.specs.Layout.{samples_in_chunk, planes, row_bytes, whole_chroma, sample_type_of}
 use Rattle.tiff_page.specs.PixelFault.{is_plain, predictor_fault, method_fault, white_fault}
 use Rattle.tiff_page.specs.Pixels.{each_to}
 use Rattle.tiff_page.specs.Row.{IsSize}
@@ -23,13 +23,13 @@ use Rattle.tiff_encode.specs.ImageData.{image_of_samples}
 -- those of the first plane
 abbrev pub samples_shown : Image → PageRecord → ColorType → List ℕ
 samples_shown i p color =
-    let s = shown p.planar color in
+    let s = samples_in_chunk p.planar color in
     each_to (p.height * p.width * s) (λ n. i.sample_at (n / s % p.width) (n / s / p.width) (n % s))
 
 -- where a plane shows all samples of a pixel, those of an image that was handed in whole are in the order in which they
 -- were handed in
 abbrev pub ShownInOrder : Type 0
-ShownInOrder = (i : OpenImage) (samples : List ℕ) (p : PageRecord) (color : ColorType) → p.width ≡ i.width → shown p.planar color ≡ all_samples i
+ShownInOrder = (i : OpenImage) (samples : List ℕ) (p : PageRecord) (color : ColorType) → p.width ≡ i.width → samples_in_chunk p.planar color ≡ all_samples i
     → length samples ≡ p.height * p.width * all_samples i → samples_shown (image_of_samples i samples) p color ≡ samples
 
 -- Each sample of an image has so many bytes, and is a number of these.

@@ -18,7 +18,7 @@ use Rattle.tiff_base.specs.Field.{DirectoryRecord}
 use Rattle.tiff_base.specs.Directory.{directory_at, link, link_offset, count_width, offset_width}
 use Rattle.tiff_base.specs.Number.{number_at}
 use Rattle.tiff_base.proofs.Causes.{cause_along}
-use Rattle.tiff_ifd.specs.Chain.{link_from, unless_met, entered, IsChain, Chain, chain}
+use Rattle.tiff_ifd.specs.Chain.{link_from, unless_met, enter_at, IsChain, Chain, chain}
 use Rattle.tiff_ifd.specs.Links.{Links, link_target, Goes, Closes, HasAnother, IsClosing, IsNew, Inserts}
 use Rattle.tiff_ifd.specs.Walk.{Walked, AreLinked, Enters, NextIsRefused, WalkSteps, ChainBegins, ChainEnds}
 use Rattle.tiff_ifd.proofs.Chain.{IsFalseBit, equal_numbers, not_both, same_ok, same_err, the_chain}
@@ -188,7 +188,7 @@ none_begun kind order bytes first = record { rest = (chain kind order bytes firs
 module _ (kind : FileKind) (order : ByteOrder) (bytes : List ℕ) where
   -- why an offset isn't entered, or that it is
   told : (met : List ℕ) (offset : ℕ) (r : Result DirectoryRecord TiffError) → directory_at kind order bytes offset ≡ r
-      → entered (link_from kind order bytes) met offset ≡ (r >>= (λ d. Ok d.next) >>= unless_met (offset ∷ met))
+      → enter_at (link_from kind order bytes) met offset ≡ (r >>= (λ d. Ok d.next) >>= unless_met (offset ∷ met))
   told met offset r h = ap (λ (x : Result DirectoryRecord TiffError). x >>= (λ d. Ok d.next) >>= unless_met (offset ∷ met)) h
 
   pub unread : (before : Walked) (offset : ℕ) (e : TiffError) → before.next ≡ Some offset → directory_at kind order bytes offset ≡ Err e → NextIsRefused kind order bytes before e
@@ -205,20 +205,20 @@ module _ (kind : FileKind) (order : ByteOrder) (bytes : List ℕ) where
       record { offset = offset; next = n; read = h; entered = told (reverse before.offsets) offset (Ok d) h ∙ m; walked = w }
 
   -- the rest of a chain whose next offset is entered
-  rest_on : (met : List ℕ) (offset : ℕ) (after : Option ℕ) (rest : List ℕ) (end : Option TiffError) → entered (link_from kind order bytes) met offset ≡ Ok after
+  rest_on : (met : List ℕ) (offset : ℕ) (after : Option ℕ) (rest : List ℕ) (end : Option TiffError) → enter_at (link_from kind order bytes) met offset ≡ Ok after
       → IsChain (link_from kind order bytes) met (Some offset) rest end
       → (left : List ℕ) × (rest ≡ offset ∷ left) × IsChain (link_from kind order bytes) (offset ∷ met) after left end
-  rest_on met offset after [] end h c = absurd (not_both (entered (link_from kind order bytes) met offset) after c.0 h c.1)
+  rest_on met offset after [] end h c = absurd (not_both (enter_at (link_from kind order bytes) met offset) after c.0 h c.1)
   rest_on met offset after (q ∷ rest) end h c =
-      let same : c.1 ≡ after = same_ok (entered (link_from kind order bytes) met offset) c.1 after c.2 h in
+      let same : c.1 ≡ after = same_ok (enter_at (link_from kind order bytes) met offset) c.1 after c.2 h in
       let P : Option ℕ → Type 0 = λ a. IsChain (link_from kind order bytes) (offset ∷ met) a rest end in
       (rest, ap (λ (x : ℕ). x ∷ rest) c.0, subst P same c.3)
 
   -- of a chain whose next offset isn't entered nothing is left
-  rest_cut : (met : List ℕ) (offset : ℕ) (e : TiffError) (rest : List ℕ) (end : Option TiffError) → entered (link_from kind order bytes) met offset ≡ Err e
+  rest_cut : (met : List ℕ) (offset : ℕ) (e : TiffError) (rest : List ℕ) (end : Option TiffError) → enter_at (link_from kind order bytes) met offset ≡ Err e
       → IsChain (link_from kind order bytes) met (Some offset) rest end → (rest ≡ []) × (end ≡ Some e)
-  rest_cut met offset e [] end h c = (refl, c.2 ∙ ap Some (same_err (entered (link_from kind order bytes) met offset) c.0 e c.1 h))
-  rest_cut met offset e (q ∷ rest) end h c = absurd (not_both (entered (link_from kind order bytes) met offset) c.1 e c.2 h)
+  rest_cut met offset e [] end h c = (refl, c.2 ∙ ap Some (same_err (enter_at (link_from kind order bytes) met offset) c.0 e c.1 h))
+  rest_cut met offset e (q ∷ rest) end h c = absurd (not_both (enter_at (link_from kind order bytes) met offset) c.1 e c.2 h)
 
   rest_none : (met rest : List ℕ) (end : Option TiffError) → IsChain (link_from kind order bytes) met None rest end → (rest ≡ []) × (end ≡ None)
   rest_none met [] end c = (refl, c)

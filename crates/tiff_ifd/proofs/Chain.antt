@@ -19,7 +19,7 @@ use Rattle.tiff_base.specs.Number.{number_at}
 use Rattle.tiff_base.specs.Field.{DirectoryRecord}
 use Rattle.tiff_base.specs.Directory.{directory_at, count_width, offset_width, link_offset, first_entry, entries_from, last_of_each, link}
 use Rattle.tiff_ifd.proofs.Entries.{number_past}
-use Rattle.tiff_ifd.specs.Chain.{link_from, unless_met, entered, AreEntered, IsChain, Chain, onto, walk, chain, IsTheChain, IsOneChain, IsLongestChain, IsChainApart}
+use Rattle.tiff_ifd.specs.Chain.{link_from, unless_met, enter_at, AreEntered, IsChain, Chain, onto, walk, chain, IsTheChain, IsOneChain, IsLongestChain, IsChainApart}
 
 abbrev Link : Type 0
 Link = Result (Option ℕ) TiffError
@@ -59,11 +59,11 @@ one_of : (link : ℕ → Link) (met : List ℕ) (next : Option ℕ) (ps qs : Lis
 one_of link met None [] [] e f c d = (refl, c ∙ sym d)
 one_of link met None [] (q ∷ qs) e f c d = absurd d
 one_of link met None (p ∷ ps) qs e f c d = absurd c
-one_of link met (Some n) [] [] e f c d = (refl, c.2 ∙ ap Some (same_err (entered link met n) c.0 d.0 c.1 d.1) ∙ sym d.2)
-one_of link met (Some n) [] (q ∷ qs) e f c d = absurd (not_both (entered link met n) d.1 c.0 d.2 c.1)
-one_of link met (Some n) (p ∷ ps) [] e f c d = absurd (not_both (entered link met n) c.1 d.0 c.2 d.1)
+one_of link met (Some n) [] [] e f c d = (refl, c.2 ∙ ap Some (same_err (enter_at link met n) c.0 d.0 c.1 d.1) ∙ sym d.2)
+one_of link met (Some n) [] (q ∷ qs) e f c d = absurd (not_both (enter_at link met n) d.1 c.0 d.2 c.1)
+one_of link met (Some n) (p ∷ ps) [] e f c d = absurd (not_both (enter_at link met n) c.1 d.0 c.2 d.1)
 one_of link met (Some n) (p ∷ ps) (q ∷ qs) e f c d =
-    let same : c.1 ≡ d.1 = same_ok (entered link met n) c.1 d.1 c.2 d.2 in
+    let same : c.1 ≡ d.1 = same_ok (enter_at link met n) c.1 d.1 c.2 d.2 in
     let P : Option ℕ → Type 0 = λ a. IsChain link (n ∷ met) a qs f in
     let rest = one_of link (n ∷ met) c.1 ps qs e f c.3 (subst P (sym same) d.3) in
     let head : p ≡ q = c.0 ∙ sym d.0 in
@@ -84,9 +84,9 @@ begins : (link : ℕ → Link) (met : List ℕ) (next : Option ℕ) (ps qs : Lis
     → IsChain link met next ps e → AreEntered link met next qs → (rest : List ℕ) × (ps ≡ qs ++ rest)
 begins link met next ps [] e c d = (ps, refl)
 begins link met None ps (q ∷ qs) e c d = absurd d
-begins link met (Some n) [] (q ∷ qs) e c d = absurd (not_both (entered link met n) d.1 c.0 d.2 c.1)
+begins link met (Some n) [] (q ∷ qs) e c d = absurd (not_both (enter_at link met n) d.1 c.0 d.2 c.1)
 begins link met (Some n) (p ∷ ps) (q ∷ qs) e c d =
-    let same : c.1 ≡ d.1 = same_ok (entered link met n) c.1 d.1 c.2 d.2 in
+    let same : c.1 ≡ d.1 = same_ok (enter_at link met n) c.1 d.1 c.2 d.2 in
     let P : Option ℕ → Type 0 = λ a. AreEntered link (n ∷ met) a qs in
     let rest = begins link (n ∷ met) c.1 ps qs e c.3 (subst P (sym same) d.3) in
     let head : p ≡ q = c.0 ∙ sym d.0 in
@@ -163,7 +163,7 @@ full len p met l n k f =
     let most : length (p ∷ met) ≤ len = length-le_from_distinct_below (p ∷ met) len more.distinct more.below in
     omega (arith, most, f)
 
-read_within : (link : ℕ → Link) (len : ℕ) → Within len link → (met : List ℕ) (p : ℕ) (after : Option ℕ) → entered link met p ≡ Ok after → p < len
+read_within : (link : ℕ → Link) (len : ℕ) → Within len link → (met : List ℕ) (p : ℕ) (after : Option ℕ) → enter_at link met p ≡ Ok after → p < len
 read_within link len w met p after h = (let r = was_read (p ∷ met) (link p) after h in w p r.0 r.1)
 
 none_distinct : IsDistinct nat_eq []
@@ -177,8 +177,8 @@ none_known len = record { distinct = none_distinct; below = λ q h. absurd (subs
 abbrev Walked : (ℕ → Link) → List ℕ → Option ℕ → Chain → Type 0
 Walked link met next c = IsChain link met next c.offsets c.end
 
-on : (link : ℕ → Link) (met : List ℕ) (p : ℕ) (rest : Option ℕ → Chain) (r : Link) → entered link met p ≡ r
-    → ((after : Option ℕ) → entered link met p ≡ Ok after → Walked link (p ∷ met) after (rest after)) → Walked link met (Some p) (onto p r rest)
+on : (link : ℕ → Link) (met : List ℕ) (p : ℕ) (rest : Option ℕ → Chain) (r : Link) → enter_at link met p ≡ r
+    → ((after : Option ℕ) → enter_at link met p ≡ Ok after → Walked link (p ∷ met) after (rest after)) → Walked link met (Some p) (onto p r rest)
 on link met p rest (Err e) h f = (e, h, refl)
 on link met p rest (Ok after) h f = (refl, after, h, f after h)
 
@@ -186,10 +186,10 @@ walked : (link : ℕ → Link) (len : ℕ) → Within len link → (fuel : ℕ) 
     → len ≤ fuel + length met → Known len met → IsNew met next → Walked link met next (walk link fuel met next)
 walked link len w fuel met None f k n = refl
 walked link len w zero met (Some p) f k n =
-    on link met p (λ _. record { offsets = []; end = None }) (entered link met p) refl (λ after h.
+    on link met p (λ _. record { offsets = []; end = None }) (enter_at link met p) refl (λ after h.
     absurd (full len p met (read_within link len w met p after h) n k (omega (arith, f))))
 walked link len w (suc fuel) met (Some p) f k n =
-    on link met p (walk link fuel (p ∷ met)) (entered link met p) refl (λ after h.
+    on link met p (walk link fuel (p ∷ met)) (enter_at link met p) refl (λ after h.
     walked link len w fuel (p ∷ met) after (omega (arith, f))
     (known_more len p met (read_within link len w met p after h) n k)
     (is_new (p ∷ met) (link p) after h))

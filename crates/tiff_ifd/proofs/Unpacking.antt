@@ -17,7 +17,7 @@ use Rattle.tiff_base.proofs.Causes.{cause_along}
 use Rattle.tiff_ifd.specs.declared.packbits.Block.{Block}
 use Rattle.tiff_ifd.specs.declared.packbits.Block.TheVariants.{Literal, Run}
 use Rattle.tiff_ifd.specs.declared.packbits.PackedPosition.{PackedPosition}
-use Rattle.tiff_ifd.specs.Unpacking.{unpacked_at, ended, left_in, left_at, count_of, GivesNext, IsBroken, HasTooFew}
+use Rattle.tiff_ifd.specs.Unpacking.{unpacked_at, nothing_left, left_in, left_at, count_of, GivesNext, IsBroken, HasTooFew}
 
 -- ---- a byte of the source
 
@@ -70,7 +70,7 @@ packed_nil s at len (inr a) = nil_from_length (bytes_at s at len) (omega (arith,
 pub before_before : (xs ys : List ℕ) (u : Unpacked) → with_front xs (with_front ys u) ≡ with_front (xs ++ ys) u
 before_before xs ys u = ap (λ (zs : List ℕ). let r : Unpacked = record { out = zs; end = u.end } in r) (sym (append_assoc xs ys u.out))
 
-runs_nil : (early : Bool) → runs early [] ≡ ended (cond early Broken Plain)
+runs_nil : (early : Bool) → runs early [] ≡ nothing_left (cond early Broken Plain)
 unfolding runs_after
 runs_nil early = refl
 
@@ -95,16 +95,16 @@ run_begun s at len n value a b e h v =
     ∙ rw (early_next s (at + 1) (len - 1) 1 (omega (arith, a)) (omega (arith, b))) refl)
 
 -- the source ends where a header would be
-pub header_missing : (s : List ℕ) (at len : ℕ) → 0 < len → length s ≤ at → unpacked_at s at len ≡ ended Broken
+pub header_missing : (s : List ℕ) (at len : ℕ) → 0 < len → length s ≤ at → unpacked_at s at len ≡ nothing_left Broken
 header_missing s at len a b = rw (packed_nil s at len (inr b), lt-ltb (length s - at) len (omega (arith, a, b))) (runs_nil true)
 
 -- a header of a run stands last, in the source or of the packed bytes
 pub value_missing : (s : List ℕ) (at len n : ℕ) → 0 < len → at < length s → n ≡ get_or s at 0 → 128 < n → (len - 1 ≡ 0) ⊎ (length s ≤ at + 1)
-    → unpacked_at s at len ≡ ended Broken
+    → unpacked_at s at len ≡ nothing_left Broken
 value_missing s at len n a b e h m =
     at_header s at len a b ∙ rw (packed_nil s (at + 1) (len - 1) m, ← e) (runs_broken (ltb (length s - (at + 1)) (len - 1)) n h)
 
-pub all_read : (s : List ℕ) (at len : ℕ) → len ≡ 0 → unpacked_at s at len ≡ ended Plain
+pub all_read : (s : List ℕ) (at len : ℕ) → len ≡ 0 → unpacked_at s at len ≡ nothing_left Plain
 all_read s at len a = rw (packed_nil s at len (inl a), le-ltb (length s - at) len (omega (arith, a))) (runs_nil false)
 
 -- why the next block isn't found
@@ -127,7 +127,7 @@ used_in (Run value n) early P e = ap (λ (m : ℕ). left_in (Run value m) early 
 pub used_up : (s : List ℕ) (offset : PackedPosition) → count_of offset.block ≡ 0 → left_at s offset ≡ unpacked_at s offset.at offset.len
 used_up s offset e = used_in offset.block (ltb (length s - offset.at) offset.len) (bytes_at s offset.at offset.len) e
 
-literal_nil : (n : ℕ) (early : Bool) → 0 < n → left_in (Literal n) early [] ≡ ended Plain
+literal_nil : (n : ℕ) (early : Bool) → 0 < n → left_in (Literal n) early [] ≡ nothing_left Plain
 unfolding runs_after
 literal_nil zero early a = absurd (omega (arith, a))
 literal_nil (suc n) early a = refl
@@ -146,7 +146,7 @@ literal_part s at len c n d a b =
     ∙ rw (early_next s at len n a b, packed_next s at len n a, runs_after_add n (c - n) (ltb (length s - at) len) (bytes_at s at len) (packed_length s at len n a b), take-add n (c - n) (bytes_at s at len), take-take n len (drop at s) a)
     (sym (before_before (take n (drop at s)) (take (c - n) (drop n (bytes_at s at len))) (runs_after (c - n) (ltb (length s - at) len) (drop n (bytes_at s at len)))))
 
-pub literal_cut : (s : List ℕ) (at len c : ℕ) → 0 < c → (len ≡ 0) ⊎ (length s ≤ at) → left_at s (record { block = Literal c; at = at; len = len }) ≡ ended Plain
+pub literal_cut : (s : List ℕ) (at len c : ℕ) → 0 < c → (len ≡ 0) ⊎ (length s ≤ at) → left_at s (record { block = Literal c; at = at; len = len }) ≡ nothing_left Plain
 literal_cut s at len c a e = rw (packed_nil s at len e) (literal_nil c (ltb (length s - at) len) a)
 
 -- ---- into a buffer
@@ -157,7 +157,7 @@ behind_part old n most a b =
     sym (drop-append-le n (take most old) (drop most old) l) ∙ ap (drop n) (take-append-drop most old)
 
 gives : (left rest : Unpacked) (old xs part : List ℕ) (n most : ℕ) → n ≤ most → most ≤ length old → part ≡ xs ++ drop n (take most old) → length xs ≡ n
-    → left ≡ with_front xs rest → (n ≡ 0 → left ≡ ended Plain) → GivesNext left old n (part ++ drop most old) rest
+    → left ≡ with_front xs rest → (n ≡ 0 → left ≡ nothing_left Plain) → GivesNext left old n (part ++ drop most old) rest
 gives left rest old xs part n most a b p l g z =
     let e : part ++ drop most old ≡ xs ++ drop n old =
     ap (λ (ys : List ℕ). ys ++ drop most old) p ∙ append_assoc xs (drop n (take most old)) (drop most old) ∙ ap (λ (ys : List ℕ). xs ++ ys) (behind_part old n most a b) in
@@ -236,7 +236,7 @@ room_behind buf part old done k n h l g =
     omega (arith, length-append (take done buf) (part ++ post_of done k buf), length-append part (post_of done k buf), length-take-le done buf h, h, l, g)
 
 -- at an end there are fewer bytes than the buffer has room for
-pub short_by : (first left : Unpacked) (end : End) (buf : List ℕ) (done : ℕ) → done < length buf → first ≡ with_front (take done buf) left → left ≡ ended end → length first.out < length buf
+pub short_by : (first left : Unpacked) (end : End) (buf : List ℕ) (done : ℕ) → done < length buf → first ≡ with_front (take done buf) left → left ≡ nothing_left end → length first.out < length buf
 short_by first left end buf done h e f =
     let l : length first.out ≡ length (take done buf ++ left.out) = ap (λ (u : Unpacked). length u.out) e in
     let m : left.out ≡ [] = ap (λ (u : Unpacked). u.out) f in

@@ -23,22 +23,22 @@ unless_met met (Some next) = if list_any (nat_eq next) met then Err (FormatError
 module _ (link : ℕ → Result (Option ℕ) TiffError) where
   -- to enter the directory at an offset after these others: its link, or why it isn't entered; it is unreadable, or its link
   -- is one of the offsets up to and with it
-  abbrev pub entered : List ℕ → ℕ → Result (Option ℕ) TiffError
-  entered met offset = link offset >>= unless_met (offset ∷ met)
+  abbrev pub enter_at : List ℕ → ℕ → Result (Option ℕ) TiffError
+  enter_at met offset = link offset >>= unless_met (offset ∷ met)
 
   -- Offsets that are entered one after another, from the next one on, after these others.
   abbrev pub AreEntered : List ℕ → Option ℕ → List ℕ → Type 0
   AreEntered met next [] = Unit {0}
   AreEntered met None (offset ∷ offsets) = ⊥
-  AreEntered met (Some next) (offset ∷ offsets) = (offset ≡ next) × (after : Option ℕ) × (entered met next ≡ Ok after) × AreEntered (next ∷ met) after offsets
+  AreEntered met (Some next) (offset ∷ offsets) = (offset ≡ next) × (after : Option ℕ) × (enter_at met next ≡ Ok after) × AreEntered (next ∷ met) after offsets
 
   -- The offsets that are entered, from the next one on, after these others; and the end: none at a link of 0, else the fault
   -- of the directory that isn't entered.
   abbrev pub IsChain : List ℕ → Option ℕ → List ℕ → Option TiffError → Type 0
   IsChain met None [] end = end ≡ None
   IsChain met None (offset ∷ offsets) end = ⊥
-  IsChain met (Some next) [] end = (e : TiffError) × (entered met next ≡ Err e) × (end ≡ Some e)
-  IsChain met (Some next) (offset ∷ offsets) end = (offset ≡ next) × (after : Option ℕ) × (entered met next ≡ Ok after) × IsChain (next ∷ met) after offsets end
+  IsChain met (Some next) [] end = (e : TiffError) × (enter_at met next ≡ Err e) × (end ≡ Some e)
+  IsChain met (Some next) (offset ∷ offsets) end = (offset ≡ next) × (after : Option ℕ) × (enter_at met next ≡ Ok after) × IsChain (next ∷ met) after offsets end
 
 -- the offsets of a chain, and its end: none at a link of 0, else the fault of the directory that isn't entered
 pub record Chain : Type 0 where
@@ -53,8 +53,8 @@ onto offset (Err e) rest = record { offsets = []; end = Some e }
 -- the chain from a next offset on after these others, in so many steps at most
 abbrev pub walk : (ℕ → Result (Option ℕ) TiffError) → ℕ → List ℕ → Option ℕ → Chain
 walk link steps met None = record { offsets = []; end = None }
-walk link zero met (Some next) = onto next (entered link met next) (λ _. record { offsets = []; end = None })
-walk link (suc steps) met (Some next) = onto next (entered link met next) (walk link steps (next ∷ met))
+walk link zero met (Some next) = onto next (enter_at link met next) (λ _. record { offsets = []; end = None })
+walk link (suc steps) met (Some next) = onto next (enter_at link met next) (walk link steps (next ∷ met))
 
 -- the chain of a file from its first offset on; no chain is longer than the file
 unfoldable pub chain : FileKind → ByteOrder → List ℕ → ℕ → Chain

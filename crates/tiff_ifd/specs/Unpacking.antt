@@ -21,8 +21,8 @@ abbrev pub unpacked_at : List ℕ → ℕ → ℕ → Unpacked
 unpacked_at bytes at len = runs (nat_lt (length bytes - at) len) (bytes_at bytes at len)
 
 -- nothing is left
-abbrev pub ended : End → Unpacked
-ended end = record { out = []; end = end }
+abbrev pub nothing_left : End → Unpacked
+nothing_left end = record { out = []; end = end }
 
 -- The next n bytes of what was left stand at the front of a buffer that held old and holds new: at least one while
 -- there are any, but none in an empty buffer.
@@ -30,12 +30,12 @@ pub record GivesNext (left : Unpacked) (old : List ℕ) (n : ℕ) (new : List �
   pub in_buffer : n ≤ length old
   pub next : left ≡ with_front (take n new) rest
   pub behind : drop n new ≡ drop n old
-  pub none : 0 < length old → n ≡ 0 → left ≡ ended Plain
+  pub none : 0 < length old → n ≡ 0 → left ≡ nothing_left Plain
 
 -- nothing is left of a list that is broken, and a byte was asked for
 pub record IsBroken (left : Unpacked) (wanted : ℕ) (e : TiffError) : Type 0 where
   pub fault : e ≡ IoError UnexpectedEof
-  pub broken : left ≡ ended Broken
+  pub broken : left ≡ nothing_left Broken
   pub some : 0 < wanted
 
 -- A read into a buffer that held before and holds after: a refused one leaves all that was left.
@@ -91,7 +91,7 @@ ReadsByte bytes at failed (Err e) = IsCause ⊥ failed e ((e ≡ IoError Unexpec
 -- where the next block of what is left stands, or that there is none
 abbrev pub Finds : List ℕ → Unpacked → Type 0 → Result (Option PackedPosition) TiffError → Type 0
 Finds bytes left failed (Ok (Some offset)) = (0 < count_of offset.block) × (left ≡ left_at bytes offset)
-Finds bytes left failed (Ok None) = left ≡ ended Plain
+Finds bytes left failed (Ok None) = left ≡ nothing_left Plain
 Finds bytes left failed (Err e) = IsCause ⊥ failed e (IsBroken left 1 e)
 
 -- bytes of a block were read into a buffer

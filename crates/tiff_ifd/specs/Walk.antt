@@ -7,7 +7,7 @@ use Rattle.tiff_base.specs.declared.tags.ByteOrder.{ByteOrder}
 use Rattle.tiff_base.specs.declared.tags.FileKind.{FileKind}
 use Rattle.tiff_base.specs.Field.{DirectoryRecord}
 use Rattle.tiff_base.specs.Directory.{directory_at}
-use Rattle.tiff_ifd.specs.Chain.{link_from, entered, IsChain, chain}
+use Rattle.tiff_ifd.specs.Chain.{link_from, enter_at, IsChain, chain}
 use Rattle.tiff_ifd.specs.Links.{Links, Goes}
 
 -- the offsets that were entered one after another, and the link behind the last of them; before the first one, its offset
@@ -28,14 +28,14 @@ module _ (kind : FileKind) (order : ByteOrder) (bytes : List ℕ) where
     pub offset : ℕ
     pub next : before.next ≡ Some offset
     pub read : directory_at kind order bytes offset ≡ Ok directory
-    pub entered : entered (link_from kind order bytes) (reverse before.offsets) offset ≡ Ok directory.next
+    pub entered : enter_at (link_from kind order bytes) (reverse before.offsets) offset ≡ Ok directory.next
     pub walked : after ≡ record { offsets = before.offsets ++ offset ∷ []; next = directory.next }
 
   -- The next offset isn't entered, for this fault.
   pub record NextIsRefused (before : Walked) (fault : TiffError) : Type 0 where
     pub offset : ℕ
     pub next : before.next ≡ Some offset
-    pub refused : entered (link_from kind order bytes) (reverse before.offsets) offset ≡ Err fault
+    pub refused : enter_at (link_from kind order bytes) (reverse before.offsets) offset ≡ Err fault
 
   -- What a step answers, with the walk after it: the directory that was entered, none where there is no next offset, or why
   -- the next offset isn't entered.

@@ -4,7 +4,7 @@ use Rattle.std.proofs.lemmas.Nat.{mod_below, div-add-mod', div-mul-add, mod-mul-
 use Rattle.std.proofs.Math.Nat.{mul-le-mul_right}
 use Rattle.tiff_page.specs.Page.{PageRecord}
 use Rattle.tiff_page.specs.Rect.{rect, across, chunks_of_plane}
-use Rattle.tiff_page.specs.Layout.{LayoutRecord, row_bits, row_bytes, shown}
+use Rattle.tiff_page.specs.Layout.{LayoutRecord, row_bits, row_bytes, samples_in_chunk}
 use Rattle.tiff_page.specs.Laws.{HasSides, ChunkIsWithin, ChunksWithin}
 use Rattle.tiff_page.proofs.Chunks.{fewer_bytes, start_is, none_before}
 use Rattle.tiff_laws.specs.Whole.{ByteIsOfChunk, PlanesCovered, chunk_row, at_image}
@@ -51,7 +51,7 @@ module _ (p : PageRecord) (l : LayoutRecord) (sides : HasSides p) (is : IsLaid p
 
   row_within : row_bits p l.color (rect p i).x / 8 + chunk_row p l i ≤ row_bytes p l.color p.width
   unfolding row_bits
-  row_within = whole.bits_within (rect p i).x (rect p i).width p.depth (shown p.planar l.color) p.width inside.columns
+  row_within = whole.bits_within (rect p i).x (rect p i).width p.depth (samples_in_chunk p.planar l.color) p.width inside.columns
 
   t_below : t < s
   t_below = omega (arith, row_within, bl, is.rows)
@@ -84,17 +84,17 @@ module _ (p : PageRecord) (l : LayoutRecord) (sides : HasSides p) (is : IsLaid p
       ⊎_elim
       (λ (one : across p ≤ 1).
       let z : j % across p ≡ 0 = omega (arith, mod_below j (across p) across_some, one) in
-      ap (λ (m : ℕ). m * p.chunk_width * p.depth * shown p.planar l.color / 8) z
-      ∙ none_before p.chunk_width p.depth (shown p.planar l.color) full
+      ap (λ (m : ℕ). m * p.chunk_width * p.depth * samples_in_chunk p.planar l.color / 8) z
+      ∙ none_before p.chunk_width p.depth (samples_in_chunk p.planar l.color) full
       ∙ ap (λ (m : ℕ). m * full) (sym z))
       (λ (e : row_bits p l.color p.chunk_width ≡ row_bits p l.color p.chunk_width / 8 * 8).
-      start_is (j % across p) p.chunk_width p.depth (shown p.planar l.color) e)
+      start_is (j % across p) p.chunk_width p.depth (samples_in_chunk p.planar l.color) e)
       (aligned_rows p l.color p.width is.lined.0 is.lined.1)
 
   b_below : b < full
   unfolding row_bits rect
   b_below =
-      let a : chunk_row p l i ≤ full = fewer_bytes (rect p i).width p.chunk_width p.depth (shown p.planar l.color) (omega arith) in
+      let a : chunk_row p l i ≤ full = fewer_bytes (rect p i).width p.chunk_width p.depth (samples_in_chunk p.planar l.color) (omega arith) in
       omega (arith, a, bl)
 
   r_below : r < p.chunk_height

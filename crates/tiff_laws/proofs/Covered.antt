@@ -6,7 +6,7 @@ use Rattle.tiff_page.proofs.Planes.{aligned_rows}
 use Rattle.tiff_page.specs.Page.{PageRecord}
 use Rattle.tiff_page.specs.Counts.{parts}
 use Rattle.tiff_page.specs.Rect.{rect, across, chunks_of_plane, chunk_of_pixel}
-use Rattle.tiff_page.specs.Layout.{LayoutRecord, row_bits, shown}
+use Rattle.tiff_page.specs.Layout.{LayoutRecord, row_bits, samples_in_chunk}
 use Rattle.tiff_page.specs.Laws.{HasSides, HasPixel, OneChunk}
 use Rattle.tiff_laws.specs.Whole.{ByteIsOfChunk, PlanesCovered, chunk_row}
 use Rattle.tiff_laws.proofs.Laid.{IsLaid, laid}
@@ -36,11 +36,11 @@ whole_before col cw u e =
 module _ (one_chunk : OneChunk) (p : PageRecord) (l : LayoutRecord) (sides : HasSides p) (is : IsLaid p p.width p.height l) (n at : ℕ) (in_planes : at < n * l.plane_stride) where
   -- the bits of a pixel
   abbrev bits : ℕ
-  bits = p.depth * shown p.planar l.color
+  bits = p.depth * samples_in_chunk p.planar l.color
 
   bits_of : (w : ℕ) → row_bits p l.color w ≡ w * bits
   unfolding row_bits
-  bits_of w = mul_assoc w p.depth (shown p.planar l.color)
+  bits_of w = mul_assoc w p.depth (samples_in_chunk p.planar l.color)
 
   stride_is : l.plane_stride ≡ p.height * l.row_bytes
   stride_is = is.stride ∙ ap (λ (z : ℕ). z * p.height) (sym is.rows) ∙ mul_comm l.row_bytes p.height

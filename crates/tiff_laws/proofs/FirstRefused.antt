@@ -12,7 +12,7 @@ use Rattle.tiff_page.specs.Layout.{LayoutRecord}
 use Rattle.tiff_page.specs.PixelFault.{each_below}
 use Rattle.tiff_page.specs.Buffers.{planes_layout}
 use Rattle.tiff_page.specs.PixelCalls as pixels
-use Rattle.tiff_page.specs.PixelCalls.{Part, image_part, chunk_part, part_fault, room_fault, planes_used, placed, filled}
+use Rattle.tiff_page.specs.PixelCalls.{Part, image_part, chunk_part, part_fault, room_fault, planes_used, bytes_with_region, fill_buffer}
 use Rattle.tiff_page.specs.Laws.{HasSides, IsFirst, ChunksWithin, NoFault, FirstFault}
 use Rattle.tiff_decode.specs.Machine.{Decoding}
 use Rattle.tiff_decode.specs.Outcome as outcome
@@ -27,18 +27,18 @@ fault_first (Err f) x e h = cc
 
 module _ (file : List ℕ) (order : ByteOrder) (p : PageRecord) (limits : Limits) (width height : ℕ) (part : LayoutRecord → Part) (buf : List ℕ) (l : LayoutRecord) (whole : planes_layout p width height ≡ Ok l) (room : l.plane_stride ≤ length buf) where
   abbrev answer : Result (List ℕ) TiffError
-  answer = planes_layout p width height >>= (λ l. room_fault (length buf) l.plane_stride >>= (λ _. filled file order p limits l.color (part l) buf))
+  answer = planes_layout p width height >>= (λ l. room_fault (length buf) l.plane_stride >>= (λ _. fill_buffer file order p limits l.color (part l) buf))
 
   abbrev none_or : Result (Unit {0}) TiffError
   none_or = part_fault file order p limits l.color (part l)
 
   -- with a layout and room it answers the part's fault, or bytes
-  answer_is : answer ≡ (none_or >>= (λ _. Ok (placed file order p l.color (part l).region (part l).stride (part l).planes buf)))
-  unfolding filled
+  answer_is : answer ≡ (none_or >>= (λ _. Ok (bytes_with_region file order p l.color (part l).region (part l).stride (part l).planes buf)))
+  unfolding fill_buffer
   answer_is = let a : room_fault (length buf) l.plane_stride ≡ Ok tt = has_room (length buf) l.plane_stride room in rw (whole, a) refl
 
   pub refusal_of : (e : TiffError) → answer ≡ Err e → none_or ≡ Err e
-  refusal_of e h = fault_first none_or (placed file order p l.color (part l).region (part l).stride (part l).planes buf) e (sym answer_is ∙ h)
+  refusal_of e h = fault_first none_or (bytes_with_region file order p l.color (part l).region (part l).stride (part l).planes buf) e (sym answer_is ∙ h)
 
   pub refusal_by : (e : TiffError) → none_or ≡ Err e → answer ≡ Err e
   refusal_by e h = answer_is ∙ rw h refl

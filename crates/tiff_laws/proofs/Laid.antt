@@ -11,10 +11,10 @@ use Rattle.tiff_base.specs.declared.tags.ByteOrder.{ByteOrder}
 use Rattle.tiff_base.specs.Answers.{◌>>=◌}
 use Rattle.tiff_ifd.specs.declared.limits.Limits.{Limits}
 use Rattle.tiff_page.specs.Page.{PageRecord}
-use Rattle.tiff_page.specs.Layout.{LayoutRecord, layout_of, color_of, row_bytes, planes, wide, aligned, whole_chroma}
+use Rattle.tiff_page.specs.Layout.{LayoutRecord, layout_of, color_of, row_bytes, planes, wide, whole_chunks, whole_chroma}
 use Rattle.tiff_page.specs.PixelFault.{unless}
 use Rattle.tiff_page.specs.Buffers.{planes_layout}
-use Rattle.tiff_page.specs.PixelCalls.{Part, room_fault, part_fault, placed, filled}
+use Rattle.tiff_page.specs.PixelCalls.{Part, room_fault, part_fault, bytes_with_region, fill_buffer}
 
 -- ---- chains of steps
 
@@ -47,7 +47,7 @@ pub record IsLaid (p : PageRecord) (width height : ℕ) (l : LayoutRecord) : Typ
   pub stride : l.plane_stride ≡ row_bytes p l.color width * height
   pub tall : row_bytes p l.color width * p.chunk_height < 2 ^ 64
   pub few : row_bytes p l.color width * height < 2 ^ 64
-  pub lined : (c : ColorType) × (aligned p l.color width ≡ Ok c)
+  pub lined : (c : ColorType) × (whole_chunks p l.color width ≡ Ok c)
   pub chroma : (c : ColorType) × (whole_chroma p l.color ≡ Ok c)
 
 pub laid : (p : PageRecord) (width height : ℕ) (l : LayoutRecord) → layout_of p width height ≡ Ok l → IsLaid p width height l
@@ -56,13 +56,13 @@ laid p width height l h =
     let last : ColorType → ℕ → Result LayoutRecord TiffError =
     λ color stride. Ok (record { color = color; row_bytes = row_bytes p color width; plane_stride = stride }) in
     let chroma : ColorType → ℕ → Result LayoutRecord TiffError = λ color stride. whole_chroma p color >>= (λ _. last color stride) in
-    let row : ColorType → ℕ → Result LayoutRecord TiffError = λ color stride. aligned p color width >>= (λ _. chroma color stride) in
+    let row : ColorType → ℕ → Result LayoutRecord TiffError = λ color stride. whole_chunks p color width >>= (λ _. chroma color stride) in
     let plane : ColorType → Result LayoutRecord TiffError = λ color. wide (row_bytes p color width * height) >>= (λ stride. row color stride) in
     let tall : ColorType → Result LayoutRecord TiffError = λ color. wide (row_bytes p color width * p.chunk_height) >>= (λ _. plane color) in
     let a = bind_ok (color_of p) tall l h in
     let b = bind_ok (wide (row_bytes p a.0 width * p.chunk_height)) (λ _. plane a.0) l a.1.1 in
     let c = bind_ok (wide (row_bytes p a.0 width * height)) (λ stride. row a.0 stride) l b.1.1 in
-    let d = bind_ok (aligned p a.0 width) (λ _. chroma a.0 c.0) l c.1.1 in
+    let d = bind_ok (whole_chunks p a.0 width) (λ _. chroma a.0 c.0) l c.1.1 in
     let e = bind_ok (whole_chroma p a.0) (λ _. last a.0 c.0) l d.1.1 in
     let s = wide_ok (row_bytes p a.0 width * height) c.0 c.1.0 in
     let made : LayoutRecord = record { color = a.0; row_bytes = row_bytes p a.0 width; plane_stride = c.0 } in
@@ -94,13 +94,13 @@ module _ (file : List ℕ) (order : ByteOrder) (p : PageRecord) (limits : Limits
   -- what a read of pixels was when it gave these bytes
   pub record IsFilled (color : ColorType) (part : Part) (buf new : List ℕ) : Type 0 where
     pub none : part_fault file order p limits color part ≡ Ok tt
-    pub bytes : new ≡ placed file order p color part.region part.stride part.planes buf
+    pub bytes : new ≡ bytes_with_region file order p color part.region part.stride part.planes buf
 
-  pub filled_gives : (color : ColorType) (part : Part) (buf new : List ℕ) → filled file order p limits color part buf ≡ Ok new
+  pub filled_gives : (color : ColorType) (part : Part) (buf new : List ℕ) → fill_buffer file order p limits color part buf ≡ Ok new
       → IsFilled color part buf new
-  unfolding filled
+  unfolding fill_buffer
   filled_gives color part buf new h =
-      let all : List ℕ = placed file order p color part.region part.stride part.planes buf in
+      let all : List ℕ = bytes_with_region file order p color part.region part.stride part.planes buf in
       let a = bind_ok (part_fault file order p limits color part) (λ _. Ok all) new h in
       record { none = a.1.0; bytes = sym (ok_is all new a.1.1) }
 
@@ -111,10 +111,10 @@ module _ (file : List ℕ) (order : ByteOrder) (p : PageRecord) (limits : Limits
     pub filled : IsFilled l.color (part l) buf new
 
   pub read_gives : (width height : ℕ) (part : LayoutRecord → Part) (buf new : List ℕ)
-      → (planes_layout p width height >>= (λ l. room_fault (length buf) l.plane_stride >>= (λ _. filled file order p limits l.color (part l) buf))) ≡ Ok new
+      → (planes_layout p width height >>= (λ l. room_fault (length buf) l.plane_stride >>= (λ _. fill_buffer file order p limits l.color (part l) buf))) ≡ Ok new
       → (l : LayoutRecord) × IsReadInto width height part buf new l
   read_gives width height part buf new h =
-      let fill : LayoutRecord → Result (List ℕ) TiffError = λ l. filled file order p limits l.color (part l) buf in
+      let fill : LayoutRecord → Result (List ℕ) TiffError = λ l. fill_buffer file order p limits l.color (part l) buf in
       let a = bind_ok (planes_layout p width height) (λ l. room_fault (length buf) l.plane_stride >>= (λ _. fill l)) new h in
       let b = bind_ok (room_fault (length buf) a.0.plane_stride) (λ _. fill a.0) new a.1.1 in (
         a.0,

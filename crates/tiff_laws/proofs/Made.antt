@@ -11,7 +11,7 @@ use Rattle.tiff_page.specs.Page.{PageRecord}
 use Rattle.tiff_page.specs.Layout.{LayoutRecord, layout_of, row_bytes}
 use Rattle.tiff_page.specs.Pixels.{Region, byte_at, region_byte, image_region}
 use Rattle.tiff_page.specs.PixelCalls as pixels
-use Rattle.tiff_page.specs.PixelCalls.{Part, image_part, planes_used, placed}
+use Rattle.tiff_page.specs.PixelCalls.{Part, image_part, planes_used, bytes_with_region}
 use Rattle.tiff_page.specs.Laws.{HasSides, PlacedEach}
 use Rattle.tiff_decode.specs.Machine.{Decoding}
 use Rattle.tiff_decode.specs.Outcome as outcome
@@ -56,7 +56,7 @@ module _ (placed_each : PlacedEach) (file : List ℕ) (order : ByteOrder) (p : P
 
   module _ (read : IsReadInto file order p limits p.width p.height into buf image l) where
     abbrev all : List ℕ
-    all = placed file order p l.color (image_region p) l.row_bytes count buf
+    all = bytes_with_region file order p l.color (image_region p) l.row_bytes count buf
 
     pub as_long : length image ≡ length buf
     as_long = ap length read.filled.bytes ∙ (placed_each file order p l.color (image_region p) l.row_bytes count buf).0

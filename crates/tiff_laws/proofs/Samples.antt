@@ -19,7 +19,7 @@ use Rattle.tiff_page.specs.Layout.{LayoutRecord, layout_of, planes}
 use Rattle.tiff_page.specs.Image.{Decoded}
 use Rattle.tiff_page.specs.Buffers.{planes_layout, all_planes}
 use Rattle.tiff_page.specs.PixelCalls as pixels
-use Rattle.tiff_page.specs.PixelCalls.{Part, image_part, chunk_part, room_fault, planes_used, filled, samples}
+use Rattle.tiff_page.specs.PixelCalls.{Part, image_part, chunk_part, room_fault, planes_used, fill_buffer, samples}
 use Rattle.tiff_page.specs.Laws.{HasSides, SomeBytes}
 use Rattle.tiff_page.proofs.Planes.{Shows, color_shows}
 use Rattle.tiff_decode.specs.Machine.{Decoding}
@@ -51,8 +51,8 @@ used_of all used size l some =
 
 module _ (file : List ℕ) (order : ByteOrder) (p : PageRecord) (limits : Limits) (width height : ℕ) (part : LayoutRecord → Part) (buf : List ℕ) (l : LayoutRecord) (whole : planes_layout p width height ≡ Ok l) (room : l.plane_stride ≤ length buf) where
   -- with a layout and room a slice is filled
-  pub fills_part : (planes_layout p width height >>= (λ l. room_fault (length buf) l.plane_stride >>= (λ _. filled file order p limits l.color (part l) buf)))
-      ≡ filled file order p limits l.color (part l) buf
+  pub fills_part : (planes_layout p width height >>= (λ l. room_fault (length buf) l.plane_stride >>= (λ _. fill_buffer file order p limits l.color (part l) buf)))
+      ≡ fill_buffer file order p limits l.color (part l) buf
   fills_part = let a : room_fault (length buf) l.plane_stride ≡ Ok tt = has_room (length buf) l.plane_stride room in rw (whole, a) refl
 
 module _ (some_bytes : SomeBytes) (d : Decoding) (sides : HasSides d.state.page) (has : HasSamples d.state.page) (l : LayoutRecord) (whole : planes_layout d.state.page d.state.page.width d.state.page.height ≡ Ok l) where
@@ -85,11 +85,11 @@ module _ (some_bytes : SomeBytes) (d : Decoding) (sides : HasSides d.state.page)
     used_is : planes_used p l (length zeros) ≡ used
     used_is = ap (λ (z : ℕ). min (planes p.planar l.color) (z / l.plane_stride)) long ∙ used_of (planes p.planar l.color) used l.plane_stride few some_plane
 
-    pub bytes_are : image_read d zeros ≡ filled d.bytes d.order p d.state.limits l.color (image_part p used l.row_bytes) zeros
+    pub bytes_are : image_read d zeros ≡ fill_buffer d.bytes d.order p d.state.limits l.color (image_part p used l.row_bytes) zeros
     unfolding outcome.read_image_bytes pixels.read_image_bytes
     bytes_are =
         fills_part d.bytes d.order p d.state.limits p.width p.height (λ layout. image_part p (planes_used p layout (length zeros)) layout.row_bytes) zeros l whole room
-        ∙ (λ k. filled d.bytes d.order p d.state.limits l.color (image_part p (used_is k) l.row_bytes) zeros)
+        ∙ (λ k. fill_buffer d.bytes d.order p d.state.limits l.color (image_part p (used_is k) l.row_bytes) zeros)
 
     pub numbers_are : samples d.bytes d.order p d.state.limits l.color (image_part p used l.row_bytes) (l.plane_stride * used)
         ≡ numbers_by d (image_read d) (l.plane_stride * used)

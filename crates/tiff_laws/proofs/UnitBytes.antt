@@ -12,7 +12,7 @@ use Rattle.tiff_page.specs.Rect.{rect, chunks_of_plane}
 use Rattle.tiff_page.specs.Layout.{LayoutRecord, row_bytes}
 use Rattle.tiff_page.specs.Pixels.{Region, region_byte, chunk_region}
 use Rattle.tiff_page.specs.PixelCalls as pixels
-use Rattle.tiff_page.specs.PixelCalls.{planes_used, placed}
+use Rattle.tiff_page.specs.PixelCalls.{planes_used, bytes_with_region}
 use Rattle.tiff_page.specs.Laws.{HasSides, ChunksWithin, PlacedEach, UnitOfChunks}
 use Rattle.tiff_decode.specs.Machine.{Decoding}
 use Rattle.tiff_decode.specs.Outcome as outcome
@@ -61,7 +61,7 @@ module _ (n h s k : ℕ) (below : k < s * h) where
 -- a byte of a plane of a region that was placed
 module _ (placed_each : PlacedEach) (file : List ℕ) (order : ByteOrder) (p : PageRecord) (color : ColorType) (region : Region) (s planes n k : ℕ) (buf : List ℕ) where
   pub byte_placed : s ≡ row_bytes p color region.width → k < s * region.height → n < planes → n * (s * region.height) + k < length buf
-      → slice_index (placed file order p color region s planes buf) (n * (s * region.height) + k) ≡ region_byte file order p color region (region.plane + n) (k / s) (k % s)
+      → slice_index (bytes_with_region file order p color region s planes buf) (n * (s * region.height) + k) ≡ region_byte file order p color region (region.plane + n) (k / s) (k % s)
   byte_placed rows below nl room =
       let at : ℕ = n * (s * region.height) + k in
       let rest : k % s < row_bytes p color region.width = omega (arith, rest_below n region.height s k below, rows) in
@@ -90,11 +90,11 @@ module _ (chunks_within : ChunksWithin) (placed_each : PlacedEach) (unit_of_chun
   plane_bytes : l.plane_stride ≡ s * h
   plane_bytes = is.stride ∙ ap (λ (z : ℕ). z * h) (sym is.rows)
 
-  pub image_is : image ≡ placed d.bytes d.order p l.color region s used buf
+  pub image_is : image ≡ bytes_with_region d.bytes d.order p l.color region s used buf
   image_is =
       let a = unit_gives d unit buf image read in
       let same : a.0 ≡ l = ok_is a.0 l (sym a.1.has.laid ∙ has.laid) in
-      a.1.filled.bytes ∙ ap (λ (z : LayoutRecord). placed d.bytes d.order p z.color region z.row_bytes (planes_used p z (length buf)) buf) same
+      a.1.filled.bytes ∙ ap (λ (z : LayoutRecord). bytes_with_region d.bytes d.order p z.color region z.row_bytes (planes_used p z (length buf)) buf) same
 
   pub as_long : length image ≡ length buf
   as_long = ap length image_is ∙ (placed_each d.bytes d.order p l.color region s used buf).0

@@ -17,7 +17,7 @@ use Rattle.tiff_page.specs.Layout.{LayoutRecord, row_bytes}
 use Rattle.tiff_page.specs.PixelFault.{each_below}
 use Rattle.tiff_page.specs.Buffers.{planes_layout, unit_fault}
 use Rattle.tiff_page.specs.PixelCalls as pixels
-use Rattle.tiff_page.specs.PixelCalls.{Part, chunk_part, part_fault, room_fault, planes_used, placed, filled}
+use Rattle.tiff_page.specs.PixelCalls.{Part, chunk_part, part_fault, room_fault, planes_used, bytes_with_region, fill_buffer}
 use Rattle.tiff_page.specs.Laws.{IsFirst, NoFault, FirstFault}
 use Rattle.tiff_page.proofs.Planes.{each_same}
 use Rattle.tiff_decode.specs.Machine.{Decoding}
@@ -141,11 +141,11 @@ module _ (d : Decoding) (l : LayoutRecord) (unit : ℕ) (whole : planes_layout d
     used = planes_used page l (length buf)
 
     abbrev pub bytes : List ℕ
-    bytes = placed d.bytes d.order page l.color (unit_part used l.row_bytes).region l.row_bytes used buf
+    bytes = bytes_with_region d.bytes d.order page l.color (unit_part used l.row_bytes).region l.row_bytes used buf
 
     -- what is answered of a unit that has room
     pub answer_is : (outcome.read_coding_unit_bytes d unit buf).answer ≡ (each_below of_plane used >>= (λ _. Ok bytes))
-    unfolding outcome.read_coding_unit_bytes pixels.read_coding_unit_bytes filled
+    unfolding outcome.read_coding_unit_bytes pixels.read_coding_unit_bytes fill_buffer
     answer_is =
         let a : room_fault (length buf) l.plane_stride ≡ Ok tt = has_room (length buf) l.plane_stride room in
         let b : unit_fault page unit ≡ Ok tt = unit_passes page unit listed in
@@ -184,7 +184,7 @@ unfolding outcome.read_coding_unit_bytes pixels.read_coding_unit_bytes
 unit_gives d unit buf new h =
     let p : PageRecord = d.state.page in
     let part : LayoutRecord → Part = λ l. chunk_part p unit (planes_used p l (length buf)) l.row_bytes in
-    let fill : LayoutRecord → Result (List ℕ) TiffError = λ l. filled d.bytes d.order p d.state.limits l.color (part l) buf in
+    let fill : LayoutRecord → Result (List ℕ) TiffError = λ l. fill_buffer d.bytes d.order p d.state.limits l.color (part l) buf in
     let sized : LayoutRecord → Result (List ℕ) TiffError = λ l. room_fault (length buf) l.plane_stride >>= (λ _. fill l) in
     let a = bind_ok (planes_layout p (rect p unit).width (rect p unit).height) (λ l. unit_fault p unit >>= (λ _. sized l)) new h in
     let b = bind_ok (unit_fault p unit) (λ _. sized a.0) new a.1.1 in

@@ -14,12 +14,12 @@ use Rattle.tiff_ifd.specs.declared.limits.Limits.{Limits}
 use Rattle.tiff_page.specs.Page.{PageRecord}
 use Rattle.tiff_page.specs.Counts.{parts}
 use Rattle.tiff_page.specs.Rect.{rect, chunks_of_plane}
-use Rattle.tiff_page.specs.Layout.{LayoutRecord, layout_of, planes, row_bits, row_bytes, shown, wide, aligned}
+use Rattle.tiff_page.specs.Layout.{LayoutRecord, layout_of, planes, row_bits, row_bytes, samples_in_chunk, wide, whole_chunks}
 use Rattle.tiff_page.specs.PixelFault.{each_below, chunk_fault}
 use Rattle.tiff_page.specs.Pixels.{is_short}
 use Rattle.tiff_page.specs.Buffers.{planes_layout}
 use Rattle.tiff_page.specs.PixelCalls as pixels
-use Rattle.tiff_page.specs.PixelCalls.{Part, image_part, chunk_part, part_fault, room_fault, planes_used, placed, filled}
+use Rattle.tiff_page.specs.PixelCalls.{Part, image_part, chunk_part, part_fault, room_fault, planes_used, bytes_with_region, fill_buffer}
 use Rattle.tiff_page.specs.Laws.{HasSides, ChunkIsWithin, ChunksWithin, NoFault}
 use Rattle.tiff_decode.specs.Machine.{Decoding}
 use Rattle.tiff_decode.specs.Outcome as outcome
@@ -38,7 +38,7 @@ one_part w n p h =
     let a : (w + n - 1) / n < 2 = div_below (w + n - 1) n 2 p (omega (arith, h, p)) in
     omega (arith, a)
 
-pub aligned_alone : (p : PageRecord) (c : ColorType) (w : ℕ) → 0 < p.chunk_width → w ≤ p.chunk_width → aligned p c w ≡ Ok c
+pub aligned_alone : (p : PageRecord) (c : ColorType) (w : ℕ) → 0 < p.chunk_width → w ≤ p.chunk_width → whole_chunks p c w ≡ Ok c
 aligned_alone p c w some h =
     let t : nat_lt 1 (parts w p.chunk_width) ≡ false = le-ltb 1 (parts w p.chunk_width) (one_part w p.chunk_width some h) in
     rw t refl
@@ -56,7 +56,7 @@ module _ (p : PageRecord) (l : LayoutRecord) (sides : HasSides p) (whole : plane
 
   row_less : chunk_row p l i ≤ row_bytes p l.color p.width
   unfolding row_bits
-  row_less = fewer_bytes (rect p i).width p.width p.depth (shown p.planar l.color) (omega (arith, inside.columns))
+  row_less = fewer_bytes (rect p i).width p.width p.depth (samples_in_chunk p.planar l.color) (omega (arith, inside.columns))
 
   plane_less : chunk_byte_count p l i ≤ row_bytes p l.color p.width * p.height
   plane_less = mul-le-mul row_less (omega (arith, inside.rows))
@@ -68,7 +68,7 @@ module _ (p : PageRecord) (l : LayoutRecord) (sides : HasSides p) (whole : plane
       let a : chunk_row p l i * p.chunk_height ≤ row_bytes p l.color p.width * p.chunk_height = mul-le-mul_right p.chunk_height row_less in
       let tall : wide (chunk_row p l i * p.chunk_height) ≡ Ok (chunk_row p l i * p.chunk_height) = wide_is (chunk_row p l i * p.chunk_height) (omega (arith, a, is_laid.tall)) in
       let few : wide (chunk_byte_count p l i) ≡ Ok (chunk_byte_count p l i) = wide_is (chunk_byte_count p l i) (omega (arith, plane_less, is_laid.few)) in
-      let alone : aligned p l.color (rect p i).width ≡ Ok l.color = aligned_alone p l.color (rect p i).width sides.chunk_wide no_wider in
+      let alone : whole_chunks p l.color (rect p i).width ≡ Ok l.color = aligned_alone p l.color (rect p i).width sides.chunk_wide no_wider in
       let n : ℕ = planes p.planar l.color in
       let b : chunk_byte_count p l i * n ≤ l.plane_stride * n = mul-le-mul_right n (omega (arith, plane_less, is_laid.stride)) in
       let all : wide (chunk_byte_count p l i * n) ≡ Ok (chunk_byte_count p l i * n) = wide_is (chunk_byte_count p l i * n) (omega (arith, b, (planes_laid p p.width p.height l whole).1)) in
@@ -92,17 +92,17 @@ module _ (file : List ℕ) (order : ByteOrder) (p : PageRecord) (limits : Limits
 
   -- a part without a fault is read
   pub fills : (color : ColorType) (part : Part) (buf : List ℕ) → part_fault file order p limits color part ≡ Ok tt
-      → filled file order p limits color part buf ≡ Ok (placed file order p color part.region part.stride part.planes buf)
-  unfolding filled
+      → fill_buffer file order p limits color part buf ≡ Ok (bytes_with_region file order p color part.region part.stride part.planes buf)
+  unfolding fill_buffer
   fills color part buf none = rw none refl
 
   -- as is a slice with room for it
   pub read_into : (width height : ℕ) (part : LayoutRecord → Part) (buf : List ℕ) (l : LayoutRecord) → planes_layout p width height ≡ Ok l
       → l.plane_stride ≤ length buf → part_fault file order p limits l.color (part l) ≡ Ok tt
-      → IsOk (planes_layout p width height >>= (λ l. room_fault (length buf) l.plane_stride >>= (λ _. filled file order p limits l.color (part l) buf)))
+      → IsOk (planes_layout p width height >>= (λ l. room_fault (length buf) l.plane_stride >>= (λ _. fill_buffer file order p limits l.color (part l) buf)))
   read_into width height part buf l whole room none =
       let a : room_fault (length buf) l.plane_stride ≡ Ok tt = has_room (length buf) l.plane_stride room in
-      let b : filled file order p limits l.color (part l) buf ≡ Ok (placed file order p l.color (part l).region (part l).stride (part l).planes buf) = fills l.color (part l) buf none in
+      let b : fill_buffer file order p limits l.color (part l) buf ≡ Ok (bytes_with_region file order p l.color (part l).region (part l).stride (part l).planes buf) = fills l.color (part l) buf none in
       rw (whole, a, b) refl
 
   -- the only chunk of its part

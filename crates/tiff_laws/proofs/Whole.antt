@@ -15,11 +15,11 @@ use Rattle.tiff_base.specs.Answers.{◌>>=◌}
 use Rattle.tiff_ifd.specs.declared.limits.Limits.{Limits}
 use Rattle.tiff_page.specs.Page.{PageRecord}
 use Rattle.tiff_page.specs.Rect.{rect, chunks_of_plane}
-use Rattle.tiff_page.specs.Layout.{LayoutRecord, layout_of, planes, row_bits, row_bytes, shown}
+use Rattle.tiff_page.specs.Layout.{LayoutRecord, layout_of, planes, row_bits, row_bytes, samples_in_chunk}
 use Rattle.tiff_page.specs.PixelFault.{unless, depth_fault, predictor_fault, method_fault, white_fault, form_fault, chunk_fault}
 use Rattle.tiff_page.specs.Pixels.{Region, is_short, byte_at, region_byte, image_region, chunk_region}
 use Rattle.tiff_page.specs.PixelCalls as pixels
-use Rattle.tiff_page.specs.PixelCalls.{Part, image_part, chunk_part, planes_used, placed}
+use Rattle.tiff_page.specs.PixelCalls.{Part, image_part, chunk_part, planes_used, bytes_with_region}
 use Rattle.tiff_page.specs.Laws.{HasSides, ChunkIsWithin, HasWholeRows, ChunksWithin, PlacedEach, WholeRows, ImageOfChunks}
 use Rattle.tiff_decode.specs.Outcome as outcome
 use Rattle.tiff_laws.specs.Whole.{IsPlacedIn, PlaneOfChunks, chunks_used, chunk_row, at_chunk, at_image}
@@ -127,7 +127,7 @@ module _ (within_image : ChunksWithin) (placed_each : PlacedEach) (whole_rows : 
 
     row_within : row_bits p l.color (rect p i).x / 8 + chunk_row p l i ≤ row_bytes p l.color p.width
     unfolding row_bits
-    row_within = bits_within (rect p i).x (rect p i).width p.depth (shown p.planar l.color) p.width (within_image p i sides).columns
+    row_within = bits_within (rect p i).x (rect p i).width p.depth (samples_in_chunk p.planar l.color) p.width (within_image p i sides).columns
 
     -- the byte of the image
     image_byte : (buf image : List ℕ) (r b : ℕ) → IsImageRead buf image l → i < chunks_used p l (length buf)
@@ -141,7 +141,7 @@ module _ (within_image : ChunksWithin) (placed_each : PlacedEach) (whole_rows : 
         let y : ℕ = (rect p i).y + r in
         let t : ℕ = row_bits p l.color (rect p i).x / 8 + b in
         let count : ℕ = planes_used p l (length buf) in
-        let all : List ℕ = placed file order p l.color region s count buf in
+        let all : List ℕ = bytes_with_region file order p l.color region s count buf in
         let at : ℕ = (n * p.height + y) * s + t in
         let inside : ChunkIsWithin p i = within_image p i sides in
         let yl : y < p.height = omega (arith, inside.rows, rl) in
@@ -188,7 +188,7 @@ module _ (within_image : ChunksWithin) (placed_each : PlacedEach) (whole_rows : 
         let one : 0 < 1 = omega arith in
         let and_zero : n + 0 ≡ n = omega arith in
         ap (λ (z : List ℕ). slice_index z at) read.filled.bytes
-        ∙ (λ t. slice_index (placed file order p (color t) region (rows t) 1 part) at)
+        ∙ (λ t. slice_index (bytes_with_region file order p (color t) region (rows t) 1 part) at)
         ∙ (placed_each file order p l.color region s 1 part).1 at room
         ∙ byte_is file order p l.color region s 1 at 0 r b (slice_index part at) plane line column one bl
         ∙ ap (λ (z : ℕ). region_byte file order p l.color region z r b) and_zero

@@ -19,10 +19,10 @@ use Rattle.tiff_page.specs.NumberBytes.{IsPut}
 use Rattle.tiff_page.specs.Page.{PageRecord}
 use Rattle.tiff_page.specs.Counts.{all_chunks}
 use Rattle.tiff_page.specs.Rect.{rect}
-use Rattle.tiff_page.specs.Layout.{row_bits, row_bytes, shown}
+use Rattle.tiff_page.specs.Layout.{row_bits, row_bytes, samples_in_chunk}
 use Rattle.tiff_page.specs.Laws.{HasSides}
 use Rattle.tiff_page.specs.PixelFault.{unless}
-use Rattle.tiff_page.specs.Pixels.{width_of, stored_samples, chunk_data, stored_row_bytes, is_byte_plane, is_short, row_number, needed_of_row, inverted, number_by, number_of_row}
+use Rattle.tiff_page.specs.Pixels.{width_of, stored_samples, chunk_data, stored_row_bytes, is_byte_plane, is_short, row_number, needed_of_row, shown_number, number_by, number_of_row}
 use Rattle.tiff_page.specs.BufferPositions.{Writes, IsIn, in_rect, chunk_byte}
 use Rattle.tiff_page.specs.OutputRow.{StoresAllShown, handed_number, handed_byte}
 use Rattle.tiff_page.specs.RowReads.{TakesRow}
@@ -55,12 +55,12 @@ number_alone order p many one predictor.Horizontal c d e h = cc
 number_alone order p many one predictor.FloatingPoint c d e h = cc
 
 -- rows of so many columns, of which the one after q others is alone
-module _ (order : ByteOrder) (p : PageRecord) (color : ColorType) (w q b : ℕ) (many one : List ℕ) (stored : StoresAllShown p color) (all : stored_samples p ≤ shown p.planar color) (alone : p.predictor ≡ predictor.None) (bl : b < row_bytes p color w) (same : (m : ℕ) → m < row_bytes p color w → slice_index many (q * row_bytes p color w + m) ≡ slice_index one m) where
+module _ (order : ByteOrder) (p : PageRecord) (color : ColorType) (w q b : ℕ) (many one : List ℕ) (stored : StoresAllShown p color) (all : stored_samples p ≤ samples_in_chunk p.planar color) (alone : p.predictor ≡ predictor.None) (bl : b < row_bytes p color w) (same : (m : ℕ) → m < row_bytes p color w → slice_index many (q * row_bytes p color w + m) ≡ slice_index one m) where
   abbrev len : ℕ
   len = row_bytes p color w
 
   abbrev s : ℕ
-  s = shown p.planar color
+  s = samples_in_chunk p.planar color
 
   abbrev t : ℕ
   t = stored_samples p
@@ -98,7 +98,7 @@ module _ (order : ByteOrder) (p : PageRecord) (color : ColorType) (w q b : ℕ) 
         let y : q * (w * s) ≡ q * w * s = omega arith in
         let c : (q * (w * s) + n) / s ≡ q * w + n / s = ap (λ z. (z + n) / s) y ∙ mul-add-div_right stored.shows (q * w) n in
         let d : (q * (w * s) + n) % s ≡ n % s = ap (λ z. (z + n) % s) y ∙ mul-add-mod_self_right (q * w) s n in
-        let shows : ℕ → ℕ = λ v. inverted p.interpretation (2 ^ p.depth) v / 256 ^ (b % size) % 256 in
+        let shows : ℕ → ℕ = λ v. shown_number p.interpretation (2 ^ p.depth) v / 256 ^ (b % size) % 256 in
         (λ z. handed_number order p many color (x z) / 256 ^ m z % 256)
         ∙ (λ z. shows (number_of_row order p many (c z * t + d z)))
         ∙ ap shows (number_alone order p many one p.predictor ((q * w + n / s) * t + n % s) (n / s * t + n % s) alone number_here)
@@ -108,7 +108,7 @@ module _ (order : ByteOrder) (p : PageRecord) (color : ColorType) (w q b : ℕ) 
       ⊎_elim
       (λ (l : p.depth < 8).
       let e : nat_lt p.depth 8 ≡ true = lt-ltb p.depth 8 l in
-      rw e (ap (inverted p.interpretation 256) (same b bl)))
+      rw e (ap (shown_number p.interpretation 256) (same b bl)))
       (λ (g : 8 ≤ p.depth).
       let e : nat_lt p.depth 8 ≡ false = le-ltb p.depth 8 g in
       ⊎_elim
@@ -123,7 +123,7 @@ pub band_of_numbers : (p : PageRecord) (color : ColorType) (w q n : ℕ) → Sto
 unfolding row_bits
 band_of_numbers p color w q n stored e =
     let size : ℕ = p.depth / 8 in
-    let s : ℕ = shown p.planar color in
+    let s : ℕ = samples_in_chunk p.planar color in
     ⊎_elim
     (λ (l : p.depth < 8). inl l)
     (λ (whole : p.depth ≡ p.depth / 8 * 8).
@@ -226,7 +226,7 @@ module _ (file : List ℕ) (order : ByteOrder) (p : PageRecord) (color : ColorTy
       t.handed i il
       ∙ (λ z. handed_byte order p (take (count z) (from z)) color (sym v z))
       ∙ handed_moved order p color (rect p k).width q b (take (length out) (drop (row * len) bytes)) (take len (drop ((row + q) * len) bytes)) stored
-      (none_dropped (is_byte_plane p.predictor) (shown p.planar color) (stored_samples p) together.shown) together.alone bl
+      (none_dropped (is_byte_plane p.predictor) (samples_in_chunk p.planar color) (stored_samples p) together.shown) together.alone bl
       (λ m ml. one_row row q m (length out) ml (omega (arith, ml, top, size)))
       ∙ (λ z. handed_byte order p (take (sym (needed_here len) z) (drop ((row + q) * sym together.in_data z) bytes)) color b)
       ∙ sym (row_handed file order p color k (row + q) b sides stored listed (omega (arith, ql, rl)) bl)

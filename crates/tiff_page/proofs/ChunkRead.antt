@@ -13,7 +13,7 @@ use Rattle.tiff_base.proofs.Causes.{cause_along}
 use Rattle.tiff_page.specs.Page.{PageRecord}
 use Rattle.tiff_page.specs.Counts.{all_chunks}
 use Rattle.tiff_page.specs.Rect.{rect}
-use Rattle.tiff_page.specs.Layout.{row_bits, row_bytes, shown}
+use Rattle.tiff_page.specs.Layout.{row_bits, row_bytes, samples_in_chunk}
 use Rattle.tiff_page.specs.PixelFault.{unless}
 use Rattle.tiff_page.specs.Pixels.{chunk_data, stored_row_bytes, is_short, needed_of_row}
 use Rattle.tiff_page.specs.Laws.{HasSides}
@@ -35,9 +35,9 @@ unfolding rect
 width_within p k = omega arith
 
 -- a row is of some bytes
-pub row_some : (p : PageRecord) (color : ColorType) (w : ℕ) → 0 < w → 0 < p.depth → 0 < shown p.planar color → 0 < row_bytes p color w
+pub row_some : (p : PageRecord) (color : ColorType) (w : ℕ) → 0 < w → 0 < p.depth → 0 < samples_in_chunk p.planar color → 0 < row_bytes p color w
 unfolding row_bits
-row_some p color w a b s = product_some w p.depth (shown p.planar color) a b s
+row_some p color w a b s = product_some w p.depth (samples_in_chunk p.planar color) a b s
 
 module _ (file : List ℕ) (order : ByteOrder) (p : PageRecord) (color : ColorType) (k : ℕ) (sides : HasSides p) (stored : StoresAllShown p color) (listed : k < all_chunks p) where
   abbrev pub h : ℕ

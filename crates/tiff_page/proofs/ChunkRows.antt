@@ -15,8 +15,8 @@ use Rattle.tiff_base.specs.SourceAndSink.{bytes_at}
 use Rattle.tiff_page.specs.Page.{PageRecord}
 use Rattle.tiff_page.specs.Counts.{all_chunks, planes_of}
 use Rattle.tiff_page.specs.Rect.{rect, across, chunks_of_plane}
-use Rattle.tiff_page.specs.Layout.{row_bits, row_bytes, shown}
-use Rattle.tiff_page.specs.Pixels.{planar_or, stored_samples, stored_row_bytes, chunk_data, stored_row, is_byte_plane, needs_whole_rows, needed_of_row, inverted, number_by, number_of_row, packed_byte, number_byte, chunk_region, shown_sample}
+use Rattle.tiff_page.specs.Layout.{row_bits, row_bytes, samples_in_chunk}
+use Rattle.tiff_page.specs.Pixels.{planar_or, stored_samples, stored_row_bytes, chunk_data, stored_row, is_byte_plane, needs_whole_rows, needed_of_row, shown_number, number_by, number_of_row, packed_byte, number_byte, chunk_region, shown_sample}
 use Rattle.tiff_page.specs.Laws.{HasSides}
 use Rattle.tiff_page.specs.OutputRow as law
 use Rattle.tiff_page.specs.OutputRow.{StoresAllShown, handed_number}
@@ -50,7 +50,7 @@ plane_for Planar plane chunks j k m h c = h
 plane_for Chunky plane chunks j k m h c = let e : j ≡ k = c refl in omega (arith, e)
 
 pub sample_for : (planar : PlanarConfiguration) (plane m : ℕ) (color : ColorType)
-    → planar_or planar 0 (planar_or planar plane (m % shown planar color)) ≡ m % shown planar color
+    → planar_or planar 0 (planar_or planar plane (m % samples_in_chunk planar color)) ≡ m % samples_in_chunk planar color
 sample_for Planar plane m color = omega arith
 sample_for Chunky plane m color = refl
 
@@ -72,7 +72,7 @@ module _ (file : List ℕ) (order : ByteOrder) (p : PageRecord) (color : ColorTy
   cy = j / a
 
   abbrev pub s : ℕ
-  s = shown p.planar color
+  s = samples_in_chunk p.planar color
 
   abbrev pub t : ℕ
   t = stored_samples p
@@ -149,7 +149,7 @@ module _ (file : List ℕ) (order : ByteOrder) (p : PageRecord) (color : ColorTy
   -- ---- depths below 8
 
   pub packed : packed_byte file order p color (chunk_region p k) (k / chunks_of_plane p) r b
-      ≡ inverted p.interpretation 256 (slice_index row b)
+      ≡ shown_number p.interpretation 256 (slice_index row b)
   unfolding rect
   packed =
       let len : row_bytes p color (min p.chunk_width (p.width - cx * p.chunk_width)) ≤ row_bytes p color p.chunk_width = width_bytes in
@@ -157,8 +157,8 @@ module _ (file : List ℕ) (order : ByteOrder) (p : PageRecord) (color : ColorTy
       let byte : b % row_bytes p color p.chunk_width ≡ b = mod-eq_of_lt (omega (arith, bl, len)) in
       let here : k / chunks_of_plane p * chunks_of_plane p + j ≡ k = whole_index in
       let n = needed_more in
-      (λ z. inverted p.interpretation 256 (slice_index (stored_row file order p (here z) (line z)) (byte z)))
-      ∙ ap (inverted p.interpretation 256) (byte_of_row b (omega (arith, bl, n)))
+      (λ z. shown_number p.interpretation 256 (slice_index (stored_row file order p (here z) (line z)) (byte z)))
+      ∙ ap (shown_number p.interpretation 256) (byte_of_row b (omega (arith, bl, n)))
 
   -- ---- depths of whole bytes
 
@@ -250,7 +250,7 @@ module _ (file : List ℕ) (order : ByteOrder) (p : PageRecord) (color : ColorTy
         let of_plane : cy * a + cx ≡ j = div-add-mod' j a in
         let plane : ℕ = planar_or p.planar (planar_or p.planar (k / chunks_of_plane p) sample) 0 in
         let here : plane * chunks_of_plane p + j ≡ k = plane_for p.planar (k / chunks_of_plane p) (chunks_of_plane p) j k sample whole_index chunky_index in
-        let shows : ℕ → ℕ = λ v. inverted p.interpretation (2 ^ p.depth) v / 256 ^ (b % size) % 256 in
+        let shows : ℕ → ℕ = λ v. shown_number p.interpretation (2 ^ p.depth) v / 256 ^ (b % size) % 256 in
         (λ z.
         shows (number_of_row order p (stored_row file order p (plane * chunks_of_plane p + (row_at z * a + column_at z)) (line z)) (column z * t + sample_for p.planar (k / chunks_of_plane p) n color z)))
         ∙ (λ z. shows (number_of_row order p (stored_row file order p (plane * chunks_of_plane p + of_plane z) r) (col * t + sample)))

@@ -8,8 +8,8 @@ use Rattle.tiff_base.specs.declared.color.ColorType.{ColorType}
 use Rattle.tiff_base.specs.declared.tags.ByteOrder.{ByteOrder}
 use Rattle.tiff_page.specs.Page.{PageRecord}
 use Rattle.tiff_page.specs.Rect.{rect, across, chunks_of_plane}
-use Rattle.tiff_page.specs.Layout.{row_bits, row_bytes, shown}
-use Rattle.tiff_page.specs.Pixels.{packed_byte, number_byte, region_byte, image_region, chunk_region, stored_row, inverted, shown_sample, planar_or}
+use Rattle.tiff_page.specs.Layout.{row_bits, row_bytes, samples_in_chunk}
+use Rattle.tiff_page.specs.Pixels.{packed_byte, number_byte, region_byte, image_region, chunk_region, stored_row, shown_number, shown_sample, planar_or}
 use Rattle.tiff_page.specs.Laws as law
 use Rattle.tiff_page.specs.Laws.{HasSides, HasWholeRows}
 use Rattle.tiff_page.proofs.Sizes.{parts_some}
@@ -87,17 +87,17 @@ module _ (file : List ℕ) (order : ByteOrder) (p : PageRecord) (color : ColorTy
       ⊎_elim
       (λ (one : a ≤ 1).
       let z : col ≡ 0 = omega (arith, mod_below j a across_some, one) in
-      ap (λ n. n * p.chunk_width * p.depth * shown p.planar color / 8) z
-      ∙ none_before p.chunk_width p.depth (shown p.planar color) c
+      ap (λ n. n * p.chunk_width * p.depth * samples_in_chunk p.planar color / 8) z
+      ∙ none_before p.chunk_width p.depth (samples_in_chunk p.planar color) c
       ∙ ap (λ n. n * c) (sym z))
-      (λ (e : row_bits p color p.chunk_width ≡ row_bits p color p.chunk_width / 8 * 8). start_is col p.chunk_width p.depth (shown p.planar color) e)
+      (λ (e : row_bits p color p.chunk_width ≡ row_bits p color p.chunk_width / 8 * 8). start_is col p.chunk_width p.depth (samples_in_chunk p.planar color) e)
       whole.rows
 
   module _ (rl : row < min p.chunk_height (p.height - line * p.chunk_height)) (kl : k < row_bytes p color (min p.chunk_width (p.width - col * p.chunk_width))) where
     pub in_chunk : k < c
     unfolding row_bits
     in_chunk =
-        let f : row_bytes p color (min p.chunk_width (p.width - col * p.chunk_width)) ≤ c = fewer_bytes (min p.chunk_width (p.width - col * p.chunk_width)) p.chunk_width p.depth (shown p.planar color) (omega arith) in
+        let f : row_bytes p color (min p.chunk_width (p.width - col * p.chunk_width)) ≤ c = fewer_bytes (min p.chunk_width (p.width - col * p.chunk_width)) p.chunk_width p.depth (samples_in_chunk p.planar color) (omega arith) in
         omega (arith, f, kl)
 
     pub in_rows : row < p.chunk_height
@@ -116,16 +116,16 @@ module _ (file : List ℕ) (order : ByteOrder) (p : PageRecord) (color : ColorTy
         let h : 0 / p.chunk_width + (start + k) / c ≡ col = omega (arith, q, n) in
         let o : k % c ≡ k = mod-eq_of_lt in_chunk in
         let v : line * a + col ≡ j = div-add-mod' j a in
-        (λ t. inverted p.interpretation 256 (slice_index (stored_row file order p (first + (up t * a + h t)) (down t)) (m t)))
-        ∙ (λ t. inverted p.interpretation 256 (slice_index (stored_row file order p (first + v t) row) k))
-        ∙ (λ t. inverted p.interpretation 256 (slice_index (stored_row file order p (first + j) (sym inner t)) (sym o t)))
+        (λ t. shown_number p.interpretation 256 (slice_index (stored_row file order p (first + (up t * a + h t)) (down t)) (m t)))
+        ∙ (λ t. shown_number p.interpretation 256 (slice_index (stored_row file order p (first + v t) row) k))
+        ∙ (λ t. shown_number p.interpretation 256 (slice_index (stored_row file order p (first + j) (sym inner t)) (sym o t)))
 
     pub number_same : 8 ≤ p.depth → p.depth ≡ p.depth / 8 * 8
         → number_byte file order p color (image_region p) (i / chunks_of_plane p) (line * p.chunk_height + row) (start + k)
         ≡ number_byte file order p color (chunk_region p i) (i / chunks_of_plane p) row k
     unfolding rect row_bits
     number_same big e =
-        let s : ℕ = shown p.planar color in
+        let s : ℕ = samples_in_chunk p.planar color in
         let size : ℕ = p.depth / 8 in
         let x : ℕ = col * p.chunk_width in
         let ss : 0 < s = samples_some (min p.chunk_width (p.width - x)) p.depth s k kl in

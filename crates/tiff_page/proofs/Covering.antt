@@ -11,9 +11,9 @@ use Rattle.tiff_base.specs.declared.tags.ByteOrder.{ByteOrder}
 use Rattle.tiff_page.specs.Page.{PageRecord}
 use Rattle.tiff_page.specs.Counts.{parts}
 use Rattle.tiff_page.specs.Rect.{rect, across, chunks_of_plane}
-use Rattle.tiff_page.specs.Layout.{row_bits, row_bytes, shown}
+use Rattle.tiff_page.specs.Layout.{row_bits, row_bytes, samples_in_chunk}
 use Rattle.tiff_page.specs.Pixels.{Region, byte_at, region_byte, image_region}
-use Rattle.tiff_page.specs.PixelCalls.{placed}
+use Rattle.tiff_page.specs.PixelCalls.{bytes_with_region}
 use Rattle.tiff_page.specs.Laws.{HasSides, HasWholeRows}
 use Rattle.tiff_page.specs.BufferPositions.{Writes, in_rect, chunk_byte, plane_of, chunk_of, top_of, left_of, IsInChunk, IsOfChunk, IsBefore, image_byte}
 use Rattle.tiff_page.specs.PositionLaws as law
@@ -140,26 +140,26 @@ module _ (p : PageRecord) (color : ColorType) (stride plane j : ℕ) (sides : Ha
   pub left_is : left_of p color stride plane j ≡ cx * c
   unfolding row_bits
   left_is =
-      ap (λ z. z * p.depth * shown p.planar color / 8) x_is
+      ap (λ z. z * p.depth * samples_in_chunk p.planar color / 8) x_is
       ∙ ⊎_elim
       (λ (z : cx ≡ 0).
-      ap (λ n. n * p.chunk_width * p.depth * shown p.planar color / 8) z
-      ∙ none_before p.chunk_width p.depth (shown p.planar color) c
+      ap (λ n. n * p.chunk_width * p.depth * samples_in_chunk p.planar color / 8) z
+      ∙ none_before p.chunk_width p.depth (samples_in_chunk p.planar color) c
       ∙ ap (λ n. n * c) (sym z))
-      (λ e. start_is cx p.chunk_width p.depth (shown p.planar color) e)
+      (λ e. start_is cx p.chunk_width p.depth (samples_in_chunk p.planar color) e)
       first_or_whole
 
   pub row_is : row_bytes p color p.width ≡ cx * c + row_bytes p color (p.width - cx * p.chunk_width)
   unfolding row_bits
-  row_is = row_parts cx p.chunk_width p.width p.depth (shown p.planar color) (omega (arith, column_in)) first_or_whole
+  row_is = row_parts cx p.chunk_width p.width p.depth (samples_in_chunk p.planar color) (omega (arith, column_in)) first_or_whole
 
   pub len_in : row_bytes p color (rect p k).width ≤ row_bytes p color (p.width - cx * p.chunk_width)
   unfolding row_bits
-  len_in = rw width_is (fewer_bytes (min p.chunk_width (p.width - cx * p.chunk_width)) (p.width - cx * p.chunk_width) p.depth (shown p.planar color) (omega arith))
+  len_in = rw width_is (fewer_bytes (min p.chunk_width (p.width - cx * p.chunk_width)) (p.width - cx * p.chunk_width) p.depth (samples_in_chunk p.planar color) (omega arith))
 
   pub len_below : row_bytes p color (rect p k).width ≤ c
   unfolding row_bits
-  len_below = rw width_is (fewer_bytes (min p.chunk_width (p.width - cx * p.chunk_width)) p.chunk_width p.depth (shown p.planar color) (omega arith))
+  len_below = rw width_is (fewer_bytes (min p.chunk_width (p.width - cx * p.chunk_width)) p.chunk_width p.depth (samples_in_chunk p.planar color) (omega arith))
 
   pub row_in_stride : left_of p color stride plane j + row_bytes p color (rect p k).width ≤ stride
   row_in_stride = let e = left_is in let r = row_is in let l = len_in in omega (arith, e, r, l, fits)
@@ -191,7 +191,7 @@ module _ (p : PageRecord) (color : ColorType) (stride plane j : ℕ) (sides : Ha
 
   pub covers : row_bytes p color p.width ≤ a * c
   unfolding row_bits
-  covers = row_covered a p.chunk_width p.width p.depth (shown p.planar color) (parts_cover p.width p.chunk_width sides.chunk_wide) whole.rows
+  covers = row_covered a p.chunk_width p.width p.depth (samples_in_chunk p.planar color) (parts_cover p.width p.chunk_width sides.chunk_wide) whole.rows
 
   pub chunk_bytes_some : 0 < row_bytes p color p.width → 0 < c
   chunk_bytes_some h =
@@ -200,7 +200,7 @@ module _ (p : PageRecord) (color : ColorType) (stride plane j : ℕ) (sides : Ha
 
   pub part_below_min : (b : ℕ) → b < c → b < row_bytes p color (p.width - cx * p.chunk_width) → b < row_bytes p color (rect p k).width
   unfolding row_bits
-  part_below_min b l h = rw width_is (below_min b p.chunk_width (p.width - cx * p.chunk_width) p.depth (shown p.planar color) l h)
+  part_below_min b l h = rw width_is (below_min b p.chunk_width (p.width - cx * p.chunk_width) p.depth (samples_in_chunk p.planar color) l h)
 
   pub is_of : (i : ℕ) → IsOfChunk p color stride plane j i → IsInChunk p color stride plane j i
   is_of i q =
@@ -372,10 +372,10 @@ module _ (file : List ℕ) (order : ByteOrder) (p : PageRecord) (color : ColorTy
 -- a list with a buffer's byte or what it had at each position is the buffer after a region is placed in it
 pub is_placed : (file : List ℕ) (order : ByteOrder) (p : PageRecord) (color : ColorType) (region : Region) (stride n : ℕ) (old new : List ℕ) → length new ≡ length old
     → ((i : ℕ) → i < length old → slice_index new i ≡ unwrap_or (byte_at file order p color region stride n i) (slice_index old i))
-    → new ≡ placed file order p color region stride n old
+    → new ≡ bytes_with_region file order p color region stride n old
 is_placed file order p color region stride n old new e h =
     let q = placed_each file order p color region stride n old in
-    ext_get_or 0 new (placed file order p color region stride n old) (e ∙ sym q.0) (λ i l. h i (omega (arith, e, l)) ∙ sym (q.1 i (omega (arith, e, l))))
+    ext_get_or 0 new (bytes_with_region file order p color region stride n old) (e ∙ sym q.0) (λ i l. h i (omega (arith, e, l)) ∙ sym (q.1 i (omega (arith, e, l))))
 
 pub image_written : law.ImageWritten
 image_written file order p color stride n old new sides whole fits w =

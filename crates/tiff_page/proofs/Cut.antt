@@ -27,8 +27,8 @@ use Rattle.tiff_page.specs.Page.{PageRecord}
 use Rattle.tiff_page.specs.Rect.{chunks_of_plane}
 use Rattle.tiff_page.specs.Layout.{sample_type_of, size_of}
 use Rattle.tiff_page.specs.PixelFault.{unless, form_fault, chunk_fault, samples_fault, each_below}
-use Rattle.tiff_page.specs.PixelCalls.{Part, part_fault, filled, samples, image_part, chunk_part}
-use Rattle.tiff_page.specs.Pixels.{data_by_method, chunk_data, needed, is_short}
+use Rattle.tiff_page.specs.PixelCalls.{Part, part_fault, fill_buffer, samples, image_part, chunk_part}
+use Rattle.tiff_page.specs.Pixels.{data_by_method, chunk_data, needed_bytes, is_short}
 use Rattle.tiff_page.specs.EarlyFaults.{least_stored, bytes_held, is_cut, early_fault}
 use Rattle.tiff_page.proofs.Sizes.{plane_some}
 use Rattle.tiff_page.proofs.PositionLaws.{cases_fault}
@@ -122,9 +122,9 @@ cut_short file order p m position count n h = omega (arith, h)
 module _ (file : List ℕ) (order : ByteOrder) (p : PageRecord) (limits : Limits) (color : ColorType) where
   is_short_of : (i : ℕ) → is_cut file p color i ≡ true → is_short file order p color i ≡ true
   is_short_of i h =
-      lt-ltb (length (chunk_data file order p i)) (needed p color i)
-      (cut_short file order p p.method (slice_index p.offsets i) (slice_index p.byte_counts i) (needed p color i)
-      (ltb-true (bytes_held file p.method (slice_index p.offsets i) (slice_index p.byte_counts i)) (least_stored p.method (needed p color i)) h))
+      lt-ltb (length (chunk_data file order p i)) (needed_bytes p color i)
+      (cut_short file order p p.method (slice_index p.offsets i) (slice_index p.byte_counts i) (needed_bytes p color i)
+      (ltb-true (bytes_held file p.method (slice_index p.offsets i) (slice_index p.byte_counts i)) (least_stored p.method (needed_bytes p color i)) h))
 
   abbrev fault_of : ℕ → Result (Unit {0}) TiffError
   fault_of i = chunk_fault p limits (is_short file order p color) color i
@@ -152,7 +152,7 @@ module _ (file : List ℕ) (order : ByteOrder) (p : PageRecord) (limits : Limits
   -- and of its samples
   pub samples_early : (part : Part) (type : DecodingSampleType) (len : ℕ) (e : TiffError) → 0 < part.count → 0 < part.planes → sample_type_of p ≡ Ok type
       → early_fault file p limits color type part.first len ≡ Err e → samples file order p limits color part len ≡ Err e
-  unfolding samples filled
+  unfolding samples fill_buffer
   samples_early part type len e some planes typed h =
       ⊎_elim
       (λ (few : samples_fault limits (size_of type) len ≡ Ok tt).

@@ -27,7 +27,7 @@ use Rattle.tiff_page.specs.Rect.{rect, across, chunks_of_plane}
 use Rattle.tiff_page.specs.Laws.{HasSides, HasWholeRows}
 use Rattle.tiff_page.proofs.PositionLaws.{chunks_within, cases_fault, all_ok, ok_all, of_first}
 use Rattle.tiff_page.proofs.Sizes.{plane_some}
-use Rattle.tiff_page.specs.PixelCalls.{filled, placed, image_part, chunk_part}
+use Rattle.tiff_page.specs.PixelCalls.{fill_buffer, bytes_with_region, image_part, chunk_part}
 
 -- the chunks of one number lie upon each other
 module _ (p : PageRecord) (plane j : ℕ) (l : j < chunks_of_plane p) where
@@ -165,8 +165,8 @@ module _ (file : List ℕ) (order : ByteOrder) (p : PageRecord) (limits : Limits
       each_below (λ plane. chunk_fault p limits (is_short file order p l.color) l.color (plane * chunks_of_plane p + (0 + j))) planes
 
   pub chunk_cause : (failed failed' : Type 0) (j : ℕ) (old : List ℕ) (e : TiffError) → (failed → failed') → j < chunks_of_plane p → each_below of_chunk j ≡ Ok tt
-      → IsCause (Unit {0}) failed e (of_chunk j ≡ Err e) → IsCause (Unit {0}) failed' e (filled file order p limits l.color (image_part p planes l.row_bytes) old ≡ Err e)
-  unfolding filled
+      → IsCause (Unit {0}) failed e (of_chunk j ≡ Err e) → IsCause (Unit {0}) failed' e (fill_buffer file order p limits l.color (image_part p planes l.row_bytes) old ≡ Err e)
+  unfolding fill_buffer
   chunk_cause failed failed' j old e grew below none c =
       cause_along e (λ w. w) grew (λ h. let f : each_below of_chunk (chunks_of_plane p) ≡ Err e = first_at of_chunk (chunks_of_plane p) j e below none h in rw f refl) c
 
@@ -175,15 +175,15 @@ module _ (file : List ℕ) (order : ByteOrder) (p : PageRecord) (limits : Limits
 
   pub image_filled : (old new : List ℕ) → 0 < planes → each_below of_chunk (chunks_of_plane p) ≡ Ok tt
       → Writes (IsBefore p l.color l.row_bytes planes (chunks_of_plane p) 0) (image_byte p l.color l.row_bytes file order) old new
-      → filled file order p limits l.color (image_part p planes l.row_bytes) old ≡ Ok new
-  unfolding filled
+      → fill_buffer file order p limits l.color (image_part p planes l.row_bytes) old ≡ Ok new
+  unfolding fill_buffer
   image_filled old new some none w =
       let o : 0 < chunks_of_plane p = plane_some p.width p.height p.chunk_width p.chunk_height sides.wide sides.high sides.chunk_wide sides.chunk_high in
       let first : of_chunk 0 ≡ Ok tt = all_ok of_chunk (chunks_of_plane p) none 0 o in
       let fault = all_ok (λ plane. chunk_fault p limits (is_short file order p l.color) l.color (plane * chunks_of_plane p + (0 + 0))) planes first 0 some in
       let form = form_of (0 * chunks_of_plane p + (0 + 0)) fault in
       let whole = is_whole file order p limits l sides samples deep laid (0 * chunks_of_plane p + (0 + 0)) form in
-      let e : new ≡ placed file order p l.color (image_region p) l.row_bytes planes old =
+      let e : new ≡ bytes_with_region file order p l.color (image_region p) l.row_bytes planes old =
       image_written file order p l.color l.row_bytes planes old new sides whole (omega (arith, row_is file order p limits l sides samples deep laid)) w in
       rw none (ap (λ (z : List ℕ). Ok z) (sym e))
 
@@ -252,8 +252,8 @@ module _ (file : List ℕ) (order : ByteOrder) (p : PageRecord) (limits : Limits
 
   pub unit_form_cause : (failed : Type 0) (plane i : ℕ) (old : List ℕ) (e : TiffError) → i ≡ position plane → plane < planes → each_below in_unit plane ≡ Ok tt
       → IsCause ⊥ ⊥ e (form_fault p limits color i ≡ Err e)
-      → IsCause (Unit {0}) failed e (filled file order p limits color (chunk_part p k planes stride) old ≡ Err e)
-  unfolding filled
+      → IsCause (Unit {0}) failed e (fill_buffer file order p limits color (chunk_part p k planes stride) old ≡ Err e)
+  unfolding fill_buffer
   unit_form_cause failed plane i old e q below none c =
       cause_along e (λ z. Prim.absurd z) (λ z. Prim.absurd z)
       (λ t.
@@ -265,8 +265,8 @@ module _ (file : List ℕ) (order : ByteOrder) (p : PageRecord) (limits : Limits
   pub unit_rows_cause : (failed failed' : Type 0) (plane i : ℕ) (old : List ℕ) (e : TiffError) → i ≡ position plane → (failed → failed') → plane < planes → each_below in_unit plane ≡ Ok tt
       → form_fault p limits color i ≡ Ok tt
       → IsCause (Unit {0}) failed e (unless (is_short file order p color i) (IoError UnexpectedEof) ≡ Err e)
-      → IsCause (Unit {0}) failed' e (filled file order p limits color (chunk_part p k planes stride) old ≡ Err e)
-  unfolding filled
+      → IsCause (Unit {0}) failed' e (fill_buffer file order p limits color (chunk_part p k planes stride) old ≡ Err e)
+  unfolding fill_buffer
   unit_rows_cause failed failed' plane i old e q grew below none formed c =
       cause_along e (λ w. w) grew
       (λ t.
@@ -296,8 +296,8 @@ module _ (file : List ℕ) (order : ByteOrder) (p : PageRecord) (limits : Limits
 
   pub unit_filled : (old new : List ℕ) → len ≤ stride → each_below in_unit planes ≡ Ok tt
       → Writes (IsInUnit p color stride k planes) (unit_byte file order p color stride k) old new
-      → filled file order p limits color (chunk_part p k planes stride) old ≡ Ok new
-  unfolding filled
+      → fill_buffer file order p limits color (chunk_part p k planes stride) old ≡ Ok new
+  unfolding fill_buffer
   unit_filled old new fits none w =
-      let e : new ≡ placed file order p color (chunk_region p k) stride planes old = unit_written file order p color stride k planes old new sides fits w in
+      let e : new ≡ bytes_with_region file order p color (chunk_region p k) stride planes old = unit_written file order p color stride k planes old new sides fits w in
       rw none (ap (λ (z : List ℕ). Ok z) (sym e))

@@ -13,9 +13,9 @@ use Rattle.tiff_base.specs.declared.tags.PhotometricInterpretation.{PhotometricI
 use Rattle.tiff_base.specs.declared.tags.PhotometricInterpretation.TheVariants as meaning
 use Rattle.tiff_base.specs.declared.tags.Predictor.{Predictor}
 use Rattle.tiff_base.specs.declared.tags.Predictor.TheVariants as predictor
-use Rattle.tiff_page.specs.Layout.{shown, row_bits, row_bytes}
+use Rattle.tiff_page.specs.Layout.{samples_in_chunk, row_bits, row_bytes}
 use Rattle.tiff_page.specs.Page.{PageRecord}
-use Rattle.tiff_page.specs.Pixels.{stored_samples, stored_row_bytes, is_byte_plane, needs_whole_rows, row_number, summed_number, joined_number, number_of_row, inverted, in_row}
+use Rattle.tiff_page.specs.Pixels.{stored_samples, stored_row_bytes, is_byte_plane, needs_whole_rows, row_number, summed_number, joined_number, number_of_row, shown_number, in_row}
 use Rattle.tiff_page.specs.Row.{IsSize, Became}
 use Rattle.tiff_page.specs.OutputRow.{handed_byte}
 use Rattle.tiff_page.specs.ReadablePage.{IsRead}
@@ -38,7 +38,7 @@ module _ (size : ℕ) (z : IsSize size) (row : List ℕ) (octets : (i : ℕ) →
       let n : 256 ^ size - 1 - v ≡ digits g size = omega (arith, c, d) in
       ap (λ (m : ℕ). m / 256 ^ j % 256) n ∙ digit g size j (λ i. omega arith) l
 
-  byte_shown : (i : PhotometricInterpretation) → inverted i (256 ^ size) v / 256 ^ j % 256 ≡ inverted i 256 (get_or row (k * size + j) 0)
+  byte_shown : (i : PhotometricInterpretation) → shown_number i (256 ^ size) v / 256 ^ j % 256 ≡ shown_number i 256 (get_or row (k * size + j) 0)
   byte_shown meaning.WhiteIsZero = byte_turned
   byte_shown meaning.BlackIsZero = byte_stands
   byte_shown meaning.RGB = byte_stands
@@ -84,25 +84,25 @@ summed_numbers order p old mid new e l b c =
 -- of a row of numbers k is the one that a byte is of
 handed_at : (order : ByteOrder) (p : PageRecord) (c : ColorType) (old mid : List ℕ) (b k : ℕ) → IsRead p c → 8 ≤ p.depth
     → Became (p.depth / 8) (number_of_row order p old) old mid → ((i : ℕ) → get_or mid i 0 < 256)
-    → in_row p (b / (p.depth / 8) / shown p.planar c) (b / (p.depth / 8) % shown p.planar c) ≡ k → (k + 1) * (p.depth / 8) ≤ length old
-    → inverted p.interpretation 256 (get_or mid (k * (p.depth / 8) + b % (p.depth / 8)) 0) ≡ handed_byte order p old c b
+    → in_row p (b / (p.depth / 8) / samples_in_chunk p.planar c) (b / (p.depth / 8) % samples_in_chunk p.planar c) ≡ k → (k + 1) * (p.depth / 8) ≤ length old
+    → shown_number p.interpretation 256 (get_or mid (k * (p.depth / 8) + b % (p.depth / 8)) 0) ≡ handed_byte order p old c b
 handed_at order p c old mid b k r d became octets at within =
     let size : ℕ = p.depth / 8 in
-    let s : ℕ = shown p.planar c in
+    let s : ℕ = samples_in_chunk p.planar c in
     let n : ℕ = in_row p (b / size / s) (b / size % s) in
     let z : IsSize size = (whole p c r d).0 in
     let l : b % size < size = mod_below b size (some_size size z) in
     let e : row_number LittleEndian size mid k ≡ number_of_row order p old n = became.numbers k within ∙ ap (number_of_row order p old) (sym at) in
     let f : nat_lt p.depth 8 ≡ false = le-ltb p.depth 8 d in
     sym (rw f
-    (ap (λ (x : ℕ). inverted p.interpretation x (number_of_row order p old n) / 256 ^ (b % size) % 256) (depth_limit p z (whole p c r d).1)
+    (ap (λ (x : ℕ). shown_number p.interpretation x (number_of_row order p old n) / 256 ^ (b % size) % 256) (depth_limit p z (whole p c r d).1)
     ∙ byte_shown size z mid octets k (b % size) (number_of_row order p old n) l e p.interpretation))
 
 handed_packed : (order : ByteOrder) (p : PageRecord) (c : ColorType) (old : List ℕ) (b : ℕ) → p.depth < 8
-    → inverted p.interpretation 256 (get_or old b 0) ≡ handed_byte order p old c b
+    → shown_number p.interpretation 256 (get_or old b 0) ≡ handed_byte order p old c b
 handed_packed order p c old b d = let f : nat_lt p.depth 8 ≡ true = lt-ltb p.depth 8 d in rw f refl
 
-pub in_place : (p : PageRecord) (c : ColorType) → needs_whole_rows p c ≡ false → (is_byte_plane p.predictor ≡ false) × (nat_lt (shown p.planar c) (stored_samples p) ≡ false)
+pub in_place : (p : PageRecord) (c : ColorType) → needs_whole_rows p c ≡ false → (is_byte_plane p.predictor ≡ false) × (nat_lt (samples_in_chunk p.planar c) (stored_samples p) ≡ false)
 in_place p c h =
     ⊎_elim (λ (t : is_byte_plane p.predictor ≡ true). let k : true ≡ false = rw t at h in cc)
     (λ (f : is_byte_plane p.predictor ≡ false). (f, rw f at h)) (cases_Bool (is_byte_plane p.predictor))
@@ -115,14 +115,14 @@ each_octet row b i = ⊎_elim (λ (h : i < length row). b i h) (λ (h : length r
 pub row_handed : (order : ByteOrder) (p : PageRecord) (c : ColorType) (old mid : List ℕ) (b : ℕ) → IsRead p c → needs_whole_rows p c ≡ false
     → (8 ≤ p.depth → Became (p.depth / 8) (number_of_row order p old) old mid) → (p.depth < 8 → mid ≡ old) → ((i : ℕ) → i < length mid → get_or mid i 0 < 256)
     → (p.depth < 8) ⊎ (length old / (p.depth / 8) * (p.depth / 8) ≡ length old) → b < length old
-    → inverted p.interpretation 256 (get_or mid b 0) ≡ handed_byte order p old c b
+    → shown_number p.interpretation 256 (get_or mid b 0) ≡ handed_byte order p old c b
 row_handed order p c old mid b r w numbers same within_mid rows l =
     let octets : (i : ℕ) → get_or mid i 0 < 256 = each_octet mid within_mid in
     ⊎_elim
-    (λ (d : p.depth < 8). ap (λ (xs : List ℕ). inverted p.interpretation 256 (get_or xs b 0)) (same d) ∙ handed_packed order p c old b d)
+    (λ (d : p.depth < 8). ap (λ (xs : List ℕ). shown_number p.interpretation 256 (get_or xs b 0)) (same d) ∙ handed_packed order p c old b d)
     (λ (d : 8 ≤ p.depth).
     let size : ℕ = p.depth / 8 in
-    let s : ℕ = shown p.planar c in
+    let s : ℕ = samples_in_chunk p.planar c in
     let u : 0 < size = some_size size (whole p c r d).0 in
     let a : stored_samples p ≡ s = omega (arith, r.stored.stores, ltb-false s (stored_samples p) (in_place p c w).1) in
     let k : ℕ = b / size in
@@ -131,7 +131,7 @@ row_handed order p c old mid b r w numbers same within_mid rows l =
     let even : length old / size * size ≡ length old = ⊎_elim (λ (q : p.depth < 8). Prim.absurd (omega (arith, q, d))) (λ q. q) rows in
     let few : k < length old / size = div_below b size (length old / size) u (omega (arith, l, even, mul_comm size (length old / size))) in
     let within : (k + 1) * size ≤ length old / size * size = mul-le-mul_right size (omega (arith, few)) in
-    ap (λ (x : ℕ). inverted p.interpretation 256 (get_or mid x 0)) (sym there)
+    ap (λ (x : ℕ). shown_number p.interpretation 256 (get_or mid x 0)) (sym there)
     ∙ handed_at order p c old mid b k r d (numbers d) octets at (omega (arith, within, even)))
     (cases_lt p.depth 8)
 
@@ -183,9 +183,9 @@ sample_bytes n d s e =
 pub stored_bytes : (p : PageRecord) → p.depth ≡ p.depth / 8 * 8 → stored_row_bytes p ≡ p.chunk_width * stored_samples p * (p.depth / 8)
 stored_bytes p e = sample_bytes p.chunk_width p.depth (stored_samples p) e
 
-pub shown_bytes : (p : PageRecord) (c : ColorType) (width : ℕ) → p.depth ≡ p.depth / 8 * 8 → row_bytes p c width ≡ width * (shown p.planar c * (p.depth / 8))
+pub shown_bytes : (p : PageRecord) (c : ColorType) (width : ℕ) → p.depth ≡ p.depth / 8 * 8 → row_bytes p c width ≡ width * (samples_in_chunk p.planar c * (p.depth / 8))
 unfolding row_bits
-shown_bytes p c width e = sample_bytes width p.depth (shown p.planar c) e ∙ mul_assoc width (shown p.planar c) (p.depth / 8)
+shown_bytes p c width e = sample_bytes width p.depth (samples_in_chunk p.planar c) e ∙ mul_assoc width (samples_in_chunk p.planar c) (p.depth / 8)
 
 pub stored_count : (p : PageRecord) (n : ℕ) → IsSize (p.depth / 8) → p.depth ≡ p.depth / 8 * 8 → n ≡ stored_row_bytes p → n / (p.depth / 8) ≡ p.chunk_width * stored_samples p
 stored_count p n z e l =
@@ -207,7 +207,7 @@ whole_deep p c r h =
     ⊎_elim
     (λ (l : p.depth < 8).
     let e : p.predictor ≡ predictor.None = r.unpredicted l in
-    let f : nat_lt (shown p.planar c) (stored_samples p) ≡ false = le-ltb (shown p.planar c) (stored_samples p) (omega (arith, r.all l)) in
+    let f : nat_lt (samples_in_chunk p.planar c) (stored_samples p) ≡ false = le-ltb (samples_in_chunk p.planar c) (stored_samples p) (omega (arith, r.all l)) in
     let k : false ≡ true = rw (e, f) at h in cc)
     (λ (d : 8 ≤ p.depth). d) (cases_lt p.depth 8)
 
@@ -221,14 +221,14 @@ stored_fill p c width whole_pixel n r w few e ew =
 
 -- a row of which pixels are kept
 pub whole_handed : (order : ByteOrder) (p : PageRecord) (c : ColorType) (old mid : List ℕ) (width kept whole_pixel b x : ℕ) → IsRead p c → needs_whole_rows p c ≡ true
-    → width ≤ p.chunk_width → length old ≡ stored_row_bytes p → kept ≡ shown p.planar c * (p.depth / 8) → whole_pixel ≡ stored_samples p * (p.depth / 8)
+    → width ≤ p.chunk_width → length old ≡ stored_row_bytes p → kept ≡ samples_in_chunk p.planar c * (p.depth / 8) → whole_pixel ≡ stored_samples p * (p.depth / 8)
     → Became (p.depth / 8) (number_of_row order p old) old mid → ((i : ℕ) → i < length mid → get_or mid i 0 < 256)
     → b < width * kept → x ≡ get_or mid (b / kept * whole_pixel + b % kept) 0
-    → inverted p.interpretation 256 x ≡ handed_byte order p old c b
+    → shown_number p.interpretation 256 x ≡ handed_byte order p old c b
 whole_handed order p c old mid width kept whole_pixel b x r w few long ek ew became within_mid l ex =
     let d : 8 ≤ p.depth = whole_deep p c r w in
     let size : ℕ = p.depth / 8 in
-    let s : ℕ = shown p.planar c in
+    let s : ℕ = samples_in_chunk p.planar c in
     let n : ℕ = b / size in
     let u : 0 < size = some_size size (whole p c r d).0 in
     let k : ℕ = n / s * stored_samples p + n % s in
@@ -247,6 +247,6 @@ whole_handed order p c old mid width kept whole_pixel b x r w few long ek ew bec
     let v : (k + 1) * size ≤ p.chunk_width * stored_samples p * size =
     mul-le-mul_right size (omega (arith, g, mod_below n s r.stored.shows, r.stored.stores)) in
     let within : (k + 1) * size ≤ length old = omega (arith, v, long, stored_bytes p (whole p c r d).1) in
-    ap (inverted p.interpretation 256)
+    ap (shown_number p.interpretation 256)
     (ex ∙ (λ i. get_or mid (q i * ew i + t i) 0) ∙ ap (λ (y : ℕ). get_or mid y 0) at)
     ∙ handed_at order p c old mid b k r d became (each_octet mid within_mid) refl within

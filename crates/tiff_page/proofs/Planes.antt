@@ -22,7 +22,7 @@ use Rattle.tiff_base.specs.Color.{num_samples}
 use Rattle.tiff_ifd.specs.declared.limits.Limits.{Limits}
 use Rattle.tiff_page.specs.Page.{PageRecord}
 use Rattle.tiff_page.specs.Rect.{chunks_of_plane}
-use Rattle.tiff_page.specs.Layout.{LayoutRecord, layout_of, color_of, color_from, no_color, gray, lab, photometric, first_is_alpha, row_bits, row_bytes, shown, wide, aligned, whole_chroma}
+use Rattle.tiff_page.specs.Layout.{LayoutRecord, layout_of, color_of, color_from, no_color, gray, lab, photometric, first_is_alpha, row_bits, row_bytes, samples_in_chunk, wide, whole_chunks, whole_chroma}
 use Rattle.tiff_page.specs.PixelFault.{is_whole, depth_fault, each_below, chunk_fault}
 use Rattle.tiff_page.specs.Pixels.{is_short}
 use Rattle.tiff_page.specs.Buffers.{planes_layout}
@@ -59,19 +59,19 @@ color_or (Ok c) d = c
 color_or (Err e) d = d
 
 -- it gives the color that it is handed
-pub aligned_gives : (p : PageRecord) (c : ColorType) (w : ℕ) → color_or (aligned p c w) c ≡ c
+pub aligned_gives : (p : PageRecord) (c : ColorType) (w : ℕ) → color_or (whole_chunks p c w) c ≡ c
 aligned_gives p c w =
     given_if (λ r. color_or r c ≡ c) (nat_lt 1 (parts w p.chunk_width) && not (row_bits p c p.chunk_width % 8 == 0))
     (Err (UnsupportedError MisalignedTileBoundaries)) (Ok c) refl refl
 
-pub aligned_is : (p : PageRecord) (c : ColorType) (w : ℕ) (a : ColorType) → aligned p c w ≡ Ok a → a ≡ c
+pub aligned_is : (p : PageRecord) (c : ColorType) (w : ℕ) (a : ColorType) → whole_chunks p c w ≡ Ok a → a ≡ c
 aligned_is p c w a h = sym (ap (λ r. color_or r c) h) ∙ aligned_gives p c w
 
 -- ---- the layout
 
 module _ (p : PageRecord) (w h : ℕ) where
   abbrev pub Given : Result LayoutRecord TiffError → Type 0
-  Given (Ok l) = ((l.row_bytes ≡ row_bytes p l.color w) × (l.plane_stride ≡ row_bytes p l.color w * h)) × ((color_of p ≡ Ok l.color) × (aligned p l.color w ≡ Ok l.color))
+  Given (Ok l) = ((l.row_bytes ≡ row_bytes p l.color w) × (l.plane_stride ≡ row_bytes p l.color w * h)) × ((color_of p ≡ Ok l.color) × (whole_chunks p l.color w ≡ Ok l.color))
   Given (Err e) = Unit {0}
 
   abbrev pub last : ColorType → ℕ → Result LayoutRecord TiffError
@@ -81,7 +81,7 @@ module _ (p : PageRecord) (w h : ℕ) where
   chroma color s = whole_chroma p color >>= (λ _. last color s)
 
   abbrev pub line : ColorType → ℕ → Result LayoutRecord TiffError
-  line color s = aligned p color w >>= (λ _. chroma color s)
+  line color s = whole_chunks p color w >>= (λ _. chroma color s)
 
   abbrev pub plane : ColorType → Result LayoutRecord TiffError
   plane color = wide (row_bytes p color w * h) >>= (λ s. line color s)
@@ -95,7 +95,7 @@ module _ (p : PageRecord) (w h : ℕ) where
       given_bind Given (color_of p) stored (λ e. tt) (λ color ec.
       given_bind Given (wide (row_bytes p color w * p.chunk_height)) (λ _. plane color) (λ e. tt) (λ n en.
       given_bind Given (wide (row_bytes p color w * h)) (line color) (λ e. tt) (λ s es.
-      given_bind Given (aligned p color w) (λ _. chroma color s) (λ e. tt) (λ a ea.
+      given_bind Given (whole_chunks p color w) (λ _. chroma color s) (λ e. tt) (λ a ea.
       given_bind Given (whole_chroma p color) (λ _. last color s) (λ e. tt) (λ b eb.
       ((refl, wide_is (row_bytes p color w * h) s es), (ec, ea ∙ ap (λ z. Ok z) (aligned_is p color w a ea))))))))
 
@@ -142,7 +142,7 @@ from_shows meaning.TransparencyMask p h = no_color_shows p
 from_shows meaning.CIELab p h = no_color_shows p
 from_shows meaning.ItuLab p h = no_color_shows p
 
-pub shown_some : (planar : PlanarConfiguration) (c : ColorType) → 0 < num_samples c → 0 < shown planar c
+pub shown_some : (planar : PlanarConfiguration) (c : ColorType) → 0 < num_samples c → 0 < samples_in_chunk planar c
 shown_some Chunky c h = h
 shown_some Planar c h = omega arith
 
@@ -152,11 +152,11 @@ color_shows p h = from_shows p.interpretation p h
 
 pub row_some : (p : PageRecord) (c : ColorType) (w : ℕ) → 0 < w → 0 < p.depth → 0 < num_samples c → 0 < row_bytes p c w
 unfolding row_bits
-row_some p c w a b s = product_some w p.depth (shown p.planar c) a b (shown_some p.planar c s)
+row_some p c w a b s = product_some w p.depth (samples_in_chunk p.planar c) a b (shown_some p.planar c s)
 
 pub some_bytes : law.SomeBytes
 some_bytes p w h l wp hp d s e =
-    let g : ((l.row_bytes ≡ row_bytes p l.color w) × (l.plane_stride ≡ row_bytes p l.color w * h)) × ((color_of p ≡ Ok l.color) × (aligned p l.color w ≡ Ok l.color)) = layout_gives p w h l e in
+    let g : ((l.row_bytes ≡ row_bytes p l.color w) × (l.plane_stride ≡ row_bytes p l.color w * h)) × ((color_of p ≡ Ok l.color) × (whole_chunks p l.color w ≡ Ok l.color)) = layout_gives p w h l e in
     let c : 0 < num_samples l.color = subst Shows g.1.0 (color_shows p s) in
     let r : 0 < row_bytes p l.color w = row_some p l.color w wp d c in
     let q : 1 ≤ row_bytes p l.color w * h = one-le-mul r hp in
@@ -222,7 +222,7 @@ read_depth p c h =
     (cases_Bool (is_whole p.depth)))
     (cases_lt p.depth 8)
 
-pub aligned_rows : (p : PageRecord) (c : ColorType) (w : ℕ) (a : ColorType) → aligned p c w ≡ Ok a
+pub aligned_rows : (p : PageRecord) (c : ColorType) (w : ℕ) (a : ColorType) → whole_chunks p c w ≡ Ok a
     → (parts w p.chunk_width ≤ 1) ⊎ (row_bits p c p.chunk_width ≡ row_bits p c p.chunk_width / 8 * 8)
 aligned_rows p c w a h =
     let n : ℕ = row_bits p c p.chunk_width in
@@ -241,5 +241,5 @@ aligned_rows p c w a h =
 
 pub whole_rows : law.WholeRows
 whole_rows p l e d =
-    let g : ((l.row_bytes ≡ row_bytes p l.color p.width) × (l.plane_stride ≡ row_bytes p l.color p.width * p.height)) × ((color_of p ≡ Ok l.color) × (aligned p l.color p.width ≡ Ok l.color)) = layout_gives p p.width p.height l e in
+    let g : ((l.row_bytes ≡ row_bytes p l.color p.width) × (l.plane_stride ≡ row_bytes p l.color p.width * p.height)) × ((color_of p ≡ Ok l.color) × (whole_chunks p l.color p.width ≡ Ok l.color)) = layout_gives p p.width p.height l e in
     record { depth = read_depth p l.color d; rows = aligned_rows p l.color p.width l.color g.1.1 }

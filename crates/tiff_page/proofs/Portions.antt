@@ -25,7 +25,7 @@ use Rattle.tiff_page.specs.Laws.{HasSides}
 use Rattle.tiff_page.specs.Layout.{LayoutRecord, row_bytes, sample_type_of, size_of}
 use Rattle.tiff_page.specs.NumberBytes.{bytes_in}
 use Rattle.tiff_page.specs.Page.{PageRecord}
-use Rattle.tiff_page.specs.PixelCalls.{Part, part_fault, placed, filled, samples}
+use Rattle.tiff_page.specs.PixelCalls.{Part, part_fault, bytes_with_region, fill_buffer, samples}
 use Rattle.tiff_page.specs.PixelFault.{samples_fault}
 use Rattle.tiff_page.specs.Pixels.{Region, each_to, width_of, numbers_in, byte_at}
 use Rattle.tiff_page.specs.Rect.{rect}
@@ -97,8 +97,8 @@ zero_in (suc n) zero = refl
 zero_in (suc n) (suc i) = zero_in n i
 
 pub placed_in_zeros : (file : List ℕ) (order : ByteOrder) (p : PageRecord) (color : ColorType) (region : Region) (stride planes n : ℕ)
-    → placed file order p color region stride planes (replicate n 0) ≡ each_to n (λ i. unwrap_or (byte_at file order p color region stride planes i) 0)
-unfolding placed
+    → bytes_with_region file order p color region stride planes (replicate n 0) ≡ each_to n (λ i. unwrap_or (byte_at file order p color region stride planes i) 0)
+unfolding bytes_with_region
 placed_in_zeros file order p color region stride planes n =
     let found : ℕ → ℕ → ℕ = λ i v. unwrap_or (byte_at file order p color region stride planes i) v in
     let count : length (replicate n 0) ≡ n = length-replicate n 0 in
@@ -142,69 +142,69 @@ module _ (file : List ℕ) (order : ByteOrder) (p : PageRecord) (limits : Limits
   in_place i = unwrap_or (byte_at file order p (color_in portion) part.region part.stride part.planes i) 0
 
   -- what is placed in zeros
-  placed_here : (n : ℕ) → placed file order p (color_in portion) part.region part.stride part.planes (replicate n 0) ≡ each_to n in_place
+  placed_here : (n : ℕ) → bytes_with_region file order p (color_in portion) part.region part.stride part.planes (replicate n 0) ≡ each_to n in_place
   placed_here n = placed_in_zeros file order p (color_in portion) part.region part.stride part.planes n
 
   none_behind : (len i : ℕ) → room_of p portion ≤ len → len ≤ i → in_place i ≡ 0
   none_behind len i room l = ap (λ o. unwrap_or o 0) (portion_past file order p portion i sides laid (omega (arith, room, l)))
 
   -- bytes that are filled into some zeros were filled
-  filled_bytes : (zeros new : List ℕ) → filled file order p limits (color_in portion) part zeros ≡ Ok new
-      → (part_fault file order p limits (color_in portion) part ≡ Ok tt) × (new ≡ placed file order p (color_in portion) part.region part.stride part.planes zeros)
-  unfolding filled
+  filled_bytes : (zeros new : List ℕ) → fill_buffer file order p limits (color_in portion) part zeros ≡ Ok new
+      → (part_fault file order p limits (color_in portion) part ≡ Ok tt) × (new ≡ bytes_with_region file order p (color_in portion) part.region part.stride part.planes zeros)
+  unfolding fill_buffer
   filled_bytes zeros new h =
       ⊎_elim
       (λ (ok : part_fault file order p limits (color_in portion) part ≡ Ok tt).
-      let g : Ok (placed file order p (color_in portion) part.region part.stride part.planes zeros) ≡ Ok new = rw ok at h in
+      let g : Ok (bytes_with_region file order p (color_in portion) part.region part.stride part.planes zeros) ≡ Ok new = rw ok at h in
       (ok, cc))
       (λ er. let g : Err er.0 ≡ Ok new = rw (er.1) at h in absurd (let n : ⊥ = cc in n))
       (cases_fault (part_fault file order p limits (color_in portion) part))
 
-  filled_fault : (zeros : List ℕ) (e : TiffError) → filled file order p limits (color_in portion) part zeros ≡ Err e → part_fault file order p limits (color_in portion) part ≡ Err e
-  unfolding filled
+  filled_fault : (zeros : List ℕ) (e : TiffError) → fill_buffer file order p limits (color_in portion) part zeros ≡ Err e → part_fault file order p limits (color_in portion) part ≡ Err e
+  unfolding fill_buffer
   filled_fault zeros e h =
       ⊎_elim
       (λ (ok : part_fault file order p limits (color_in portion) part ≡ Ok tt).
-      let g : Ok (placed file order p (color_in portion) part.region part.stride part.planes zeros) ≡ Err e = rw ok at h in cc)
+      let g : Ok (bytes_with_region file order p (color_in portion) part.region part.stride part.planes zeros) ≡ Err e = rw ok at h in cc)
       (λ er. let g : Err er.0 ≡ Err e = rw (er.1) at h in let q : er.0 ≡ e = cc in er.1 ∙ ap Err q)
       (cases_fault (part_fault file order p limits (color_in portion) part))
 
   -- the samples, where bytes were filled into as many zeros as whole numbers take
   pub numbers_given : (color : ColorType) (type : DecodingSampleType) (size first len : ℕ) (before after : List ℕ) → IsSize size → size_of type ≡ size → sample_type_of p ≡ Ok type
       → early_fault file p limits color type first len ≡ Ok tt → room_of p portion ≤ len → before ≡ replicate (div_ceil len size) 0
-      → filled file order p limits (color_in portion) part (bytes_in size before) ≡ Ok (bytes_in size after)
+      → fill_buffer file order p limits (color_in portion) part (bytes_in size before) ≡ Ok (bytes_in size after)
       → samples file order p limits (color_in portion) part len ≡ Ok (record { sample_type = type; numbers = after })
-  unfolding samples filled
+  unfolding samples fill_buffer
   numbers_given color type size first len before after z sized typed early room zeros h =
       let all : bytes_in size before ≡ replicate (div_ceil len size * size) 0 = zeros_in size (div_ceil len size) before z zeros in
       let f = filled_bytes (bytes_in size before) (bytes_in size after) h in
       let new : bytes_in size after ≡ each_to (div_ceil len size * size) in_place =
-      f.1 ∙ (ap (λ (xs : List ℕ). placed file order p (color_in portion) part.region part.stride part.planes xs) all ∙ placed_here (div_ceil len size * size)) in
-      let numbers : numbers_in size (placed file order p (color_in portion) part.region part.stride part.planes (replicate len 0)) ≡ after =
+      f.1 ∙ (ap (λ (xs : List ℕ). bytes_with_region file order p (color_in portion) part.region part.stride part.planes xs) all ∙ placed_here (div_ceil len size * size)) in
+      let numbers : numbers_in size (bytes_with_region file order p (color_in portion) part.region part.stride part.planes (replicate len 0)) ≡ after =
       ap (numbers_in size) (placed_here len) ∙ (sym (filled_up size in_place len z (λ i l. none_behind len i room l)) ∙ (sym (ap (numbers_in size) new) ∙ numbers_again size after z)) in
       rw (typed, within_limit file p limits color type first len early, f.0)
-      (ap Ok (λ i. record { sample_type = type; numbers = ((λ t. numbers_in (sized t) (placed file order p (color_in portion) part.region part.stride part.planes (replicate len 0))) ∙ numbers) i }))
+      (ap Ok (λ i. record { sample_type = type; numbers = ((λ t. numbers_in (sized t) (bytes_with_region file order p (color_in portion) part.region part.stride part.planes (replicate len 0))) ∙ numbers) i }))
 
   -- and the bytes, where these are the numbers
   pub bytes_given : (color : ColorType) (type : DecodingSampleType) (first len : ℕ) (before after : List ℕ) → size_of type ≡ 1 → sample_type_of p ≡ Ok type
       → early_fault file p limits color type first len ≡ Ok tt → before ≡ replicate len 0
-      → filled file order p limits (color_in portion) part before ≡ Ok after
+      → fill_buffer file order p limits (color_in portion) part before ≡ Ok after
       → samples file order p limits (color_in portion) part len ≡ Ok (record { sample_type = type; numbers = after })
-  unfolding samples filled
+  unfolding samples fill_buffer
   bytes_given color type first len before after sized typed early zeros h =
       let f = filled_bytes before after h in
-      let numbers : numbers_in 1 (placed file order p (color_in portion) part.region part.stride part.planes (replicate len 0)) ≡ after =
-      numbers_are (placed file order p (color_in portion) part.region part.stride part.planes (replicate len 0))
-      ∙ (sym (ap (λ (xs : List ℕ). placed file order p (color_in portion) part.region part.stride part.planes xs) zeros) ∙ sym f.1) in
+      let numbers : numbers_in 1 (bytes_with_region file order p (color_in portion) part.region part.stride part.planes (replicate len 0)) ≡ after =
+      numbers_are (bytes_with_region file order p (color_in portion) part.region part.stride part.planes (replicate len 0))
+      ∙ (sym (ap (λ (xs : List ℕ). bytes_with_region file order p (color_in portion) part.region part.stride part.planes xs) zeros) ∙ sym f.1) in
       rw (typed, within_limit file p limits color type first len early, f.0)
-      (ap Ok (λ i. record { sample_type = type; numbers = ((λ t. numbers_in (sized t) (placed file order p (color_in portion) part.region part.stride part.planes (replicate len 0))) ∙ numbers) i }))
+      (ap Ok (λ i. record { sample_type = type; numbers = ((λ t. numbers_in (sized t) (bytes_with_region file order p (color_in portion) part.region part.stride part.planes (replicate len 0))) ∙ numbers) i }))
 
   -- a fault of filling is one of the samples
   pub filling_cause : (failed failed' : Type 0) (color : ColorType) (type : DecodingSampleType) (first len : ℕ) (zeros : List ℕ) (e : TiffError) → (failed → failed') → sample_type_of p ≡ Ok type
       → early_fault file p limits color type first len ≡ Ok tt
-      → IsCause (Unit {0}) failed e (filled file order p limits (color_in portion) part zeros ≡ Err e)
+      → IsCause (Unit {0}) failed e (fill_buffer file order p limits (color_in portion) part zeros ≡ Err e)
       → IsCause (Unit {0}) failed' e (samples file order p limits (color_in portion) part len ≡ Err e)
-  unfolding samples filled
+  unfolding samples fill_buffer
   filling_cause failed failed' color type first len zeros e grew typed early c =
       cause_along e (λ w. w) grew
       (λ h. rw (typed, within_limit file p limits color type first len early, filled_fault zeros e h) refl)

@@ -11,7 +11,7 @@ use Rattle.tiff_page.specs.Counts.{parts}
 use Rattle.tiff_page.specs.Rect.{rect, across, chunks_of_plane, chunk_of_pixel}
 use Rattle.tiff_page.specs.PixelFault.{each_below}
 use Rattle.tiff_page.specs.Pixels.{byte_at}
-use Rattle.tiff_page.specs.PixelCalls.{placed}
+use Rattle.tiff_page.specs.PixelCalls.{bytes_with_region}
 use Rattle.tiff_page.specs.Laws as law
 use Rattle.tiff_page.specs.Laws.{HasSides, HasPixel, IsFirst}
 use Rattle.tiff_page.proofs.Sizes.{parts_cover, column_in, row_in}
@@ -171,7 +171,7 @@ no_fault fault n = (all_ok fault n, ok_all fault n)
 -- ---- a buffer, position by position
 
 pub placed_each : law.PlacedEach
-unfolding placed
+unfolding bytes_with_region
 placed_each file order p color region stride planes buf =
     let at : ℕ → ℕ = λ i. unwrap_or (byte_at file order p color region stride planes i) (slice_index buf i) in
     (length-map-range_with_len at 0 (length buf), λ i l. get_or-map-range_with_len at 0 (length buf) i i 0 l (omega arith))

@@ -11,7 +11,7 @@ use Rattle.tiff_base.specs.declared.tags.ByteOrder.{ByteOrder}
 use Rattle.tiff_base.specs.Answers.{IsCause}
 use Rattle.tiff_base.proofs.Causes.{cause_along}
 use Rattle.tiff_page.specs.Page.{PageRecord}
-use Rattle.tiff_page.specs.Layout.{row_bits, row_bytes, shown}
+use Rattle.tiff_page.specs.Layout.{row_bits, row_bytes, samples_in_chunk}
 use Rattle.tiff_page.specs.Pixels.{stored_row_bytes, needs_whole_rows, needed_of_row}
 use Rattle.tiff_page.specs.OutputRow.{StoresAllShown, handed_byte}
 use Rattle.tiff_page.specs.RowReads.{TakesRow}
@@ -65,9 +65,9 @@ row_of_numbers p color width n stored e =
     (λ (l : p.depth < 8). inl l)
     (λ (w : p.depth ≡ p.depth / 8 * 8).
     let size : ℕ = p.depth / 8 in
-    let a : n ≡ width * shown p.planar color * size = e ∙ bits_are width p.depth size (shown p.planar color) w in
+    let a : n ≡ width * samples_in_chunk p.planar color * size = e ∙ bits_are width p.depth size (samples_in_chunk p.planar color) w in
     ⊎_elim
-    (λ (z : 0 < size). inr (ap (λ m. m / size * size) a ∙ ap (λ m. m * size) (mul-div_cancel (width * shown p.planar color) z) ∙ sym a))
+    (λ (z : 0 < size). inr (ap (λ m. m / size * size) a ∙ ap (λ m. m * size) (mul-div_cancel (width * samples_in_chunk p.planar color) z) ∙ sym a))
     (λ (z : size ≤ 0). inl (omega (arith, z, w)))
     (cases_lt 0 size))
     stored.depth

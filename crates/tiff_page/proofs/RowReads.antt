@@ -21,8 +21,8 @@ use Rattle.tiff_base.specs.Answers.{◌>>=◌}
 use Rattle.tiff_base.specs.Color.{num_samples}
 use Rattle.tiff_ifd.specs.declared.limits.Limits.{Limits}
 use Rattle.tiff_page.specs.Page.{PageRecord}
-use Rattle.tiff_page.specs.Layout.{color_of, color_from, no_color, gray, lab, photometric, first_is_alpha, shown}
-use Rattle.tiff_page.specs.PixelFault.{unless, is_whole, is_gray, unpredicted, depth_fault, predictor_fault, method_fault, form_fault}
+use Rattle.tiff_page.specs.Layout.{color_of, color_from, no_color, gray, lab, photometric, first_is_alpha, samples_in_chunk}
+use Rattle.tiff_page.specs.PixelFault.{unless, is_whole, is_gray, refuse_predictor, depth_fault, predictor_fault, method_fault, form_fault}
 use Rattle.tiff_page.specs.Pixels.{stored_samples}
 use Rattle.tiff_page.specs.Row.{IsSize}
 use Rattle.tiff_page.specs.ReadablePage.{IsRead, FormRead}
@@ -94,7 +94,7 @@ color_stores : (p : PageRecord) → Stores p.samples (color_of p)
 unfolding color_of
 color_stores p = from_stores p.interpretation p
 
-shown_stored : (planar : PlanarConfiguration) (p : PageRecord) (c : ColorType) → p.planar ≡ planar → num_samples c ≤ p.samples → shown p.planar c ≤ stored_samples p
+shown_stored : (planar : PlanarConfiguration) (p : PageRecord) (c : ColorType) → p.planar ≡ planar → num_samples c ≤ p.samples → samples_in_chunk p.planar c ≤ stored_samples p
 shown_stored Chunky p c e h = rw e h
 shown_stored Planar p c e h = rw e (omega arith)
 
@@ -133,11 +133,11 @@ not_whole d h =
     (λ f. f) (cases_Bool (is_whole d))
 
 -- with depths below 8
-packed_fault : (p : PageRecord) (c : ColorType) → p.depth < 8 → depth_fault p c ≡ (if is_gray c then unpredicted p.predictor c else Err (UnsupportedError (UnsupportedColorType c)))
+packed_fault : (p : PageRecord) (c : ColorType) → p.depth < 8 → depth_fault p c ≡ (if is_gray c then refuse_predictor p.predictor c else Err (UnsupportedError (UnsupportedColorType c)))
 unfolding depth_fault
 packed_fault p c h = rw (not_whole p.depth h, lt-ltb p.depth 8 h) refl
 
-no_predictor : (d : Predictor) (c : ColorType) → (if is_gray c then unpredicted d c else Err (UnsupportedError (UnsupportedColorType c))) ≡ Ok tt → d ≡ predictor.None
+no_predictor : (d : Predictor) (c : ColorType) → (if is_gray c then refuse_predictor d c else Err (UnsupportedError (UnsupportedColorType c))) ≡ Ok tt → d ≡ predictor.None
 no_predictor predictor.None c h = refl
 no_predictor predictor.Horizontal c h =
     ⊎_elim (λ (t : is_gray c ≡ true). let k : Err (UnsupportedError (HorizontalPredictor c)) ≡ Ok tt = rw t at h in cc)
@@ -146,7 +146,7 @@ no_predictor predictor.FloatingPoint c h =
     ⊎_elim (λ (t : is_gray c ≡ true). let k : Err (UnsupportedError (FloatingPointPredictor c)) ≡ Ok tt = rw t at h in cc)
     (λ (f : is_gray c ≡ false). let k : Err (UnsupportedError (UnsupportedColorType c)) ≡ Ok tt = rw f at h in cc) (cases_Bool (is_gray c))
 
-gray_here : (d : Predictor) (c : ColorType) → (if is_gray c then unpredicted d c else Err (UnsupportedError (UnsupportedColorType c))) ≡ Ok tt → is_gray c ≡ true
+gray_here : (d : Predictor) (c : ColorType) → (if is_gray c then refuse_predictor d c else Err (UnsupportedError (UnsupportedColorType c))) ≡ Ok tt → is_gray c ≡ true
 gray_here d c h =
     ⊎_elim (λ (t : is_gray c ≡ true). t)
     (λ (f : is_gray c ≡ false). let k : Err (UnsupportedError (UnsupportedColorType c)) ≡ Ok tt = rw f at h in cc) (cases_Bool (is_gray c))
@@ -163,7 +163,7 @@ gray_all (CMYKA d) n g a = cc
 gray_all (YCbCr d) n g a = cc
 gray_all (Lab d) n g a = cc
 
-all_stored : (planar : PlanarConfiguration) (p : PageRecord) (c : ColorType) → p.planar ≡ planar → num_samples c ≡ p.samples → shown p.planar c ≡ stored_samples p
+all_stored : (planar : PlanarConfiguration) (p : PageRecord) (c : ColorType) → p.planar ≡ planar → num_samples c ≡ p.samples → samples_in_chunk p.planar c ≡ stored_samples p
 all_stored Chunky p c e h = rw e h
 all_stored Planar p c e h = rw e refl
 

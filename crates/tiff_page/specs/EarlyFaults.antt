@@ -15,7 +15,7 @@ use Rattle.tiff_page.specs.Buffers.{planes_layout}
 use Rattle.tiff_page.specs.Layout.{planes, sample_type_of, size_of, wide}
 use Rattle.tiff_page.specs.PixelCalls.{stride_fault}
 use Rattle.tiff_page.specs.PixelFault.{samples_fault, chunk_fault}
-use Rattle.tiff_page.specs.Pixels.{needed}
+use Rattle.tiff_page.specs.Pixels.{needed_bytes}
 use Rattle.tiff_page.specs.Rect.{rect}
 
 abbrev pub is_packed : CompressionMethod → Bool
@@ -33,7 +33,7 @@ bytes_held file m offset count = if is_packed m then min count (length file - of
 -- a file has fewer bytes for a chunk than its data take at least
 abbrev pub is_cut : List ℕ → PageRecord → ColorType → ℕ → Bool
 is_cut file p color i =
-    nat_lt (bytes_held file p.method (slice_index p.offsets i) (slice_index p.byte_counts i)) (least_stored p.method (needed p color i))
+    nat_lt (bytes_held file p.method (slice_index p.offsets i) (slice_index p.byte_counts i)) (least_stored p.method (needed_bytes p color i))
 
 -- what is found before memory is taken for samples of so many bytes: more of them than fit into the limit, and the
 -- faults of the first chunk, whose data are told by how many bytes the file has

@@ -9,7 +9,7 @@ use Rattle.tiff_page.specs.Rect.{rect, across, chunks_of_plane, chunk_of_pixel}
 use Rattle.tiff_page.specs.Layout.{LayoutRecord, layout_of, row_bits, row_bytes}
 use Rattle.tiff_page.specs.PixelFault.{depth_fault, each_below}
 use Rattle.tiff_page.specs.Pixels.{Region, byte_at, region_byte, image_region, chunk_region}
-use Rattle.tiff_page.specs.PixelCalls.{placed}
+use Rattle.tiff_page.specs.PixelCalls.{bytes_with_region}
 
 -- an image and its chunks have a width and a height
 pub record HasSides (p : PageRecord) : Type 0 where
@@ -62,9 +62,9 @@ NoFault = (fault : ℕ → Result (Unit {0}) TiffError) (n : ℕ)
 -- a buffer in which a region is placed is as long as before, and has at each position the region's byte or what it had
 abbrev pub PlacedEach : Type 0
 PlacedEach = (file : List ℕ) (order : ByteOrder) (p : PageRecord) (color : ColorType) (region : Region) (stride planes : ℕ) (buf : List ℕ)
-    → (length (placed file order p color region stride planes buf) ≡ length buf)
+    → (length (bytes_with_region file order p color region stride planes buf) ≡ length buf)
     × ((i : ℕ) → i < length buf
-    → slice_index (placed file order p color region stride planes buf) i
+    → slice_index (bytes_with_region file order p color region stride planes buf) i
     ≡ unwrap_or (byte_at file order p color region stride planes i) (slice_index buf i))
 
 -- the rows and the planes of a layout of a page are of some bytes

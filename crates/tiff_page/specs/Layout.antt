@@ -109,16 +109,16 @@ pub record LayoutRecord : Type 0 where
   pub plane_stride : ℕ
 
 -- samples of a color that a chunk shows, and planes that show the rest
-abbrev pub shown : PlanarConfiguration → ColorType → ℕ
-shown Chunky color = num_samples color
-shown Planar color = 1
+abbrev pub samples_in_chunk : PlanarConfiguration → ColorType → ℕ
+samples_in_chunk Chunky color = num_samples color
+samples_in_chunk Planar color = 1
 
 abbrev pub planes : PlanarConfiguration → ColorType → ℕ
 planes Chunky color = 1
 planes Planar color = num_samples color
 
 unfoldable pub row_bits : PageRecord → ColorType → ℕ → ℕ
-row_bits p color width = width * p.depth * shown p.planar color
+row_bits p color width = width * p.depth * samples_in_chunk p.planar color
 
 abbrev pub row_bytes : PageRecord → ColorType → ℕ → ℕ
 row_bytes p color width = (row_bits p color width + 7) / 8
@@ -128,8 +128,8 @@ abbrev pub wide : ℕ → Result ℕ TiffError
 wide n = if nat_lt n (2 ^ 64) then Ok n else Err LimitsExceeded
 
 -- more than one chunk in a row: each of whole bytes
-abbrev pub aligned : PageRecord → ColorType → ℕ → Result ColorType TiffError
-aligned p color width =
+abbrev pub whole_chunks : PageRecord → ColorType → ℕ → Result ColorType TiffError
+whole_chunks p color width =
     if nat_lt 1 (parts width p.chunk_width) && not (row_bits p color p.chunk_width % 8 == 0)
     then Err (UnsupportedError MisalignedTileBoundaries)
     else Ok color
@@ -147,6 +147,6 @@ layout_of p width height = do
   color ← color_of p
   _ ← wide (row_bytes p color width * p.chunk_height)
   plane_stride ← wide (row_bytes p color width * height)
-  _ ← aligned p color width
+  _ ← whole_chunks p color width
   _ ← whole_chroma p color
   Ok (record { color = color; row_bytes = row_bytes p color width; plane_stride = plane_stride })

@@ -6,9 +6,9 @@ use Rattle.tiff_base.specs.SourceAndSink.{bytes_at}
 use Rattle.tiff_page.specs.Page.{PageRecord}
 use Rattle.tiff_page.specs.Counts.{all_chunks}
 use Rattle.tiff_page.specs.Rect.{rect}
-use Rattle.tiff_page.specs.Layout.{row_bytes, shown}
+use Rattle.tiff_page.specs.Layout.{row_bytes, samples_in_chunk}
 use Rattle.tiff_page.specs.Laws.{HasSides}
-use Rattle.tiff_page.specs.Pixels.{stored_samples, stored_row_bytes, chunk_data, needed_of_row, number_size, in_row, number_of_row, inverted}
+use Rattle.tiff_page.specs.Pixels.{stored_samples, stored_row_bytes, chunk_data, needed_of_row, number_size, in_row, number_of_row, shown_number}
 use Rattle.tiff_page.specs.BufferPositions.{chunk_byte}
 
 -- a stored row of a chunk
@@ -16,19 +16,19 @@ module _ (order : ByteOrder) (p : PageRecord) (row : List ℕ) (color : ColorTyp
   -- number n of those that a color shows
   abbrev pub handed_number : ℕ → ℕ
   handed_number n =
-      inverted p.interpretation (2 ^ p.depth) (number_of_row order p row (in_row p (n / shown p.planar color) (n % shown p.planar color)))
+      shown_number p.interpretation (2 ^ p.depth) (number_of_row order p row (in_row p (n / samples_in_chunk p.planar color) (n % samples_in_chunk p.planar color)))
 
   -- byte b of the row: of a number's bytes the least comes first; with depths below 8 as it stands
   abbrev pub handed_byte : ℕ → ℕ
   handed_byte b =
-      if nat_lt p.depth 8 then inverted p.interpretation 256 (slice_index row b)
+      if nat_lt p.depth 8 then shown_number p.interpretation 256 (slice_index row b)
       else handed_number (b / number_size p) / 256 ^ (b % number_size p) % 256
 
 -- a page of whole bytes or of depths below 8, whose chunks store all samples that are shown
 pub record StoresAllShown (p : PageRecord) (color : ColorType) : Type 0 where
   pub depth : (p.depth < 8) ⊎ (p.depth ≡ p.depth / 8 * 8)
-  pub shows : 0 < shown p.planar color
-  pub stores : shown p.planar color ≤ stored_samples p
+  pub shows : 0 < samples_in_chunk p.planar color
+  pub stores : samples_in_chunk p.planar color ≤ stored_samples p
 
 -- The bytes of a row of a chunk are told by those that are read of it.
 abbrev pub RowHanded : Type 0

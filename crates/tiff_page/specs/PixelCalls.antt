@@ -56,22 +56,22 @@ module _ (file : List ℕ) (order : ByteOrder) (p : PageRecord) where
 
   -- the bytes of a buffer after a region is placed in it, in so many planes of rows a stride apart: what isn't of a row
   -- stays
-  unfoldable pub placed : ColorType → Region → ℕ → ℕ → List ℕ → List ℕ
-  placed color region stride planes buf =
+  unfoldable pub bytes_with_region : ColorType → Region → ℕ → ℕ → List ℕ → List ℕ
+  bytes_with_region color region stride planes buf =
       each_to (length buf) (λ i. unwrap_or (byte_at file order p color region stride planes i) (slice_index buf i))
 
   -- what a call gives of a buffer: the first fault, or its bytes
-  unfoldable pub filled : Limits → ColorType → Part → List ℕ → Result (List ℕ) TiffError
-  filled limits color part buf = do
+  unfoldable pub fill_buffer : Limits → ColorType → Part → List ℕ → Result (List ℕ) TiffError
+  fill_buffer limits color part buf = do
     _ ← part_fault limits color part
-    Ok (placed color part.region part.stride part.planes buf)
+    Ok (bytes_with_region color part.region part.stride part.planes buf)
 
   -- the samples of so many bytes, which are zeros at first: the number type's fault, the limit's, those of the chunks
   unfoldable pub samples : Limits → ColorType → Part → ℕ → Result Decoded TiffError
   samples limits color part len = do
     type ← sample_type_of p
     _ ← samples_fault limits (size_of type) len
-    bytes ← filled limits color part (replicate len 0)
+    bytes ← fill_buffer limits color part (replicate len 0)
     Ok (decoded_samples type bytes)
 
 -- the samples of an image, of its first plane where it is planar
@@ -85,7 +85,7 @@ unfoldable pub read_image_bytes : List ℕ → ByteOrder → PageRecord → Limi
 read_image_bytes file order p limits buf = do
   layout ← planes_layout p p.width p.height
   _ ← room_fault (length buf) layout.plane_stride
-  filled file order p limits layout.color (image_part p (planes_used p layout (length buf)) layout.row_bytes) buf
+  fill_buffer file order p limits layout.color (image_part p (planes_used p layout (length buf)) layout.row_bytes) buf
 
 -- all planes of an image, or the first one where all aren't within the limit; the layout names all
 unfoldable pub read_image_to_buffer : List ℕ → ByteOrder → PageRecord → Limits → Result (BufferLayoutPreference × Decoded) TiffError
@@ -107,7 +107,7 @@ unfoldable pub read_chunk_bytes : List ℕ → ByteOrder → PageRecord → Limi
 read_chunk_bytes file order p limits i buf = do
   layout ← planes_layout p (rect p i).width (rect p i).height
   _ ← room_fault (length buf) layout.plane_stride
-  filled file order p limits layout.color (chunk_part p i 1 layout.row_bytes) buf
+  fill_buffer file order p limits layout.color (chunk_part p i 1 layout.row_bytes) buf
 
 -- the samples of a chunk in rows so many bytes apart, with zeros between them
 unfoldable pub read_chunk_to_buffer : List ℕ → ByteOrder → PageRecord → Limits → ℕ → ℕ → Result Decoded TiffError
@@ -123,4 +123,4 @@ read_coding_unit_bytes file order p limits unit buf = do
   layout ← planes_layout p (rect p unit).width (rect p unit).height
   _ ← unit_fault p unit
   _ ← room_fault (length buf) layout.plane_stride
-  filled file order p limits layout.color (chunk_part p unit (planes_used p layout (length buf)) layout.row_bytes) buf
+  fill_buffer file order p limits layout.color (chunk_part p unit (planes_used p layout (length buf)) layout.row_bytes) buf

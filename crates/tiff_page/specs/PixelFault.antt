@@ -39,15 +39,15 @@ is_gray (Gray d) = true
 is_gray (Multiband d n) = true
 is_gray _ = false
 
-abbrev pub unpredicted : Predictor → ColorType → Result (Unit {0}) TiffError
-unpredicted predictor.None color = Ok tt
-unpredicted predictor.Horizontal color = Err (UnsupportedError (HorizontalPredictor color))
-unpredicted predictor.FloatingPoint color = Err (UnsupportedError (FloatingPointPredictor color))
+abbrev pub refuse_predictor : Predictor → ColorType → Result (Unit {0}) TiffError
+refuse_predictor predictor.None color = Ok tt
+refuse_predictor predictor.Horizontal color = Err (UnsupportedError (HorizontalPredictor color))
+refuse_predictor predictor.FloatingPoint color = Err (UnsupportedError (FloatingPointPredictor color))
 
 unfoldable pub depth_fault : PageRecord → ColorType → Result (Unit {0}) TiffError
 depth_fault p color =
     if is_whole p.depth && is_plain color then Ok tt
-    else if nat_lt p.depth 8 && is_gray color then unpredicted p.predictor color
+    else if nat_lt p.depth 8 && is_gray color then refuse_predictor p.predictor color
     else Err (UnsupportedError (UnsupportedColorType color))
 
 abbrev pub is_number : SampleFormat → Bool

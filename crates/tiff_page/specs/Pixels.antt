@@ -18,7 +18,7 @@ use Rattle.tiff_base.specs.Runs.{runs}
 use Rattle.tiff_base.specs.SourceAndSink.{bytes_at}
 use Rattle.tiff_page.specs.Page.{PageRecord}
 use Rattle.tiff_page.specs.Rect.{across, chunks_of_plane, rect, chunk_of_pixel}
-use Rattle.tiff_page.specs.Layout.{shown, row_bytes}
+use Rattle.tiff_page.specs.Layout.{samples_in_chunk, row_bytes}
 
 -- f 0, f 1 .. below n
 abbrev pub each_to : {A : Type 0} → ℕ → (ℕ → A) → List A
@@ -46,7 +46,7 @@ is_byte_plane _ = false
 
 -- whether the shown samples are read from whole rows: with the byte-plane predictor, or where samples are dropped
 abbrev pub needs_whole_rows : PageRecord → ColorType → Bool
-needs_whole_rows p color = is_byte_plane p.predictor || nat_lt (shown p.planar color) (stored_samples p)
+needs_whole_rows p color = is_byte_plane p.predictor || nat_lt (samples_in_chunk p.planar color) (stored_samples p)
 
 -- the bytes that are read of a row of which so many are handed out: with the byte-plane predictor, or where samples are
 -- dropped, all
@@ -54,8 +54,8 @@ abbrev pub needed_of_row : PageRecord → ColorType → ℕ → ℕ
 needed_of_row p color len = if needs_whole_rows p color then stored_row_bytes p else len
 
 -- the bytes that are needed of a chunk: all rows of its part of the image, of the last one what is read of it
-abbrev pub needed : PageRecord → ColorType → ℕ → ℕ
-needed p color i = ((rect p i).height - 1) * stored_row_bytes p + needed_of_row p color (row_bytes p color (rect p i).width)
+abbrev pub needed_bytes : PageRecord → ColorType → ℕ → ℕ
+needed_bytes p color i = ((rect p i).height - 1) * stored_row_bytes p + needed_of_row p color (row_bytes p color (rect p i).width)
 
 -- the bytes of a number
 abbrev pub number_size : PageRecord → ℕ
@@ -95,9 +95,9 @@ number_of_row order p row k = number_by p.predictor order p row k
 -- ---- what is shown
 
 -- what is shown of a number below a limit
-abbrev pub inverted : PhotometricInterpretation → ℕ → ℕ → ℕ
-inverted meaning.WhiteIsZero limit v = limit - 1 - v
-inverted _ limit v = v
+abbrev pub shown_number : PhotometricInterpretation → ℕ → ℕ → ℕ
+shown_number meaning.WhiteIsZero limit v = limit - 1 - v
+shown_number _ limit v = v
 
 -- a part of the image that is read: a rectangle, its first plane, and where it is a chunk's, which of a plane
 pub record Region : Type 0 where
@@ -133,7 +133,7 @@ module _ (file : List ℕ) (order : ByteOrder) (p : PageRecord) where
 
   -- too few data
   abbrev pub is_short : ColorType → ℕ → Bool
-  is_short color i = nat_lt (length (chunk_data i)) (needed p color i)
+  is_short color i = nat_lt (length (chunk_data i)) (needed_bytes p color i)
 
   -- the number of a sample of a pixel
   abbrev pub stored_number : ℕ → ℕ → ℕ → ℕ → ℕ
@@ -142,7 +142,7 @@ module _ (file : List ℕ) (order : ByteOrder) (p : PageRecord) where
   -- a sample of a pixel, at depths of whole bytes
   unfoldable pub shown_sample : ℕ → ℕ → ℕ → ℕ
   shown_sample x y sample =
-      inverted p.interpretation (2 ^ p.depth)
+      shown_number p.interpretation (2 ^ p.depth)
       (stored_number (chunk_of_pixel p (planar_or p.planar sample 0) x y) (y % p.chunk_height) (x % p.chunk_width) (planar_or p.planar 0 sample))
 
   -- byte k of a row of a region with depths below 8: such bytes are handed out as they stand
@@ -150,13 +150,13 @@ module _ (file : List ℕ) (order : ByteOrder) (p : PageRecord) where
   packed_byte color r plane row k =
       let c = row_bytes p color p.chunk_width in
       let here = plane * chunks_of_plane p + unwrap_or r.chunk ((r.y + row) / p.chunk_height * across p + (r.x / p.chunk_width + k / c)) in
-      inverted p.interpretation 256 (slice_index (stored_row here ((r.y + row) % p.chunk_height)) (k % c))
+      shown_number p.interpretation 256 (slice_index (stored_row here ((r.y + row) % p.chunk_height)) (k % c))
 
   -- byte k of a row of a region at depths of whole bytes: of a number's bytes the least comes first
   abbrev pub number_byte : ColorType → Region → ℕ → ℕ → ℕ → ℕ
   number_byte color r plane row k =
       let n = k / number_size p in
-      let s = shown p.planar color in
+      let s = samples_in_chunk p.planar color in
       shown_sample (r.x + n / s) (r.y + row) (planar_or p.planar plane (n % s)) / 256 ^ (k % number_size p) % 256
 
   abbrev pub region_byte : ColorType → Region → ℕ → ℕ → ℕ → ℕ

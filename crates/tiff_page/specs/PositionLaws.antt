@@ -6,7 +6,7 @@ use Rattle.tiff_base.specs.declared.tags.ByteOrder.{ByteOrder}
 use Rattle.tiff_page.specs.Page.{PageRecord}
 use Rattle.tiff_page.specs.Rect.{rect, chunks_of_plane}
 use Rattle.tiff_page.specs.Layout.{row_bytes}
-use Rattle.tiff_page.specs.PixelCalls.{placed}
+use Rattle.tiff_page.specs.PixelCalls.{bytes_with_region}
 use Rattle.tiff_page.specs.Pixels.{image_region, chunk_region}
 use Rattle.tiff_page.specs.Laws.{HasSides, HasWholeRows}
 use Rattle.tiff_page.specs.BufferPositions.{Writes, IsIn, in_rect, chunk_byte, top_of, left_of, IsInChunk, IsOfChunk, IsBefore, image_byte, IsInUnit, unit_byte}
@@ -45,7 +45,7 @@ abbrev pub ImageWritten : Type 0
 ImageWritten = (file : List ℕ) (order : ByteOrder) (p : PageRecord) (color : ColorType) (stride n : ℕ) (old new : List ℕ)
     → HasSides p → HasWholeRows p color → row_bytes p color p.width ≤ stride
     → Writes (IsBefore p color stride n (chunks_of_plane p) 0) (image_byte p color stride file order) old new
-    → new ≡ placed file order p color (image_region p) stride n old
+    → new ≡ bytes_with_region file order p color (image_region p) stride n old
 
 -- ---- one chunk, or that of each plane
 
@@ -66,4 +66,4 @@ abbrev pub UnitWritten : Type 0
 UnitWritten = (file : List ℕ) (order : ByteOrder) (p : PageRecord) (color : ColorType) (stride k n : ℕ) (old new : List ℕ)
     → HasSides p → row_bytes p color (rect p k).width ≤ stride
     → Writes (IsInUnit p color stride k n) (unit_byte file order p color stride k) old new
-    → new ≡ placed file order p color (chunk_region p k) stride n old
+    → new ≡ bytes_with_region file order p color (chunk_region p k) stride n old

@@ -4,7 +4,7 @@ use Rattle.tiff_base.specs.declared.color.ColorType.{ColorType}
 use Rattle.tiff_base.specs.declared.tags.Predictor.TheVariants as predictor
 use Rattle.tiff_ifd.specs.declared.limits.Limits.{Limits}
 use Rattle.tiff_page.specs.Page.{PageRecord}
-use Rattle.tiff_page.specs.Layout.{color_of, shown}
+use Rattle.tiff_page.specs.Layout.{color_of, samples_in_chunk}
 use Rattle.tiff_page.specs.Pixels.{stored_samples}
 use Rattle.tiff_page.specs.PixelFault.{form_fault}
 use Rattle.tiff_page.specs.Row.{IsSize}
@@ -15,7 +15,7 @@ pub record IsRead (p : PageRecord) (color : ColorType) : Type 0 where
   pub stored : StoresAllShown p color
   pub size : (p.depth < 8) ⊎ IsSize (p.depth / 8)
   pub unpredicted : p.depth < 8 → p.predictor ≡ predictor.None
-  pub all : p.depth < 8 → shown p.planar color ≡ stored_samples p
+  pub all : p.depth < 8 → samples_in_chunk p.planar color ≡ stored_samples p
 
 -- what passes the tests of its form is read
 abbrev pub FormRead : Type 0

@@ -42,7 +42,7 @@ fn needed_of_row(page: &Page, color: ColorType, len: usize) -> usize
 // The bytes that are needed of a chunk.
 #[tactic(auto, using(crate::proofs::Cut::rows_fit, crate::proofs::Cut::bytes_few))]
 fn needed_bytes(page: &Page, color: ColorType, index: u32) -> u128
-    ensures value { result ≡ pixels.needed (view.page page.now) color index }
+    ensures value { result ≡ pixels.needed_bytes (view.page page.now) color index }
     ensures few { result < 2 ^ 89 }
 {
     let (width, height) = chunk_data_dimensions(page, index);

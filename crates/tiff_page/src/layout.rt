@@ -287,8 +287,8 @@ pub struct PlaneLayout {
     pub plane_stride: usize,
 }
 
-pub(crate) fn shown(page: &Page, color: ColorType) -> u16
-    ensures { result ≡ spec.shown page.now.planar color }
+pub(crate) fn samples_in_chunk(page: &Page, color: ColorType) -> u16
+    ensures { result ≡ spec.samples_in_chunk page.now.planar color }
 {
     match page.planar {
         PlanarConfiguration::Chunky => color.num_samples(),
@@ -318,7 +318,7 @@ pub(crate) fn row_bits(page: &Page, color: ColorType, width: u32) -> usize
     ensures value { result ≡ spec.row_bits (view.page page.now) color width }
     ensures few { result < 2 ^ 56 }
 {
-    bits(width, page.depth, shown(page, color))
+    bits(width, page.depth, samples_in_chunk(page, color))
 }
 
 fn is_whole_chroma(page: &Page, color: ColorType) -> TiffResult<()>
@@ -333,8 +333,8 @@ fn is_whole_chroma(page: &Page, color: ColorType) -> TiffResult<()>
     }
 }
 
-fn is_aligned(page: &Page, color: ColorType, width: u32) -> TiffResult<()>
-    ensures { Gives (λ _. color) result (spec.aligned (view.page page.now) color width) }
+fn check_whole_chunks(page: &Page, color: ColorType, width: u32) -> TiffResult<()>
+    ensures { Gives (λ _. color) result (spec.whole_chunks (view.page page.now) color width) }
 {
     let across = (u64::from(width) + u64::from(page.chunk_width) - 1) / u64::from(page.chunk_width);
     if across > 1 && row_bits(page, color, page.chunk_width) % 8 != 0 {
@@ -365,7 +365,7 @@ pub fn layout_of(page: &Page, alloc: Global, width: u32, height: u32) -> TiffRes
     let row_bytes = (row_bits(page, color, width) + 7) / 8;
     wide_product(row_bytes, page.chunk_height as usize)?;
     let plane_stride = wide_product(row_bytes, height as usize)?;
-    is_aligned(page, color, width)?;
+    check_whole_chunks(page, color, width)?;
     is_whole_chroma(page, color)?;
     Ok(PlaneLayout {
         color,

@@ -9,7 +9,7 @@ ghost use Rattle.tiff_page.specs.ReadablePage.{FormRead, IsRead};
 ghost use Rattle.tiff_page.specs.PageView as view;
 
 use crate::chunk_rows::ChunkReader;
-use crate::layout::{bits, row_bits, shown};
+use crate::layout::{bits, row_bits, samples_in_chunk};
 use crate::page::Page;
 use crate::predictors::{invert, to_little, undo_byte_plane, undo_horizontal};
 use tiff_base::color::ColorType;
@@ -46,7 +46,8 @@ pub fn row_len(page: &Page, color: ColorType, width: u32) -> usize
 pub fn needs_whole_rows(page: &Page, color: ColorType) -> bool
     ensures { result ≡ pixels.needs_whole_rows (view.page page.now) color }
 {
-    matches!(page.predictor, Predictor::FloatingPoint) || shown(page, color) < stored_samples(page)
+    matches!(page.predictor, Predictor::FloatingPoint)
+        || samples_in_chunk(page, color) < stored_samples(page)
 }
 
 // Makes a row of whole bytes the little-endian numbers of its samples; one of depths below 8 stays.
@@ -72,7 +73,7 @@ fn undo_numbers(page: &Page, order: ByteOrder, row: &mut [u8])
 
 // Complements the bytes of a row where the page says so.
 fn complement(page: &Page, row: &mut [u8])
-    ensures { EachIndex row.new (λ b. slice_index row.new b ≡ pixels.inverted page.now.interpretation 256 (slice_index row.old b)) }
+    ensures { EachIndex row.new (λ b. slice_index row.new b ≡ pixels.shown_number page.now.interpretation 256 (slice_index row.old b)) }
 {
     if matches!(page.interpretation, PhotometricInterpretation::WhiteIsZero) {
         invert(row);
@@ -169,7 +170,7 @@ impl ChunkReader<'_> {
         let size = usize::from(page.depth / 8);
         let pixel = PixelBytes {
             stored: usize::from(stored_samples(page)) * size,
-            shown: usize::from(shown(page, self.color)) * size,
+            shown: usize::from(samples_in_chunk(page, self.color)) * size,
         };
         undo_whole(page, self.order, row, room);
         keep_pixels(row, pixel, out, self.width as usize);

@@ -16,7 +16,7 @@ ghost use Rattle.tiff_page.specs.EarlyFaults.{IsListFault, WantsAfter, WantsWher
 ghost use Rattle.tiff_page.specs.PixelCalls.{image_of};
 ghost use Rattle.tiff_page.specs.Layout as layouts;
 ghost use Rattle.tiff_page.specs.PixelCalls as calls;
-ghost use Rattle.tiff_page.specs.PixelCalls.{filled};
+ghost use Rattle.tiff_page.specs.PixelCalls.{fill_buffer};
 ghost use Rattle.tiff_page.specs.Rect as rects;
 ghost use Rattle.tiff_page.specs.Samples.{samples_as, color_in, first_in, part_of, IsLaid, room_of};
 ghost use Rattle.tiff_page.specs.PageView as view;
@@ -185,7 +185,7 @@ impl PageReader<'_> {
         requires room { room_of (view.page self.now.page.now) portion ≤ length (W.bytes out.old) }
         requires few { room_of (view.page self.now.page.now) portion < 2 ^ 64 }
         ensures kept { IsKept R.bytes R.failures result source.old source.new }
-        ensures answer { Answers (λ _. W.bytes out.new) result (filled (R.bytes source.old) self.now.order
+        ensures answer { Answers (λ _. W.bytes out.new) result (fill_buffer (R.bytes source.old) self.now.order
             (view.page self.now.page.now) self.now.limits.now (color_in portion)
             (part_of (R.bytes source.old) self.now.order (view.page self.now.page.now) portion) (W.bytes out.old))
             (R.failures source.old) (R.failures source.new) }

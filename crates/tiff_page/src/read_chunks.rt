@@ -3,7 +3,7 @@
 ghost use Rattle.std.specs.Prelude.{◌≡◌, ◌+◌, ◌*◌, ◌<◌, ◌≤◌, ◌^◌, ◌⊎◌, List, ℕ, Ok, length, OnOk};
 ghost use Rattle.tiff_base.specs.Answers.{Answers, IsKept};
 ghost use Rattle.tiff_page.specs.Layout.{color_of, layout_of, row_bytes};
-ghost use Rattle.tiff_page.specs.PixelCalls.{filled, image_part, chunk_part};
+ghost use Rattle.tiff_page.specs.PixelCalls.{fill_buffer, image_part, chunk_part};
 ghost use Rattle.tiff_page.specs.PixelFault.{chunk_fault, each_below};
 ghost use Rattle.tiff_page.specs.Pixels.{is_short};
 ghost use Rattle.tiff_page.specs.BufferPositions.{WritesNext, top_of, left_of};
@@ -132,7 +132,7 @@ impl PageReader<'_> {
         requires room { part.planes * part.layout.plane_stride ≤ length (W.bytes buf.old) }
         requires few { part.planes * part.layout.plane_stride < 2 ^ 64 }
         ensures kept { IsKept R.bytes R.failures result source.old source.new }
-        ensures answer { Answers (λ _. W.bytes buf.new) result (filled (R.bytes source.old) self.now.order
+        ensures answer { Answers (λ _. W.bytes buf.new) result (fill_buffer (R.bytes source.old) self.now.order
             (view.page self.now.page.now) self.now.limits.now part.layout.color
             (image_part (view.page self.now.page.now) part.planes part.layout.row_bytes)
             (W.bytes buf.old)) (R.failures source.old) (R.failures source.new) }
@@ -161,7 +161,7 @@ impl PageReader<'_> {
         requires few { unit.planes * ((rect (view.page self.now.page.now) unit.index).height * unit.stride) < 2 ^ 64 }
         requires which { (unit.planes ≡ 1) ⊎ (unit.index < chunks_of_plane (view.page self.now.page.now)) }
         ensures kept { IsKept R.bytes R.failures result source.old source.new }
-        ensures answer { Answers (λ _. W.bytes buf.new) result (filled (R.bytes source.old) self.now.order
+        ensures answer { Answers (λ _. W.bytes buf.new) result (fill_buffer (R.bytes source.old) self.now.order
             (view.page self.now.page.now) self.now.limits.now unit.color
             (chunk_part (view.page self.now.page.now) unit.index unit.planes unit.stride)
             (W.bytes buf.old)) (R.failures source.old) (R.failures source.new) }

@@ -10,7 +10,7 @@ use Rattle.tiff_base.specs.Answers.{◌>>=◌}
 use Rattle.tiff_base.specs.Directory.{directory_at}
 use Rattle.tiff_base.specs.Field.{DirectoryRecord}
 use Rattle.tiff_base.specs.Header.{Header, header_at}
-use Rattle.tiff_ifd.specs.Chain.{IsChain, entered as entered_offset, link_from}
+use Rattle.tiff_ifd.specs.Chain.{IsChain, enter_at as entered_offset, link_from}
 use Rattle.tiff_ifd.specs.Look.{ok_or_fault}
 use Rattle.tiff_ifd.proofs.Chain.{the_chain, apart_chain}
 use Rattle.tiff_page.specs.Page.{PageRecord}

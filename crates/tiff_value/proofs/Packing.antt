@@ -10,7 +10,7 @@ use Rattle.tiff_base.specs.Runs.{Plain, runs}
 use Rattle.tiff_base.specs.Blocks.{Block, Literal, Repeated, Empty, AreBlocks, packed_block, plain_block}
 use Rattle.tiff_base.proofs.Blocks.{one_unpacked}
 use Rattle.tiff_value.specs.Packed.{begins_with_two, holds_three, is_sparing, may_be_written, Packs, IsPacked}
-use Rattle.tiff_value.specs.Packing.{IsRun, IsVaried, IsVariedFront, BeginsWithThree, owed, PacksAtEnd}
+use Rattle.tiff_value.specs.Packing.{IsRun, IsVaried, IsVariedFront, BeginsWithThree, bound_slack, PacksAtEnd}
 
 -- ---- a literal that is varied is sparing
 
@@ -96,25 +96,25 @@ unpacks bytes list p = one_unpacked list false bytes Plain (record {
 
 -- ---- what blocks owe
 
-owed_le : (bytes : List ℕ) → owed bytes ≤ 128
+owed_le : (bytes : List ℕ) → bound_slack bytes ≤ 128
 owed_le [] = omega arith
 owed_le (a ∷ []) = omega arith
 owed_le (a ∷ b ∷ []) = omega arith
 owed_le (a ∷ b ∷ c ∷ rest) = grind (arith, nat_tests)
 
-owed_three : (bytes : List ℕ) → BeginsWithThree bytes → owed bytes ≡ 128
+owed_three : (bytes : List ℕ) → BeginsWithThree bytes → bound_slack bytes ≡ 128
 owed_three [] t = absurd (omega (arith, t.long))
 owed_three (a ∷ []) t = absurd (omega (arith, t.long))
 owed_three (a ∷ b ∷ []) t = absurd (omega (arith, t.long))
 owed_three (a ∷ b ∷ c ∷ rest) t = rw (eq-eqb a b t.first, eq-eqb b c t.second) refl
 
-owed_none : (bytes : List ℕ) → 0 < length bytes → (1 < length bytes → get_or bytes 0 0 ≢ get_or bytes 1 0) → owed bytes ≡ 0
+owed_none : (bytes : List ℕ) → 0 < length bytes → (1 < length bytes → get_or bytes 0 0 ≢ get_or bytes 1 0) → bound_slack bytes ≡ 0
 owed_none [] l d = absurd (omega (arith, l))
 owed_none (a ∷ []) l d = refl
 owed_none (a ∷ b ∷ []) l d = refl
 owed_none (a ∷ b ∷ c ∷ rest) l d = rw (ne_eqb a b (d (omega arith))) refl
 
-owed_run : (bytes : List ℕ) (n : ℕ) → IsRun bytes n → 1 < n → 256 + owed bytes ≤ 129 * n
+owed_run : (bytes : List ℕ) (n : ℕ) → IsRun bytes n → 1 < n → 256 + bound_slack bytes ≤ 129 * n
 owed_run [] n r a = absurd (omega (arith, r.within))
 owed_run (x ∷ []) n r a = absurd (omega (arith, r.within))
 owed_run (x ∷ y ∷ []) n r a = omega arith
@@ -129,7 +129,7 @@ owed_run (x ∷ y ∷ z ∷ rest) n r a =
     (λ p. rw p.0 (omega arith))
     (eqb_tells x y)
 
-literal_owes : (bytes : List ℕ) (n : ℕ) → IsVariedFront bytes n → 128 * (n + 1) ≤ 129 * n + owed (drop n bytes)
+literal_owes : (bytes : List ℕ) (n : ℕ) → IsVariedFront bytes n → 128 * (n + 1) ≤ 129 * n + bound_slack (drop n bytes)
 literal_owes bytes n v =
     ⊎_elim (λ e. omega arith)
     (λ w. ⊎_elim (λ e. rw (drop_all n bytes (omega arith)) (omega (arith, v.some)))
@@ -164,17 +164,17 @@ block_literal old bytes new n v d e =
 pub record HasPacked (bytes : List ℕ) (n : ℕ) (packed_block : List ℕ) : Type 0 where
   pub within : n ≤ length bytes
   pub packs : Packs packed_block (take n bytes)
-  pub short : 128 * length packed_block ≤ 129 * n + owed (drop n bytes)
+  pub short : 128 * length packed_block ≤ 129 * n + bound_slack (drop n bytes)
 
 pub none_packed : (bytes new : List ℕ) → new ≡ [] → HasPacked bytes 0 new
 none_packed bytes new e = subst (λ (xs : List ℕ). HasPacked bytes 0 xs) (sym e) (record { within = omega arith; packs = packs_nil; short = omega arith })
 
 grown : (bytes mid packed_block : List ℕ) (i n : ℕ) → HasPacked bytes i mid → n ≤ length (drop i bytes) → Packs packed_block (take n (drop i bytes))
-    → 128 * length packed_block + owed (drop i bytes) ≤ 129 * n + owed (drop n (drop i bytes)) → HasPacked bytes (i + n) (mid ++ packed_block)
+    → 128 * length packed_block + bound_slack (drop i bytes) ≤ 129 * n + bound_slack (drop n (drop i bytes)) → HasPacked bytes (i + n) (mid ++ packed_block)
 grown bytes mid packed_block i n h w p s = record {
   within = omega (arith, h.within, w, length-drop i bytes);
   packs = rw take-add (packs_append mid packed_block (take i bytes) (take n (drop i bytes)) h.packs p);
-  short = let e : owed (drop n (drop i bytes)) ≡ owed (drop (i + n) bytes) = ap owed (drop-drop n i bytes) in omega (arith, h.short, s, e, length-append mid packed_block);
+  short = let e : bound_slack (drop n (drop i bytes)) ≡ bound_slack (drop (i + n) bytes) = ap bound_slack (drop-drop n i bytes) in omega (arith, h.short, s, e, length-append mid packed_block);
 }
 
 pub block_next : (bytes mid new : List ℕ) (i n : ℕ) → HasPacked bytes i mid → PacksAtEnd mid (drop i bytes) n new → HasPacked bytes (i + n) new
@@ -184,5 +184,5 @@ block_next bytes mid new i n h p =
 pub all_packed : (bytes new : List ℕ) (i : ℕ) → HasPacked bytes i new → length bytes ≤ i → IsPacked bytes new
 all_packed bytes new i h l = record {
   packs = subst (Packs new) (take_all i bytes l) h.packs;
-  bound = omega (arith, h.short, h.within, ap owed (drop_all i bytes l));
+  bound = omega (arith, h.short, h.within, ap bound_slack (drop_all i bytes l));
 }

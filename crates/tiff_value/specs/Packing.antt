@@ -30,11 +30,11 @@ pub record IsVariedFront (bytes : List ℕ) (n : ℕ) : Type 0 where
   pub why : (n ≡ 128) ⊎ ((n ≡ length bytes) ⊎ BeginsWithThree (drop n bytes))
 
 -- what may be missing to the bound where these bytes are left, in 128ths of a byte
-abbrev pub owed : List ℕ → ℕ
-owed [] = 127
-owed (a ∷ []) = 0
-owed (a ∷ b ∷ []) = 0
-owed (a ∷ b ∷ c ∷ rest) = if (a == b) && (b == c) then 128 else 0
+abbrev pub bound_slack : List ℕ → ℕ
+bound_slack [] = 127
+bound_slack (a ∷ []) = 0
+bound_slack (a ∷ b ∷ []) = 0
+bound_slack (a ∷ b ∷ c ∷ rest) = if (a == b) && (b == c) then 128 else 0
 
 -- new is old with blocks for the first n bytes at its end, and these are short enough
 pub record PacksAtEnd (old bytes : List ℕ) (n : ℕ) (new : List ℕ) : Type 0 where
@@ -42,5 +42,5 @@ pub record PacksAtEnd (old bytes : List ℕ) (n : ℕ) (new : List ℕ) : Type 0
   pub within : n ≤ length bytes
   pub packed : List ℕ
   pub packs : Packs packed (take n bytes)
-  pub short : 128 * length packed + owed bytes ≤ 129 * n + owed (drop n bytes)
+  pub short : 128 * length packed + bound_slack bytes ≤ 129 * n + bound_slack (drop n bytes)
   pub at_end : new ≡ old ++ packed

@@ -247,11 +247,11 @@ unfolding outcome.image_coding_unit_layout layouts.image_coding_unit_layout layo
 unit_past = refl
 
 pub image_read : s.image_read
-unfolding outcome.read_image image_of layout_of color_of row_bits planes_layout sample_type_of rect pixels.filled pixels.samples pixels.placed byte_at shown_sample number numbers_in form_fault depth_fault predictor_fault white_fault
+unfolding outcome.read_image image_of layout_of color_of row_bits planes_layout sample_type_of rect pixels.fill_buffer pixels.samples pixels.bytes_with_region byte_at shown_sample number numbers_in form_fault depth_fault predictor_fault white_fault
 image_read = refl
 
 pub image_cut : s.image_cut
-unfolding outcome.read_image image_of layout_of color_of row_bits planes_layout sample_type_of rect pixels.filled pixels.samples pixels.placed byte_at shown_sample number numbers_in form_fault depth_fault predictor_fault white_fault
+unfolding outcome.read_image image_of layout_of color_of row_bits planes_layout sample_type_of rect pixels.fill_buffer pixels.samples pixels.bytes_with_region byte_at shown_sample number numbers_in form_fault depth_fault predictor_fault white_fault
 image_cut = refl
 
 pub image_limited : s.image_limited
@@ -259,49 +259,49 @@ unfolding outcome.read_image image_of planes_layout pixels.samples layout_of col
 image_limited = refl
 
 pub buffer_read : s.buffer_read
-unfolding outcome.read_image_to_buffer pixels.read_image_to_buffer layout_of color_of row_bits planes_layout sample_type_of rect pixels.filled pixels.samples pixels.placed byte_at shown_sample number numbers_in form_fault depth_fault predictor_fault white_fault
+unfolding outcome.read_image_to_buffer pixels.read_image_to_buffer layout_of color_of row_bits planes_layout sample_type_of rect pixels.fill_buffer pixels.samples pixels.bytes_with_region byte_at shown_sample number numbers_in form_fault depth_fault predictor_fault white_fault
 buffer_read = refl
 
 pub buffer_cut : s.buffer_cut
-unfolding outcome.read_image_to_buffer pixels.read_image_to_buffer layout_of color_of row_bits planes_layout sample_type_of rect pixels.filled pixels.samples pixels.placed byte_at shown_sample number numbers_in form_fault depth_fault predictor_fault white_fault
+unfolding outcome.read_image_to_buffer pixels.read_image_to_buffer layout_of color_of row_bits planes_layout sample_type_of rect pixels.fill_buffer pixels.samples pixels.bytes_with_region byte_at shown_sample number numbers_in form_fault depth_fault predictor_fault white_fault
 buffer_cut = refl
 
 pub slice_read : s.slice_read
-unfolding outcome.read_image_bytes pixels.read_image_bytes layout_of color_of row_bits planes_layout sample_type_of rect pixels.filled pixels.samples pixels.placed byte_at shown_sample number numbers_in form_fault depth_fault predictor_fault white_fault
+unfolding outcome.read_image_bytes pixels.read_image_bytes layout_of color_of row_bits planes_layout sample_type_of rect pixels.fill_buffer pixels.samples pixels.bytes_with_region byte_at shown_sample number numbers_in form_fault depth_fault predictor_fault white_fault
 slice_read = refl
 
 pub slice_short : s.slice_short
-unfolding outcome.read_image_bytes pixels.read_image_bytes layout_of color_of row_bits planes_layout sample_type_of rect pixels.filled pixels.samples pixels.placed byte_at shown_sample number numbers_in form_fault depth_fault predictor_fault white_fault
+unfolding outcome.read_image_bytes pixels.read_image_bytes layout_of color_of row_bits planes_layout sample_type_of rect pixels.fill_buffer pixels.samples pixels.bytes_with_region byte_at shown_sample number numbers_in form_fault depth_fault predictor_fault white_fault
 slice_short = refl
 
 pub chunk_read : s.chunk_read
-unfolding outcome.read_chunk pixels.read_chunk layout_of color_of row_bits planes_layout sample_type_of rect pixels.filled pixels.samples pixels.placed byte_at shown_sample number numbers_in form_fault depth_fault predictor_fault white_fault
+unfolding outcome.read_chunk pixels.read_chunk layout_of color_of row_bits planes_layout sample_type_of rect pixels.fill_buffer pixels.samples pixels.bytes_with_region byte_at shown_sample number numbers_in form_fault depth_fault predictor_fault white_fault
 chunk_read = refl
 
 pub chunk_past : s.chunk_past
-unfolding outcome.read_chunk pixels.read_chunk layout_of color_of row_bits planes_layout sample_type_of rect pixels.filled pixels.samples pixels.placed byte_at shown_sample number numbers_in form_fault depth_fault predictor_fault white_fault
+unfolding outcome.read_chunk pixels.read_chunk layout_of color_of row_bits planes_layout sample_type_of rect pixels.fill_buffer pixels.samples pixels.bytes_with_region byte_at shown_sample number numbers_in form_fault depth_fault predictor_fault white_fault
 chunk_past = refl
 
 pub chunk_slice : s.chunk_slice
-unfolding outcome.read_chunk_bytes pixels.read_chunk_bytes layout_of color_of row_bits planes_layout sample_type_of rect pixels.filled pixels.samples pixels.placed byte_at shown_sample number numbers_in form_fault depth_fault predictor_fault white_fault
+unfolding outcome.read_chunk_bytes pixels.read_chunk_bytes layout_of color_of row_bits planes_layout sample_type_of rect pixels.fill_buffer pixels.samples pixels.bytes_with_region byte_at shown_sample number numbers_in form_fault depth_fault predictor_fault white_fault
 chunk_slice = refl
 
 pub chunk_slice_short : s.chunk_slice_short
-unfolding outcome.read_chunk_bytes pixels.read_chunk_bytes layout_of color_of row_bits planes_layout sample_type_of rect pixels.filled pixels.samples pixels.placed byte_at shown_sample number numbers_in form_fault depth_fault predictor_fault white_fault
+unfolding outcome.read_chunk_bytes pixels.read_chunk_bytes layout_of color_of row_bits planes_layout sample_type_of rect pixels.fill_buffer pixels.samples pixels.bytes_with_region byte_at shown_sample number numbers_in form_fault depth_fault predictor_fault white_fault
 chunk_slice_short = refl
 
 pub chunk_apart : s.chunk_apart
-unfolding outcome.read_chunk_to_buffer pixels.read_chunk_to_buffer layout_of color_of row_bits planes_layout sample_type_of rect pixels.filled pixels.samples pixels.placed byte_at shown_sample number numbers_in form_fault depth_fault predictor_fault white_fault
+unfolding outcome.read_chunk_to_buffer pixels.read_chunk_to_buffer layout_of color_of row_bits planes_layout sample_type_of rect pixels.fill_buffer pixels.samples pixels.bytes_with_region byte_at shown_sample number numbers_in form_fault depth_fault predictor_fault white_fault
 chunk_apart = refl
 
 pub chunk_stride : s.chunk_stride
-unfolding outcome.read_chunk_to_buffer pixels.read_chunk_to_buffer layout_of color_of row_bits planes_layout sample_type_of rect pixels.filled pixels.samples pixels.placed byte_at shown_sample number numbers_in form_fault depth_fault predictor_fault white_fault
+unfolding outcome.read_chunk_to_buffer pixels.read_chunk_to_buffer layout_of color_of row_bits planes_layout sample_type_of rect pixels.fill_buffer pixels.samples pixels.bytes_with_region byte_at shown_sample number numbers_in form_fault depth_fault predictor_fault white_fault
 chunk_stride = refl
 
 pub unit_read : s.unit_read
-unfolding outcome.read_coding_unit_bytes pixels.read_coding_unit_bytes layout_of color_of row_bits planes_layout sample_type_of rect pixels.filled pixels.samples pixels.placed byte_at shown_sample number numbers_in form_fault depth_fault predictor_fault white_fault
+unfolding outcome.read_coding_unit_bytes pixels.read_coding_unit_bytes layout_of color_of row_bits planes_layout sample_type_of rect pixels.fill_buffer pixels.samples pixels.bytes_with_region byte_at shown_sample number numbers_in form_fault depth_fault predictor_fault white_fault
 unit_read = refl
 
 pub unit_absent : s.unit_absent
-unfolding outcome.read_coding_unit_bytes pixels.read_coding_unit_bytes layout_of color_of row_bits planes_layout sample_type_of rect pixels.filled pixels.samples pixels.placed byte_at shown_sample number numbers_in form_fault depth_fault predictor_fault white_fault
+unfolding outcome.read_coding_unit_bytes pixels.read_coding_unit_bytes layout_of color_of row_bits planes_layout sample_type_of rect pixels.fill_buffer pixels.samples pixels.bytes_with_region byte_at shown_sample number numbers_in form_fault depth_fault predictor_fault white_fault
 unit_absent = refl

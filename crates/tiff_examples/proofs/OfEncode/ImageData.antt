@@ -12,7 +12,7 @@ use Rattle.tiff_base.specs.Number.{number}
 use Rattle.tiff_base.specs.SourceAndSink.{sink_error}
 use Rattle.tiff_value.specs.Differences.{differences}
 use Rattle.tiff_page.specs.Rect.{rect}
-use Rattle.tiff_encode.specs.Model.{Stands, header_model, relinked}
+use Rattle.tiff_encode.specs.Model.{Stands, header_model, with_link}
 use Rattle.tiff_encode.specs.Deeds.{Appended}
 use Rattle.tiff_encode.specs.Machine.{FileState, OpenImage}
 use Rattle.tiff_encode.specs.Chunks.{next_chunk_sample_count}
@@ -243,7 +243,7 @@ chunk_uncounted = λ h. not_uncounted (subst (λ v. One (7 ∷ []) v pixel (reco
 
 -- its deeds, behind such a header
 abbrev After : List ℕ → Type 0
-After stored = Stands Classic (header ++ (7 ∷ [])) (model_by (new_file Classic) (relinked Classic (header_model Classic) 4 9) (write_chunk pixel 1 stored (new_file Classic)))
+After stored = Stands Classic (header ++ (7 ∷ [])) (model_by (new_file Classic) (with_link Classic (header_model Classic) 4 9) (write_chunk pixel 1 stored (new_file Classic)))
 
 not_linked : After (7 ∷ []) → ⊥
 unfolding number write_chunk write_chunk_cause next_chunk_sample_count rect

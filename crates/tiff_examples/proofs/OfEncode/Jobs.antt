@@ -35,7 +35,7 @@ use Rattle.tiff_encode.specs.declared.encoder.script.DirectoryEnd.{DirectoryEnd}
 use Rattle.tiff_encode.specs.declared.encoder.script.DirectoryEnd.TheVariants as end
 use Rattle.tiff_encode.specs.declared.encoder.script.EndReply.{EndReply}
 use Rattle.tiff_encode.specs.declared.encoder.script.EndReply.TheVariants as last
-use Rattle.tiff_encode.specs.Model.{header_model, relinked, with_directory, with_region}
+use Rattle.tiff_encode.specs.Model.{header_model, with_link, with_directory, with_region}
 use Rattle.tiff_examples.proofs.OfEncode.Model.{unequal, err_ok, stood_of}
 use Rattle.tiff_examples.specs.Encode.Jobs as s
 use Rattle.tiff_examples.specs.Encode.Jobs.{first}
@@ -118,7 +118,7 @@ empty_ends : IsDone (finish (new_directory (Some 4) true) (new_file Classic)) (O
 empty_ends = record {
   ended = record { answer = ap (λ t. t.answer) empty_finish; state = refl };
   model = sym (ap (λ t. model_after Classic (new_file Classic).bytes after_begin.model t.deeds) empty_finish
-      ∙ ap (λ fields. relinked Classic (with_directory Classic after_begin.model (record { offset = 8; fields = fields })) 4 8) (stood_of []));
+      ∙ ap (λ fields. with_link Classic (with_directory Classic after_begin.model (record { offset = 8; fields = fields })) 4 8) (stood_of []));
 }
 
 steps_by : (ss : List DirectoryStep) (rs : List (Result StepReply TiffError)) → ss ≡ [] → rs ≡ []

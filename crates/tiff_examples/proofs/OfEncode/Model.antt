@@ -16,7 +16,7 @@ use Rattle.tiff_base.specs.Directory.{link_offset, link, directory_at, entries_f
 use Rattle.tiff_base.specs.Tags.{type_of}
 use Rattle.tiff_page.specs.Page.{PageRecord}
 use Rattle.tiff_encode.specs.FileBytes.{entry_bytes, directory_bytes}
-use Rattle.tiff_encode.specs.Model.{In, FinishedDirectory, Model, own_link, whole_len, Stands, header_model, relinked, with_directory}
+use Rattle.tiff_encode.specs.Model.{In, FinishedDirectory, Model, own_link, whole_len, Stands, header_model, with_link, with_directory}
 use Rattle.tiff_encode.specs.Deeds.{Handed, Listed, standing_fields, model_after}
 use Rattle.tiff_encode.specs.Laws.{IsListable, AreListable, DeedFits}
 use Rattle.tiff_encode.specs.Shows.{Image, Shows, ShowsFirst, gray_image}
@@ -276,7 +276,7 @@ model_regions = refl
 
 pub model_finished : s.model_finished
 model_finished =
-    ap (λ fields. relinked Classic (with_directory Classic (header_model Classic) (record { offset = 8; fields = fields })) 4 8)
+    ap (λ fields. with_link Classic (with_directory Classic (header_model Classic) (record { offset = 8; fields = fields })) 4 8)
     (stood_of ((256, long_field 5) ∷ []))
 
 pub wide_cut : s.wide_cut

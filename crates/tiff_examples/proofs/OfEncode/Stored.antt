@@ -5,7 +5,7 @@ use Rattle.tiff_value.specs.Differences.{differences}
 use Rattle.tiff_page.specs.Rect.{rect}
 use Rattle.tiff_page.specs.Layout.{color_of, layout_of, row_bits}
 use Rattle.tiff_page.specs.Buffers.{planes_layout}
-use Rattle.tiff_page.specs.PixelCalls.{image_of, samples, filled}
+use Rattle.tiff_page.specs.PixelCalls.{image_of, samples, fill_buffer}
 use Rattle.tiff_encode.specs.Chunks.{next_chunk_sample_count, cut_out, parts_left, sample_in}
 use Rattle.tiff_encode.specs.Causes.{planar_cause, tiles_cause, write_tag_cause}
 use Rattle.tiff_encode.specs.Calls.{last_tags, planar, tiles, write_entry, write_tag}
@@ -114,5 +114,5 @@ unfolding color_of
 wide_color = refl
 
 pub wide_unread : s.wide_unread
-unfolding image_of planes_layout samples filled layout_of color_of row_bits
+unfolding image_of planes_layout samples fill_buffer layout_of color_of row_bits
 wide_unread = λ file. refl

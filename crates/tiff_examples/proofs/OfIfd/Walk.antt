@@ -13,7 +13,7 @@ use Rattle.tiff_base.specs.declared.tags.FileKind.TheVariants.{Classic}
 use Rattle.tiff_base.specs.Directory.{directory_at, entries_from, last_of_each}
 use Rattle.tiff_base.specs.Field.{DirectoryRecord}
 use Rattle.tiff_base.specs.Number.{number}
-use Rattle.tiff_ifd.specs.Chain.{link_from, entered, IsChain, chain}
+use Rattle.tiff_ifd.specs.Chain.{link_from, enter_at, IsChain, chain}
 use Rattle.tiff_ifd.specs.Links.{Links, Goes}
 use Rattle.tiff_ifd.proofs.Chain.{equal_numbers}
 use Rattle.tiff_ifd.proofs.Links.{either}
@@ -141,7 +141,7 @@ enters_same_link = λ h. omega (arith, ap (λ w. offset_of w.next) h.walked)
 
 pub enters_back : s.enters_back
 unfolding directory_at number entries_from last_of_each
-enters_back = λ directory after h. err_ok (subst (λ k. entered (link_from Classic LittleEndian s.back_file) (8 ∷ []) k ≡ Ok directory.next) (sym (ap offset_of h.next)) h.entered)
+enters_back = λ directory after h. err_ok (subst (λ k. enter_at (link_from Classic LittleEndian s.back_file) (8 ∷ []) k ≡ Ok directory.next) (sym (ap offset_of h.next)) h.entered)
 
 pub back_refused : s.back_refused
 unfolding directory_at number entries_from last_of_each
@@ -153,7 +153,7 @@ cut_refused = record { offset = 20; next = refl; refused = refl }
 
 pub second_refused : s.second_refused
 unfolding directory_at number entries_from last_of_each
-second_refused = λ e h. err_ok (sym (subst (λ k. entered (link_from Classic LittleEndian three_file) (8 ∷ []) k ≡ Err e) (sym (ap offset_of h.next)) h.refused))
+second_refused = λ e h. err_ok (sym (subst (λ k. enter_at (link_from Classic LittleEndian three_file) (8 ∷ []) k ≡ Err e) (sym (ap offset_of h.next)) h.refused))
 
 pub none_refused : s.none_refused
 none_refused = λ e h. omega (arith, ap shape h.next)

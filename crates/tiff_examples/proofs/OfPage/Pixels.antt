@@ -7,7 +7,7 @@ use Rattle.tiff_base.specs.Number.{number}
 use Rattle.tiff_page.specs.Pixels.{shown_sample, byte_at, numbers_in}
 use Rattle.tiff_page.specs.PixelFault.{depth_fault, predictor_fault, white_fault, form_fault}
 use Rattle.tiff_page.specs.Buffers.{planes_layout}
-use Rattle.tiff_page.specs.PixelCalls.{image_of, samples, filled, placed}
+use Rattle.tiff_page.specs.PixelCalls.{image_of, samples, fill_buffer, bytes_with_region}
 use Rattle.tiff_examples.specs.Page.Pixels as s
 
 pub pixel_shown : s.pixel_shown
@@ -19,7 +19,7 @@ unfolding shown_sample number
 pixel_inverted = refl
 
 pub rgb_bytes : s.rgb_bytes
-unfolding placed row_bits byte_at shown_sample number
+unfolding bytes_with_region row_bits byte_at shown_sample number
 rgb_bytes = refl
 
 pub rgb_sample : s.rgb_sample
@@ -27,7 +27,7 @@ unfolding shown_sample number
 rgb_sample = refl
 
 pub rgb_horizontal : s.rgb_horizontal
-unfolding placed row_bits byte_at shown_sample number
+unfolding bytes_with_region row_bits byte_at shown_sample number
 rgb_horizontal = refl
 
 pub difference_sample : s.difference_sample
@@ -35,35 +35,35 @@ unfolding shown_sample number
 difference_sample = refl
 
 pub rgb_dropped : s.rgb_dropped
-unfolding placed row_bits byte_at shown_sample number
+unfolding bytes_with_region row_bits byte_at shown_sample number
 rgb_dropped = refl
 
 pub byte_planes : s.byte_planes
-unfolding placed row_bits byte_at shown_sample number
+unfolding bytes_with_region row_bits byte_at shown_sample number
 byte_planes = refl
 
 pub big_endian_bytes : s.big_endian_bytes
-unfolding placed row_bits byte_at shown_sample number
+unfolding bytes_with_region row_bits byte_at shown_sample number
 big_endian_bytes = refl
 
 pub big_endian_horizontal : s.big_endian_horizontal
-unfolding placed row_bits byte_at shown_sample number
+unfolding bytes_with_region row_bits byte_at shown_sample number
 big_endian_horizontal = refl
 
 pub inverted_4_bits : s.inverted_4_bits
-unfolding placed row_bits byte_at
+unfolding bytes_with_region row_bits byte_at
 inverted_4_bits = refl
 
 pub tiles_4_bits : s.tiles_4_bits
-unfolding placed row_bits byte_at
+unfolding bytes_with_region row_bits byte_at
 tiles_4_bits = refl
 
 pub packed_bytes : s.packed_bytes
-unfolding placed row_bits byte_at shown_sample number runs_after
+unfolding bytes_with_region row_bits byte_at shown_sample number runs_after
 packed_bytes = refl
 
 pub tiled_bytes : s.tiled_bytes
-unfolding placed row_bits byte_at shown_sample number
+unfolding bytes_with_region row_bits byte_at shown_sample number
 tiled_bytes = refl
 
 pub second_row : s.second_row
@@ -87,7 +87,7 @@ unfolding byte_at rect row_bits
 corner_gap = refl
 
 pub first_plane : s.first_plane
-unfolding placed row_bits byte_at shown_sample number
+unfolding bytes_with_region row_bits byte_at shown_sample number
 first_plane = refl
 
 pub third_plane : s.third_plane
@@ -107,72 +107,72 @@ unfolding numbers_in
 no_numbers = refl
 
 pub pixel_read : s.pixel_read
-unfolding image_of planes_layout samples filled layout_of color_of row_bits sample_type_of form_fault depth_fault predictor_fault
-    white_fault rect numbers_in placed number byte_at shown_sample
+unfolding image_of planes_layout samples fill_buffer layout_of color_of row_bits sample_type_of form_fault depth_fault predictor_fault
+    white_fault rect numbers_in bytes_with_region number byte_at shown_sample
 pixel_read = refl
 
 pub no_samples : s.no_samples
-unfolding image_of planes_layout samples filled layout_of color_of row_bits sample_type_of
+unfolding image_of planes_layout samples fill_buffer layout_of color_of row_bits sample_type_of
 no_samples = refl
 
 pub no_chunk_bytes : s.no_chunk_bytes
-unfolding image_of planes_layout samples filled layout_of color_of row_bits sample_type_of form_fault depth_fault predictor_fault
+unfolding image_of planes_layout samples fill_buffer layout_of color_of row_bits sample_type_of form_fault depth_fault predictor_fault
 no_chunk_bytes = refl
 
 pub count_0 : s.count_0
-unfolding image_of planes_layout samples filled layout_of color_of row_bits sample_type_of form_fault depth_fault predictor_fault
-    white_fault rect numbers_in placed number byte_at shown_sample
+unfolding image_of planes_layout samples fill_buffer layout_of color_of row_bits sample_type_of form_fault depth_fault predictor_fault
+    white_fault rect numbers_in bytes_with_region number byte_at shown_sample
 count_0 = refl
 
 pub pixel_cut : s.pixel_cut
-unfolding image_of planes_layout samples filled layout_of color_of row_bits sample_type_of form_fault depth_fault predictor_fault
+unfolding image_of planes_layout samples fill_buffer layout_of color_of row_bits sample_type_of form_fault depth_fault predictor_fault
     white_fault rect
 pixel_cut = refl
 
 pub just_enough : s.just_enough
-unfolding image_of planes_layout samples filled layout_of color_of row_bits sample_type_of form_fault depth_fault predictor_fault
-    white_fault rect numbers_in placed number byte_at shown_sample
+unfolding image_of planes_layout samples fill_buffer layout_of color_of row_bits sample_type_of form_fault depth_fault predictor_fault
+    white_fault rect numbers_in bytes_with_region number byte_at shown_sample
 just_enough = refl
 
 pub one_missing : s.one_missing
-unfolding image_of planes_layout samples filled layout_of color_of row_bits sample_type_of form_fault depth_fault predictor_fault
+unfolding image_of planes_layout samples fill_buffer layout_of color_of row_bits sample_type_of form_fault depth_fault predictor_fault
     white_fault rect
 one_missing = refl
 
 pub tile_padding : s.tile_padding
-unfolding image_of planes_layout samples filled layout_of color_of row_bits sample_type_of form_fault depth_fault predictor_fault
-    white_fault rect numbers_in placed number byte_at shown_sample
+unfolding image_of planes_layout samples fill_buffer layout_of color_of row_bits sample_type_of form_fault depth_fault predictor_fault
+    white_fault rect numbers_in bytes_with_region number byte_at shown_sample
 tile_padding = refl
 
 pub tile_pixel : s.tile_pixel
-unfolding image_of planes_layout samples filled layout_of color_of row_bits sample_type_of form_fault depth_fault predictor_fault
+unfolding image_of planes_layout samples fill_buffer layout_of color_of row_bits sample_type_of form_fault depth_fault predictor_fault
     white_fault rect
 tile_pixel = refl
 
 pub packed_cut : s.packed_cut
-unfolding image_of planes_layout samples filled layout_of color_of row_bits sample_type_of form_fault depth_fault predictor_fault
+unfolding image_of planes_layout samples fill_buffer layout_of color_of row_bits sample_type_of form_fault depth_fault predictor_fault
     white_fault runs_after rect
 packed_cut = refl
 
 pub wide_read : s.wide_read
-unfolding image_of planes_layout samples filled layout_of color_of row_bits sample_type_of form_fault depth_fault predictor_fault
-    white_fault rect numbers_in placed number byte_at shown_sample
+unfolding image_of planes_layout samples fill_buffer layout_of color_of row_bits sample_type_of form_fault depth_fault predictor_fault
+    white_fault rect numbers_in bytes_with_region number byte_at shown_sample
 wide_read = refl
 
 pub wide_limit : s.wide_limit
-unfolding image_of planes_layout samples filled layout_of color_of row_bits sample_type_of
+unfolding image_of planes_layout samples fill_buffer layout_of color_of row_bits sample_type_of
 wide_limit = refl
 
 pub type_first : s.type_first
-unfolding image_of planes_layout samples filled layout_of color_of row_bits sample_type_of
+unfolding image_of planes_layout samples fill_buffer layout_of color_of row_bits sample_type_of
 type_first = refl
 
 pub limit_first : s.limit_first
-unfolding image_of planes_layout samples filled layout_of color_of row_bits sample_type_of
+unfolding image_of planes_layout samples fill_buffer layout_of color_of row_bits sample_type_of
 limit_first = refl
 
 pub lzw : s.lzw
-unfolding image_of planes_layout samples filled layout_of color_of row_bits sample_type_of form_fault depth_fault predictor_fault
+unfolding image_of planes_layout samples fill_buffer layout_of color_of row_bits sample_type_of form_fault depth_fault predictor_fault
 lzw = refl
 
 pub past_list : s.past_list
@@ -212,60 +212,60 @@ unfolding form_fault depth_fault predictor_fault white_fault
 white_3_bits = refl
 
 pub data_told : s.data_told
-unfolding image_of planes_layout samples filled layout_of color_of no_color row_bits sample_type_of form_fault depth_fault
+unfolding image_of planes_layout samples fill_buffer layout_of color_of no_color row_bits sample_type_of form_fault depth_fault
     predictor_fault white_fault rect
 data_told = refl
 
 pub color_told : s.color_told
-unfolding image_of planes_layout samples filled layout_of color_of no_color row_bits sample_type_of form_fault depth_fault
+unfolding image_of planes_layout samples fill_buffer layout_of color_of no_color row_bits sample_type_of form_fault depth_fault
     predictor_fault white_fault
 color_told = refl
 
 pub planes_told : s.planes_told
-unfolding image_of planes_layout samples filled layout_of color_of no_color row_bits sample_type_of form_fault depth_fault
+unfolding image_of planes_layout samples fill_buffer layout_of color_of no_color row_bits sample_type_of form_fault depth_fault
     predictor_fault white_fault
 planes_told = refl
 
 pub type_told : s.type_told
-unfolding image_of planes_layout samples filled layout_of color_of no_color row_bits sample_type_of form_fault depth_fault
+unfolding image_of planes_layout samples fill_buffer layout_of color_of no_color row_bits sample_type_of form_fault depth_fault
     predictor_fault white_fault
 type_told = refl
 
 pub samples_told : s.samples_told
-unfolding image_of planes_layout samples filled layout_of color_of no_color row_bits sample_type_of form_fault depth_fault
+unfolding image_of planes_layout samples fill_buffer layout_of color_of no_color row_bits sample_type_of form_fault depth_fault
     predictor_fault white_fault
 samples_told = refl
 
 pub samples_first : s.samples_first
-unfolding image_of planes_layout samples filled layout_of color_of no_color row_bits sample_type_of form_fault depth_fault
+unfolding image_of planes_layout samples fill_buffer layout_of color_of no_color row_bits sample_type_of form_fault depth_fault
     predictor_fault white_fault
 samples_first = refl
 
 pub bytes_told : s.bytes_told
-unfolding image_of planes_layout samples filled layout_of color_of no_color row_bits sample_type_of form_fault depth_fault
+unfolding image_of planes_layout samples fill_buffer layout_of color_of no_color row_bits sample_type_of form_fault depth_fault
     predictor_fault white_fault
 bytes_told = refl
 
 pub lzw_told : s.lzw_told
-unfolding image_of planes_layout samples filled layout_of color_of no_color row_bits sample_type_of form_fault depth_fault
+unfolding image_of planes_layout samples fill_buffer layout_of color_of no_color row_bits sample_type_of form_fault depth_fault
     predictor_fault white_fault
 lzw_told = refl
 
 pub white_told : s.white_told
-unfolding image_of planes_layout samples filled layout_of color_of no_color row_bits sample_type_of form_fault depth_fault
+unfolding image_of planes_layout samples fill_buffer layout_of color_of no_color row_bits sample_type_of form_fault depth_fault
     predictor_fault white_fault
 white_told = refl
 
 pub rows_of_differences : s.rows_of_differences
-unfolding placed row_bits byte_at shown_sample number
+unfolding bytes_with_region row_bits byte_at shown_sample number
 rows_of_differences = refl
 
 pub byte_planes_of_two : s.byte_planes_of_two
-unfolding placed row_bits byte_at shown_sample number
+unfolding bytes_with_region row_bits byte_at shown_sample number
 byte_planes_of_two = refl
 
 pub inverted_16_bits : s.inverted_16_bits
-unfolding placed row_bits byte_at shown_sample number
+unfolding bytes_with_region row_bits byte_at shown_sample number
 inverted_16_bits = refl
 
 pub tile_4_bits : s.tile_4_bits
@@ -277,7 +277,7 @@ unfolding byte_at rect row_bits
 planar_4_bits = refl
 
 pub packed_within : s.packed_within
-unfolding image_of planes_layout samples filled layout_of color_of row_bits sample_type_of form_fault depth_fault predictor_fault
+unfolding image_of planes_layout samples fill_buffer layout_of color_of row_bits sample_type_of form_fault depth_fault predictor_fault
     white_fault runs_after rect
 packed_within = refl
 
@@ -342,16 +342,16 @@ unfolding form_fault depth_fault predictor_fault white_fault
 white_4_bits = refl
 
 pub white_first : s.white_first
-unfolding image_of planes_layout samples filled layout_of color_of row_bits sample_type_of form_fault depth_fault predictor_fault
+unfolding image_of planes_layout samples fill_buffer layout_of color_of row_bits sample_type_of form_fault depth_fault predictor_fault
     white_fault runs_after rect
 white_first = refl
 
 pub first_chunk : s.first_chunk
-unfolding image_of planes_layout samples filled layout_of color_of row_bits sample_type_of form_fault depth_fault predictor_fault
+unfolding image_of planes_layout samples fill_buffer layout_of color_of row_bits sample_type_of form_fault depth_fault predictor_fault
     white_fault runs_after rect
 first_chunk = refl
 
 pub second_chunk : s.second_chunk
-unfolding image_of planes_layout samples filled layout_of color_of row_bits sample_type_of form_fault depth_fault predictor_fault
+unfolding image_of planes_layout samples fill_buffer layout_of color_of row_bits sample_type_of form_fault depth_fault predictor_fault
     white_fault runs_after rect
 second_chunk = refl

@@ -1,6 +1,6 @@
 -- The worked examples of Given compute.
 use Rattle.std.specs.Prelude.{refl}
-use Rattle.tiff_base.specs.ByteOrders.{turned}
+use Rattle.tiff_base.specs.ByteOrders.{turned_numbers}
 use Rattle.tiff_value.specs.Data.{data_of, text_data}
 use Rattle.tiff_examples.specs.Value.Data as s
 
@@ -113,35 +113,35 @@ unfolding text_data
 with_zero = refl
 
 pub three_bytes : s.three_bytes
-unfolding turned
+unfolding turned_numbers
 three_bytes = refl
 
 pub shorts_back : s.shorts_back
-unfolding turned
+unfolding turned_numbers
 shorts_back = refl
 
 pub same_order : s.same_order
-unfolding turned
+unfolding turned_numbers
 same_order = refl
 
 pub bytes : s.bytes
-unfolding turned
+unfolding turned_numbers
 bytes = refl
 
 pub long_and_more : s.long_and_more
-unfolding turned
+unfolding turned_numbers
 long_and_more = refl
 
 pub rational : s.rational
-unfolding turned
+unfolding turned_numbers
 rational = refl
 
 pub half_rational : s.half_rational
-unfolding turned
+unfolding turned_numbers
 half_rational = refl
 
 pub double : s.double
-unfolding turned
+unfolding turned_numbers
 double = refl
 
 pub short_count : s.short_count
@@ -161,9 +161,9 @@ unfolding data_of
 from_short = refl
 
 pub ordered_short : s.ordered_short
-unfolding data_of turned
+unfolding data_of turned_numbers
 ordered_short = refl
 
 pub ordered_same : s.ordered_same
-unfolding data_of turned
+unfolding data_of turned_numbers
 ordered_same = refl

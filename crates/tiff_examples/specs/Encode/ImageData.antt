@@ -4,7 +4,7 @@ use Rattle.tiff_base.specs.declared.error.TiffError.TheVariants.{IoError, OutOfM
 use Rattle.tiff_base.specs.declared.io.IoKind.TheVariants.{InvalidData, Device}
 use Rattle.tiff_base.specs.declared.io.SinkFault.TheVariants as fault
 use Rattle.tiff_base.specs.declared.tags.FileKind.TheVariants.{Classic}
-use Rattle.tiff_encode.specs.Model.{Model, header_model, relinked}
+use Rattle.tiff_encode.specs.Model.{Model, header_model, with_link}
 use Rattle.tiff_encode.specs.Machine.{FileState, OpenImage}
 use Rattle.tiff_encode.specs.Calls as calls
 use Rattle.tiff_encode.specs.Calls.{with_chunk}
@@ -99,7 +99,7 @@ chunk_uncounted = LeavesChunk {A = ℕ} calls.write_chunk pixel (7 ∷ []) (Ok 0
 abbrev pub chunk_link : Type 0
 chunk_link =
     LeavesChunk {A = ℕ} calls.write_chunk pixel (7 ∷ []) (Ok 0) (new_file Classic) (file_with Classic (header ++ (7 ∷ []))) (with_chunk pixel 8 1)
-    (relinked Classic (header_model Classic) 4 9)
+    (with_link Classic (header_model Classic) 4 9)
     → ⊥
 
 -- one of two samples is refused, and isn't counted

@@ -29,7 +29,7 @@ use Rattle.tiff_encode.specs.declared.encoder.script.JobReply.{JobReply}
 use Rattle.tiff_base.specs.Field.{DirectoryRecord, Field}
 use Rattle.tiff_base.specs.SourceAndSink.{put}
 use Rattle.tiff_encode.specs.FileBytes.{directory_bytes}
-use Rattle.tiff_encode.specs.Model.{FinishedDirectory, header_model, relinked, with_directory, with_region}
+use Rattle.tiff_encode.specs.Model.{FinishedDirectory, header_model, with_link, with_directory, with_region}
 use Rattle.tiff_encode.specs.Deeds.{Deed, Appended, Listed, Linked, standing_fields}
 use Rattle.tiff_encode.specs.Machine.{FileState, OpenDirectory, answers, gives, does}
 use Rattle.tiff_encode.specs.Calls as calls
@@ -95,7 +95,7 @@ fields_5 = from_entries ((256, long_field 5) ∷ [])
 abbrev pub after_torn : Standing
 after_torn = record {
   file = failed_with fault.Device (put (header ++ (directory_bytes Classic fields_5 ++ [])) 4 (8 ∷ []));
-  model = relinked Classic (with_directory Classic (header_model Classic) (record { offset = 8; fields = standing_fields Classic fields_5 })) 4 8;
+  model = with_link Classic (with_directory Classic (header_model Classic) (record { offset = 8; fields = standing_fields Classic fields_5 })) 4 8;
 }
 
 abbrev pub torn_directory : Type 0
@@ -302,7 +302,7 @@ empty_directory = record { offset = 8; fields = (new_directory None true).fields
 abbrev pub after_empty : Standing
 after_empty = record {
   file = (calls.finish (new_directory (Some 4) true) (new_file Classic)).next;
-  model = relinked Classic (with_directory Classic (with_region (header_model Classic) (record { offset = 8; bytes = [] })) empty_directory) 4 8;
+  model = with_link Classic (with_directory Classic (with_region (header_model Classic) (record { offset = 8; bytes = [] })) empty_directory) 4 8;
 }
 
 abbrev pub directory_job : Type 0

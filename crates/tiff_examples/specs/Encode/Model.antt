@@ -9,7 +9,7 @@ use Rattle.tiff_base.specs.declared.tags.«Type».TheVariants.{SHORT}
 use Rattle.tiff_base.specs.Field.{Field}
 use Rattle.tiff_base.specs.Directory.{directory_at}
 use Rattle.tiff_encode.specs.Laws.{DeedFits, DeedsFit, AreAppending}
-use Rattle.tiff_encode.specs.Model.{BytesAreApart, In, FinishedDirectory, HandedField, ByteRegion, Model, IsLink, IsClear, IsApart, own_link, whole_len, Stands, header_model, relinked, with_directory, with_region, with_handed, Grows}
+use Rattle.tiff_encode.specs.Model.{BytesAreApart, In, FinishedDirectory, HandedField, ByteRegion, Model, IsLink, IsClear, IsApart, own_link, whole_len, Stands, header_model, with_link, with_directory, with_region, with_handed, Grows}
 use Rattle.tiff_encode.specs.Shows.{Image, Shows, ShowsFirst, ShowsGray, gray_image}
 use Rattle.tiff_encode.specs.Deeds.{Appended, Handed, Listed, Linked, after_deed, bytes_after, all_appended, standing_field, model_after}
 use Rattle.tiff_encode.specs.Machine.{begun_file, answers, gives, does, by_cause, ◌>>=◌}
@@ -98,14 +98,14 @@ not_apart = IsApart Classic (take 7 header) (header_model Classic) 4 → ⊥
 
 -- a link that is pointed to another offset; the others stay; a new directory's is 0
 abbrev pub relinked_4 : Type 0
-relinked_4 = (relinked Classic (header_model Classic) 4 8).links 4 ≡ 8
+relinked_4 = (with_link Classic (header_model Classic) 4 8).links 4 ≡ 8
 
 abbrev pub kept_22 : Type 0
-kept_22 = (relinked Classic (relinked Classic (header_model Classic) 22 5) 4 8).links 22 ≡ 5
+kept_22 = (with_link Classic (with_link Classic (header_model Classic) 22 5) 4 8).links 22 ≡ 5
 
 -- the link of a new directory is 0, whatever stood there
 abbrev pub new_link : Type 0
-new_link = (with_directory Classic (relinked Classic (header_model Classic) 22 5) directory_8).links 22 ≡ 0
+new_link = (with_directory Classic (with_link Classic (header_model Classic) 22 5) directory_8).links 22 ≡ 0
 
 -- the model with more has what the model had
 abbrev pub one_region : ByteRegion
@@ -186,7 +186,7 @@ model_regions =
 abbrev pub model_finished : Type 0
 model_finished =
     model_after Classic header (header_model Classic) (Listed fields_5 ∷ Linked 4 8 ∷ [])
-    ≡ relinked Classic first_model 4 8
+    ≡ with_link Classic first_model 4 8
 
 -- ---- fields as they stand
 

@@ -7,7 +7,7 @@ use Rattle.tiff_base.specs.declared.error.TiffFormatError.TheVariants.{CycleInOf
 use Rattle.tiff_base.specs.declared.io.IoKind.TheVariants.{UnexpectedEof}
 use Rattle.tiff_base.specs.declared.tags.ByteOrder.TheVariants.{LittleEndian, BigEndian}
 use Rattle.tiff_base.specs.declared.tags.FileKind.TheVariants.{Classic, Big}
-use Rattle.tiff_ifd.specs.Chain.{link_from, entered, AreEntered, IsChain, chain, IsLongest, AreApart}
+use Rattle.tiff_ifd.specs.Chain.{link_from, enter_at, AreEntered, IsChain, chain, IsLongest, AreApart}
 use Rattle.tiff_ifd.specs.Links.{Links, Inserts}
 use Rattle.tiff_examples.specs.Files.{gray_file}
 
@@ -96,11 +96,11 @@ link_cut =
 -- a directory that links to 6 is entered after one at 8, and isn't after one at 6
 abbrev pub entered_6 : Type 0
 entered_6 =
-    entered (λ offset. Ok (Some 6)) (8 ∷ []) 7 ≡ Ok (Some 6)
+    enter_at (λ offset. Ok (Some 6)) (8 ∷ []) 7 ≡ Ok (Some 6)
 
 abbrev pub not_entered : Type 0
 not_entered =
-    entered (λ offset. Ok (Some 6)) (6 ∷ []) 7 ≡ Err (FormatError CycleInOffsets)
+    enter_at (λ offset. Ok (Some 6)) (6 ∷ []) 7 ≡ Err (FormatError CycleInOffsets)
 
 -- the first of two directories is entered, and both are, in this order
 abbrev pub the_first : Type 0

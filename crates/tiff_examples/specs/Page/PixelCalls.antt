@@ -20,7 +20,7 @@ use Rattle.tiff_page.specs.declared.layout.DecodingSampleType.TheVariants as typ
 use Rattle.tiff_page.specs.Page.{PageRecord}
 use Rattle.tiff_page.specs.Pixels.{image_region, chunk_region}
 use Rattle.tiff_page.specs.Image.{Decoded}
-use Rattle.tiff_page.specs.PixelCalls.{image_of, placed, read_image_bytes, read_image_to_buffer, read_chunk, read_chunk_bytes, read_chunk_to_buffer, read_coding_unit_bytes}
+use Rattle.tiff_page.specs.PixelCalls.{image_of, bytes_with_region, read_image_bytes, read_image_to_buffer, read_chunk, read_chunk_bytes, read_chunk_to_buffer, read_coding_unit_bytes}
 use Rattle.tiff_examples.specs.Files.{gray_file}
 use Rattle.tiff_examples.specs.Page.Pixels.{pixel_page, row_page, rgb_row, planar_row, tiled_page, tiled_file, limits}
 use Rattle.tiff_examples.specs.Page.Buffers.{of_bytes, largest_page}
@@ -132,13 +132,13 @@ void =
 -- a tile in a buffer of rows two apart, and the image in one of rows four apart: what isn't of a row stays
 abbrev pub tile_placed : Type 0
 tile_placed =
-    placed tiled_file LittleEndian tiled_page (color.Gray 8) (chunk_region tiled_page 1) 2 1
+    bytes_with_region tiled_file LittleEndian tiled_page (color.Gray 8) (chunk_region tiled_page 1) 2 1
     (replicate 5 170)
     ≡ (3 ∷ 170 ∷ 6 ∷ 170 ∷ 170 ∷ [])
 
 abbrev pub image_placed : Type 0
 image_placed =
-    placed tiled_file LittleEndian tiled_page (color.Gray 8) (image_region tiled_page) 4 1
+    bytes_with_region tiled_file LittleEndian tiled_page (color.Gray 8) (image_region tiled_page) 4 1
     (replicate 13 170)
     ≡ (1 ∷ 2 ∷ 3 ∷ 170 ∷ 4 ∷ 5 ∷ 6 ∷ 170 ∷ 7 ∷ 8 ∷ 9 ∷ 170 ∷ 170 ∷ [])
 

@@ -22,7 +22,7 @@ use Rattle.tiff_page.specs.Layout.{row_bytes}
 use Rattle.tiff_page.specs.Page.{PageRecord}
 use Rattle.tiff_page.specs.PixelFault.{form_fault}
 use Rattle.tiff_page.specs.Pixels.{shown_sample, byte_at, numbers_in, image_region, chunk_region}
-use Rattle.tiff_page.specs.PixelCalls.{image_of, placed}
+use Rattle.tiff_page.specs.PixelCalls.{image_of, bytes_with_region}
 use Rattle.tiff_examples.specs.Files.{gray_file}
 use Rattle.tiff_examples.specs.Page.Layout.{gray_page}
 
@@ -68,7 +68,7 @@ row_page width = record pixel_page {
 -- the bytes of the first plane of an image
 abbrev pub image_bytes : List ℕ → ByteOrder → PageRecord → ColorType → List ℕ
 image_bytes file order p shade =
-    let row = row_bytes p shade p.width in placed file order p shade (image_region p) row 1 (replicate (row * p.height) 0)
+    let row = row_bytes p shade p.width in bytes_with_region file order p shade (image_region p) row 1 (replicate (row * p.height) 0)
 
 -- two RGB pixels
 abbrev pub rgb_row : PageRecord
