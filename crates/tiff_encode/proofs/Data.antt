@@ -11,3 +11,5 @@ pub mod Offsets
 pub mod Pieces
 pub mod Cut
 pub mod Written
+pub mod Cutting
+pub mod Strips

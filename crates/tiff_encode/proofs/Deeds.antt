@@ -5,7 +5,7 @@ use Rattle.tiff_base.specs.declared.tags.FileKind.{FileKind}
 use Rattle.tiff_base.specs.SourceAndSink.{put}
 use Rattle.tiff_base.specs.Number.{le}
 use Rattle.tiff_encode.specs.FileBytes.{offset_len, directory_bytes}
-use Rattle.tiff_encode.specs.Model.{ByteRegion, Model, Stands, relinked, with_handed, IsLink, Grows}
+use Rattle.tiff_encode.specs.Model.{ByteRegion, Model, Stands, with_link, with_handed, IsLink, Grows}
 use Rattle.tiff_encode.specs.Deeds.{Deed, Appended, Handed, Listed, Linked, after_deed, bytes_after, all_appended, model_after_deed, model_after}
 use Rattle.tiff_encode.specs.Laws.{DeedFits, DeedsFit, DeedsStand, DeedsGrow, DeedsBegun, DeedsTorn, DeedsJoin, DeedsAppend}
 use Rattle.tiff_encode.proofs.Slices.{length-le}
@@ -124,6 +124,6 @@ deeds_torn kind bytes m before offset target count a h f =
     let p = fits_parted kind bytes m before (Linked offset target ∷ []) f in
     let short : length over ≤ offset_len kind =
     omega (arith, length-take count (le (offset_len kind) target), length-le 0 (offset_len kind) target) in
-    let P : List ℕ → Type 0 = λ file. (t : ℕ) × Stands kind (put file offset over) (relinked kind n offset t) in
+    let P : List ℕ → Type 0 = λ file. (t : ℕ) × Stands kind (put file offset over) (with_link kind n offset t) in
     subst P (deeds_append kind bytes before a)
     (kept_by_tearing kind n (bytes_after kind bytes before) offset over p.1.0.0 short (deeds_stand kind bytes m before h p.0))

@@ -20,7 +20,7 @@ use Rattle.tiff_base.specs.Types.{type_size}
 use Rattle.tiff_value.specs.Buffer.{BufferRecord}
 use Rattle.tiff_value.specs.Data.{FieldData, IsWhole}
 use Rattle.tiff_encode.specs.FileBytes.{offset_len, count_len, padding}
-use Rattle.tiff_encode.specs.Model.{HandedField, Model, IsLink, Stands, relinked}
+use Rattle.tiff_encode.specs.Model.{HandedField, Model, IsLink, Stands, with_link}
 use Rattle.tiff_encode.specs.Deeds.{Deed, Appended, Handed, Listed, Linked, bytes_after, all_appended, model_after}
 use Rattle.tiff_encode.specs.Laws.{AreListable, AreAppending, DeedsFit}
 use Rattle.tiff_encode.specs.Value.{data_in, buffer_data, is_long, field_at}
@@ -156,7 +156,7 @@ torn_leaves told e old new m p f s t =
     record {
       torn = t;
       holds = x.0;
-      stands = subst (λ b. Stands old.kind b (relinked old.kind (model_after old.kind old.bytes m t.before) t.offset x.0))
+      stands = subst (λ b. Stands old.kind b (with_link old.kind (model_after old.kind old.bytes m t.before) t.offset x.0))
           (sym (ap (λ f. f.bytes) t.state)) x.1;
     }
 

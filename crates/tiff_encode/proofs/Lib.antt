@@ -3,7 +3,6 @@ pub mod Keeping
 pub mod Moving
 pub mod DirectoryMoves
 pub mod Settings
-pub mod SettingsLeft
 pub mod Kept
 pub mod Header
 pub mod Headers
@@ -22,7 +21,6 @@ pub mod Storing
 pub mod Leaving
 pub mod Guarding
 pub mod Joining
-pub mod Cutting
 pub mod Tagging
 pub mod Offsets
 pub mod Leaves
@@ -33,7 +31,6 @@ pub mod PageTold
 pub mod Image
 pub mod Open
 pub mod Endings
-pub mod Strips
 pub mod Data
 pub mod EndLinks
 pub mod Running

@@ -6,3 +6,4 @@ pub mod Settings
 pub mod Begun
 pub mod Chunks
 pub mod Ends
+pub mod SettingsLeft

@@ -7,7 +7,7 @@ use Rattle.tiff_base.specs.Field.{AreEntries}
 use Rattle.tiff_base.specs.Number.{le}
 use Rattle.tiff_base.specs.SourceAndSink.{put}
 use Rattle.tiff_encode.specs.FileBytes.{offset_len}
-use Rattle.tiff_encode.specs.Model.{Model, IsLink, Stands, relinked}
+use Rattle.tiff_encode.specs.Model.{Model, IsLink, Stands, with_link}
 use Rattle.tiff_encode.specs.Deeds.{Linked, bytes_after, all_appended, model_after}
 use Rattle.tiff_encode.specs.Laws.{AreAppending, DeedsFit}
 use Rattle.tiff_encode.specs.Machine.{FileState, OpenImage, WriteOutcome}
@@ -99,7 +99,7 @@ module _ {A : Type 0} (parent : Option ℕ) (told : WriteOutcome A) (e : TiffErr
       record {
         torn = t;
         holds = x.0;
-        stands = subst (λ b. Stands old.kind b (relinked old.kind (model_after old.kind old.bytes m t.before) t.offset x.0))
+        stands = subst (λ b. Stands old.kind b (with_link old.kind (model_after old.kind old.bytes m t.before) t.offset x.0))
             (sym (ap (λ f. f.bytes) t.state)) x.1;
       }
 

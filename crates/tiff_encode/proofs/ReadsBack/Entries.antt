@@ -24,13 +24,13 @@ use Rattle.tiff_page.specs.declared.layout.DecodingSampleType.TheVariants.{U8, U
 use Rattle.tiff_page.specs.Page.{PageRecord}
 use Rattle.tiff_page.specs.Counts.{all_chunks, parts}
 use Rattle.tiff_page.specs.Rect.{chunks_of_plane}
-use Rattle.tiff_page.specs.Layout.{LayoutRecord, row_bits, row_bytes, shown, planes, wide, aligned, layout_of, sample_type_from, sample_type_of, size_of}
+use Rattle.tiff_page.specs.Layout.{LayoutRecord, row_bits, row_bytes, samples_in_chunk, planes, wide, whole_chunks, layout_of, sample_type_from, sample_type_of, size_of}
 use Rattle.tiff_page.specs.PixelFault.{is_whole, depth_fault, form_fault, chunk_fault, samples_fault}
 use Rattle.tiff_page.specs.Row.{IsSize}
 use Rattle.tiff_page.specs.Pixels.{is_short, image_region, numbers_in}
 use Rattle.tiff_page.specs.Buffers.{planes_layout}
 use Rattle.tiff_page.specs.PixelCalls as calls
-use Rattle.tiff_page.specs.PixelCalls.{Part, placed, part_fault, filled, image_part, image_of}
+use Rattle.tiff_page.specs.PixelCalls.{Part, bytes_with_region, part_fault, fill_buffer, image_part, image_of}
 use Rattle.tiff_page.specs.Image.{Decoded, decoded_samples}
 use Rattle.tiff_page.proofs.Sizes.{planes_some}
 use Rattle.tiff_page.proofs.Rows.{by_size, some_size}
@@ -63,7 +63,7 @@ whole_size : (size : ℕ) → IsSize size → is_whole (8 * size) ≡ true
 whole_size size s = by_size (λ n. is_whole (8 * n) ≡ true) size refl refl refl refl s
 
 -- a plane shows no more samples than a color has
-shown_few : (planar : PlanarConfiguration) (color : ColorType) → 0 < num_samples color → shown planar color ≤ num_samples color
+shown_few : (planar : PlanarConfiguration) (color : ColorType) → 0 < num_samples color → samples_in_chunk planar color ≤ num_samples color
 shown_few Chunky color h = omega arith
 shown_few Planar color h = h
 
@@ -80,14 +80,14 @@ at_least n k m b h = (le-div_iff_mul-le b).1 h
 samples_give : (file : List ℕ) (p : PageRecord) (limits : Limits) (color : ColorType) (part : Part) (len : ℕ) (d : Decoded)
     → calls.samples file LittleEndian p limits color part len ≡ Ok d
     → (t : DecodingSampleType) × ((sample_type_of p ≡ Ok t)
-    × (decoded_samples t (placed file LittleEndian p color part.region part.stride part.planes (replicate len 0)) ≡ d))
-unfolding calls.samples filled
+    × (decoded_samples t (bytes_with_region file LittleEndian p color part.region part.stride part.planes (replicate len 0)) ≡ d))
+unfolding calls.samples fill_buffer
 samples_give file p limits color part len d e =
     let zeros : List ℕ = replicate len 0 in
-    let all : List ℕ = placed file LittleEndian p color part.region part.stride part.planes zeros in
+    let all : List ℕ = bytes_with_region file LittleEndian p color part.region part.stride part.planes zeros in
     let type = bind_ok (sample_type_of p) _ _ e in
     let passed = bind_ok (samples_fault limits (size_of type.0) len) _ _ type.1.1 in
-    let made = bind_ok (filled file LittleEndian p limits color part zeros) _ _ passed.1.1 in
+    let made = bind_ok (fill_buffer file LittleEndian p limits color part zeros) _ _ passed.1.1 in
     let whole = bind_ok (part_fault file LittleEndian p limits color part) _ _ made.1.0 in
     let here : all ≡ made.0 = ok_inj all made.0 whole.1.1 in
     (type.0, (type.1.0, ap (decoded_samples type.0) here ∙ ok_inj (decoded_samples type.0 made.0) d made.1.1))
@@ -101,7 +101,7 @@ module _ (kind : FileKind) (file : List ℕ) (offset : ℕ) (i : Image) (size : 
   color = s.color
 
   abbrev samples : ℕ
-  samples = p.height * p.width * shown p.planar color
+  samples = p.height * p.width * samples_in_chunk p.planar color
 
   deep : p.depth ≡ 8 * size
   deep = ap (λ (q : PageRecord). q.depth) s.is_image ∙ h.depth
@@ -116,12 +116,12 @@ module _ (kind : FileKind) (file : List ℕ) (offset : ℕ) (i : Image) (size : 
 
   -- its bytes, of rows of so many bytes
   abbrev bytes : ColorType → ℕ → ℕ → List ℕ
-  bytes c row all = placed file LittleEndian p c (image_region p) row 1 (replicate all 0)
+  bytes c row all = bytes_with_region file LittleEndian p c (image_region p) row 1 (replicate all 0)
 
   -- the numbers of these are the samples that it shows
   bytes_are : numbers_in size (bytes color (row_bytes p color p.width) (row_bytes p color p.width * p.height)) ≡ samples_shown i p color
   bytes_are =
-      let n : ℕ = shown p.planar color in
+      let n : ℕ = samples_in_chunk p.planar color in
       let row : ℕ = row_bytes p color p.width in
       ap (numbers_in size) (placed_in_zeros file LittleEndian p color (image_region p) row 1 (row * p.height))
       ∙ numbers_are file p color size deep h.is_size (λ k. i.sample_at (k / n % p.width) (k / n / p.width) (k % n))
@@ -175,11 +175,11 @@ module _ (kind : FileKind) (file : List ℕ) (offset : ℕ) (i : Image) (size : 
     abbrev all : ℕ
     all = row * p.height
 
-    aligned_is : aligned p color p.width ≡ Ok color
+    aligned_is : whole_chunks p color p.width ≡ Ok color
     unfolding row_bits
     aligned_is =
         let w : ℕ = p.chunk_width in
-        let n : ℕ = shown p.planar color in
+        let n : ℕ = samples_in_chunk p.planar color in
         let a : w * p.depth * n ≡ w * (8 * size) * n = ap (λ (m : ℕ). w * m * n) deep in
         let b : w * (8 * size) * n ≡ w * size * n * 8 = omega arith in
         let e : row_bits p color w % 8 ≡ 0 = ap (λ (m : ℕ). m % 8) (a ∙ b) ∙ mul-mod_left (w * size * n) 8 in
@@ -238,7 +238,7 @@ module _ (kind : FileKind) (file : List ℕ) (offset : ℕ) (i : Image) (size : 
 
     -- it is read
     is_read : image_of file LittleEndian p limits ≡ Ok (record { sample_type = type; numbers = samples_shown i p color })
-    unfolding image_of planes_layout calls.samples filled
+    unfolding image_of planes_layout calls.samples fill_buffer
     is_read =
         let decoded_by : List ℕ → Result Decoded TiffError = λ numbers. Ok (record { sample_type = type; numbers = numbers }) in
         let fits : nat_lt (all * planes p.planar color) (2 ^ 64) ≡ true = lt-ltb (all * planes p.planar color) (2 ^ 64) l.whole in

@@ -13,7 +13,7 @@ use Rattle.tiff_base.specs.declared.tags.PlanarConfiguration.{PlanarConfiguratio
 use Rattle.tiff_base.specs.declared.tags.PlanarConfiguration.TheVariants.{Chunky, Planar}
 use Rattle.tiff_base.specs.Number.{number}
 use Rattle.tiff_page.specs.Page.{PageRecord}
-use Rattle.tiff_page.specs.Layout.{row_bits, row_bytes, shown}
+use Rattle.tiff_page.specs.Layout.{row_bits, row_bytes, samples_in_chunk}
 use Rattle.tiff_page.specs.Row.{IsSize}
 use Rattle.tiff_page.specs.Pixels.{each_to, width_of, planar_or, shown_sample, number_byte, region_byte, image_region, byte_at, numbers_in}
 use Rattle.tiff_page.proofs.ChunkRows.{bits_are}
@@ -43,14 +43,14 @@ some_right a zero n h = Prim.absurd (omega (arith, h))
 some_right a (suc b) n h = omega arith
 
 -- the first plane's samples are those of the pixel
-first_plane : (planar : PlanarConfiguration) (n : ℕ) (color : ColorType) → planar_or planar (0 + 0) (n % shown planar color) ≡ n % shown planar color
+first_plane : (planar : PlanarConfiguration) (n : ℕ) (color : ColorType) → planar_or planar (0 + 0) (n % samples_in_chunk planar color) ≡ n % samples_in_chunk planar color
 first_plane Planar n color = omega arith
 first_plane Chunky n color = refl
 
 module _ (file : List ℕ) (p : PageRecord) (color : ColorType) (size : ℕ) (deep : p.depth ≡ 8 * size) (is_size : IsSize size) where
   -- the samples of a pixel, and of a row of the image
   abbrev s : ℕ
-  s = shown p.planar color
+  s = samples_in_chunk p.planar color
 
   abbrev c : ℕ
   c = p.width * s

@@ -22,7 +22,7 @@ use Rattle.tiff_value.specs.ColorTypes.{color_type}
 use Rattle.tiff_page.specs.declared.layout.DecodingSampleType.{DecodingSampleType}
 use Rattle.tiff_page.specs.declared.layout.DecodingSampleType.TheVariants.{U8, U16, U32, U64, F32, F64, I8, I16, I32, I64}
 use Rattle.tiff_page.specs.Page.{PageRecord}
-use Rattle.tiff_page.specs.Layout.{shown, first_is_alpha, photometric, no_color, color_from, color_of, whole_chroma, sample_type_from, sample_type_of}
+use Rattle.tiff_page.specs.Layout.{samples_in_chunk, first_is_alpha, photometric, no_color, color_from, color_of, whole_chroma, sample_type_from, sample_type_of}
 use Rattle.tiff_page.specs.PixelFault.{is_plain, is_number, fault_of_predictor, predictor_fault, method_fault, white_from, white_fault}
 use Rattle.tiff_page.specs.Pixels.{each_to}
 use Rattle.tiff_page.proofs.Rows.{each_same}
@@ -204,7 +204,7 @@ written_reads_back kind file offset i sample_at limits w small s l =
 -- the samples of an image are in the order in which they were handed in
 pub shown_in_order : ShownInOrder
 shown_in_order i samples p color wide all long =
-    let s : ℕ = shown p.planar color in
+    let s : ℕ = samples_in_chunk p.planar color in
     let n : ℕ = p.height * p.width * s in
     let at : ℕ → ℕ = λ k. slice_index samples ((k / s / p.width * i.width + k / s % p.width) * all_samples i + k % s) in
     let offset : (k : ℕ) → (k / s / p.width * i.width + k / s % p.width) * all_samples i + k % s ≡ k = λ k.

@@ -3,7 +3,7 @@ use Rattle.std.proofs.Common.{◌≡◌, ℕ, ◌^◌, ◌<◌, inl, inr, Bool, 
 use Rattle.std.specs.FinMap.{len}
 use Rattle.tiff_base.specs.declared.error.TiffError.{TiffError}
 use Rattle.tiff_base.specs.Field.{AreEntries}
-use Rattle.tiff_encode.specs.Model.{Model, IsLink, Stands, Grows, relinked}
+use Rattle.tiff_encode.specs.Model.{Model, IsLink, Stands, Grows, with_link}
 use Rattle.tiff_encode.specs.Deeds.{model_after}
 use Rattle.tiff_encode.specs.Machine.{FileState, OpenDirectory, OpenImage, WriteOutcome}
 use Rattle.tiff_encode.specs.Causes.{end_of}
@@ -155,7 +155,7 @@ module _ (parent : Option ℕ) (told : WriteOutcome Offsets) (old new : FileStat
 
   -- the model where the parent's link broke off
   abbrev torn_model : (e : TiffError) → IsTornOff told.deeds e old new → ℕ → Model
-  torn_model e t holds = relinked old.kind (model_after old.kind old.bytes m t.before) t.offset holds
+  torn_model e t holds = with_link old.kind (model_after old.kind old.bytes m t.before) t.offset holds
 
   leads_torn : (e : TiffError) (t : IsTornOff told.deeds e old new) (holds : ℕ)
       → (known ≡ true → Stands old.kind new.bytes (torn_model e t holds))

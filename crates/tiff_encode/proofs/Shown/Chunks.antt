@@ -12,7 +12,7 @@ use Rattle.tiff_value.specs.ColorTypes.{color_type}
 use Rattle.tiff_page.specs.Page.{PageRecord}
 use Rattle.tiff_page.specs.Counts.{all_chunks}
 use Rattle.tiff_page.specs.Rect.{chunk_of_pixel}
-use Rattle.tiff_page.specs.Pixels.{planar_or, stored_samples, stored_row_bytes, data_by_method, chunk_data, stored_number, needed, is_short, shown_sample}
+use Rattle.tiff_page.specs.Pixels.{planar_or, stored_samples, stored_row_bytes, data_by_method, chunk_data, stored_number, needed_bytes, is_short, shown_sample}
 use Rattle.tiff_page.specs.Laws.{HasSides}
 use Rattle.tiff_encode.specs.Machine.{OpenImage}
 use Rattle.tiff_encode.specs.Chunks.{image_page, chunk_rows, row_samples, sample_in}
@@ -59,12 +59,12 @@ module _ (kind : FileKind) (file : List ℕ) (i : OpenImage) (samples : List (Li
       let xs : List ℕ = samples_of_chunk samples k in
       let bytes : List ℕ = unpacked_chunk i xs in
       let rows : ℕ = chunk_rows p k in
-      let n : needed p tinted.color k ≤ rows * stored_row_bytes p = needed_within p sides tinted.color k tinted.few in
+      let n : needed_bytes p tinted.color k ≤ rows * stored_row_bytes p = needed_within p sides tinted.color k tinted.few in
       let r : rows * stored_row_bytes p ≡ rows * (row_samples p * i.size) = ap (λ (m : ℕ). rows * m) (row_is i tinted) in
       let a : rows * row_samples p * i.size ≡ rows * (row_samples p * i.size) = mul_assoc rows (row_samples p) i.size in
       let l : length bytes ≡ rows * row_samples p * i.size = length_bytes i tinted xs ∙ ap (λ (m : ℕ). m * i.size) (h.lengths k b) in
       let d : length (chunk_data file LittleEndian p k) ≡ length bytes + length t.0 = ap length t.1 ∙ length-append bytes t.0 in
-      le-ltb (length (chunk_data file LittleEndian p k)) (needed p tinted.color k) (omega (arith, n, r, a, l, d))
+      le-ltb (length (chunk_data file LittleEndian p k)) (needed_bytes p tinted.color k) (omega (arith, n, r, a, l, d))
 
   -- a sample is the one that was handed
   sample_shown : (x y sample : ℕ) → x < p.width → y < p.height → sample < num_samples tinted.color

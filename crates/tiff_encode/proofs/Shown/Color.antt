@@ -16,7 +16,7 @@ use Rattle.tiff_value.specs.ColorType.{ColorTypeRecord}
 use Rattle.tiff_value.specs.ColorTypes.{samples_of, color_type, inner_type, inner_size}
 use Rattle.tiff_page.specs.Page.{PageRecord}
 use Rattle.tiff_page.specs.Layout.{first_is_alpha, photometric, color_from, color_of}
-use Rattle.tiff_page.specs.Pixels.{inverted}
+use Rattle.tiff_page.specs.Pixels.{shown_number}
 use Rattle.tiff_encode.specs.Machine.{OpenImage}
 use Rattle.tiff_encode.specs.Chunks.{all_samples, image_page}
 
@@ -152,7 +152,7 @@ module _ (p : PageRecord) (most : ℕ) (all : p.samples ≤ most) where
 
 -- nothing is inverted
 plain_family : (f : Family) (limit v : ℕ)
-    → inverted (meaning_of f) limit v ≡ v
+    → shown_number (meaning_of f) limit v ≡ v
 plain_family OneGray limit v = refl
 plain_family ThreeRgb limit v = refl
 plain_family FourRgb limit v = refl
@@ -176,7 +176,7 @@ pub record IsColored (i : OpenImage) : Type 0 where
   pub few : num_samples color ≤ all_samples i
   pub depth : (image_page i).depth ≡ 8 * i.size
   pub is_size : IsSize i.size
-  pub upright : (limit v : ℕ) → inverted i.color.interpretation limit v ≡ v
+  pub upright : (limit v : ℕ) → shown_number i.color.interpretation limit v ≡ v
 
 -- an image of a color type of a family
 pub colored : (i : OpenImage) → IsOf i.color i.size → IsColored i
@@ -193,6 +193,6 @@ colored i c =
       depth = ap (λ (l : List ℕ). get_or l 0 0) c.bits ∙ first_of f (8 * i.size);
       is_size = c.is_size;
       upright = λ limit v.
-          ap (λ (m : PhotometricInterpretation). inverted m limit v) c.interpretation
+          ap (λ (m : PhotometricInterpretation). shown_number m limit v) c.interpretation
           ∙ plain_family f limit v;
     }

@@ -11,8 +11,8 @@ use Rattle.tiff_base.specs.Color.{num_samples}
 use Rattle.tiff_page.specs.Page.{PageRecord}
 use Rattle.tiff_page.specs.Counts.{planes_of, all_chunks}
 use Rattle.tiff_page.specs.Rect.{across, chunks_of_plane, rect, chunk_of_pixel}
-use Rattle.tiff_page.specs.Layout.{row_bits, row_bytes, shown}
-use Rattle.tiff_page.specs.Pixels.{planar_or, stored_samples, stored_row_bytes, needs_whole_rows, needed_of_row, needed}
+use Rattle.tiff_page.specs.Layout.{row_bits, row_bytes, samples_in_chunk}
+use Rattle.tiff_page.specs.Pixels.{planar_or, stored_samples, stored_row_bytes, needs_whole_rows, needed_of_row, needed_bytes}
 use Rattle.tiff_page.specs.Laws.{HasSides}
 use Rattle.tiff_page.proofs.Chunks.{fewer_bytes}
 use Rattle.tiff_page.proofs.PositionLaws.{one_below, j_below, row_is, chunks_within}
@@ -32,7 +32,7 @@ sample_within Planar samples sample h = omega arith
 
 -- a chunk shows no more samples of a pixel than it stores
 shown_within : (planar : PlanarConfiguration) (samples : ℕ) (color : ColorType) → num_samples color ≤ samples
-    → shown planar color ≤ planar_or planar 1 samples
+    → samples_in_chunk planar color ≤ planar_or planar 1 samples
 shown_within Chunky samples color h = h
 shown_within Planar samples color h = omega arith
 
@@ -109,7 +109,7 @@ module _ (p : PageRecord) (sides : HasSides p) where
   unfolding row_bits
   last_within color i few =
       let w : ℕ = (rect p i).width in
-      let n : ℕ = shown p.planar color in
+      let n : ℕ = samples_in_chunk p.planar color in
       let a : (w * p.depth * n + 7) / 8 ≤ (p.chunk_width * p.depth * n + 7) / 8 = fewer_bytes w p.chunk_width p.depth n (width_within i) in
       let b : p.chunk_width * p.depth * n ≤ p.chunk_width * p.depth * stored_samples p = mul-le-mul_left (p.chunk_width * p.depth) (shown_within p.planar p.samples color few) in
       let P : Bool → Type 0 = λ t. cond t (stored_row_bytes p) (row_bytes p color w) ≤ stored_row_bytes p in
@@ -120,7 +120,7 @@ module _ (p : PageRecord) (sides : HasSides p) where
 
   -- a chunk's rows are all that is needed of it
   pub needed_within : (color : ColorType) (i : ℕ) → num_samples color ≤ p.samples
-      → needed p color i ≤ chunk_rows p i * stored_row_bytes p
+      → needed_bytes p color i ≤ chunk_rows p i * stored_row_bytes p
   needed_within color i few =
       let h : ℕ = (rect p i).height in
       let r : ℕ = stored_row_bytes p in

@@ -1,7 +1,7 @@
 use Rattle.std.proofs.Common.{rules, length, map, ap, ◌∙◌, sym}
 use Rattle.tiff_base.specs.Types.{type_size}
 use Rattle.tiff_value.specs.ColorType.{sample_number}
-use Rattle.tiff_encode.proofs.Strips.{strip_written, strip_stopped, strip_of_tiles}
+use Rattle.tiff_encode.proofs.Data.Strips.{strip_written, strip_stopped, strip_of_tiles}
 use Rattle.tiff_encode.proofs.encoder.TiffEncoder.store_strip.Goals as goal
 
 pub returns-in_err-end : goal.returns-in_err-end

@@ -1,7 +1,7 @@
 use Rattle.std.proofs.Common.{arith}
 use Rattle.tiff_base.specs.Types.{type_size}
 use Rattle.tiff_value.specs.ColorType.{sample_number}
-use Rattle.tiff_encode.proofs.Cutting.{one_cut, all_cut}
+use Rattle.tiff_encode.proofs.Data.Cutting.{one_cut, all_cut}
 use Rattle.tiff_encode.proofs.encoder.job_values.cut_samples.Goals as goal
 
 pub push_reserved-requires : goal.push_reserved-requires

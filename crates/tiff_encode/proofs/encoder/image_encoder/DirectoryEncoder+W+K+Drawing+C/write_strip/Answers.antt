@@ -2,7 +2,7 @@ use Rattle.std.proofs.Common.{Ok, Err, length, map}
 use Rattle.tiff_base.specs.Types.{type_size}
 use Rattle.tiff_value.specs.ColorType.{sample_number}
 use Rattle.tiff_encode.specs.Causes.{write_strip_cause}
-use Rattle.tiff_encode.proofs.Strips.{strip_left}
+use Rattle.tiff_encode.proofs.Data.Strips.{strip_left}
 use Rattle.tiff_encode.proofs.encoder.image_encoder.DirectoryEncoder+W+K+Drawing+C.write_strip.Goals as goal
 
 pub returns-in-Ok-clause-leaves : goal.returns-in-Ok-clause-leaves

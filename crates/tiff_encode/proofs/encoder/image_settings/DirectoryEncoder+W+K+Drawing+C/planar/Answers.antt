@@ -1,4 +1,4 @@
-use Rattle.tiff_encode.proofs.SettingsLeft.{planar_left}
+use Rattle.tiff_encode.proofs.Open.SettingsLeft.{planar_left}
 use Rattle.tiff_encode.proofs.encoder.image_settings.DirectoryEncoder+W+K+Drawing+C.planar.Goals as goal
 
 pub returns-clause-leaves : goal.returns-clause-leaves

@@ -1,4 +1,4 @@
-use Rattle.tiff_encode.proofs.SettingsLeft.{rows_left}
+use Rattle.tiff_encode.proofs.Open.SettingsLeft.{rows_left}
 use Rattle.tiff_encode.proofs.encoder.image_settings.DirectoryEncoder+W+K+Drawing+C.rows_per_strip.Goals as goal
 
 pub returns-clause-leaves : goal.returns-clause-leaves

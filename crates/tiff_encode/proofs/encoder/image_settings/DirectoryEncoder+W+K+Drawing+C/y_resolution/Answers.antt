@@ -1,5 +1,5 @@
 use Rattle.std.proofs.Common.{ℕ}
-use Rattle.tiff_encode.proofs.SettingsLeft.{y_left}
+use Rattle.tiff_encode.proofs.Open.SettingsLeft.{y_left}
 use Rattle.tiff_encode.proofs.encoder.image_settings.DirectoryEncoder+W+K+Drawing+C.y_resolution.Goals as goal
 
 pub returns-clause-leaves : goal.returns-clause-leaves
