@@ -1,25 +1,25 @@
 -- The bytes of a row as they are handed out: of the numbers that the row became.
-use Rattle.std.proofs.Common.{take, drop, mul_assoc, ◌≡◌, ℕ, ◌+◌, ◌-◌, ◌*◌, ◌/◌, ◌%◌, ◌^◌, ◌<◌, ◌≤◌, ◌⊎◌, true, false, List, length, get_or, refl, ap, sym, ◌∙◌, arith, ⊎_elim}
+use Rattle.std.proofs.Common.{take, drop, mul_assoc, ◌≡◌, ℕ, ◌+◌, ◌-◌, ◌*◌, ◌/◌, ◌%◌, ◌^◌, ◌<◌, ◌≤◌, ◌⊎◌, ◌||◌, Bool, true, false, List, length, get_or, refl, ap, sym, ◌∙◌, subst, arith, ⊎_elim}
 use Rattle.std.specs.Prelude.{nat_lt}
 use Rattle.std.proofs.lemmas.List.{get_or_past, get_or-take, get_or-drop, length-take-le, length-drop}
 use borrow.Rule.Slice.PartMut.{put_mid}
-use Rattle.std.proofs.lemmas.Bool.{cases_Bool, cases_lt, lt-ltb, le-ltb, ltb-false}
+use Rattle.std.proofs.lemmas.Bool.{cases_Bool, cases_lt, lt-ltb, le-ltb, ltb-false, ltb-true}
 use Rattle.std.proofs.lemmas.Nat.{div-add-mod', div-mul-add, mod-mul-add, mod_below, div_below}
 use Rattle.std.proofs.Math.Nat.{mul-le-mul_right, mul_comm}
 use Rattle.tiff_base.specs.declared.color.ColorType.{ColorType}
 use Rattle.tiff_base.specs.declared.tags.ByteOrder.{ByteOrder}
-use Rattle.tiff_base.specs.declared.tags.ByteOrder.TheVariants.{LittleEndian}
+use Rattle.tiff_base.specs.declared.tags.ByteOrder.TheVariants.{LittleEndian, BigEndian}
 use Rattle.tiff_base.specs.declared.tags.PhotometricInterpretation.{PhotometricInterpretation}
 use Rattle.tiff_base.specs.declared.tags.PhotometricInterpretation.TheVariants as meaning
 use Rattle.tiff_base.specs.declared.tags.Predictor.{Predictor}
 use Rattle.tiff_base.specs.declared.tags.Predictor.TheVariants as predictor
 use Rattle.tiff_page.specs.Layout.{samples_in_chunk, row_bits, row_bytes}
 use Rattle.tiff_page.specs.Page.{PageRecord}
-use Rattle.tiff_page.specs.Pixels.{stored_samples, stored_row_bytes, is_byte_plane, needs_whole_rows, row_number, summed_number, joined_number, number_of_row, shown_number, in_row}
-use Rattle.tiff_page.specs.Row.{IsSize, Became}
-use Rattle.tiff_page.specs.OutputRow.{handed_byte}
+use Rattle.tiff_page.specs.Pixels.{stored_samples, stored_row_bytes, is_byte_plane, needs_whole_rows, row_number, summed_number, joined_number, number_by, number_of_row, shown_number, in_row}
+use Rattle.tiff_page.specs.Row.{IsSize, Became, TurnsNumbers}
+use Rattle.tiff_page.specs.OutputRow.{HoldsNumbersOf, handed_byte, is_turned}
 use Rattle.tiff_page.specs.ReadablePage.{IsRead}
-use Rattle.tiff_page.proofs.Rows.{put_below, put_there, by_size, digits, little_digits, some_size, sums_same}
+use Rattle.tiff_page.proofs.Rows.{put_below, put_there, by_size, digits, little_digits, some_size, sums_same, stayed, bytes_stayed, all_turned}
 use Rattle.tiff_page.proofs.RowLaws.{bytes_of_numbers, complemented, digit}
 
 -- ---- bytes of a number
@@ -66,18 +66,72 @@ depth_limit p z e = ap (λ (n : ℕ). 2 ^ n) e ∙ bytes_limit (p.depth / 8) z
 
 -- ---- the numbers of a row, without the byte-plane predictor
 
-pub summed_numbers : (order : ByteOrder) (p : PageRecord) (old mid new : List ℕ) → p.predictor ≡ predictor.Horizontal → length mid ≡ length old
-    → Became (p.depth / 8) (row_number order (p.depth / 8) old) old mid
-    → Became (p.depth / 8) (summed_number LittleEndian (p.depth / 8) (stored_samples p) mid) mid new
-    → Became (p.depth / 8) (number_of_row order p old) old new
-summed_numbers order p old mid new e l b c =
+pub summed_row : (p : PageRecord) (old new : List ℕ) (size s : ℕ) → p.predictor ≡ predictor.Horizontal → size ≡ p.depth / 8 → s ≡ stored_samples p
+    → Became size (summed_number LittleEndian size s old) old new → Became (p.depth / 8) (number_of_row LittleEndian p old) old new
+summed_row p old new size s e z n b =
+    let c : Became (p.depth / 8) (summed_number LittleEndian (p.depth / 8) (stored_samples p) old) old new =
+    subst (λ (x : ℕ). Became (p.depth / 8) (summed_number LittleEndian (p.depth / 8) x old) old new) n
+    (subst (λ (x : ℕ). Became x (summed_number LittleEndian x s old) old new) z b) in
+    record { numbers = λ k h. c.numbers k h ∙ (rw e refl); behind = c.behind }
+
+-- a number is told by those that a list holds of its row
+module _ (order : ByteOrder) (p : PageRecord) (stored held : List ℕ) (b : Became (p.depth / 8) (row_number order (p.depth / 8) stored) stored held) where
+  number_undone : (q : Predictor) → is_byte_plane q ≡ false → (k : ℕ) → (k + 1) * (p.depth / 8) ≤ length stored → number_by q LittleEndian p held k ≡ number_by q order p stored k
+  number_undone predictor.None f k h = b.numbers k h
+  number_undone predictor.Horizontal f k h = sums_same LittleEndian order (p.depth / 8) (stored_samples p) held stored k (length stored) b.numbers h
+  number_undone predictor.FloatingPoint f k h = cc
+
+pub undone_numbers : (order : ByteOrder) (p : PageRecord) (stored held new : List ℕ) → is_byte_plane p.predictor ≡ false → length held ≡ length stored
+    → Became (p.depth / 8) (row_number order (p.depth / 8) stored) stored held → Became (p.depth / 8) (number_of_row LittleEndian p held) held new
+    → Became (p.depth / 8) (number_of_row order p stored) stored new
+undone_numbers order p stored held new f l b c =
     let size : ℕ = p.depth / 8 in
     record {
-      numbers = λ k h.
-          c.numbers k (omega (arith, h, l)) ∙ sums_same LittleEndian order size (stored_samples p) mid old k (length old) b.numbers h ∙ (rw e refl);
-      behind = λ i h. (let g : length mid / size * size ≡ length old / size * size = ap (λ (n : ℕ). n / size * size) l in
+      numbers = λ k h. c.numbers k (omega (arith, h, l)) ∙ number_undone order p stored held b p.predictor f k h;
+      behind = λ i h. (let g : length held / size * size ≡ length stored / size * size = ap (λ (n : ℕ). n / size * size) l in
           c.behind i (omega (arith, g, h)) ∙ b.behind i h);
     }
+
+-- ---- the numbers that a list holds of a row
+
+pub turned_row : (order : ByteOrder) (p : PageRecord) (row held : List ℕ) → is_turned order p.depth ≡ true
+    → Became (p.depth / 8) (row_number BigEndian (p.depth / 8) row) row held → Became (p.depth / 8) (row_number order (p.depth / 8) row) row held
+turned_row LittleEndian p row held t b = cc
+turned_row BigEndian p row held t b = b
+
+pub holds_turned : (order : ByteOrder) (p : PageRecord) (row held : List ℕ) → is_turned order p.depth ≡ true → length row / (p.depth / 8) * (p.depth / 8) ≡ length row
+    → length held ≡ length row → TurnsNumbers (p.depth / 8) row held → HoldsNumbersOf order p row held
+holds_turned LittleEndian p row held t whole l n = cc
+holds_turned BigEndian p row held t whole l n =
+    let d : 8 < p.depth = ltb-true 8 p.depth t in
+    record {
+      same_length = l;
+      numbers = λ g. all_turned (p.depth / 8) row held whole l n;
+      packed = λ g. Prim.absurd (omega (arith, d, g));
+    }
+
+pub holds_same : (order : ByteOrder) (p : PageRecord) (row : List ℕ) → is_turned order p.depth ≡ false → HoldsNumbersOf order p row row
+holds_same LittleEndian p row t = record { same_length = refl; numbers = λ d. stayed (p.depth / 8) row; packed = λ d. refl }
+holds_same BigEndian p row t =
+    let l : p.depth ≤ 8 = ltb-false 8 p.depth t in
+    record { same_length = refl; numbers = λ d. bytes_stayed BigEndian (p.depth / 8) row (omega (arith, d, l)); packed = λ d. refl }
+
+pub whole_turned : (order : ByteOrder) (p : PageRecord) (row room held : List ℕ) → is_turned order p.depth ≡ true → length row / (p.depth / 8) * (p.depth / 8) ≡ length row
+    → room ≡ row → length held ≡ length row → TurnsNumbers (p.depth / 8) room held → Became (p.depth / 8) (row_number order (p.depth / 8) row) row held
+whole_turned order p row room held t whole e l n =
+    turned_row order p row held t (all_turned (p.depth / 8) row held whole l (subst (λ (xs : List ℕ). TurnsNumbers (p.depth / 8) xs held) e n))
+
+pub whole_stood : (order : ByteOrder) (p : PageRecord) (row : List ℕ) → is_turned order p.depth ≡ false → IsSize (p.depth / 8)
+    → Became (p.depth / 8) (row_number order (p.depth / 8) row) row row
+whole_stood order p row t z = let s : 0 < p.depth / 8 = some_size (p.depth / 8) z in (holds_same order p row t).numbers (omega (arith, s))
+
+-- room that is wanted for byte planes or for numbers that are turned
+pub planes_room : (a b : Bool) → a ≡ true → (a || b) ≡ true
+planes_room a b e = rw e refl
+
+pub turned_room : (a b : Bool) → b ≡ true → (a || b) ≡ true
+turned_room true b e = refl
+turned_room false b e = e
 
 -- ---- the bytes that are handed out
 

@@ -18,7 +18,7 @@ use Rattle.tiff_base.specs.declared.tags.ByteOrder.TheVariants.{LittleEndian, Bi
 use Rattle.tiff_base.specs.Number.{number}
 use Rattle.tiff_base.specs.SourceAndSink.{bytes_at}
 use Rattle.tiff_page.specs.Pixels.{each_to, width_of, row_number, summed_number, summed_byte, joined_number}
-use Rattle.tiff_page.specs.Row.{IsSize, Became, AddsNumber, TurnsNumber}
+use Rattle.tiff_page.specs.Row.{IsSize, Became, AddsNumber, TurnsNumber, TurnsNumbers}
 
 -- ---- bytes of a number
 
@@ -371,59 +371,59 @@ pub bytes_stayed : (order : ByteOrder) (size : ℕ) (old : List ℕ) → size �
 bytes_stayed order size old e =
     subst (λ (n : ℕ). Became n (row_number order n old) old old) (sym e) (record { numbers = λ k h. one_byte order old k; behind = λ i h. refl })
 
-turns : (size : ℕ) (old part : List ℕ) (at n k : ℕ) → k ≡ size → length part ≡ size → (at + 1) * size ≤ length old
-    → number LittleEndian (width_of size) part ≡ n → n ≡ number BigEndian (width_of size) (bytes_at old (at * size) size)
-    → TurnsNumber size old at (put_mid (at * size) k old part)
-turns size old part at n k e l w p q =
+turns : (size : ℕ) (row old part : List ℕ) (at n k : ℕ) → k ≡ size → length part ≡ size → (at + 1) * size ≤ length row → length old ≡ length row
+    → number LittleEndian (width_of size) part ≡ n → n ≡ number BigEndian (width_of size) (bytes_at row (at * size) size)
+    → TurnsNumber size row at old (put_mid (at * size) k old part)
+turns size row old part at n k e l w same p q =
     let z : length part ≡ k = omega (arith, l, e) in
-    let v : at * size + k ≤ length old = omega (arith, w, e) in
+    let v : at * size + k ≤ length old = omega (arith, w, e, same) in
     let there : bytes_at (put_mid (at * size) k old part) (at * size) size ≡ part =
     ap (λ (m : ℕ). bytes_at (put_mid (at * size) k old part) (at * size) m) (sym e) ∙ put_there old part (at * size) k v z in
     record {
-      turned = number_in size (put_mid (at * size) k old part) at (omega (arith, w, length_put old part (at * size) k v z))
+      turned = number_in size (put_mid (at * size) k old part) at (omega (arith, w, same, length_put old part (at * size) k v z))
           ∙ ap (number LittleEndian (width_of size)) there ∙ p ∙ q
-          ∙ sym (ap (number BigEndian (width_of size)) (each_at size at old w));
+          ∙ sym (ap (number BigEndian (width_of size)) (each_at size at row w));
       below = λ i h. put_below old part (at * size) k i (omega (arith, v)) h;
       above = λ i h. put_above old part (at * size) k i (omega (arith, v)) z (omega (arith, h, e));
     }
 
-pub turns_2 : (old part : List ℕ) (at n k : ℕ) → k ≡ 2 → (at + 1) * 2 ≤ length old → n < 2 ^ 16 → part ≡ to_le_bytes w16 n
-    → n ≡ number BigEndian w16 (bytes_at old (at * 2) 2) → TurnsNumber 2 old at (put_mid (at * 2) k old part)
-turns_2 old part at n k e w b p q =
-    turns 2 old part at n k e (ap length p) w (as_bytes w16 part ∙ ap (from_le_bytes w16) p ∙ from_le_bytes-to_le_bytes_2 n b) q
+pub turns_2 : (row old part : List ℕ) (at n k : ℕ) → k ≡ 2 → (at + 1) * 2 ≤ length row → length old ≡ length row → n < 2 ^ 16 → part ≡ to_le_bytes w16 n
+    → n ≡ number BigEndian w16 (bytes_at row (at * 2) 2) → TurnsNumber 2 row at old (put_mid (at * 2) k old part)
+turns_2 row old part at n k e w l b p q =
+    turns 2 row old part at n k e (ap length p) w l (as_bytes w16 part ∙ ap (from_le_bytes w16) p ∙ from_le_bytes-to_le_bytes_2 n b) q
 
-pub turns_4 : (old part : List ℕ) (at n k : ℕ) → k ≡ 4 → (at + 1) * 4 ≤ length old → n < 2 ^ 32 → part ≡ to_le_bytes w32 n
-    → n ≡ number BigEndian w32 (bytes_at old (at * 4) 4) → TurnsNumber 4 old at (put_mid (at * 4) k old part)
-turns_4 old part at n k e w b p q =
-    turns 4 old part at n k e (ap length p) w (as_bytes w32 part ∙ ap (from_le_bytes w32) p ∙ from_le_bytes-to_le_bytes_4 n b) q
+pub turns_4 : (row old part : List ℕ) (at n k : ℕ) → k ≡ 4 → (at + 1) * 4 ≤ length row → length old ≡ length row → n < 2 ^ 32 → part ≡ to_le_bytes w32 n
+    → n ≡ number BigEndian w32 (bytes_at row (at * 4) 4) → TurnsNumber 4 row at old (put_mid (at * 4) k old part)
+turns_4 row old part at n k e w l b p q =
+    turns 4 row old part at n k e (ap length p) w l (as_bytes w32 part ∙ ap (from_le_bytes w32) p ∙ from_le_bytes-to_le_bytes_4 n b) q
 
-pub turns_8 : (old part : List ℕ) (at n k : ℕ) → k ≡ 8 → (at + 1) * 8 ≤ length old → n < 2 ^ 64 → part ≡ to_le_bytes w64 n
-    → n ≡ number BigEndian w64 (bytes_at old (at * 8) 8) → TurnsNumber 8 old at (put_mid (at * 8) k old part)
-turns_8 old part at n k e w b p q =
-    turns 8 old part at n k e (ap length p) w (as_bytes w64 part ∙ ap (from_le_bytes w64) p ∙ from_le_bytes-to_le_bytes_8 n b) q
+pub turns_8 : (row old part : List ℕ) (at n k : ℕ) → k ≡ 8 → (at + 1) * 8 ≤ length row → length old ≡ length row → n < 2 ^ 64 → part ≡ to_le_bytes w64 n
+    → n ≡ number BigEndian w64 (bytes_at row (at * 8) 8) → TurnsNumber 8 row at old (put_mid (at * 8) k old part)
+turns_8 row old part at n k e w l b p q =
+    turns 8 row old part at n k e (ap length p) w l (as_bytes w64 part ∙ ap (from_le_bytes w64) p ∙ from_le_bytes-to_le_bytes_8 n b) q
 
-pub turned_done : (size : ℕ) (old mid new : List ℕ) (k : ℕ) → TurnsNumber size mid k new
-    → ((j : ℕ) → j < k → row_number LittleEndian size mid j ≡ row_number BigEndian size old j) → ((j : ℕ) → k ≤ j → row_number BigEndian size mid j ≡ row_number BigEndian size old j)
-    → (j : ℕ) → j < k + 1 → row_number LittleEndian size new j ≡ row_number BigEndian size old j
-turned_done size old mid new k a done rest j l =
+-- one more number is turned
+pub turned_more : (size : ℕ) (row mid new : List ℕ) (k : ℕ) → TurnsNumber size row k mid new
+    → ((j : ℕ) → j < k → row_number LittleEndian size mid j ≡ row_number BigEndian size row j)
+    → (j : ℕ) → j < k + 1 → row_number LittleEndian size new j ≡ row_number BigEndian size row j
+turned_more size row mid new k a done j l =
     ⊎_elim
     (λ q.
     let m : (j + 1) * size ≤ k * size = mul-le-mul_right size (omega (arith, q)) in
     number_same LittleEndian size new mid j (λ i u v. a.below i (omega (arith, m, v))) ∙ done j q)
     (λ q.
     let e : k ≡ j = omega (arith, q, l) in
-    subst (λ (i : ℕ). row_number LittleEndian size new i ≡ row_number BigEndian size old i) e (a.turned ∙ rest k (omega arith)))
+    subst (λ (i : ℕ). row_number LittleEndian size new i ≡ row_number BigEndian size row i) e a.turned)
     (cases_lt j k)
 
-pub turned_rest : (size : ℕ) (old mid new : List ℕ) (k : ℕ) → TurnsNumber size mid k new
-    → ((j : ℕ) → k ≤ j → row_number BigEndian size mid j ≡ row_number BigEndian size old j)
-    → (j : ℕ) → k + 1 ≤ j → row_number BigEndian size new j ≡ row_number BigEndian size old j
-turned_rest size old mid new k a rest j l =
-    let m : (k + 1) * size ≤ j * size = mul-le-mul_right size l in
-    number_same BigEndian size new mid j (λ i u v. a.above i (omega (arith, m, u))) ∙ rest j (omega (arith, l))
+-- a row of one byte each is the same in either order
+pub bytes_turned : (size : ℕ) (row : List ℕ) → size ≡ 1 → TurnsNumbers size row row
+bytes_turned size row e = subst (λ (n : ℕ). TurnsNumbers n row row) (sym e) (λ k h. one_byte BigEndian row k)
 
-pub turned_past : (size count : ℕ) (old mid new : List ℕ) (k : ℕ) → TurnsNumber size mid k new → k < count → ((i : ℕ) → count * size ≤ i → get_or mid i 0 ≡ get_or old i 0)
-    → (i : ℕ) → count * size ≤ i → get_or new i 0 ≡ get_or old i 0
-turned_past size count old mid new k a h rest i l =
-    let m : (k + 1) * size ≤ count * size = mul-le-mul_right size (omega (arith, h)) in
-    a.above i (omega (arith, m, l)) ∙ rest i l
+-- of whole numbers, no byte stands behind the last
+pub all_turned : (size : ℕ) (row new : List ℕ) → length row / size * size ≡ length row → length new ≡ length row → TurnsNumbers size row new
+    → Became size (row_number BigEndian size row) row new
+all_turned size row new whole l t = record {
+  numbers = t;
+  behind = λ i h. get_or_past new i 0 (omega (arith, h, whole, l)) ∙ sym (get_or_past row i 0 (omega (arith, h, whole)));
+}

@@ -1,14 +1,16 @@
 -- The bytes of a row of a chunk as they are handed out, over the row's stored bytes.
-use Rattle.std.specs.Prelude.{◌≡◌, ℕ, ◌*◌, ◌/◌, ◌%◌, ◌^◌, ◌<◌, ◌≤◌, ◌⊎◌, if◌then◌else◌, nat_lt, List, slice_index}
+use Rattle.std.specs.Prelude.{◌≡◌, ℕ, ◌*◌, ◌/◌, ◌%◌, ◌^◌, ◌<◌, ◌≤◌, ◌⊎◌, Bool, false, if◌then◌else◌, nat_lt, List, length, slice_index}
 use Rattle.tiff_base.specs.declared.color.ColorType.{ColorType}
 use Rattle.tiff_base.specs.declared.tags.ByteOrder.{ByteOrder}
+use Rattle.tiff_base.specs.declared.tags.ByteOrder.TheVariants.{LittleEndian, BigEndian}
 use Rattle.tiff_base.specs.SourceAndSink.{bytes_at}
 use Rattle.tiff_page.specs.Page.{PageRecord}
 use Rattle.tiff_page.specs.Counts.{all_chunks}
 use Rattle.tiff_page.specs.Rect.{rect}
 use Rattle.tiff_page.specs.Layout.{row_bytes, samples_in_chunk}
 use Rattle.tiff_page.specs.Laws.{HasSides}
-use Rattle.tiff_page.specs.Pixels.{stored_samples, stored_row_bytes, chunk_data, needed_of_row, number_size, in_row, number_of_row, shown_number}
+use Rattle.tiff_page.specs.Pixels.{stored_samples, stored_row_bytes, chunk_data, needed_of_row, number_size, in_row, row_number, number_of_row, shown_number}
+use Rattle.tiff_page.specs.Row.{Became}
 use Rattle.tiff_page.specs.BufferPositions.{chunk_byte}
 
 -- a stored row of a chunk
@@ -23,6 +25,17 @@ module _ (order : ByteOrder) (p : PageRecord) (row : List ℕ) (color : ColorTyp
   handed_byte b =
       if nat_lt p.depth 8 then shown_number p.interpretation 256 (slice_index row b)
       else handed_number (b / number_size p) / 256 ^ (b % number_size p) % 256
+
+-- whether numbers are turned on their way into little-endian ones: those of more bytes than one in a big-endian file
+abbrev pub is_turned : ByteOrder → ℕ → Bool
+is_turned LittleEndian depth = false
+is_turned BigEndian depth = nat_lt 8 depth
+
+-- A list holds the little-endian numbers of the bytes of a row; with depths below 8, these bytes.
+pub record HoldsNumbersOf (order : ByteOrder) (p : PageRecord) (row held : List ℕ) : Type 0 where
+  pub same_length : length held ≡ length row
+  pub numbers : 8 ≤ p.depth → Became (p.depth / 8) (row_number order (p.depth / 8) row) row held
+  pub packed : p.depth < 8 → held ≡ row
 
 -- a page of whole bytes or of depths below 8, whose chunks store all samples that are shown
 pub record StoresAllShown (p : PageRecord) (color : ColorType) : Type 0 where

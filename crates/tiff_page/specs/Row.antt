@@ -20,11 +20,15 @@ pub record AddsNumber (size : ℕ) (old : List ℕ) (from to : ℕ) (new : List 
   pub below : (i : ℕ) → i < to * size → slice_index new i ≡ slice_index old i
   pub above : (i : ℕ) → to * size + size ≤ i → slice_index new i ≡ slice_index old i
 
--- The big-endian number at one position became little-endian, and no other byte was changed.
-pub record TurnsNumber (size : ℕ) (old : List ℕ) (at : ℕ) (new : List ℕ) : Type 0 where
-  pub turned : row_number LittleEndian size new at ≡ row_number BigEndian size old at
+-- The little-endian number at one position became the big-endian one of a row there, and no other byte was changed.
+pub record TurnsNumber (size : ℕ) (row : List ℕ) (at : ℕ) (old new : List ℕ) : Type 0 where
+  pub turned : row_number LittleEndian size new at ≡ row_number BigEndian size row at
   pub below : (i : ℕ) → i < at * size → slice_index new i ≡ slice_index old i
   pub above : (i : ℕ) → at * size + size ≤ i → slice_index new i ≡ slice_index old i
+
+-- the whole big-endian numbers of a row, in little-endian order
+abbrev pub TurnsNumbers : ℕ → List ℕ → List ℕ → Type 0
+TurnsNumbers size row new = (k : ℕ) → (k + 1) * size ≤ length row → row_number LittleEndian size new k ≡ row_number BigEndian size row k
 
 -- ---- its laws
 

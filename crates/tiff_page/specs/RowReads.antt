@@ -1,5 +1,5 @@
 -- What is read of a row of a chunk.
-use Rattle.std.specs.Prelude.{◌≡◌, ℕ, ◌<◌, ◌≤◌, List, length, take, drop, slice_index, Result, Ok, Err}
+use Rattle.std.specs.Prelude.{◌≡◌, ℕ, ◌<◌, ◌≤◌, List, ◌++◌, length, take, drop, slice_index, Result, Ok, Err}
 use Rattle.tiff_base.specs.declared.color.ColorType.{ColorType}
 use Rattle.tiff_base.specs.declared.error.TiffError.{TiffError}
 use Rattle.tiff_base.specs.declared.tags.ByteOrder.{ByteOrder}
@@ -8,7 +8,7 @@ use Rattle.tiff_page.specs.declared.chunk_data.Stored.{Stored}
 use Rattle.tiff_page.specs.NumberBytes.{IsPut}
 use Rattle.tiff_page.specs.Page.{PageRecord}
 use Rattle.tiff_page.specs.Pixels.{needed_of_row}
-use Rattle.tiff_page.specs.OutputRow.{handed_byte}
+use Rattle.tiff_page.specs.OutputRow.{HoldsNumbersOf, handed_byte}
 use Rattle.tiff_page.specs.ChunkData.{bytes_left, IsTooShort}
 
 -- A row was read and handed out: what is left stands behind it.
@@ -16,6 +16,17 @@ pub record TakesRow (order : ByteOrder) (p : PageRecord) (color : ColorType) (le
   pub enough : needed_of_row p color (length out) ≤ length left
   pub behind : rest ≡ drop (needed_of_row p color (length out)) left
   pub handed : (b : ℕ) → b < length out → slice_index out b ≡ handed_byte order p (take (needed_of_row p color (length out)) left) color b
+
+-- The next bytes were taken, and a buffer holds their numbers.
+pub record TakesNumbers (order : ByteOrder) (p : PageRecord) (left rest out : List ℕ) : Type 0 where
+  pub row : List ℕ
+  pub next : left ≡ row ++ rest
+  pub holds : HoldsNumbersOf order p row out
+
+-- the answer of a call that reads numbers into a buffer
+abbrev pub NumbersRead : List ℕ → ByteOrder → PageRecord → Stored → Type 0 → List ℕ → Result Stored TiffError → Type 0
+NumbersRead file order p position failed out (Ok rest) = TakesNumbers order p (bytes_left file position) (bytes_left file rest) out
+NumbersRead file order p position failed out (Err e) = IsCause (Unit {0}) failed e (IsTooShort (bytes_left file position) (length out) e)
 
 -- the answer of a call that reads a row into a buffer
 abbrev pub RowRead : List ℕ → ByteOrder → PageRecord → ColorType → Stored → Type 0 → Type 0 → List ℕ → Result Stored TiffError → Type 0

@@ -15,26 +15,26 @@ ghost use Rattle.tiff_page.specs.PageView as view;
 
 use crate::chunk_data::Stored;
 use crate::chunk_rows::{ChunkReader, Corner, NextBytes};
-use crate::output_row::{needs_whole_rows, row_len, stored_row_bytes};
+use crate::output_row::{is_turned, needs_whole_rows, row_len, stored_row_bytes};
 use crate::writer::RowWriter;
 use tiff_base::error::TiffResult;
 use tiff_base::io::Source;
 use tiff_base::tags::Predictor;
 
-// How many bytes of rows are read at once, where a row has no more: they are copied fast, and what is turned in them is still
-// in the processor's nearest cache.
+// How many bytes of rows are read at once, where a row has no more or its numbers are turned: they are copied fast, and what is
+// turned of them is still in the processor's nearest cache.
 const BAND: usize = 8192;
 
 // The same of longer rows, and of packed data, of which a block may be cut at the end of each band.
 const WIDE_BAND: usize = 65536;
 
 // How many rows of so many bytes are read at once. What is read doesn't depend on it.
-fn rows_at_once(front: Stored, len: usize) -> usize
+fn rows_at_once(front: Stored, len: usize, turned: bool) -> usize
     requires { 0 < len }
     ensures { 0 < result }
 {
     let bytes = match front {
-        Stored::Plain(_) if len <= BAND => BAND,
+        Stored::Plain(_) if len <= BAND || turned => BAND,
         _ => WIDE_BAND,
     };
     (bytes / len).max(1)
@@ -84,7 +84,7 @@ impl ChunkReader<'_> {
     {
         let rows = self.height as usize;
         let mut position = self.front();
-        let band = rows_at_once(position, corner.stride);
+        let band = rows_at_once(position, corner.stride, is_turned(self.order, self.page));
         let mut row = 0;
         while row < rows {
             let more = band.min(rows - row);

@@ -10,14 +10,17 @@ ghost use Rattle.tiff_page.specs.PixelFault.{method_fault, unless};
 ghost use Rattle.tiff_page.specs.Pixels.{chunk_data, is_short, needs_whole_rows, stored_row_bytes, needed_of_row};
 ghost use Rattle.tiff_page.specs.BufferPositions.{WritesChunk};
 ghost use Rattle.tiff_page.specs.ReadablePage.{IsRead};
-ghost use Rattle.tiff_page.specs.RowReads.{RowRead};
+ghost use Rattle.tiff_page.specs.Row.{IsSize};
+ghost use Rattle.tiff_page.specs.OutputRow.{is_turned};
+ghost use Rattle.tiff_page.specs.RowReads.{NumbersRead, RowRead};
 ghost use Rattle.tiff_page.specs.Rect.{rect};
 ghost use Rattle.tiff_page.specs.ChunkData.{bytes_left};
 ghost use Rattle.tiff_page.specs.PageView as view;
 
 use crate::chunk_data::Stored;
-use crate::output_row::{hand_row, needs_whole_rows, row_len, stored_row_bytes};
+use crate::output_row::{hand_row, is_turned, needs_whole_rows, row_len, stored_row_bytes};
 use crate::page::Page;
+use crate::predictors::turn_numbers;
 use crate::writer::RowWriter;
 use std::alloc::Global;
 use tiff_base::color::ColorType;
@@ -57,11 +60,11 @@ pub struct NextBytes {
     pub at: usize,
 }
 
-/// Rooms for a whole stored row, and for its bytes before its byte planes are joined.
+/// Rooms for a whole stored row, and for bytes before their byte planes are joined or their numbers turned.
 #[derive(Drop)]
 pub struct RowRoom {
     row: Vec<u8>,
-    planes: Vec<u8>,
+    other: Vec<u8>,
 }
 
 impl RowRoom {
@@ -69,7 +72,7 @@ impl RowRoom {
     pub fn new(alloc: Global) -> Self {
         RowRoom {
             row: Vec::new(alloc),
-            planes: Vec::new(alloc),
+            other: Vec::new(alloc),
         }
     }
 }
@@ -103,11 +106,55 @@ impl ChunkReader<'_> {
     {
         let page = self.page;
         let rest = position.read_grown(source, &mut room.row, stored_row_bytes(page))?;
-        if matches!(page.predictor, Predictor::FloatingPoint) {
-            room.planes.resize(room.row.len(), 0)?;
+        if matches!(page.predictor, Predictor::FloatingPoint) || is_turned(self.order, page) {
+            room.other.resize(room.row.len(), 0)?;
         }
-        self.hand_whole_row(&mut room.row, &mut room.planes, out);
+        self.hand_whole_row(&mut room.row, &mut room.other, out);
         Ok(rest)
+    }
+
+    // Reads the next bytes into a room, and turns their numbers on the way from there into a buffer.
+    #[tactic(auto, using(crate::proofs::RowRead::numbers_cause))]
+    fn read_turned<R: Source>(
+        &self,
+        source: &mut R,
+        position: Stored,
+        room: &mut Vec<u8>,
+        out: &mut [u8],
+    ) -> TiffResult<Stored>
+        requires turned { is_turned self.now.order self.now.page.now.depth ≡ true }
+        requires size { IsSize (self.now.page.now.depth / 8) }
+        requires whole { length out.old / (self.now.page.now.depth / 8) * (self.now.page.now.depth / 8) ≡ length out.old }
+        ensures kept { IsKept R.bytes R.failures result source.old source.new }
+        ensures numbers { NumbersRead (R.bytes source.old) self.now.order (view.page self.now.page.now) position
+            (R.failures source.old < R.failures source.new) out.new result }
+    {
+        room.resize(out.len(), 0)?;
+        let rest = position.read(source, room)?;
+        turn_numbers(room, usize::from(self.page.depth / 8), out);
+        Ok(rest)
+    }
+
+    // Reads the next bytes into a buffer, their numbers in little-endian order.
+    #[tactic(auto, using(crate::proofs::RowRead::numbers_cause))]
+    fn read_numbers<R: Source>(
+        &self,
+        source: &mut R,
+        position: Stored,
+        room: &mut RowRoom,
+        out: &mut [u8],
+    ) -> TiffResult<Stored>
+        requires read { IsRead (view.page self.now.page.now) self.now.color }
+        requires whole { (self.now.page.now.depth < 8)
+            ⊎ (length out.old / (self.now.page.now.depth / 8) * (self.now.page.now.depth / 8) ≡ length out.old) }
+        ensures kept { IsKept R.bytes R.failures result source.old source.new }
+        ensures numbers { NumbersRead (R.bytes source.old) self.now.order (view.page self.now.page.now) position
+            (R.failures source.old < R.failures source.new) out.new result }
+    {
+        if is_turned(self.order, self.page) {
+            return self.read_turned(source, position, &mut room.other, out);
+        }
+        position.read(source, out)
     }
 
     /// Reads the next bytes into a buffer, as they are handed out, where no whole rows have to be read for them.
@@ -116,6 +163,7 @@ impl ChunkReader<'_> {
         &self,
         source: &mut R,
         position: Stored,
+        room: &mut RowRoom,
         out: &mut [u8],
     ) -> TiffResult<Stored>
         requires read { IsRead (view.page self.now.page.now) self.now.color }
@@ -126,8 +174,8 @@ impl ChunkReader<'_> {
         ensures row { RowRead (R.bytes source.old) self.now.order (view.page self.now.page.now) self.now.color position (Unit {0})
             (R.failures source.old < R.failures source.new) out.new result }
     {
-        let rest = position.read(source, out)?;
-        hand_row(self.page, self.order, self.color, out);
+        let rest = self.read_numbers(source, position, room, out)?;
+        hand_row(self.page, self.color, out);
         Ok(rest)
     }
 
@@ -149,7 +197,7 @@ impl ChunkReader<'_> {
         if needs_whole_rows(self.page, self.color) {
             return self.read_whole_row(source, position, room, out);
         }
-        self.read_handed(source, position, out)
+        self.read_handed(source, position, room, out)
     }
 
     // The bytes of a stored row that aren't read.

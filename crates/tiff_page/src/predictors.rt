@@ -1,93 +1,90 @@
-//! The rows of a chunk, undone in place: numbers to little-endian, predictors, complements.
+//! The rows of a chunk, undone: numbers to little-endian on their way into another list; predictors and complements in place.
 
 ghost use Rattle.std.specs.Prelude.{◌≡◌, ℕ, ◌+◌, ◌-◌, ◌*◌, ◌/◌, ◌%◌, ◌<◌, ◌≤◌, length, slice_index, EachIndex};
 ghost use Rattle.tiff_base.specs.declared.tags.ByteOrder.TheVariants.{LittleEndian, BigEndian};
-ghost use Rattle.tiff_page.specs.Pixels.{row_number, summed_number, joined_number};
-ghost use Rattle.tiff_page.specs.Row.{IsSize, Became, AddsNumber, TurnsNumber};
+ghost use Rattle.tiff_page.specs.Pixels.{summed_number, joined_number};
+ghost use Rattle.tiff_page.specs.Row.{IsSize, Became, AddsNumber, TurnsNumber, TurnsNumbers};
 
 use tiff_base::read::{u16_in, u32_in, u64_in};
 use tiff_base::tags::ByteOrder;
 
-// Turns the big-endian numbers of two, four and eight bytes at one position.
+// Turns the big-endian number of two, four and eight bytes at one position of a row.
 #[tactic(auto, using(crate::proofs::Rows::turns_2))]
-fn turn_u16(row: &mut [u8], k: usize)
-    requires { (k + 1) * 2 ≤ length row.old }
-    ensures { TurnsNumber 2 row.old k row.new }
+fn turn_u16(row: &[u8], k: usize, out: &mut [u8])
+    requires row { (k + 1) * 2 ≤ length row.now }
+    requires out { length out.old ≡ length row.now }
+    ensures { TurnsNumber 2 row.now k out.old out.new }
 {
     let at = k * 2;
     let number = u16_in(ByteOrder::BigEndian, row, at);
-    row[at..at + 2].copy_from_slice(&number.to_le_bytes());
+    out[at..at + 2].copy_from_slice(&number.to_le_bytes());
 }
 
 #[tactic(auto, using(crate::proofs::Rows::turns_4))]
-fn turn_u32(row: &mut [u8], k: usize)
-    requires { (k + 1) * 4 ≤ length row.old }
-    ensures { TurnsNumber 4 row.old k row.new }
+fn turn_u32(row: &[u8], k: usize, out: &mut [u8])
+    requires row { (k + 1) * 4 ≤ length row.now }
+    requires out { length out.old ≡ length row.now }
+    ensures { TurnsNumber 4 row.now k out.old out.new }
 {
     let at = k * 4;
     let number = u32_in(ByteOrder::BigEndian, row, at);
-    row[at..at + 4].copy_from_slice(&number.to_le_bytes());
+    out[at..at + 4].copy_from_slice(&number.to_le_bytes());
 }
 
 #[tactic(auto, using(crate::proofs::Rows::turns_8))]
-fn turn_u64(row: &mut [u8], k: usize)
-    requires { (k + 1) * 8 ≤ length row.old }
-    ensures { TurnsNumber 8 row.old k row.new }
+fn turn_u64(row: &[u8], k: usize, out: &mut [u8])
+    requires row { (k + 1) * 8 ≤ length row.now }
+    requires out { length out.old ≡ length row.now }
+    ensures { TurnsNumber 8 row.now k out.old out.new }
 {
     let at = k * 8;
     let number = u64_in(ByteOrder::BigEndian, row, at);
-    row[at..at + 8].copy_from_slice(&number.to_le_bytes());
+    out[at..at + 8].copy_from_slice(&number.to_le_bytes());
 }
 
-// Those of a row. A ragged end stays.
-fn turn_u16s(row: &mut [u8])
-    ensures { Became 2 (row_number BigEndian 2 row.old) row.old row.new }
+// Those of a row.
+fn turn_u16s(row: &[u8], out: &mut [u8])
+    requires { length out.old ≡ length row.now }
+    ensures { TurnsNumbers 2 row.now out.new }
 {
     let count = row.len() / 2;
     for k in 0..count {
-        turn_u16(row, k);
+        turn_u16(row, k, out);
     }
 }
 
-fn turn_u32s(row: &mut [u8])
-    ensures { Became 4 (row_number BigEndian 4 row.old) row.old row.new }
+fn turn_u32s(row: &[u8], out: &mut [u8])
+    requires { length out.old ≡ length row.now }
+    ensures { TurnsNumbers 4 row.now out.new }
 {
     let count = row.len() / 4;
     for k in 0..count {
-        turn_u32(row, k);
+        turn_u32(row, k, out);
     }
 }
 
-fn turn_u64s(row: &mut [u8])
-    ensures { Became 8 (row_number BigEndian 8 row.old) row.old row.new }
+fn turn_u64s(row: &[u8], out: &mut [u8])
+    requires { length out.old ≡ length row.now }
+    ensures { TurnsNumbers 8 row.now out.new }
 {
     let count = row.len() / 8;
     for k in 0..count {
-        turn_u64(row, k);
+        turn_u64(row, k, out);
     }
 }
 
-// Turns the big-endian numbers of a row, of `size` bytes each.
-fn turn_numbers(row: &mut [u8], size: usize)
-    requires { IsSize size }
-    ensures { Became size (row_number BigEndian size row.old) row.old row.new }
+/// Puts the big-endian numbers of a row, of `size` bytes each, into `out` as little-endian ones. What stands there behind the
+/// last whole number is open.
+pub fn turn_numbers(row: &[u8], size: usize, out: &mut [u8])
+    requires size { IsSize size }
+    requires out { length out.old ≡ length row.now }
+    ensures { TurnsNumbers size row.now out.new }
 {
     match size {
-        2 => turn_u16s(row),
-        4 => turn_u32s(row),
-        8 => turn_u64s(row),
-        _ => {}
-    }
-}
-
-/// Turns the numbers of a row, of `size` bytes each, into little-endian ones. A ragged end stays.
-pub fn to_little(row: &mut [u8], order: ByteOrder, size: usize)
-    requires { IsSize size }
-    ensures { Became size (row_number order size row.old) row.old row.new }
-{
-    match order {
-        ByteOrder::LittleEndian => {}
-        ByteOrder::BigEndian => turn_numbers(row, size),
+        2 => turn_u16s(row, out),
+        4 => turn_u32s(row, out),
+        8 => turn_u64s(row, out),
+        _ => out.copy_from_slice(row),
     }
 }
 

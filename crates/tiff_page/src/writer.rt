@@ -100,7 +100,7 @@ impl RowWriter<u8> for InPlace {
         out: &mut [u8],
     ) -> TiffResult<Stored> {
         let row = &mut out[next.at..next.at + next.len];
-        reader.read_handed(source, next.position, row)
+        reader.read_handed(source, next.position, &mut self.room, row)
     }
 
     ghost same_length = { λ xs ys same. same };
@@ -151,7 +151,7 @@ impl<T: Number<N>, const N: usize> RowWriter<T> for NumberRoom<N> {
         out: &mut [T],
     ) -> TiffResult<Stored> {
         self.row.resize(next.len, 0)?;
-        let rest = reader.read_handed(source, next.position, &mut self.row)?;
+        let rest = reader.read_handed(source, next.position, &mut self.room, &mut self.row)?;
         put_row(out, next.at, &self.row);
         Ok(rest)
     }

@@ -1,4 +1,5 @@
-//! Sources and sinks that answer a byte at a time, and that fail once: a call that is made again is answered.
+//! Sources and sinks that answer a byte at a time, and that fail once: a call that is made again is answered. A source that
+//! keeps how far it was asked.
 
 ghost use Rattle.std.specs.Prelude.{◌≡◌, ◌+◌};
 
@@ -105,6 +106,42 @@ impl Source for FailingSource {
         }
         let n = buf.len().min(1);
         self.inner.read_at(at, &mut buf[..n])
+    }
+}
+
+/// A source in memory that keeps how far it was asked.
+#[derive(Drop)]
+pub struct WatchedSource {
+    inner: MemorySource,
+    furthest: u64,
+}
+
+impl WatchedSource {
+    /// The bytes of a source, of which none was asked for yet.
+    pub fn new(inner: MemorySource) -> Self {
+        WatchedSource { inner, furthest: 0 }
+    }
+
+    /// The offset behind the furthest byte that it was asked for.
+    pub fn furthest(&self) -> u64 {
+        self.furthest
+    }
+}
+
+impl Source for WatchedSource {
+    ghost bytes = { λ s. ⟦<MemorySource as Source>⟧.bytes s.inner };
+
+    ghost failures = { λ _. 0 };
+
+    ghost reach = { λ s. s.furthest };
+
+    ghost offsets = { λ s. s.inner.offsets };
+
+    ghost octets = { λ s. s.inner.octets };
+
+    fn read_at(&mut self, at: u64, buf: &mut [u8]) -> Result<usize, DeviceFault> {
+        self.furthest = self.furthest.max(at.saturating_add(buf.len() as u64));
+        self.inner.read_at(at, buf)
     }
 }
 

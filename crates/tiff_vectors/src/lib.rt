@@ -22,6 +22,8 @@ mod packing;
 #[cfg(test)]
 mod program;
 #[cfg(test)]
+mod reach;
+#[cfg(test)]
 mod texts;
 #[cfg(test)]
 mod undone;

@@ -1,21 +1,19 @@
 //! Rows of a chunk are undone.
 
-use tiff_base::tags::ByteOrder;
-use tiff_page::predictors::{invert, to_little, undo_byte_plane, undo_horizontal};
+use tiff_page::predictors::{invert, turn_numbers, undo_byte_plane, undo_horizontal};
 
 #[test]
 fn numbers_are_turned_to_little_endian(rt: HostRuntime) {
-    let mut row = [1, 2, 3, 4, 5, 6, 7, 8];
-    to_little(&mut row, ByteOrder::LittleEndian, 8);
-    assert_eq!(rt; row, [1, 2, 3, 4, 5, 6, 7, 8]);
-    to_little(&mut row, ByteOrder::BigEndian, 1);
-    assert_eq!(rt; row, [1, 2, 3, 4, 5, 6, 7, 8]);
-    to_little(&mut row, ByteOrder::BigEndian, 2);
-    assert_eq!(rt; row, [2, 1, 4, 3, 6, 5, 8, 7]);
-    to_little(&mut row, ByteOrder::BigEndian, 4);
-    assert_eq!(rt; row, [3, 4, 1, 2, 7, 8, 5, 6]);
-    to_little(&mut row, ByteOrder::BigEndian, 8);
-    assert_eq!(rt; row, [6, 5, 8, 7, 2, 1, 4, 3]);
+    let row = [1, 2, 3, 4, 5, 6, 7, 8];
+    let mut out = [0; 8];
+    turn_numbers(&row, 1, &mut out);
+    assert_eq!(rt; out, [1, 2, 3, 4, 5, 6, 7, 8]);
+    turn_numbers(&row, 2, &mut out);
+    assert_eq!(rt; out, [2, 1, 4, 3, 6, 5, 8, 7]);
+    turn_numbers(&row, 4, &mut out);
+    assert_eq!(rt; out, [4, 3, 2, 1, 8, 7, 6, 5]);
+    turn_numbers(&row, 8, &mut out);
+    assert_eq!(rt; out, [8, 7, 6, 5, 4, 3, 2, 1]);
 }
 
 #[test]

@@ -1,8 +1,10 @@
-use Rattle.std.proofs.Common.{◌≡◌, ◌∙◌, ◌*◌, ◌/◌, ℕ, length, subst, sym, ap, inr, arith}
+use Rattle.std.proofs.Common.{◌≡◌, ◌∙◌, ◌*◌, ◌/◌, ◌<◌, ℕ, length, subst, sym, ap, inr, arith}
 use Rattle.tiff_page.specs.PageView as view
 use Rattle.tiff_page.specs.Pixels.{stored_samples, is_byte_plane, joined_number}
 use Rattle.tiff_page.specs.Row.{IsSize, Became}
-use Rattle.tiff_page.proofs.OutputRow.{joined_numbers, stored_count, stored_whole, no_byte_plane}
+use Rattle.tiff_page.proofs.OutputRow.{joined_numbers, stored_count, stored_whole, no_byte_plane, undone_numbers, planes_room, turned_room}
+use Rattle.tiff_page.proofs.Rows.{some_size}
+use Rattle.tiff_page.specs.OutputRow.{is_turned}
 use Rattle.tiff_page.proofs.output_row.undo_whole.Goals as goal
 
 pub returns-in-FloatingPoint-clause-numbers : goal.returns-in-FloatingPoint-clause-numbers
@@ -25,12 +27,25 @@ undo_byte_plane-requires c =
       stored = omega arith;
       whole = subst (λ (n : ℕ). length c.args.row.now / n * n ≡ length c.args.row.now) (sym e)
           (stored_whole (view.page c.args.page.now) (length c.args.row.now) c.requires.size c.requires.deep c.requires.row);
-      room = c.requires.room (ap is_byte_plane c.in-FloatingPoint.is);
+      room = c.requires.room (planes_room (is_byte_plane c.args.page.now.predictor) (is_turned c.args.order c.args.page.now.depth) (ap is_byte_plane c.in-FloatingPoint.is));
     }
 
-pub undo_numbers-requires : goal.undo_numbers-requires
-undo_numbers-requires c = record {
+pub turn_whole-requires : goal.turn_whole-requires
+turn_whole-requires c = record {
+  size = c.requires.size;
+  whole = stored_whole (view.page c.args.page.now) (length c.args.row.now) c.requires.size c.requires.deep c.requires.row;
+  room = λ t. c.requires.room (turned_room (is_byte_plane c.args.page.now.predictor) (is_turned c.args.order c.args.page.now.depth) t);
+}
+
+pub undo_differences-requires : goal.undo_differences-requires
+undo_differences-requires c = record {
   sizes = inr c.requires.size;
   deep = inr c.requires.deep;
   in_place = no_byte_plane c.args.page.now.predictor c.in_default.not-FloatingPoint;
 }
+
+pub returns-in_default-clause-numbers : goal.returns-in_default-clause-numbers
+returns-in_default-clause-numbers c =
+    let s : 0 < c.args.page.now.depth / 8 = some_size (c.args.page.now.depth / 8) c.requires.size in
+    undone_numbers c.args.order (view.page c.args.page.now) c.args.row.now c.turn_whole.new.row c.undo_differences.new.row
+    (no_byte_plane c.args.page.now.predictor c.in_default.not-FloatingPoint) (omega arith) c.turn_whole.ensures (c.undo_differences.ensures.numbers (omega (arith, s)))

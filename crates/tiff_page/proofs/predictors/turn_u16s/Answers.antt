@@ -1,9 +1,5 @@
-use Rattle.tiff_page.proofs.Rows.{turned_done, turned_rest, turned_past}
+use Rattle.tiff_page.proofs.Rows.{turned_more}
 use Rattle.tiff_page.proofs.predictors.turn_u16s.Goals as goal
 
 pub loop-k-preserved : goal.loop-k-preserved
-loop-k-preserved c = record {
-  done = turned_done 2 c.args.row.now c.loop-k.row c.turn_u16.new.row c.loop-k.k c.turn_u16.ensures c.loop-k.invariant.done c.loop-k.invariant.rest;
-  rest = turned_rest 2 c.args.row.now c.loop-k.row c.turn_u16.new.row c.loop-k.k c.turn_u16.ensures c.loop-k.invariant.rest;
-  behind = turned_past 2 _ c.args.row.now c.loop-k.row c.turn_u16.new.row c.loop-k.k c.turn_u16.ensures c.loop-k-test.true c.loop-k.invariant.behind;
-}
+loop-k-preserved c = turned_more 2 c.args.row.now c.loop-k.out c.turn_u16.new.out c.loop-k.k c.turn_u16.ensures c.loop-k.invariant
