@@ -4,5 +4,6 @@ pub mod Pixels
 pub mod Buffers
 pub mod PixelCalls
 pub mod EarlyFaults
+pub mod Reach
 pub mod Checks
 pub mod Row

@@ -1,11 +1,12 @@
 -- Samples are the numbers of the bytes that are read into a slice of zeros (this project's).
-use Rattle.std.specs.Prelude.{◌≡◌, ℕ, ◌*◌, ◌↔◌, List, Result, Ok, Err, if◌then◌else◌, nat_le, replicate}
+use Rattle.std.specs.Prelude.{◌≡◌, ℕ, ◌*◌, ◌↔◌, List, Result, Ok, Err, replicate}
 use Rattle.tiff_base.specs.declared.error.TiffError.{TiffError}
 use Rattle.tiff_base.specs.Answers.{◌>>=◌}
 use Rattle.tiff_page.specs.declared.layout.BufferLayoutPreference.{BufferLayoutPreference}
 use Rattle.tiff_page.specs.declared.layout.DecodingSampleType.{DecodingSampleType}
 use Rattle.tiff_page.specs.Rect.{rect}
-use Rattle.tiff_page.specs.Layout.{LayoutRecord, planes, sample_type_of, size_of}
+use Rattle.tiff_page.specs.Layout.{LayoutRecord, sample_type_of, size_of}
+use Rattle.tiff_page.specs.PixelCalls.{planes_within}
 use Rattle.tiff_page.specs.PixelFault.{samples_fault}
 use Rattle.tiff_page.specs.Image.{Decoded, decoded_samples}
 use Rattle.tiff_page.specs.Buffers.{planes_layout, all_planes}
@@ -39,9 +40,7 @@ image_by_bytes d = do
 
 -- the planes that a limit lets through: all, or the first
 abbrev pub planes_let : Decoding → LayoutRecord → ℕ
-planes_let d layout =
-    let all = planes d.state.page.planar layout.color in
-    if nat_le (layout.plane_stride * all) d.state.limits.decoding_buffer_size then all else 1
+planes_let d layout = planes_within d.state.page d.state.limits layout
 
 -- an image by the bytes of these planes, with the layout of all
 abbrev pub buffer_by_bytes : Decoding → Result (BufferLayoutPreference × Decoded) TiffError

@@ -22,7 +22,7 @@ use Rattle.tiff_page.specs.Rect.{rect}
 use Rattle.tiff_page.specs.Layout.{row_bits, row_bytes, samples_in_chunk}
 use Rattle.tiff_page.specs.Laws.{HasSides}
 use Rattle.tiff_page.specs.PixelFault.{unless}
-use Rattle.tiff_page.specs.Pixels.{width_of, stored_samples, chunk_data, stored_row_bytes, is_byte_plane, is_short, row_number, needed_of_row, shown_number, number_by, number_of_row}
+use Rattle.tiff_page.specs.Pixels.{width_of, stored_samples, chunk_data, stored_row_bytes, is_byte_plane, is_short, row_number, needed_bytes, needed_of_row, shown_number, number_by, number_of_row}
 use Rattle.tiff_page.specs.BufferPositions.{Writes, IsIn, in_rect, chunk_byte}
 use Rattle.tiff_page.specs.OutputRow.{StoresAllShown, handed_number, handed_byte}
 use Rattle.tiff_page.specs.RowReads.{TakesRow}
@@ -258,6 +258,13 @@ module _ (file : List ℕ) (order : ByteOrder) (p : PageRecord) (color : ColorTy
       let c : h - 1 + 1 ≡ h = omega (arith, some) in
       let d : (h - 1) * stride + stride ≡ (h - 1 + 1) * stride = omega arith in
       (λ z. (h - 1) * a z + b z) ∙ d ∙ ap (λ m. m * stride) c
+
+  -- several rows are within the bytes that are needed of the chunk
+  pub band_within : (row n : ℕ) → 0 < h → row + n ≤ h → row * stride + n * stride ≤ needed_bytes p color k
+  band_within row n some rl =
+      let x : (row + n) * stride ≤ h * stride = mul-le-mul_right stride rl in
+      let y : (row + n) * stride ≡ row * stride + n * stride = omega arith in
+      omega (arith, x, y, rows_needed some)
 
   -- too few bytes for rows are too few for the chunk
   pub short_band : (failed failed' : Type 0) (row n m : ℕ) (ahead : List ℕ) (e : TiffError) → (failed → failed') → 0 < h → row + n ≤ h → m ≡ n * stride

@@ -20,5 +20,6 @@ pub mod Cut
 pub mod NumberBytes
 pub mod PositionsPut
 pub mod Portions
+pub mod Reach
 mod Sums
 pub mod Wants

@@ -311,8 +311,8 @@ plane_within size count j k len a b h =
     let t : (size - 1) * count + count ≡ size * count = (let u : size ≡ (size - 1) + 1 = omega (arith, a) in sym (ap (λ (x : ℕ). x * count) u ∙ omega arith)) in
     omega (arith, n, t, b, h)
 
-pub planes_within : (size len : ℕ) → size * (len / size) ≤ len
-planes_within size len = omega (arith, div-mul-le_self len size, mul_comm size (len / size))
+pub planes_fit : (size len : ℕ) → size * (len / size) ≤ len
+planes_fit size len = omega (arith, div-mul-le_self len size, mul_comm size (len / size))
 
 pub put_at : (row part : List ℕ) (at k j : ℕ) → at + k ≤ length row → length part ≡ k → j < k → get_or (put_mid at k row part) (at + j) 0 ≡ get_or part j 0
 put_at row part at k j h l b =
@@ -345,7 +345,7 @@ joined size s old mid planes new z whole l m sums e each =
     let at_number : (k : ℕ) → (k + 1) * size ≤ length old → (j : ℕ) → j < size → get_or new (k * size + j) 0 ≡ summed_byte s old ((size - 1 - j) * count + k) =
     λ k h j b.
     let c : k < count = number_before k size (length old) p h in
-    let v : (size - 1 - j) * count + k < length old = plane_within size count j k (length old) b c (planes_within size (length old)) in
+    let v : (size - 1 - j) * count + k < length old = plane_within size count j k (length old) b c (planes_fit size (length old)) in
     each k (omega (arith, c, counts)) j b
     ∙ (λ i. get_or (e i) ((size - 1 - j) * counts i + k) 0)
     ∙ sym (one_number mid ((size - 1 - j) * count + k)) ∙ sums ((size - 1 - j) * count + k) (omega (arith, v)) ∙ summed_is s old ((size - 1 - j) * count + k) in

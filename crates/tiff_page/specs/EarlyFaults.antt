@@ -1,5 +1,5 @@
 -- Faults that are found before memory is taken for samples.
-use Rattle.std.specs.Prelude.{◌≡◌, ℕ, ◌-◌, ◌*◌, min, Bool, true, false, if◌then◌else◌, nat_lt, nat_le, List, length, slice_index, Result, Ok, Err}
+use Rattle.std.specs.Prelude.{◌≡◌, ℕ, ◌-◌, ◌*◌, min, Bool, true, false, if◌then◌else◌, nat_lt, List, length, slice_index, Result, Ok, Err}
 use Rattle.std.specs.Int.{div_ceil}
 use Rattle.tiff_base.specs.declared.color.ColorType.{ColorType}
 use Rattle.tiff_base.specs.declared.error.TiffError.{TiffError}
@@ -12,8 +12,8 @@ use Rattle.tiff_ifd.specs.declared.limits.Limits.{Limits}
 use Rattle.tiff_page.specs.declared.layout.DecodingSampleType.{DecodingSampleType}
 use Rattle.tiff_page.specs.Page.{PageRecord}
 use Rattle.tiff_page.specs.Buffers.{planes_layout}
-use Rattle.tiff_page.specs.Layout.{planes, sample_type_of, size_of, wide}
-use Rattle.tiff_page.specs.PixelCalls.{stride_fault}
+use Rattle.tiff_page.specs.Layout.{sample_type_of, size_of, wide}
+use Rattle.tiff_page.specs.PixelCalls.{planes_within, stride_fault}
 use Rattle.tiff_page.specs.PixelFault.{samples_fault, chunk_fault}
 use Rattle.tiff_page.specs.Pixels.{needed_bytes}
 use Rattle.tiff_page.specs.Rect.{rect}
@@ -75,8 +75,7 @@ image_early file p limits = do
 abbrev pub planes_early : List ℕ → PageRecord → Limits → Result (Unit {0}) TiffError
 planes_early file p limits = do
   layout ← planes_layout p p.width p.height
-  let all = planes p.planar layout.color
-  let used = if nat_le (layout.plane_stride * all) limits.decoding_buffer_size then all else 1
+  let used = planes_within p limits layout
   samples_early file p limits layout.color 0 (layout.plane_stride * used)
 
 -- of a chunk

@@ -21,3 +21,4 @@ pub mod Laws
 pub mod EarlyFaults
 pub mod NumberBytes
 pub mod Samples
+pub mod Reach

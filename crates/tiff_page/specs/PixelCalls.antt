@@ -87,12 +87,16 @@ read_image_bytes file order p limits buf = do
   _ ← room_fault (length buf) layout.plane_stride
   fill_buffer file order p limits layout.color (image_part p (planes_used p layout (length buf)) layout.row_bytes) buf
 
+-- all planes of an image where their bytes are within the limit, else one
+abbrev pub planes_within : PageRecord → Limits → LayoutRecord → ℕ
+planes_within p limits layout =
+    let all = planes p.planar layout.color in if nat_le (layout.plane_stride * all) limits.decoding_buffer_size then all else 1
+
 -- all planes of an image, or the first one where all aren't within the limit; the layout names all
 unfoldable pub read_image_to_buffer : List ℕ → ByteOrder → PageRecord → Limits → Result (BufferLayoutPreference × Decoded) TiffError
 read_image_to_buffer file order p limits = do
   layout ← planes_layout p p.width p.height
-  let all = planes p.planar layout.color
-  let used = if nat_le (layout.plane_stride * all) limits.decoding_buffer_size then all else 1
+  let used = planes_within p limits layout
   numbers ← samples file order p limits layout.color (image_part p used layout.row_bytes) (layout.plane_stride * used)
   Ok (all_planes p layout, numbers)
 

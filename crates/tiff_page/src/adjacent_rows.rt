@@ -2,6 +2,7 @@
 
 ghost use Rattle.std.specs.Prelude.{◌≡◌, ◌+◌, ◌*◌, ◌^◌, ◌<◌, ◌≤◌, ◌↔◌, IsTrue, Ok, length, OnOk};
 ghost use Rattle.tiff_base.specs.Answers.{Answers, IsKept};
+ghost use Rattle.tiff_base.specs.SourceAndSink.{ReachesTo};
 ghost use Rattle.tiff_base.specs.declared.error.TiffError.TheVariants as tiff;
 ghost use Rattle.tiff_base.specs.declared.io.IoKind.TheVariants as io;
 ghost use Rattle.tiff_page.specs.Layout.{row_bytes};
@@ -11,6 +12,7 @@ ghost use Rattle.tiff_page.specs.BufferPositions.{WritesChunk};
 ghost use Rattle.tiff_page.specs.ReadablePage.{IsRead};
 ghost use Rattle.tiff_page.specs.Rect.{rect};
 ghost use Rattle.tiff_page.specs.AdjacentRows.{LieTogether};
+ghost use Rattle.tiff_page.specs.Reach.{chunk_end};
 ghost use Rattle.tiff_page.specs.PageView as view;
 
 use crate::chunk_data::Stored;
@@ -81,6 +83,8 @@ impl ChunkReader<'_> {
         ensures answer { Answers (λ _. tt) result (unless
             (is_short (R.bytes source.old) self.now.order (view.page self.now.page.now) self.now.color self.now.index)
             (tiff.IoError io.UnexpectedEof)) (R.failures source.old) (R.failures source.new) }
+        ensures asked { ReachesTo (chunk_end (view.page self.now.page.now) self.now.color self.now.index) (R.reach source.old)
+            (R.reach source.new) }
     {
         let rows = self.height as usize;
         let mut position = self.front();

@@ -1,10 +1,14 @@
 //! The data of a chunk, read from the front on.
 
-ghost use Rattle.std.specs.Prelude.{◌≡◌, ◌<◌, ◌≤◌, ℕ, List, length, slice_index, Ok};
+ghost use Rattle.std.specs.Prelude.{◌≡◌, ◌+◌, ◌<◌, ◌≤◌, ℕ, List, if◌then◌else◌, length, slice_index, Ok, IfOk};
 ghost use Rattle.tiff_base.specs.Answers.{IsKept};
+ghost use Rattle.tiff_base.specs.SourceAndSink.{ReachesTo};
+ghost use Rattle.tiff_ifd.specs.Unpacking.{packed_end};
 ghost use Rattle.tiff_page.specs.PixelFault.{method_fault};
 ghost use Rattle.tiff_page.specs.Pixels.{data_by_method};
 ghost use Rattle.tiff_page.specs.ChunkData.{bytes_left, Takes, Passes};
+ghost use Rattle.tiff_page.specs.EarlyFaults.{is_packed};
+ghost use Rattle.tiff_page.specs.Reach.{stored_end, Moves};
 ghost use Rattle.tiff_page.specs.declared.chunk_data.Stored.TheVariants.{Packed};
 ghost use Rattle.tiff_base.specs.declared.tags.ByteOrder.{ByteOrder};
 ghost use Rattle.tiff_page.specs.Page.{PageRecord};
@@ -30,6 +34,8 @@ const PIECE: usize = 65536;
 fn pass_packed<R: Source>(source: &mut R, position: PackedPosition, n: u64) -> TiffResult<Stored>
     ensures kept { IsKept R.bytes R.failures result source.old source.new }
     ensures passed { Passes (R.bytes source.old) (Packed position) (R.failures source.old < R.failures source.new) n result }
+    ensures asked { ReachesTo (packed_end position) (R.reach source.old) (R.reach source.new) }
+    ensures moves { IfOk result (λ rest. Moves (Packed position) n rest) }
 {
     let mut piece = [0u8; 512];
     let mut position = position;
@@ -51,7 +57,8 @@ impl Stored {
     #[tactic(auto, using(crate::proofs::Data::unpacked_out))]
     pub fn new(method: CompressionMethod, at: u64, count: u64) -> Self
         requires { method_fault method ≡ Ok tt }
-        ensures { (file : List ℕ) (order : ByteOrder) (p : PageRecord) → bytes_left file result ≡ data_by_method file order p method at count }
+        ensures rest { (file : List ℕ) (order : ByteOrder) (p : PageRecord) → bytes_left file result ≡ data_by_method file order p method at count }
+        ensures end { (n : ℕ) → stored_end result n ≡ at + (if is_packed method then count else n) }
     {
         match method {
             CompressionMethod::PackBits => Stored::Packed(PackedPosition::new(at, count)),
@@ -63,6 +70,8 @@ impl Stored {
     pub fn read<R: Source>(self, source: &mut R, buf: &mut [u8]) -> TiffResult<Stored>
         ensures kept { IsKept R.bytes R.failures result source.old source.new }
         ensures taken { Takes (R.bytes source.old) self ⊥ (R.failures source.old < R.failures source.new) (length buf.old) buf.new result }
+        ensures asked { ReachesTo (stored_end self (length buf.old)) (R.reach source.old) (R.reach source.new) }
+        ensures moves { IfOk result (λ rest. Moves self (length buf.old) rest) }
     {
         match self {
             Stored::Plain(at) => {
@@ -93,6 +102,8 @@ impl Stored {
         ensures kept { IsKept R.bytes R.failures result source.old source.new }
         ensures taken { Takes (R.bytes source.old) self (Unit {0}) (R.failures source.old < R.failures source.new) len
             row.new.items result }
+        ensures asked { ReachesTo (stored_end self len) (R.reach source.old) (R.reach source.new) }
+        ensures moves { IfOk result (λ rest. Moves self len rest) }
     {
         row.clear();
         let mut position = self;
@@ -109,6 +120,8 @@ impl Stored {
     pub fn pass<R: Source>(self, source: &mut R, n: u64) -> TiffResult<Stored>
         ensures kept { IsKept R.bytes R.failures result source.old source.new }
         ensures passed { Passes (R.bytes source.old) self (R.failures source.old < R.failures source.new) n result }
+        ensures asked { ReachesTo (stored_end self n) (R.reach source.old) (R.reach source.new) }
+        ensures moves { IfOk result (λ rest. Moves self n rest) }
     {
         match self {
             Stored::Plain(at) => match at.checked_add(n) {

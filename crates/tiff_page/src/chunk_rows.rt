@@ -1,7 +1,8 @@
 //! The rows of a chunk are read into a buffer.
 
-ghost use Rattle.std.specs.Prelude.{◌≡◌, ℕ, List, ◌+◌, ◌-◌, ◌*◌, Ok, true, ◌<◌, ◌≤◌, ◌^◌, length, false, ◌/◌, ◌⊎◌, OnOk};
+ghost use Rattle.std.specs.Prelude.{◌≡◌, ℕ, List, ◌+◌, ◌-◌, ◌*◌, Ok, true, ◌<◌, ◌≤◌, ◌^◌, length, false, ◌/◌, ◌⊎◌, OnOk, IfOk};
 ghost use Rattle.tiff_base.specs.Answers.{Answers, IsKept};
+ghost use Rattle.tiff_base.specs.SourceAndSink.{ReachesTo};
 ghost use Rattle.tiff_base.specs.declared.error.TiffError.TheVariants as tiff;
 ghost use Rattle.tiff_base.specs.declared.io.IoKind.TheVariants as io;
 ghost use Rattle.tiff_base.specs.declared.tags.ByteOrder.{ByteOrder};
@@ -15,6 +16,7 @@ ghost use Rattle.tiff_page.specs.OutputRow.{is_turned};
 ghost use Rattle.tiff_page.specs.RowReads.{NumbersRead, RowRead};
 ghost use Rattle.tiff_page.specs.Rect.{rect};
 ghost use Rattle.tiff_page.specs.ChunkData.{bytes_left};
+ghost use Rattle.tiff_page.specs.Reach.{stored_end, Moves, data_end, chunk_end};
 ghost use Rattle.tiff_page.specs.PageView as view;
 
 use crate::chunk_data::Stored;
@@ -103,6 +105,9 @@ impl ChunkReader<'_> {
         ensures kept { IsKept R.bytes R.failures result source.old source.new }
         ensures row { RowRead (R.bytes source.old) self.now.order (view.page self.now.page.now) self.now.color position (Unit {0})
             (R.failures source.old < R.failures source.new) out.new result }
+        ensures asked { ReachesTo (stored_end position (stored_row_bytes (view.page self.now.page.now))) (R.reach source.old)
+            (R.reach source.new) }
+        ensures moves { IfOk result (λ rest. Moves position (stored_row_bytes (view.page self.now.page.now)) rest) }
     {
         let page = self.page;
         let rest = position.read_grown(source, &mut room.row, stored_row_bytes(page))?;
@@ -128,6 +133,8 @@ impl ChunkReader<'_> {
         ensures kept { IsKept R.bytes R.failures result source.old source.new }
         ensures numbers { NumbersRead (R.bytes source.old) self.now.order (view.page self.now.page.now) position
             (R.failures source.old < R.failures source.new) out.new result }
+        ensures asked { ReachesTo (stored_end position (length out.old)) (R.reach source.old) (R.reach source.new) }
+        ensures moves { IfOk result (λ rest. Moves position (length out.old) rest) }
     {
         room.resize(out.len(), 0)?;
         let rest = position.read(source, room)?;
@@ -150,6 +157,8 @@ impl ChunkReader<'_> {
         ensures kept { IsKept R.bytes R.failures result source.old source.new }
         ensures numbers { NumbersRead (R.bytes source.old) self.now.order (view.page self.now.page.now) position
             (R.failures source.old < R.failures source.new) out.new result }
+        ensures asked { ReachesTo (stored_end position (length out.old)) (R.reach source.old) (R.reach source.new) }
+        ensures moves { IfOk result (λ rest. Moves position (length out.old) rest) }
     {
         if is_turned(self.order, self.page) {
             return self.read_turned(source, position, &mut room.other, out);
@@ -173,6 +182,8 @@ impl ChunkReader<'_> {
         ensures kept { IsKept R.bytes R.failures result source.old source.new }
         ensures row { RowRead (R.bytes source.old) self.now.order (view.page self.now.page.now) self.now.color position (Unit {0})
             (R.failures source.old < R.failures source.new) out.new result }
+        ensures asked { ReachesTo (stored_end position (length out.old)) (R.reach source.old) (R.reach source.new) }
+        ensures moves { IfOk result (λ rest. Moves position (length out.old) rest) }
     {
         let rest = self.read_numbers(source, position, room, out)?;
         hand_row(self.page, self.color, out);
@@ -193,6 +204,10 @@ impl ChunkReader<'_> {
         ensures kept { IsKept R.bytes R.failures result source.old source.new }
         ensures row { RowRead (R.bytes source.old) self.now.order (view.page self.now.page.now) self.now.color position (Unit {0})
             (R.failures source.old < R.failures source.new) out.new result }
+        ensures asked { ReachesTo (stored_end position (needed_of_row (view.page self.now.page.now) self.now.color
+            (length out.old))) (R.reach source.old) (R.reach source.new) }
+        ensures moves { IfOk result (λ rest. Moves position (needed_of_row (view.page self.now.page.now) self.now.color
+            (length out.old)) rest) }
     {
         if needs_whole_rows(self.page, self.color) {
             return self.read_whole_row(source, position, room, out);
@@ -214,8 +229,9 @@ impl ChunkReader<'_> {
     pub(crate) fn front(&self) -> Stored
         requires formed { method_fault self.now.page.now.method ≡ Ok tt }
         requires listed { self.now.index < length self.now.page.now.offsets }
-        ensures { (file : List ℕ) (order : ByteOrder) → bytes_left file result
+        ensures rest { (file : List ℕ) (order : ByteOrder) → bytes_left file result
             ≡ chunk_data file order (view.page self.now.page.now) self.now.index }
+        ensures end { (n : ℕ) → stored_end result n ≡ data_end (view.page self.now.page.now) self.now.index n }
     {
         let page = self.page;
         let chunk = self.index as usize;
@@ -249,6 +265,8 @@ impl ChunkReader<'_> {
         ensures answer { Answers (λ _. tt) result (unless
             (is_short (R.bytes source.old) self.now.order (view.page self.now.page.now) self.now.color self.now.index)
             (tiff.IoError io.UnexpectedEof)) (R.failures source.old) (R.failures source.new) }
+        ensures asked { ReachesTo (chunk_end (view.page self.now.page.now) self.now.color self.now.index) (R.reach source.old)
+            (R.reach source.new) }
     {
         let rows = self.height as usize;
         let len = row_len(self.page, self.color, self.width);
@@ -287,6 +305,8 @@ impl ChunkReader<'_> {
         ensures answer { Answers (λ _. tt) result (unless
             (is_short (R.bytes source.old) self.now.order (view.page self.now.page.now) self.now.color self.now.index)
             (tiff.IoError io.UnexpectedEof)) (R.failures source.old) (R.failures source.new) }
+        ensures asked { ReachesTo (chunk_end (view.page self.now.page.now) self.now.color self.now.index) (R.reach source.old)
+            (R.reach source.new) }
     {
         if self.lies_together(corner) {
             return self.read_together(source, corner, writer, buf);

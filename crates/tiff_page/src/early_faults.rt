@@ -3,11 +3,13 @@
 ghost use Rattle.std.specs.Prelude.{◌≡◌, ◌+◌, ◌-◌, ◌*◌, ◌<◌, ◌≤◌, ◌^◌, length, min, nat_lt};
 ghost use Rattle.std.specs.Int.{div_ceil};
 ghost use Rattle.tiff_base.specs.Answers.{AnswersWithoutMemory, IsKept};
+ghost use Rattle.tiff_base.specs.SourceAndSink.{ReachesTo};
 ghost use Rattle.tiff_base.specs.declared.error.TiffError.TheVariants as tiff;
 ghost use Rattle.tiff_base.specs.declared.io.IoKind.TheVariants as io;
 ghost use Rattle.tiff_page.specs.EarlyFaults as spec;
 ghost use Rattle.tiff_page.specs.PixelFault.{chunk_fault, unless};
 ghost use Rattle.tiff_page.specs.Pixels as pixels;
+ghost use Rattle.tiff_page.specs.Reach.{chunk_end};
 ghost use Rattle.tiff_page.specs.PageView as view;
 
 use crate::faults::form_fault;
@@ -58,6 +60,7 @@ fn reach<R: Source>(source: &mut R, at: u64, len: u128) -> TiffResult<()>
     ensures kept { IsKept R.bytes R.failures result source.old source.new }
     ensures answer { AnswersWithoutMemory (λ _. tt) result (unless (nat_lt (length (R.bytes source.old) - at) len)
         (tiff.IoError io.UnexpectedEof)) (R.failures source.old) (R.failures source.new) }
+    ensures asked { ReachesTo (at + len) (R.reach source.old) (R.reach source.new) }
 {
     if len == 0 {
         return Ok(());
@@ -76,6 +79,7 @@ fn reach_packed<R: Source>(source: &mut R, at: u64, count: u64, needed: u128) ->
     ensures answer { AnswersWithoutMemory (λ _. tt) result (unless
         (nat_lt (min count (length (R.bytes source.old) - at)) (div_ceil needed 64)) (tiff.IoError io.UnexpectedEof))
         (R.failures source.old) (R.failures source.new) }
+    ensures asked { ReachesTo (at + count) (R.reach source.old) (R.reach source.new) }
 {
     let least = needed.div_ceil(64);
     if u128::from(count) < least {
@@ -91,6 +95,7 @@ fn cut_fault<R: Source>(source: &mut R, page: &Page, color: ColorType, index: u3
     ensures answer { AnswersWithoutMemory (λ _. tt) result (unless
         (spec.is_cut (R.bytes source.old) (view.page page.now) color index) (tiff.IoError io.UnexpectedEof))
         (R.failures source.old) (R.failures source.new) }
+    ensures asked { ReachesTo (chunk_end (view.page page.now) color index) (R.reach source.old) (R.reach source.new) }
 {
     let chunk = index as usize;
     let at = page.offsets.as_slice()[chunk];
@@ -115,6 +120,7 @@ impl PageReader<'_> {
         ensures answer { AnswersWithoutMemory (λ _. tt) result (chunk_fault (view.page self.now.page.now) self.now.limits.now
             (spec.is_cut (R.bytes source.old) (view.page self.now.page.now) color) color index) (R.failures source.old)
             (R.failures source.new) }
+        ensures asked { ReachesTo (chunk_end (view.page self.now.page.now) color index) (R.reach source.old) (R.reach source.new) }
     {
         form_fault(self.page, self.limits, color, index as usize)?;
         cut_fault(source, self.page, color, index)

@@ -10,6 +10,7 @@
 ghost use Rattle.std.specs.Int.{div_ceil};
 ghost use Rattle.std.specs.Prelude.{◌≡◌, ◌*◌, ◌<◌, ◌≤◌, ◌^◌, Ok, IfOk, length, map, replicate, if◌then◌else◌, nat_le};
 ghost use Rattle.tiff_base.specs.Answers.{Answers, AnswersWithoutSource, Gives, IsKept};
+ghost use Rattle.tiff_base.specs.SourceAndSink.{ReachesTo};
 ghost use Rattle.tiff_base.specs.Sparing.{AnswersSparingly};
 ghost use Rattle.tiff_page.specs.Buffers as buffers;
 ghost use Rattle.tiff_page.specs.EarlyFaults.{IsListFault, WantsAfter, WantsWhere, chunk_early, early_fault, image_early, planes_early, samples_early, strided_early};
@@ -17,6 +18,8 @@ ghost use Rattle.tiff_page.specs.PixelCalls.{image_of};
 ghost use Rattle.tiff_page.specs.Layout as layouts;
 ghost use Rattle.tiff_page.specs.PixelCalls as calls;
 ghost use Rattle.tiff_page.specs.PixelCalls.{fill_buffer};
+ghost use Rattle.tiff_page.specs.Reach as reach;
+ghost use Rattle.tiff_page.specs.Reach.{ReachesPart, ReachesLaid};
 ghost use Rattle.tiff_page.specs.Rect as rects;
 ghost use Rattle.tiff_page.specs.Samples.{samples_as, color_in, first_in, part_of, IsLaid, room_of};
 ghost use Rattle.tiff_page.specs.PageView as view;
@@ -117,8 +120,8 @@ fn rows_len(page: &Page, index: u32, stride: usize) -> usize
 fn planes_within(page: &Page, limits: &Limits, layout: PlaneLayout) -> u16
     requires some { 0 < layouts.planes page.now.planar layout.color }
     requires fits { layout.plane_stride * layouts.planes page.now.planar layout.color < 2 ^ 64 }
-    ensures value { result ≡ (let all = layouts.planes page.now.planar layout.color in if nat_le (layout.plane_stride * all)
-        limits.now.decoding_buffer_size then all else 1) }
+    ensures value { result ≡ calls.planes_within (view.page page.now) limits.now
+        (record { color = layout.color; row_bytes = layout.row_bytes; plane_stride = layout.plane_stride }) }
     ensures some { 0 < result }
     ensures fits { layout.plane_stride * result < 2 ^ 64 }
 {
@@ -166,6 +169,8 @@ impl PageReader<'_> {
         ensures answer { AnswersSparingly (λ _. tt) result (early_fault (R.bytes source.old) (view.page self.now.page.now)
             self.now.limits.now (color_in portion) sample_type (first_in portion) len) (R.failures source.old)
             (R.failures source.new) }
+        ensures asked { ReachesTo (reach.chunk_end (view.page self.now.page.now) (color_in portion) (first_in portion))
+            (R.reach source.old) (R.reach source.new) }
         ensures zeros { IfOk result (λ v. map T.bits v.items ≡ replicate (div_ceil len N) 0) }
     {
         samples_fault(self.limits, size_of(sample_type), len)?;
@@ -189,6 +194,8 @@ impl PageReader<'_> {
             (view.page self.now.page.now) self.now.limits.now (color_in portion)
             (part_of (R.bytes source.old) self.now.order (view.page self.now.page.now) portion) (W.bytes out.old))
             (R.failures source.old) (R.failures source.new) }
+        ensures asked { ReachesPart (view.page self.now.page.now) (color_in portion) (part_of (R.bytes source.old) self.now.order
+            (view.page self.now.page.now) portion) (R.reach source.old) (R.reach source.new) }
     {
         match portion {
             Portion::Image(layout, planes) => {
@@ -224,6 +231,8 @@ impl PageReader<'_> {
             (calls.samples (R.bytes source.old) self.now.order (view.page self.now.page.now) self.now.limits.now
             (color_in portion) (part_of (R.bytes source.old) self.now.order (view.page self.now.page.now) portion) len)
             (R.failures source.old) (R.failures source.new) }
+        ensures asked { ReachesPart (view.page self.now.page.now) (color_in portion) (part_of (R.bytes source.old) self.now.order
+            (view.page self.now.page.now) portion) (R.reach source.old) (R.reach source.new) }
     {
         let mut bytes: Vec<u8> = self.zeros(source, portion, DecodingSampleType::U8, len)?;
         let mut writer = InPlace::new(self.alloc);
@@ -252,6 +261,8 @@ impl PageReader<'_> {
             (calls.samples (R.bytes source.old) self.now.order (view.page self.now.page.now) self.now.limits.now
             (color_in portion) (part_of (R.bytes source.old) self.now.order (view.page self.now.page.now) portion) len)
             (R.failures source.old) (R.failures source.new) }
+        ensures asked { ReachesPart (view.page self.now.page.now) (color_in portion) (part_of (R.bytes source.old) self.now.order
+            (view.page self.now.page.now) portion) (R.reach source.old) (R.reach source.new) }
     {
         let mut numbers: Vec<T> = self.zeros(source, portion, sample_type, len)?;
         let mut writer = NumberRoom::<N>::new(self.alloc);
@@ -276,6 +287,8 @@ impl PageReader<'_> {
             (view.page self.now.page.now) self.now.limits.now (color_in portion)
             (part_of (R.bytes source.old) self.now.order (view.page self.now.page.now) portion) len) (R.failures source.old)
             (R.failures source.new) }
+        ensures asked { ReachesPart (view.page self.now.page.now) (color_in portion) (part_of (R.bytes source.old) self.now.order
+            (view.page self.now.page.now) portion) (R.reach source.old) (R.reach source.new) }
     {
         let sample_type = sample_type_of(self.page, self.alloc)?;
         match sample_type {
@@ -327,6 +340,9 @@ pub fn read_image<R: Source>(
     ensures memory { WantsAfter (image_early (R.bytes source.old) (view.page page.now) limits.now) result }
     ensures answer { Answers samples_as result (image_of (R.bytes source.old) order (view.page page.now) limits.now)
         (R.failures source.old) (R.failures source.new) }
+    ensures asked { ReachesLaid (view.page page.now) (buffers.planes_layout (view.page page.now) page.now.width
+        page.now.height) (λ l. calls.image_part (view.page page.now) 1 l.row_bytes)
+        (R.reach source.old) (R.reach source.new) }
 {
     let reader = PageReader {
         alloc,
@@ -354,6 +370,9 @@ pub fn read_image_to_buffer<R: Source>(
     ensures answer { Answers (λ r. (r.0, samples_as r.1)) result
         (calls.read_image_to_buffer (R.bytes source.old) order (view.page page.now) limits.now) (R.failures source.old)
         (R.failures source.new) }
+    ensures asked { ReachesLaid (view.page page.now) (buffers.planes_layout (view.page page.now) page.now.width
+        page.now.height) (λ l. calls.image_part (view.page page.now) (calls.planes_within (view.page page.now) limits.now l)
+        l.row_bytes) (R.reach source.old) (R.reach source.new) }
 {
     let reader = PageReader {
         alloc,
@@ -384,6 +403,9 @@ pub fn read_image_bytes<R: Source>(
     ensures kept { IsKept R.bytes R.failures result source.old source.new }
     ensures answer { Answers (λ _. buf.new) result (calls.read_image_bytes (R.bytes source.old) order (view.page page.now)
         limits.now buf.old) (R.failures source.old) (R.failures source.new) }
+    ensures asked { ReachesLaid (view.page page.now) (buffers.planes_layout (view.page page.now) page.now.width
+        page.now.height) (λ l. calls.image_part (view.page page.now) (calls.planes_used (view.page page.now) l (length buf.old))
+        l.row_bytes) (R.reach source.old) (R.reach source.new) }
 {
     let reader = PageReader {
         alloc,
@@ -413,6 +435,9 @@ pub fn read_chunk<R: Source>(
     ensures memory { WantsAfter (chunk_early (R.bytes source.old) (view.page page.now) limits.now index) result }
     ensures answer { Answers samples_as result (calls.read_chunk (R.bytes source.old) order (view.page page.now) limits.now
         index) (R.failures source.old) (R.failures source.new) }
+    ensures asked { ReachesLaid (view.page page.now) (buffers.planes_layout (view.page page.now)
+        (rects.rect (view.page page.now) index).width (rects.rect (view.page page.now) index).height)
+        (λ l. calls.chunk_part (view.page page.now) index 1 l.row_bytes) (R.reach source.old) (R.reach source.new) }
 {
     let reader = PageReader {
         alloc,
@@ -440,6 +465,9 @@ pub fn read_chunk_bytes<R: Source>(
     ensures kept { IsKept R.bytes R.failures result source.old source.new }
     ensures answer { Answers (λ _. buf.new) result (calls.read_chunk_bytes (R.bytes source.old) order (view.page page.now)
         limits.now index buf.old) (R.failures source.old) (R.failures source.new) }
+    ensures asked { ReachesLaid (view.page page.now) (buffers.planes_layout (view.page page.now)
+        (rects.rect (view.page page.now) index).width (rects.rect (view.page page.now) index).height)
+        (λ l. calls.chunk_part (view.page page.now) index 1 l.row_bytes) (R.reach source.old) (R.reach source.new) }
 {
     let reader = PageReader {
         alloc,
@@ -475,6 +503,9 @@ pub fn read_chunk_to_buffer<R: Source>(
     ensures memory { WantsAfter (strided_early (R.bytes source.old) (view.page page.now) limits.now index stride) result }
     ensures answer { Answers samples_as result (calls.read_chunk_to_buffer (R.bytes source.old) order (view.page page.now)
         limits.now index stride) (R.failures source.old) (R.failures source.new) }
+    ensures asked { ReachesLaid (view.page page.now) (buffers.planes_layout (view.page page.now)
+        (rects.rect (view.page page.now) index).width (rects.rect (view.page page.now) index).height)
+        (λ l. calls.chunk_part (view.page page.now) index 1 stride) (R.reach source.old) (R.reach source.new) }
 {
     let reader = PageReader {
         alloc,
@@ -506,6 +537,10 @@ pub fn read_coding_unit_bytes<R: Source>(
     ensures kept { IsKept R.bytes R.failures result source.old source.new }
     ensures answer { Answers (λ _. buf.new) result (calls.read_coding_unit_bytes (R.bytes source.old) order (view.page page.now)
         limits.now unit buf.old) (R.failures source.old) (R.failures source.new) }
+    ensures asked { ReachesLaid (view.page page.now) (buffers.planes_layout (view.page page.now)
+        (rects.rect (view.page page.now) unit).width (rects.rect (view.page page.now) unit).height)
+        (λ l. calls.chunk_part (view.page page.now) unit (calls.planes_used (view.page page.now) l (length buf.old)) l.row_bytes)
+        (R.reach source.old) (R.reach source.new) }
 {
     let reader = PageReader {
         alloc,

@@ -7,6 +7,7 @@ ghost use Rattle.tiff_page.specs.PixelCalls.{fill_buffer, image_part, chunk_part
 ghost use Rattle.tiff_page.specs.PixelFault.{chunk_fault, each_below};
 ghost use Rattle.tiff_page.specs.Pixels.{is_short};
 ghost use Rattle.tiff_page.specs.BufferPositions.{WritesNext, top_of, left_of};
+ghost use Rattle.tiff_page.specs.Reach.{ReachesPart};
 ghost use Rattle.tiff_page.specs.Rect.{rect, chunks_of_plane};
 ghost use Rattle.tiff_page.specs.PageView as view;
 
@@ -95,6 +96,8 @@ impl PageReader<'_> {
             next.part.layout.color) next.part.layout.color
             (plane * chunks_of_plane (view.page self.now.page.now) + (0 + next.chunk))) next.part.planes)
             (R.failures source.old) (R.failures source.new) }
+        ensures asked { ReachesPart (view.page self.now.page.now) next.part.layout.color (chunk_part (view.page self.now.page.now)
+            next.chunk next.part.planes next.part.layout.row_bytes) (R.reach source.old) (R.reach source.new) }
     {
         let page = self.page;
         let layout = next.part.layout;
@@ -136,6 +139,8 @@ impl PageReader<'_> {
             (view.page self.now.page.now) self.now.limits.now part.layout.color
             (image_part (view.page self.now.page.now) part.planes part.layout.row_bytes)
             (W.bytes buf.old)) (R.failures source.old) (R.failures source.new) }
+        ensures asked { ReachesPart (view.page self.now.page.now) part.layout.color (image_part (view.page self.now.page.now)
+            part.planes part.layout.row_bytes) (R.reach source.old) (R.reach source.new) }
     {
         for chunk in 0..chunks_of_plane(self.page) {
             self.fill_chunk(source, ImageChunk { part, chunk }, writer, buf)?;
@@ -165,6 +170,8 @@ impl PageReader<'_> {
             (view.page self.now.page.now) self.now.limits.now unit.color
             (chunk_part (view.page self.now.page.now) unit.index unit.planes unit.stride)
             (W.bytes buf.old)) (R.failures source.old) (R.failures source.new) }
+        ensures asked { ReachesPart (view.page self.now.page.now) unit.color (chunk_part (view.page self.now.page.now)
+            unit.index unit.planes unit.stride) (R.reach source.old) (R.reach source.new) }
     {
         let page = self.page;
         let (_, rows) = chunk_data_dimensions(page, unit.index);

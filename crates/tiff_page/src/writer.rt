@@ -1,12 +1,14 @@
 //! Rows of a chunk go into a list of bytes or of numbers.
 
-ghost use Rattle.std.specs.Prelude.{◌≡◌, ℕ, ◌+◌, ◌*◌, ◌/◌, ◌^◌, ◌<◌, ◌≤◌, ◌⊎◌, List, length, map, false};
+ghost use Rattle.std.specs.Prelude.{◌≡◌, ℕ, ◌+◌, ◌*◌, ◌/◌, ◌^◌, ◌<◌, ◌≤◌, ◌⊎◌, List, length, map, false, IfOk};
 ghost use Rattle.tiff_base.specs.Answers.{IsKept};
+ghost use Rattle.tiff_base.specs.SourceAndSink.{ReachesTo};
 ghost use Rattle.tiff_page.specs.Layout.{row_bytes};
 ghost use Rattle.tiff_page.specs.NumberBytes.{bytes_in};
-ghost use Rattle.tiff_page.specs.Pixels.{needs_whole_rows};
+ghost use Rattle.tiff_page.specs.Pixels.{needed_of_row, needs_whole_rows};
 ghost use Rattle.tiff_page.specs.ReadablePage.{IsRead};
 ghost use Rattle.tiff_page.specs.RowReads.{RowPut};
+ghost use Rattle.tiff_page.specs.Reach.{stored_end, Moves};
 ghost use Rattle.tiff_page.specs.PageView as view;
 
 use crate::chunk_data::Stored;
@@ -36,7 +38,11 @@ pub trait RowWriter<T> {
         requires fits { next.at + next.len < 2 ^ 64 }
         ensures kept { IsKept R.bytes R.failures result source.old source.new }
         ensures row { RowPut (R.bytes source.old) reader.now.order (view.page reader.now.page.now) reader.now.color next.position
-            (R.failures source.old < R.failures source.new) next.at next.len (bytes out.old) (bytes out.new) result };
+            (R.failures source.old < R.failures source.new) next.at next.len (bytes out.old) (bytes out.new) result }
+        ensures asked { ReachesTo (stored_end next.position (needed_of_row (view.page reader.now.page.now) reader.now.color
+            next.len)) (R.reach source.old) (R.reach source.new) }
+        ensures moves { IfOk result (λ rest. Moves next.position (needed_of_row (view.page reader.now.page.now)
+            reader.now.color next.len) rest) };
 
     /// Reads the next bytes of a chunk, as they are handed out, into the bytes of a list, where no whole rows have to be read
     /// for them.
@@ -55,7 +61,9 @@ pub trait RowWriter<T> {
         requires fits { next.at + next.len < 2 ^ 64 }
         ensures kept { IsKept R.bytes R.failures result source.old source.new }
         ensures row { RowPut (R.bytes source.old) reader.now.order (view.page reader.now.page.now) reader.now.color next.position
-            (R.failures source.old < R.failures source.new) next.at next.len (bytes out.old) (bytes out.new) result };
+            (R.failures source.old < R.failures source.new) next.at next.len (bytes out.old) (bytes out.new) result }
+        ensures asked { ReachesTo (stored_end next.position next.len) (R.reach source.old) (R.reach source.new) }
+        ensures moves { IfOk result (λ rest. Moves next.position next.len rest) };
 
     /// Lists of one length have as many bytes.
     ghost same_length: { (xs ys : List T) → length xs ≡ length ys → length (bytes xs) ≡ length (bytes ys) };

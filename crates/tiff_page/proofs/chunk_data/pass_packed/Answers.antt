@@ -16,5 +16,17 @@ loop-left-preserved g c =
       room = omega (arith, c.loop-left.invariant.room, len, length-append c.read_exact.new.buf (drop c.min-len.result c.loop-left.piece), length-drop c.min-len.result c.loop-left.piece);
       same_bytes = told;
       count = omega (arith, c.in-Ok.ensures.kept.swallowed, c.loop-left.invariant.count);
+      asked = λ n before end. c.in-Ok.ensures.asked n (c.loop-left.invariant.asked n before end) (omega (arith, end, c.loop-left.invariant.end));
+      end = c.in-Ok.ensures.end ∙ c.loop-left.invariant.end;
       passed = more_passed (left_at bytes c.args.position) (left_at bytes c.loop-left.position) (left_at bytes c.read_exact.new.self) c.read_exact.new.buf c.args.n c.loop-left.left c.min-len.result c.loop-left.invariant.within (omega arith) len c.loop-left.invariant.passed given;
     }
+
+pub returns-in-Err-IoError-UnexpectedEof-clause-asked : goal.returns-in-Err-IoError-UnexpectedEof-clause-asked
+returns-in-Err-IoError-UnexpectedEof-clause-asked g c = λ n before end.
+    let so_far = c.loop-left.invariant.asked n before end in
+    c.in-Err-IoError-UnexpectedEof.ensures.asked n so_far (omega (arith, end, c.loop-left.invariant.end))
+
+pub returns-in-Err-clause-asked : goal.returns-in-Err-clause-asked
+returns-in-Err-clause-asked g c = λ n before end.
+    let so_far = c.loop-left.invariant.asked n before end in
+    c.in-Err.ensures.asked n so_far (omega (arith, end, c.loop-left.invariant.end))

@@ -1,5 +1,6 @@
 use Rattle.std.proofs.Common.{◌≡◌, ◌-◌, ◌≤◌, length, drop}
-use Rattle.tiff_ifd.specs.Unpacking.{left_at}
+use Rattle.tiff_base.specs.SourceAndSink.{ReachesTo}
+use Rattle.tiff_ifd.specs.Unpacking.{left_at, packed_end}
 use Rattle.tiff_page.proofs.chunk_data.pass_packed.Given as goal
 
 -- what is left, but for the bytes that were passed
@@ -11,6 +12,8 @@ invariant-loop-left g l =
       room : length l.piece ≡ 512;
       same_bytes : g.R.Source.bytes l.source ≡ bytes;
       count : g.R.Source.failures l.source ≡ g.R.Source.failures l.fn.source;
+      asked : ReachesTo (packed_end l.fn.position) (g.R.Source.reach l.fn.source) (g.R.Source.reach l.source);
+      end : packed_end l.position ≡ packed_end l.fn.position;
       passed : (left_at bytes l.position).out ≡ drop (l.fn.n - l.left) (left_at bytes l.fn.position).out;
     }
 

@@ -1,5 +1,7 @@
 use Rattle.std.proofs.Common.{◌≡◌, ◌-◌, ◌≤◌, length, ◌++◌}
+use Rattle.tiff_base.specs.SourceAndSink.{ReachesTo}
 use Rattle.tiff_page.specs.ChunkData.{bytes_left}
+use Rattle.tiff_page.specs.Reach.{stored_end, Moves}
 use Rattle.tiff_page.proofs.chunk_data.Stored.read_grown.Given as goal
 
 -- what was read, then what is left
@@ -10,6 +12,8 @@ invariant-loop-row g l =
       within : length l.row.items ≤ l.fn.len;
       same_bytes : g.R.Source.bytes l.source ≡ bytes;
       count : g.R.Source.failures l.source ≡ g.R.Source.failures l.fn.source;
+      asked : ReachesTo (stored_end l.fn.self l.fn.len) (g.R.Source.reach l.fn.source) (g.R.Source.reach l.source);
+      moves : Moves l.fn.self (length l.row.items) l.position;
       read : bytes_left bytes l.fn.self ≡ l.row.items ++ bytes_left bytes l.position;
     }
 

@@ -1,11 +1,19 @@
-use Rattle.std.proofs.Common.{◌∙◌}
-use Rattle.std.specs.Prelude.{slice_index}
+use Rattle.std.proofs.Common.{◌∙◌, ◌+◌}
+use Rattle.std.specs.Prelude.{slice_index, if◌then◌else◌}
+use Rattle.tiff_page.specs.EarlyFaults.{is_packed}
 use Rattle.tiff_page.specs.Pixels.{data_by_method}
 use Rattle.tiff_page.specs.PageView as view
 use Rattle.tiff_page.proofs.chunk_rows.ChunkReader.front.Goals as goal
 
-pub returns : goal.returns
-returns c = λ file order.
+pub returns-clause-rest : goal.returns-clause-rest
+returns-clause-rest c = λ file order.
     let p = view.page c.args.self.now.page.now in
-    c.new.ensures file order p
+    c.new.ensures.rest file order p
     ∙ (λ t. data_by_method file order p c.args.self.now.page.now.method (slice_index (c.as_slice.ensures t) c.args.self.now.index) (slice_index (c.as_slice-2.ensures t) c.args.self.now.index))
+
+pub returns-clause-end : goal.returns-clause-end
+returns-clause-end c = λ n.
+    let page = c.args.self.now.page.now in
+    let i = c.args.self.now.index in
+    c.new.ensures.end n
+    ∙ (λ t. slice_index (c.as_slice.ensures t) i + (if is_packed page.method then slice_index (c.as_slice-2.ensures t) i else n))

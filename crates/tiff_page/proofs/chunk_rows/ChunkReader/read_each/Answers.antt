@@ -9,6 +9,8 @@ use Rattle.tiff_page.specs.Rect.{rect}
 use Rattle.tiff_page.specs.BufferPositions.{Writes, IsIn, in_rect, chunk_byte}
 use Rattle.tiff_page.specs.ChunkData.{bytes_left}
 use Rattle.tiff_page.specs.PageView as view
+use Rattle.tiff_page.proofs.ChunkRows.{need_within}
+use Rattle.tiff_page.proofs.Reach.{front_stands, row_asked, behind_asked, next_stands}
 use Rattle.tiff_page.proofs.ChunkRead.{row_below, width_within, row_some, row_bytes_are, row_held, next_row, too_short}
 use Rattle.tiff_page.proofs.Rects.{no_row, row_put_there, row_room}
 use Rattle.tiff_page.proofs.chunk_rows.ChunkReader.read_each.Goals as goal
@@ -24,7 +26,9 @@ loop-row-init g c =
     record {
       same_bytes = refl;
       count = omega arith;
-      position = λ z. c.front-position.ensures bytes c.args.self.now.order ∙ ap (λ (m : ℕ). drop m (chunk_data bytes c.args.self.now.order p c.args.self.now.index)) none;
+      asked = λ k before end. before;
+      stands = front_stands p c.args.self.now.index (0 * stored_row_bytes p) c.front-position.result c.front-position.ensures.end;
+      position = λ z. c.front-position.ensures.rest bytes c.args.self.now.order ∙ ap (λ (m : ℕ). drop m (chunk_data bytes c.args.self.now.order p c.args.self.now.index)) none;
       enough = λ z. Prim.absurd (omega (arith, z));
       written = no_row (chunk_byte (g.R.Source.bytes c.args.source.now) c.args.self.now.order (view.page c.args.self.now.page.now) c.args.self.now.color c.args.self.now.index) c.args.corner.stride c.args.corner.top c.args.corner.left (row_bytes (view.page c.args.self.now.page.now) c.args.self.now.color (rect (view.page c.args.self.now.page.now) c.args.self.now.index).width) (g.W.RowWriter.bytes c.args.buf.now);
     }
@@ -117,11 +121,18 @@ loop-row-preserved g c =
     c.requires.columns refl (out ∙ n)
     (λ b bl. row_bytes_are bytes order p color k sides stored listed row left rest given.row rl (out ∙ n) from given.takes b bl)
     c.loop-row.invariant.written given.put in
+    let within = need_within bytes order p color k row 0 sides stored listed rl some in
+    let between : row + 1 < (rect p k).height → c.gap_behind-behind.result ≡ stored_row_bytes p - needed_of_row p color len = λ z.
+    c.gap_behind-behind.ensures.between (omega (arith, z, h)) ∙ (c.gap-gap.ensures ∙ ap (λ (m : ℕ). stored_row_bytes p - needed_of_row p color m) n) in
+    let last : row + 1 ≡ (rect p k).height → c.gap_behind-behind.result ≡ 0 = λ z. c.gap_behind-behind.ensures.last (omega (arith, z, h)) in
     record {
       same_bytes = c.in_ok-position.ensures.kept.told ∙ told;
       count = omega (arith, c.in_ok-position.ensures.kept.swallowed, c.in_ok-rest.ensures.kept.swallowed, c.loop-row.invariant.count);
-      position = λ z. next_row bytes order p color k sides stored listed row c.gap_behind-behind.result left rest next given.row some z (out ∙ n) from given.takes
-          (c.gap_behind-behind.ensures.between (omega (arith, z, h)) ∙ (c.gap-gap.ensures ∙ ap (λ (m : ℕ). stored_row_bytes p - needed_of_row p color m) n)) passed;
+      asked = behind_asked p color k row c.row_len-len.result c.loop-row.position _ _ _ rl n c.loop-row.invariant.stands c.loop-row.invariant.asked c.in_ok-rest.ensures.asked
+          c.in_ok-rest.rest c.gap_behind-behind.result within c.in_ok-rest.ensures.moves between last _ c.in_ok-position.ensures.asked;
+      stands = next_stands p color k row c.row_len-len.result c.loop-row.position _ _ _ rl n c.loop-row.invariant.stands c.loop-row.invariant.asked c.in_ok-rest.ensures.asked
+          c.in_ok-rest.rest c.gap_behind-behind.result within c.in_ok-rest.ensures.moves between last c.in_ok-position.position c.in_ok-position.ensures.moves;
+      position = λ z. next_row bytes order p color k sides stored listed row c.gap_behind-behind.result left rest next given.row some z (out ∙ n) from given.takes (between z) passed;
       enough = λ z. omega (arith, held, now);
       written = after;
     }
@@ -135,3 +146,36 @@ returns-clause-ok g c =
     let h = c.args.self.now.high in
     let e : c.loop-row.row ≡ (rect p c.args.self.now.index).height = omega (arith, h, c.loop-row-test.false, c.loop-row.auto.row-end) in
     subst (λ (m : ℕ). Writes (IsIn corner.stride corner.top m corner.left len) (in_rect (chunk_byte bytes c.args.self.now.order p c.args.self.now.color c.args.self.now.index) corner.stride corner.top corner.left) (g.W.RowWriter.bytes c.args.buf.now) (g.W.RowWriter.bytes c.loop-row.buf)) e c.loop-row.invariant.written
+
+pub returns-in_err-rest-clause-asked : goal.returns-in_err-rest-clause-asked
+returns-in_err-rest-clause-asked g c =
+    let p = view.page c.args.self.now.page.now in
+    let color = c.args.self.now.color in
+    let k = c.args.self.now.index in
+    let h = c.args.self.now.high in
+    let w = c.args.self.now.wide in
+    let n : c.row_len-len.result ≡ row_bytes p color (rect p k).width = c.row_len-len.ensures.value ∙ ap (row_bytes p color) w in
+    row_asked p color k c.loop-row.row c.row_len-len.result c.loop-row.position _ _ _ (omega (arith, h, c.loop-row-test.true)) n c.loop-row.invariant.stands c.loop-row.invariant.asked c.in_err-rest.ensures.asked
+
+pub returns-in_err-position-clause-asked : goal.returns-in_err-position-clause-asked
+returns-in_err-position-clause-asked g c =
+    let bytes = g.R.Source.bytes c.args.source.now in
+    let p = view.page c.args.self.now.page.now in
+    let color = c.args.self.now.color in
+    let k = c.args.self.now.index in
+    let row = c.loop-row.row in
+    let len = row_bytes p color (rect p k).width in
+    let h = c.args.self.now.high in
+    let w = c.args.self.now.wide in
+    let n : c.row_len-len.result ≡ len = c.row_len-len.ensures.value ∙ ap (row_bytes p color) w in
+    let rl : row < (rect p k).height = omega (arith, h, c.loop-row-test.true) in
+    let listed : k < all_chunks p = omega (arith, c.requires.listed, c.args.self.now.page.now.counted) in
+    let stored = c.requires.read.stored in
+    let wide : 0 < (rect p k).width = omega (arith, c.args.self.now.some_columns, w) in
+    let some : 0 < len = row_some p color (rect p k).width wide c.args.self.now.page.now.deep stored.shows in
+    let within = need_within bytes c.args.self.now.order p color k row 0 (sides_of c.args.self.now.page.now) stored listed rl some in
+    let between : row + 1 < (rect p k).height → c.gap_behind-behind.result ≡ stored_row_bytes p - needed_of_row p color len = λ z.
+    c.gap_behind-behind.ensures.between (omega (arith, z, h)) ∙ (c.gap-gap.ensures ∙ ap (λ (m : ℕ). stored_row_bytes p - needed_of_row p color m) n) in
+    let last : row + 1 ≡ (rect p k).height → c.gap_behind-behind.result ≡ 0 = λ z. c.gap_behind-behind.ensures.last (omega (arith, z, h)) in
+    behind_asked p color k row c.row_len-len.result c.loop-row.position _ _ _ rl n c.loop-row.invariant.stands c.loop-row.invariant.asked c.in_ok-rest.ensures.asked
+    c.in_ok-rest.rest c.gap_behind-behind.result within c.in_ok-rest.ensures.moves between last _ c.in_err-position.ensures.asked

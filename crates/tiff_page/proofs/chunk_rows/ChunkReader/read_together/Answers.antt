@@ -9,7 +9,8 @@ use Rattle.tiff_page.specs.BufferPositions.{Writes, IsIn, in_rect, chunk_byte}
 use Rattle.tiff_page.specs.Rect.{rect}
 use Rattle.tiff_page.specs.ChunkData.{bytes_left}
 use Rattle.tiff_page.specs.PageView as view
-use Rattle.tiff_page.proofs.Bands.{rows_below, band_of_numbers, band_put, band_bytes_are, band_held, next_band, short_band}
+use Rattle.tiff_page.proofs.Reach.{front_stands, stands_on, chunk_asked}
+use Rattle.tiff_page.proofs.Bands.{rows_below, band_within, band_of_numbers, band_put, band_bytes_are, band_held, next_band, short_band}
 use Rattle.tiff_page.proofs.Rects.{no_row}
 use Rattle.tiff_page.proofs.chunk_rows.ChunkReader.read_together.Goals as goal
 
@@ -25,7 +26,9 @@ loop-row-init g c =
       within = omega arith;
       same_bytes = refl;
       count = omega arith;
-      position = c.front-position.ensures bytes c.args.self.now.order ∙ ap (λ (m : ℕ). drop m (chunk_data bytes c.args.self.now.order p c.args.self.now.index)) none;
+      asked = λ k before end. before;
+      stands = front_stands p c.args.self.now.index (0 * c.args.corner.stride) c.front-position.result c.front-position.ensures.end;
+      position = c.front-position.ensures.rest bytes c.args.self.now.order ∙ ap (λ (m : ℕ). drop m (chunk_data bytes c.args.self.now.order p c.args.self.now.index)) none;
       enough = omega arith;
       written = no_row (chunk_byte bytes c.args.self.now.order p c.args.self.now.color c.args.self.now.index) c.args.corner.stride c.args.corner.top c.args.corner.left (row_bytes p c.args.self.now.color (rect p c.args.self.now.index).width) (g.W.RowWriter.bytes c.args.buf.now);
     }
@@ -101,10 +104,13 @@ loop-row-preserved g c =
     let old = g.W.RowWriter.bytes c.args.buf.now in
     let mid = g.W.RowWriter.bytes c.loop-row.buf in
     let new = g.W.RowWriter.bytes c.read_band.new.out in
+    let ends = band_within bytes order p color k corner.left corner.stride sides stored listed together row more (omega (arith, h, c.loop-row-test.true)) rl in
     record {
       within = rl;
       same_bytes = told;
       count = omega (arith, c.in_ok-position.ensures.kept.swallowed, c.loop-row.invariant.count);
+      asked = chunk_asked p color k (row * corner.stride) (more * corner.stride) _ _ _ c.loop-row.position (omega (arith, ends)) c.loop-row.invariant.stands c.loop-row.invariant.asked c.in_ok-position.ensures.asked;
+      stands = stands_on p k (row * corner.stride) (more * corner.stride) ((row + more) * corner.stride) c.loop-row.position c.in_ok-position.position (omega arith) c.loop-row.invariant.stands c.in_ok-position.ensures.moves;
       position = next_band bytes order p color k corner.left corner.stride sides stored listed together row more ahead rest given.row out from given.takes;
       enough = band_held bytes order p color k corner.left corner.stride sides stored listed together row more ahead rest given.row c.requires.some (omega (arith, c.loop-row-test.true, c.min-more.ensures, c.rows_at_once-band.ensures)) out from given.takes;
       written = band_put (chunk_byte bytes order p color k) corner.stride corner.top row more corner.left len at given.row old mid new c.requires.some
@@ -122,3 +128,17 @@ returns-clause-ok g c =
     let h = c.args.self.now.high in
     let e : c.loop-row.row ≡ (rect p c.args.self.now.index).height = omega (arith, h, c.loop-row-test.false, c.loop-row.invariant.within) in
     subst (λ (m : ℕ). Writes (IsIn corner.stride corner.top m corner.left len) (in_rect (chunk_byte bytes c.args.self.now.order p c.args.self.now.color c.args.self.now.index) corner.stride corner.top corner.left) (g.W.RowWriter.bytes c.args.buf.now) (g.W.RowWriter.bytes c.loop-row.buf)) e c.loop-row.invariant.written
+
+pub returns-in_err-position-clause-asked : goal.returns-in_err-position-clause-asked
+returns-in_err-position-clause-asked g c =
+    let p = view.page c.args.self.now.page.now in
+    let k = c.args.self.now.index in
+    let corner = c.args.corner in
+    let row = c.loop-row.row in
+    let more = c.min-more.result in
+    let h = c.args.self.now.high in
+    let rl : row + more ≤ (rect p k).height = omega (arith, h, c.loop-row-test.true, c.min-more.ensures) in
+    let listed : k < all_chunks p = omega (arith, c.requires.listed, c.args.self.now.page.now.counted) in
+    let ends = band_within (g.R.Source.bytes c.args.source.now) c.args.self.now.order p c.args.self.now.color k corner.left corner.stride (sides_of c.args.self.now.page.now) c.requires.read.stored listed c.requires.together
+    row more (omega (arith, h, c.loop-row-test.true)) rl in
+    chunk_asked p c.args.self.now.color k (row * corner.stride) (more * corner.stride) _ _ _ c.loop-row.position (omega (arith, ends)) c.loop-row.invariant.stands c.loop-row.invariant.asked c.in_err-position.ensures.asked

@@ -6,6 +6,7 @@ use Rattle.tiff_page.specs.PageView as view
 use Rattle.tiff_page.specs.declared.layout.DecodingSampleType.TheVariants as type
 use Rattle.tiff_page.specs.declared.page.Page.{Page}
 use Rattle.tiff_page.proofs.Portions.{portion_early, bytes_given, filling_cause, all_written, plain_zeros}
+use Rattle.tiff_page.proofs.Reach.{portion_asked, portion_filled}
 use Rattle.tiff_page.proofs.read_chunks.PageReader.bytes_of.Goals as goal
 
 abbrev pub sides_of : (p : Page) → HasSides (view.page p)
@@ -33,3 +34,18 @@ returns-in_err-fill-clause-answer g c =
     let answered = err_from_is_err_and c.from_residual-in_err-fill.result c.from_residual-in_err-fill.ensures.1 in
     rw (answered.1, answered.2) (filling_cause (g.R.Source.bytes c.args.source.now) c.args.self.now.order (view.page p) c.args.self.now.limits.now c.args.portion (sides_of p) c.requires.laid _ _ (color_in c.args.portion) type.U8 (first_in c.args.portion) c.args.len
     c.deref_mut.result.now c.in_err-fill.field-0.0 (λ f. omega (arith, f, c.in_ok-bytes.ensures.kept.failures)) c.requires.typed c.in_ok-bytes.ensures.answer (rw c.in_ok-bytes.ensures.kept.told at c.in_err-fill.ensures.answer))
+
+pub returns-in_err-bytes-clause-asked : goal.returns-in_err-bytes-clause-asked
+returns-in_err-bytes-clause-asked g c =
+    let p = c.args.self.now.page.now in
+    portion_asked (g.R.Source.bytes c.args.source.now) c.args.self.now.order (view.page p) c.args.portion _ _ (sides_of p) c.requires.laid c.in_err-bytes.ensures.asked
+
+pub returns-clause-asked : goal.returns-clause-asked
+returns-clause-asked g c =
+    let p = c.args.self.now.page.now in
+    portion_filled (g.R.Source.bytes c.zeros.new.source) (g.R.Source.bytes c.args.source.now) c.args.self.now.order (view.page p) c.args.portion _ _ _ (sides_of p) c.requires.laid c.in_ok-bytes.ensures.asked c.in_ok-fill.ensures.asked
+
+pub returns-in_err-fill-clause-asked : goal.returns-in_err-fill-clause-asked
+returns-in_err-fill-clause-asked g c =
+    let p = c.args.self.now.page.now in
+    portion_filled (g.R.Source.bytes c.zeros.new.source) (g.R.Source.bytes c.args.source.now) c.args.self.now.order (view.page p) c.args.portion _ _ _ (sides_of p) c.requires.laid c.in_ok-bytes.ensures.asked c.in_err-fill.ensures.asked

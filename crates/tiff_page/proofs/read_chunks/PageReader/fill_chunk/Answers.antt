@@ -3,6 +3,7 @@ use Rattle.std.proofs.lemmas.Result.{err_from_is_err_and}
 use Rattle.tiff_base.specs.Answers.{IsCause}
 use Rattle.tiff_base.specs.declared.error.TiffError.TheVariants.{IoError}
 use Rattle.tiff_base.specs.declared.io.IoKind.TheVariants.{UnexpectedEof}
+use Rattle.tiff_page.specs.PixelCalls.{chunk_part}
 use Rattle.tiff_page.specs.PixelFault.{unless}
 use Rattle.tiff_page.specs.Pixels.{is_short}
 use Rattle.tiff_page.specs.Layout.{LayoutRecord, row_bytes}
@@ -13,6 +14,7 @@ use Rattle.tiff_page.specs.PageView as view
 use Rattle.tiff_page.specs.declared.page.Page.{Page}
 use Rattle.tiff_page.specs.declared.layout.PlaneLayout.{PlaneLayout}
 use Rattle.tiff_page.proofs.Filling.{form_cause, rows_cause, plane_none, columns_in, rows_in, plane_written, moved, stride_some, is_formed}
+use Rattle.tiff_page.proofs.Reach.{part_asked}
 use Rattle.tiff_page.proofs.RowReads.{method_passed}
 use Rattle.tiff_page.proofs.read_chunks.PageReader.fill_chunk.Goals as goal
 
@@ -102,6 +104,7 @@ loop-plane-preserved g c =
     record {
       same_bytes = c.in_ok-read_rows.ensures.kept.told ∙ same;
       count = omega (arith, c.in_ok-read_rows.ensures.kept.swallowed, c.loop-plane.invariant.count);
+      asked = part_asked (view.page p) c.args.next.part.layout.color (chunk_part (view.page p) c.args.next.chunk c.args.next.part.planes c.args.next.part.layout.row_bytes) c.loop-plane.plane 0 i _ _ _ (q ∙ omega arith) c.loop-plane-test.true (omega arith) c.loop-plane.invariant.asked c.in_ok-read_rows.ensures.asked;
       none = plane_none (g.R.Source.bytes c.args.source.now) c.args.self.now.order (view.page p) c.args.self.now.limits.now (layout c.args.next.part.layout) (sides_of p) p.sampled p.deep c.requires.laid c.args.next.part.planes c.args.next.chunk c.requires.chunk c.loop-plane.plane i q c.loop-plane.invariant.none c.in_ok-form_fault.ensures.answer given;
       written = λ before a. plane_written (g.R.Source.bytes c.args.source.now) c.args.self.now.order (view.page p) c.args.self.now.limits.now (layout c.args.next.part.layout) (sides_of p) p.sampled p.deep c.requires.laid c.args.next.part.planes c.args.next.chunk c.requires.chunk c.loop-plane.plane i before (g.W.RowWriter.bytes c.loop-plane.buf) (g.W.RowWriter.bytes c.read_rows.new.buf) q c.loop-plane-test.true c.in_ok-form_fault.ensures.answer
           (c.loop-plane.invariant.written before a) wrote;
@@ -112,3 +115,11 @@ returns-clause-ok g c =
     let p = c.args.self.now.page.now in
     let e : c.loop-plane.plane ≡ c.args.next.part.planes = omega (arith, c.loop-plane-test.false, c.loop-plane.auto.plane-end) in
     λ before a. subst (λ (m : ℕ). Writes (IsBefore (view.page p) c.args.next.part.layout.color c.args.next.part.layout.row_bytes c.args.next.part.planes c.args.next.chunk m) (image_byte (view.page p) c.args.next.part.layout.color c.args.next.part.layout.row_bytes (g.R.Source.bytes c.args.source.now) c.args.self.now.order) before (g.W.RowWriter.bytes c.loop-plane.buf)) e (c.loop-plane.invariant.written before a)
+
+pub returns-in_err-read_rows-clause-asked : goal.returns-in_err-read_rows-clause-asked
+returns-in_err-read_rows-clause-asked g c =
+    let p = c.args.self.now.page.now in
+    let i = c.from.result * c.chunks_of_plane-chunks.result + c.args.next.chunk in
+    let q : i ≡ c.loop-plane.plane * chunks_of_plane (view.page p) + c.args.next.chunk = λ t. c.from.ensures t * c.chunks_of_plane-chunks.ensures.count t + c.args.next.chunk in
+    part_asked (view.page p) c.args.next.part.layout.color (chunk_part (view.page p) c.args.next.chunk c.args.next.part.planes c.args.next.part.layout.row_bytes) c.loop-plane.plane 0 i _ _ _
+    (q ∙ omega arith) c.loop-plane-test.true (omega arith) c.loop-plane.invariant.asked c.in_err-read_rows.ensures.asked

@@ -12,6 +12,7 @@ use Rattle.tiff_page.specs.declared.page.Page.{Page}
 use Rattle.tiff_page.specs.declared.layout.PlaneLayout.{PlaneLayout}
 use Rattle.tiff_page.proofs.Covering.{planes_written}
 use Rattle.tiff_page.proofs.Filling.{chunk_cause, image_filled, of_chunk, one_more}
+use Rattle.tiff_page.proofs.Reach.{image_asked}
 use Rattle.tiff_page.proofs.read_chunks.PageReader.fill_image.Goals as goal
 
 abbrev pub sides_of : (p : Page) → HasSides (view.page p)
@@ -52,6 +53,7 @@ loop-chunk-preserved g c =
     record {
       same_bytes = c.in_ok-fill_chunk.ensures.kept.told ∙ same;
       count = omega (arith, c.in_ok-fill_chunk.ensures.kept.swallowed, c.loop-chunk.invariant.count);
+      asked = image_asked (view.page p) color c.args.part.planes stride c.loop-chunk.chunk _ _ _ (omega (arith, c.loop-chunk-test.true, c.chunks_of_plane-chunk-end.ensures.count)) c.loop-chunk.invariant.asked c.in_ok-fill_chunk.ensures.asked;
       none = one_more (of_chunk file c.args.self.now.order (view.page p) c.args.self.now.limits.now (layout c.args.part.layout) (sides_of p) p.sampled p.deep c.requires.laid c.args.part.planes) c.loop-chunk.chunk c.loop-chunk.invariant.none given;
       written = planes_written (view.page p) color stride c.args.part.planes c.loop-chunk.chunk (image_byte (view.page p) color stride file c.args.self.now.order) (g.W.RowWriter.bytes c.args.buf.now) (g.W.RowWriter.bytes c.fill_chunk.new.buf)
           (wrote (g.W.RowWriter.bytes c.args.buf.now) c.loop-chunk.invariant.written);
@@ -70,3 +72,8 @@ pub fill_chunk-requires-clause-room : goal.fill_chunk-requires-clause-room
 fill_chunk-requires-clause-room g c =
     let same = g.met.W.RowWriter.same_length c.loop-chunk.buf c.args.buf.now c.loop-chunk.auto.buf in
     omega (arith, same, c.requires.room)
+
+pub returns-in_err-fill_chunk-clause-asked : goal.returns-in_err-fill_chunk-clause-asked
+returns-in_err-fill_chunk-clause-asked g c =
+    image_asked (view.page c.args.self.now.page.now) c.args.part.layout.color c.args.part.planes c.args.part.layout.row_bytes c.loop-chunk.chunk _ _ _ (omega (arith, c.loop-chunk-test.true, c.chunks_of_plane-chunk-end.ensures.count))
+    c.loop-chunk.invariant.asked c.in_err-fill_chunk.ensures.asked

@@ -2,6 +2,8 @@ use Rattle.std.proofs.Common.{◌≡◌, ◌+◌, ◌*◌, Ok}
 use Rattle.tiff_page.specs.Pixels.{is_short}
 use Rattle.tiff_page.specs.PixelFault.{chunk_fault, each_below}
 use Rattle.tiff_page.specs.BufferPositions.{Writes, IsBefore, image_byte}
+use Rattle.tiff_page.specs.PixelCalls.{image_part}
+use Rattle.tiff_page.specs.Reach.{ReachesPart}
 use Rattle.tiff_page.specs.Rect.{chunks_of_plane}
 use Rattle.tiff_page.specs.PageView as view
 use Rattle.tiff_page.proofs.read_chunks.PageReader.fill_image.Given as goal
@@ -16,6 +18,7 @@ invariant-loop-chunk g l =
     record {
       same_bytes : g.R.Source.bytes l.source ≡ bytes;
       count : g.R.Source.failures l.source ≡ g.R.Source.failures l.fn.source;
+      asked : ReachesPart p color (image_part p l.part.planes stride) (g.R.Source.reach l.fn.source) (g.R.Source.reach l.source);
       none : each_below (λ j. each_below (λ plane. chunk_fault p l.self.limits.now (is_short bytes l.self.order p color) color (plane * chunks_of_plane p + (0 + j))) l.part.planes) l.chunk ≡ Ok tt;
       written : Writes (IsBefore p color stride l.part.planes l.chunk 0) (image_byte p color stride bytes l.self.order) (g.W.RowWriter.bytes l.fn.buf) (g.W.RowWriter.bytes l.buf);
     }

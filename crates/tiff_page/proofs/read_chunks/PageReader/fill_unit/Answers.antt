@@ -5,12 +5,14 @@ use Rattle.tiff_base.specs.declared.error.TiffError.TheVariants.{IoError}
 use Rattle.tiff_base.specs.declared.io.IoKind.TheVariants.{UnexpectedEof}
 use Rattle.tiff_page.specs.Laws.{HasSides}
 use Rattle.tiff_page.specs.Pixels.{is_short}
+use Rattle.tiff_page.specs.PixelCalls.{chunk_part}
 use Rattle.tiff_page.specs.PixelFault.{each_below, unless}
 use Rattle.tiff_page.specs.BufferPositions.{Writes, IsInUnit, unit_byte}
 use Rattle.tiff_page.specs.Rect.{rect, chunks_of_plane}
 use Rattle.tiff_page.specs.PageView as view
 use Rattle.tiff_page.specs.declared.page.Page.{Page}
 use Rattle.tiff_page.proofs.Filling.{unit_form_cause, unit_rows_cause, unit_none, unit_more, unit_filled, unit_read, unit_some, unit_columns, unit_rows, in_unit}
+use Rattle.tiff_page.proofs.Reach.{part_asked}
 use Rattle.tiff_page.proofs.RowReads.{method_passed}
 use Rattle.tiff_page.proofs.read_chunks.PageReader.fill_unit.Goals as goal
 
@@ -96,6 +98,7 @@ loop-plane-preserved g c =
     record {
       same_bytes = c.in_ok-read_rows.ensures.kept.told ∙ same;
       count = omega (arith, c.in_ok-read_rows.ensures.kept.swallowed, c.loop-plane.invariant.count);
+      asked = part_asked (view.page p) c.args.unit.color (chunk_part (view.page p) c.args.unit.index c.args.unit.planes c.args.unit.stride) c.loop-plane.plane 0 i _ _ _ (q ∙ omega arith) c.loop-plane-test.true (omega arith) c.loop-plane.invariant.asked c.in_ok-read_rows.ensures.asked;
       none = unit_none (g.R.Source.bytes c.args.source.now) c.args.self.now.order (view.page p) c.args.self.now.limits.now c.args.unit.color (sides_of p) p.sampled p.deep c.requires.colored c.args.unit.stride c.args.unit.index c.args.unit.planes c.requires.which c.loop-plane.plane i q c.loop-plane.invariant.none c.in_ok-form_fault.ensures.answer given;
       written = unit_more (g.R.Source.bytes c.args.source.now) c.args.self.now.order (view.page p) c.args.self.now.limits.now c.args.unit.color (sides_of p) p.sampled p.deep c.requires.colored c.args.unit.stride c.args.unit.index c.args.unit.planes c.requires.which c.loop-plane.plane i (c.from-in-loop-plane.result * c.chunk_data_dimensions-rows.result.1) (g.R.Source.bytes c.loop-plane.source) (g.W.RowWriter.bytes c.args.buf.now) (g.W.RowWriter.bytes c.loop-plane.buf) (g.W.RowWriter.bytes c.read_rows.new.buf) q c.loop-plane-test.true t same
           c.loop-plane.invariant.written c.in_ok-read_rows.ensures.ok;
@@ -108,3 +111,11 @@ returns-clause-answer g c =
     unit_filled (g.R.Source.bytes c.args.source.now) c.args.self.now.order (view.page p) c.args.self.now.limits.now c.args.unit.color (sides_of p) p.sampled p.deep c.requires.colored c.args.unit.stride c.args.unit.index c.args.unit.planes c.requires.which (g.W.RowWriter.bytes c.args.buf.now) (g.W.RowWriter.bytes c.loop-plane.buf) c.requires.columns
     (subst (λ (m : ℕ). each_below (in_unit (g.R.Source.bytes c.args.source.now) c.args.self.now.order (view.page p) c.args.self.now.limits.now c.args.unit.color (sides_of p) p.sampled p.deep c.requires.colored c.args.unit.stride c.args.unit.index c.args.unit.planes c.requires.which) m ≡ Ok tt) e c.loop-plane.invariant.none)
     (subst (λ (m : ℕ). Writes (IsInUnit (view.page p) c.args.unit.color c.args.unit.stride c.args.unit.index m) (unit_byte (g.R.Source.bytes c.args.source.now) c.args.self.now.order (view.page p) c.args.unit.color c.args.unit.stride c.args.unit.index) (g.W.RowWriter.bytes c.args.buf.now) (g.W.RowWriter.bytes c.loop-plane.buf)) e c.loop-plane.invariant.written)
+
+pub returns-in_err-read_rows-clause-asked : goal.returns-in_err-read_rows-clause-asked
+returns-in_err-read_rows-clause-asked g c =
+    let p = c.args.self.now.page.now in
+    let i = c.from.result * c.chunks_of_plane-chunks.result + c.args.unit.index in
+    let q : i ≡ c.loop-plane.plane * chunks_of_plane (view.page p) + c.args.unit.index = λ t. c.from.ensures t * c.chunks_of_plane-chunks.ensures.count t + c.args.unit.index in
+    part_asked (view.page p) c.args.unit.color (chunk_part (view.page p) c.args.unit.index c.args.unit.planes c.args.unit.stride) c.loop-plane.plane 0 i _ _ _
+    (q ∙ omega arith) c.loop-plane-test.true (omega arith) c.loop-plane.invariant.asked c.in_err-read_rows.ensures.asked

@@ -4,6 +4,7 @@ use Rattle.tiff_page.specs.Samples.{color_in, first_in, room_of}
 use Rattle.tiff_page.specs.PageView as view
 use Rattle.tiff_page.specs.declared.page.Page.{Page}
 use Rattle.tiff_page.proofs.Portions.{numbers_given, room_in, all_written}
+use Rattle.tiff_page.proofs.Reach.{portion_asked, portion_filled}
 use Rattle.tiff_page.proofs.read_chunks.PageReader.numbers_of.Goals as goal
 
 abbrev pub sides_of : (p : Page) → HasSides (view.page p)
@@ -22,3 +23,18 @@ returns-clause-answer g c =
     (map g.T.Number.bits c.deref_mut.result.now) (map g.T.Number.bits c.fill.new.out) g.met.T.Number.sized c.requires.size c.requires.typed c.in_ok-numbers.ensures.answer c.requires.room
     (ap (map g.T.Number.bits) c.deref_mut.ensures.value ∙ c.in_ok-numbers.ensures.zeros) (rw c.in_ok-numbers.ensures.kept.told at c.in_ok-fill.ensures.answer)
     ∙ (λ i. Ok (record { sample_type = c.args.sample_type; numbers = map g.T.Number.bits (back i) }))
+
+pub returns-in_err-numbers-clause-asked : goal.returns-in_err-numbers-clause-asked
+returns-in_err-numbers-clause-asked g c =
+    let p = c.args.self.now.page.now in
+    portion_asked (g.R.Source.bytes c.args.source.now) c.args.self.now.order (view.page p) c.args.portion _ _ (sides_of p) c.requires.laid c.in_err-numbers.ensures.asked
+
+pub returns-clause-asked : goal.returns-clause-asked
+returns-clause-asked g c =
+    let p = c.args.self.now.page.now in
+    portion_filled (g.R.Source.bytes c.zeros.new.source) (g.R.Source.bytes c.args.source.now) c.args.self.now.order (view.page p) c.args.portion _ _ _ (sides_of p) c.requires.laid c.in_ok-numbers.ensures.asked c.in_ok-fill.ensures.asked
+
+pub returns-in_err-fill-clause-asked : goal.returns-in_err-fill-clause-asked
+returns-in_err-fill-clause-asked g c =
+    let p = c.args.self.now.page.now in
+    portion_filled (g.R.Source.bytes c.zeros.new.source) (g.R.Source.bytes c.args.source.now) c.args.self.now.order (view.page p) c.args.portion _ _ _ (sides_of p) c.requires.laid c.in_ok-numbers.ensures.asked c.in_err-fill.ensures.asked

@@ -1,0 +1,10 @@
+-- Each example is proved in proofs/OfPage/Reach.antt.
+use Rattle.tiff_examples.proofs.OfPage.Reach as p
+use Rattle.tiff_examples.proofs.page.reach.positions.Goals as goal
+
+pub returns : goal.returns
+returns c = (
+  p.moves_on,
+  p.no_further,
+  p.nothing_behind,
+)
