@@ -51,17 +51,16 @@ fn reached(alloc: Global, file: &[u8]) -> TiffResult<String> {
     let mut source = WatchedSource::new(MemorySource::new(Vec::from_slice(alloc, file)?));
     let header = read_header(&mut source)?;
     let directory = read_directory(alloc, &mut source, header.first, header.kind, header.order)?;
-    let limits = Limits::default();
     let mut tags = ValueReader {
         source,
         kind: header.kind,
         order: header.order,
         directory,
-        limits,
+        limits: Limits::default(),
     };
     let page = read_page(&mut tags, alloc)?;
     let before = tags.source.furthest();
-    let image = read_image(alloc, &mut tags.source, header.order, &page, &limits)?;
+    let image = read_image(alloc, &mut tags.source, header.order, &page, &tags.limits)?;
     let after = tags.source.furthest();
     Ok(format!(in alloc; "{before} {after} {image:?}")?)
 }
