@@ -1,11 +1,12 @@
 -- How an image ends.
-use Rattle.std.proofs.Common.{◌≡◌, ℕ, ◌+◌, cond, List, [], ◌∷◌, ◌++◌, length, map, Result, Ok, Err, refl, ap, sym, ◌∙◌, subst, append_assoc}
+use Rattle.std.proofs.Common.{◌≡◌, ℕ, ◌+◌, cond, List, [], ◌∷◌, ◌++◌, length, map, MatchResult, Result, Ok, Err, refl, ap, sym, ◌∙◌, subst, append_assoc}
 use Rattle.std.proofs.lemmas.Bool.{ne_eqb}
 use Rattle.std.proofs.lemmas.List.{map-append}
 use Rattle.std.specs.List.{flat_map}
 use Rattle.tiff_base.specs.declared.color.ChunkType.{ChunkType}
 use Rattle.tiff_base.specs.declared.color.ChunkType.TheVariants.{Strip, Tile}
 use Rattle.tiff_base.specs.declared.error.TiffError.{TiffError}
+use Rattle.tiff_base.specs.declared.error.TiffError.TheVariants.{OutOfMemory}
 use Rattle.tiff_base.specs.declared.tags.FileKind.{FileKind}
 use Rattle.tiff_base.specs.declared.tags.FileKind.TheVariants.{Classic, Big}
 use Rattle.tiff_base.specs.declared.tags.SampleFormat.{SampleFormat}
@@ -13,7 +14,7 @@ use Rattle.tiff_base.specs.declared.tags.Tag.{Tag}
 use Rattle.tiff_base.specs.declared.tags.Tag.TheVariants as tag
 use Rattle.tiff_base.specs.Number.{le}
 use Rattle.tiff_value.specs.Data.{FieldData, Scalars, u16s, formats, data_by, data_of}
-use Rattle.tiff_value.specs.Values.{values_in}
+use Rattle.tiff_value.specs.Values.{Pushes}
 use Rattle.tiff_encode.specs.declared.encoder.endings.Part.TheVariants.{Offset, Stored}
 use Rattle.tiff_encode.specs.Calls.{Offsets, extended_by_first, chunk_tags, last_tags, write_tag, write_tags, finish, finish_image}
 use Rattle.tiff_encode.specs.Ends.{IsTold, CallFails, Ends}
@@ -31,11 +32,12 @@ unfolding data_of
 offsets_are Classic ns = refl
 offsets_are Big ns = refl
 
--- the bytes of offsets
-pub offsets_bytes : (k kind : FileKind) (ns empty bytes : List ℕ) → kind ≡ k → empty ≡ [] → bytes ≡ empty ++ flat_map (le (offset_len kind)) ns
-    → data_of (offset_values k ns) ≡ values_in (offset_type k) (length ns) bytes
-offsets_bytes k kind ns empty bytes q z b =
-    offsets_are k ns ∙ ap (values_in (offset_type k) (length ns)) (sym (b ∙ (λ i. z i ++ flat_map (le (offset_len (q i))) ns)))
+-- the bytes of offsets, behind others
+pub offsets_pushed : {A : Type 0} (k kind : FileKind) (ns old new : List ℕ) (r : Result A TiffError) → kind ≡ k
+    → MatchResult r (λ _. new ≡ old ++ flat_map (le (offset_len kind)) ns) (λ e. e ≡ OutOfMemory) → Pushes (Ok (data_of (offset_values k ns))) old new r
+offsets_pushed k kind ns old new (Ok u) q b =
+    b ∙ (λ i. old ++ flat_map (le (offset_len (q i))) ns) ∙ ap (λ (d : FieldData). old ++ d.bytes) (sym (offsets_are k ns))
+offsets_pushed k kind ns old new (Err e) q b = b
 
 -- ---- two tags
 

@@ -125,14 +125,6 @@ pub whole_stood : (order : ByteOrder) (p : PageRecord) (row : List ℕ) → is_t
     → Became (p.depth / 8) (row_number order (p.depth / 8) row) row row
 whole_stood order p row t z = let s : 0 < p.depth / 8 = some_size (p.depth / 8) z in (holds_same order p row t).numbers (omega (arith, s))
 
--- room that is wanted for byte planes or for numbers that are turned
-pub planes_room : (a b : Bool) → a ≡ true → (a || b) ≡ true
-planes_room a b e = rw e refl
-
-pub turned_room : (a b : Bool) → b ≡ true → (a || b) ≡ true
-turned_room true b e = refl
-turned_room false b e = e
-
 -- ---- the bytes that are handed out
 
 -- of a row of numbers k is the one that a byte is of

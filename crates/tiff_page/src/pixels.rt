@@ -5,7 +5,8 @@
 //! `UnsupportedSampleFormat`, and more of them than `decoding_buffer_size` bytes hold, `LimitsExceeded`; then of the first
 //! chunk, and in it of the first plane, that has one: a form that isn't supported, or more bytes in the file than
 //! `intermediate_buffer_size`, as `faults::form_fault`, and too few data, `IoError(UnexpectedEof)`. What a slice holds after
-//! a fault is open.
+//! a fault is open. No call asks a source for a byte behind those that are needed of the chunks that it reads; of packed
+//! data all bytes that are counted may be asked for.
 
 ghost use Rattle.std.specs.Int.{div_ceil};
 ghost use Rattle.std.specs.Prelude.{◌≡◌, ◌*◌, ◌<◌, ◌≤◌, ◌^◌, Ok, IfOk, length, map, replicate, if◌then◌else◌, nat_le};

@@ -1,12 +1,14 @@
 -- What became of the bytes of a value.
-use Rattle.std.proofs.Common.{◌≡◌, ℕ, List, Result, Ok, Err, Option, Some, None, is_some, true, false, inl, inr, refl, sym, subst}
+use Rattle.std.proofs.Common.{◌≡◌, ℕ, ◌+◌, ◌<◌, List, [], ◌∷◌, ◌++◌, length, take, get_or, append-nil, MatchResult, Result, Ok, Err, Option, Some, None, is_some, true, false, inl, inr, refl, sym, ap, ◌∙◌, subst}
+use Rattle.std.proofs.lemmas.List.{take_more, flat_map_more}
+use Rattle.std.specs.List.{flat_map}
 use Rattle.tiff_base.specs.declared.error.TiffError.{TiffError}
 use Rattle.tiff_base.specs.declared.error.TiffError.TheVariants.{UsageError, OutOfMemory}
 use Rattle.tiff_base.specs.declared.error.UsageError.TheVariants.{WriterFailed}
 use Rattle.tiff_base.specs.declared.tags.«Type».{«Type»}
-use Rattle.tiff_value.specs.Data.{FieldData}
+use Rattle.tiff_value.specs.Data.{FieldData, data_by}
 use Rattle.tiff_value.specs.Written.{Written, WritesCounted}
-use Rattle.tiff_value.specs.Values.{values_in, IsWritable, WritesValue}
+use Rattle.tiff_value.specs.Values.{values_in, IsValue, IsWritable, Pushes, WritesValue}
 
 -- what is not there is nothing
 pub nothing : {A : Type 0} (o : Option A) → is_some o ≡ false → o ≡ None
@@ -39,3 +41,33 @@ pub value_refused : (A : Type 0) (given : Result FieldData TiffError) (e : TiffE
 value_refused A given e w h is =
     subst (λ (g : Result FieldData TiffError). WritesValue {A = A} g w w (Err e)) (sym is)
     (inr (record { fresh = nothing w.fault h; answer = refl; same = refl }))
+
+-- ---- bytes that are pushed
+
+-- they are the value's, behind nothing
+pub value_made : (type : «Type») (count : ℕ) (given : Result FieldData TiffError) (bytes : List ℕ) → IsValue type count given
+    → Pushes {A = Unit {0}} given [] bytes (Ok tt) → given ≡ Ok (values_in type count bytes)
+value_made type count (Ok d) bytes is pushed = λ i. Ok (record { field_type = is.0 i; count = is.1 i; bytes = sym pushed i })
+value_made type count (Err e) bytes is pushed = absurd pushed
+
+-- one value behind others
+pub scalar_pushed : {X A : Type 0} (type : «Type») (spelled : X → List ℕ) (x : X) (given : Result FieldData TiffError) (one : FieldData)
+    (old new : List ℕ) (r : Result A TiffError) → given ≡ Ok one → one ≡ data_by type spelled (x ∷ []) → Pushes given old new r
+    → MatchResult r (λ _. new ≡ old ++ spelled x) (λ e. e ≡ OutOfMemory)
+scalar_pushed {A = A} type spelled x given one old new (Ok u) is by pushed =
+    subst (λ g. Pushes {A = A} g old new (Ok u)) is pushed ∙ ap (λ (d : FieldData). old ++ d.bytes) by ∙ ap (λ (xs : List ℕ). old ++ xs) (append-nil (spelled x))
+scalar_pushed {A = A} type spelled x given one old new (Err e) is by pushed = subst (λ g. Pushes {A = A} g old new (Err e)) is pushed
+
+-- several values are pushed as one list
+pub several_pushed : {X A : Type 0} (type : «Type») (spelled : X → List ℕ) (xs : List X) (all : FieldData) (old new : List ℕ)
+    (r : Result A TiffError) → all ≡ data_by type spelled xs → MatchResult r (λ _. new ≡ old ++ flat_map spelled xs) (λ e. e ≡ OutOfMemory)
+    → Pushes (Ok all) old new r
+several_pushed type spelled xs all old new (Ok u) is pushed = pushed ∙ ap (λ (d : FieldData). old ++ d.bytes) (sym is)
+several_pushed type spelled xs all old new (Err e) is pushed = pushed
+
+-- one more of several
+pub spelled_more : {X : Type 0} (f : X → List ℕ) (xs : List X) (i : ℕ) (x : X) (start mid new : List ℕ) → i < length xs → get_or xs i x ≡ x
+    → mid ≡ start ++ flat_map f (take i xs) → new ≡ mid ++ f x → new ≡ start ++ flat_map f (take (i + 1) xs)
+spelled_more {X = X} f xs i x start mid new l at m n =
+    n ∙ ap (λ (b : List ℕ). b ++ f x) m ∙ flat_map_more f start (take i xs) x
+    ∙ ap (λ (t : List X). start ++ flat_map f t) (sym (take_more xs i x l ∙ ap (λ (y : X). take i xs ++ y ∷ []) at))

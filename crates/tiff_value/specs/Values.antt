@@ -1,5 +1,5 @@
 -- What a value that is written is, and what its write does.
-use Rattle.std.specs.Prelude.{◌≡◌, ℕ, ◌*◌, ◌^◌, ◌-◌, ◌⊎◌, min, None, List, Result, Ok, Err, MatchResult}
+use Rattle.std.specs.Prelude.{◌≡◌, ℕ, ◌*◌, ◌^◌, ◌-◌, ◌⊎◌, ◌++◌, min, None, List, Result, Ok, Err, MatchResult}
 use Rattle.tiff_base.specs.declared.error.TiffError.{TiffError}
 use Rattle.tiff_base.specs.declared.error.TiffError.TheVariants.{FormatError, OutOfMemory}
 use Rattle.tiff_base.specs.declared.error.TiffFormatError.TheVariants.{InvalidTag}
@@ -21,6 +21,12 @@ IsValue type count (Err e) = e ≡ FormatError InvalidTag
 abbrev pub IsWritable : Result FieldData TiffError → Type 0
 IsWritable (Ok d) = Unit {0}
 IsWritable (Err e) = ⊥
+
+-- The bytes of a value stand behind what a list held, or there was no memory for them; a value that a field can't be given
+-- is refused for its fault.
+abbrev pub Pushes : {A : Type 0} → Result FieldData TiffError → List ℕ → List ℕ → Result A TiffError → Type 0
+Pushes (Ok d) old new r = MatchResult r (λ _. new ≡ old ++ d.bytes) (λ e. e ≡ OutOfMemory)
+Pushes (Err given) old new r = MatchResult r (λ _. ⊥) (λ e. e ≡ given)
 
 -- how many bytes so many values of a type have, as far as a number of 64 bits goes
 abbrev pub byte_count : ℕ → «Type» → ℕ

@@ -1,6 +1,7 @@
 //! The ends of images.
 
 ghost use Rattle.std.specs.Prelude.{◌≡◌, ℕ, ◌+◌, ◌^◌, ◌<◌, ◌++◌, length, map, replicate, MatchResult, Ok};
+ghost use Rattle.std.specs.Io.{StartsWith};
 ghost use Rattle.std.specs.List.{flat_map};
 ghost use Rattle.tiff_base.specs.Number.{le};
 ghost use Rattle.tiff_value.specs.Data.{data_of};
@@ -14,9 +15,7 @@ ghost use Rattle.tiff_encode.specs.FileBytes.{offset_len};
 use crate::encoder::TiffEncoder;
 use crate::encoder::drawing::{Chunk, Drawing};
 use crate::encoder::kind::{DirectoryOffset, TiffKind};
-use crate::encoder::limits::offset_size;
 use crate::encoder::open::Fields;
-use std::alloc::Global;
 use std::marker::{Model, PhantomData};
 use tiff_base::color::ChunkType;
 use tiff_base::error::{TiffError, TiffResult};
@@ -29,8 +28,9 @@ use tiff_value::encoder::tiff_value::{TiffScalar, TiffValue};
 
 // Appends the bytes of an item so many times.
 fn push_copies<T: TiffScalar>(item: &T, count: usize, out: &mut Vec<u8>) -> TiffResult<()>
-    ensures { MatchResult result (λ _. out.new.items ≡ out.old.items ++ flat_map T.spelled (replicate count item.now))
+    ensures answer { MatchResult result (λ _. out.new.items ≡ out.old.items ++ flat_map T.spelled (replicate count item.now))
         (λ e. e ≡ TiffError.OutOfMemory) }
+    ensures front { StartsWith out.new.items out.old.items }
 {
     for _ in 0..count {
         item.push_to(out)?;
@@ -40,8 +40,9 @@ fn push_copies<T: TiffScalar>(item: &T, count: usize, out: &mut Vec<u8>) -> Tiff
 
 // The same of the first item of a list, if it has one.
 fn push_first<T: TiffScalar>(items: &[T], count: usize, out: &mut Vec<u8>) -> TiffResult<()>
-    ensures { MatchResult result (λ _. out.new.items ≡ out.old.items ++ flat_map T.spelled (more_of items.now count))
+    ensures answer { MatchResult result (λ _. out.new.items ≡ out.old.items ++ flat_map T.spelled (more_of items.now count))
         (λ e. e ≡ TiffError.OutOfMemory) }
+    ensures front { StartsWith out.new.items out.old.items }
 {
     match items {
         [] => Ok(()),
@@ -103,13 +104,9 @@ impl<'a, T: TiffScalar> TiffValue for Repeated<'a, T> {
         Ok(())
     }
 
-    fn data(&self, alloc: Global) -> TiffResult<Vec<u8>> {
-        let size = usize::from(T::byte_len());
-        let count = self.items.len().saturating_add(self.more);
-        let mut out = Vec::with_capacity(alloc, count.saturating_mul(size))?;
-        T::push_all(self.items, &mut out)?;
-        push_first(self.items, self.more, &mut out)?;
-        Ok(out)
+    fn push_to(&self, out: &mut Vec<u8>) -> TiffResult<()> {
+        T::push_all(self.items, out)?;
+        push_first(self.items, self.more, out)
     }
 
     ghost sized = { λ xs. several T.value_type T.spelled T.scalars T.listed T.value_count T.field_data T.sized T.alone xs };
@@ -173,12 +170,8 @@ impl<'a, K: TiffKind> TiffValue for ChunkNumbers<'a, K> {
         Ok(())
     }
 
-    fn data(&self, alloc: Global) -> TiffResult<Vec<u8>> {
-        let kind = K::file_kind();
-        let size = offset_size(kind) as usize;
-        let mut out = Vec::with_capacity(alloc, self.chunks.len().saturating_mul(size))?;
-        push_offsets(kind, self.chunks, self.part, &mut out)?;
-        Ok(out)
+    fn push_to(&self, out: &mut Vec<u8>) -> TiffResult<()> {
+        push_offsets(K::file_kind(), self.chunks, self.part, out)
     }
 
     ghost sized = { λ p. offsets_value K.kind (map (number_of_part p.part) p.chunks.now) };
@@ -186,8 +179,9 @@ impl<'a, K: TiffKind> TiffValue for ChunkNumbers<'a, K> {
 
 // Appends a number of each chunk, as a file of a kind has offsets.
 fn push_offsets(kind: FileKind, chunks: &[Chunk], part: Part, out: &mut Vec<u8>) -> TiffResult<()>
-    ensures { MatchResult result (λ _. out.new.items ≡ out.old.items ++ flat_map (le (offset_len kind))
+    ensures answer { MatchResult result (λ _. out.new.items ≡ out.old.items ++ flat_map (le (offset_len kind))
         (map (number_of_part part) chunks.now)) (λ e. e ≡ TiffError.OutOfMemory) }
+    ensures front { StartsWith out.new.items out.old.items }
 {
     for chunk in chunks {
         push_offset(kind, part.of(chunk), out)?;
@@ -197,7 +191,8 @@ fn push_offsets(kind: FileKind, chunks: &[Chunk], part: Part, out: &mut Vec<u8>)
 
 // Appends a number, as a file of a kind has offsets.
 fn push_offset(kind: FileKind, n: u64, out: &mut Vec<u8>) -> TiffResult<()>
-    ensures { MatchResult result (λ _. out.new.items ≡ out.old.items ++ le (offset_len kind) n) (λ e. e ≡ TiffError.OutOfMemory) }
+    ensures answer { MatchResult result (λ _. out.new.items ≡ out.old.items ++ le (offset_len kind) n) (λ e. e ≡ TiffError.OutOfMemory) }
+    ensures front { StartsWith out.new.items out.old.items }
 {
     let bytes = n.to_le_bytes();
     match kind {

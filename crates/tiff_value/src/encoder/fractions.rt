@@ -8,7 +8,6 @@ ghost use Rattle.tiff_value.specs.Data.{data_of, signed_le, rationals, srational
 ghost use Rattle.tiff_value.specs.ValueLaws.{mapped_values};
 
 use super::tiff_value::{Rational, SRational, TiffScalar, TiffValue};
-use std::alloc::Global;
 use tiff_base::error::TiffResult;
 use tiff_base::tags::Type;
 
@@ -32,10 +31,11 @@ impl TiffValue for Rational {
     }
 
     #[tactic(auto, unfolding(crate::specs::Data::data_of))]
-    fn data(&self, alloc: Global) -> TiffResult<Vec<u8>> {
-        let mut out = Vec::with_capacity(alloc, 8)?;
-        self.push_to(&mut out)?;
-        Ok(out)
+    fn push_to(&self, out: &mut Vec<u8>) -> TiffResult<()> {
+        let Rational { n, d } = self;
+        out.extend_from_slice(&n.to_le_bytes())?;
+        out.extend_from_slice(&d.to_le_bytes())?;
+        Ok(())
     }
 
     ghost sized = { λ r. unfold data_of in (refl, refl, refl) };
@@ -45,13 +45,6 @@ impl TiffScalar for Rational {
     ghost scalars = { λ rs. rationals (map (λ r. (r.n, r.d)) rs) };
 
     ghost spelled = { λ r. le 4 r.n ++ le 4 r.d };
-
-    fn push_to(&self, out: &mut Vec<u8>) -> TiffResult<()> {
-        let Rational { n, d } = self;
-        out.extend_from_slice(&n.to_le_bytes())?;
-        out.extend_from_slice(&d.to_le_bytes())?;
-        Ok(())
-    }
 
     ghost alone = { λ r. refl };
 
@@ -80,10 +73,11 @@ impl TiffValue for SRational {
     }
 
     #[tactic(auto, unfolding(crate::specs::Data::data_of))]
-    fn data(&self, alloc: Global) -> TiffResult<Vec<u8>> {
-        let mut out = Vec::with_capacity(alloc, 8)?;
-        self.push_to(&mut out)?;
-        Ok(out)
+    fn push_to(&self, out: &mut Vec<u8>) -> TiffResult<()> {
+        let SRational { n, d } = self;
+        out.extend_from_slice(&n.to_le_bytes())?;
+        out.extend_from_slice(&d.to_le_bytes())?;
+        Ok(())
     }
 
     ghost sized = { λ r. unfold data_of in (refl, refl, refl) };
@@ -93,13 +87,6 @@ impl TiffScalar for SRational {
     ghost scalars = { λ rs. srationals (map (λ r. (r.n, r.d)) rs) };
 
     ghost spelled = { λ r. signed_le w32 r.n ++ signed_le w32 r.d };
-
-    fn push_to(&self, out: &mut Vec<u8>) -> TiffResult<()> {
-        let SRational { n, d } = self;
-        out.extend_from_slice(&n.to_le_bytes())?;
-        out.extend_from_slice(&d.to_le_bytes())?;
-        Ok(())
-    }
 
     ghost alone = { λ r. refl };
 

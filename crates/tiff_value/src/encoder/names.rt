@@ -7,7 +7,6 @@ ghost use Rattle.tiff_base.specs.declared.tags.«Type».TheVariants.{SHORT};
 ghost use Rattle.tiff_value.specs.Data.{data_of, methods, interpretations, planars, predictors, units, formats, extras};
 
 use super::tiff_value::{TiffScalar, TiffValue};
-use std::alloc::Global;
 use tiff_base::error::TiffResult;
 use tiff_base::tags::{
     CompressionMethod, ExtraSamples, PhotometricInterpretation, PlanarConfiguration, Predictor,
@@ -34,8 +33,9 @@ impl TiffValue for CompressionMethod {
     }
 
     #[tactic(auto, unfolding(crate::specs::Data::data_of))]
-    fn data(&self, alloc: Global) -> TiffResult<Vec<u8>> {
-        Ok(Vec::from_slice(alloc, &self.to_u16().to_le_bytes())?)
+    fn push_to(&self, out: &mut Vec<u8>) -> TiffResult<()> {
+        out.extend_from_slice(&self.to_u16().to_le_bytes())?;
+        Ok(())
     }
 
     ghost sized = { λ m. unfold data_of in (refl, refl, refl) };
@@ -45,11 +45,6 @@ impl TiffScalar for CompressionMethod {
     ghost scalars = { methods };
 
     ghost spelled = { λ m. le 2 (method_number m) };
-
-    fn push_to(&self, out: &mut Vec<u8>) -> TiffResult<()> {
-        out.extend_from_slice(&self.to_u16().to_le_bytes())?;
-        Ok(())
-    }
 
     ghost alone = { λ m. refl };
 
@@ -78,8 +73,9 @@ impl TiffValue for PhotometricInterpretation {
     }
 
     #[tactic(auto, unfolding(crate::specs::Data::data_of))]
-    fn data(&self, alloc: Global) -> TiffResult<Vec<u8>> {
-        Ok(Vec::from_slice(alloc, &self.to_u16().to_le_bytes())?)
+    fn push_to(&self, out: &mut Vec<u8>) -> TiffResult<()> {
+        out.extend_from_slice(&self.to_u16().to_le_bytes())?;
+        Ok(())
     }
 
     ghost sized = { λ i. unfold data_of in (refl, refl, refl) };
@@ -89,11 +85,6 @@ impl TiffScalar for PhotometricInterpretation {
     ghost scalars = { interpretations };
 
     ghost spelled = { λ i. le 2 (interpretation_number i) };
-
-    fn push_to(&self, out: &mut Vec<u8>) -> TiffResult<()> {
-        out.extend_from_slice(&self.to_u16().to_le_bytes())?;
-        Ok(())
-    }
 
     ghost alone = { λ i. refl };
 
@@ -122,8 +113,9 @@ impl TiffValue for PlanarConfiguration {
     }
 
     #[tactic(auto, unfolding(crate::specs::Data::data_of))]
-    fn data(&self, alloc: Global) -> TiffResult<Vec<u8>> {
-        Ok(Vec::from_slice(alloc, &self.to_u16().to_le_bytes())?)
+    fn push_to(&self, out: &mut Vec<u8>) -> TiffResult<()> {
+        out.extend_from_slice(&self.to_u16().to_le_bytes())?;
+        Ok(())
     }
 
     ghost sized = { λ p. unfold data_of in (refl, refl, refl) };
@@ -133,11 +125,6 @@ impl TiffScalar for PlanarConfiguration {
     ghost scalars = { planars };
 
     ghost spelled = { λ p. le 2 (planar_number p) };
-
-    fn push_to(&self, out: &mut Vec<u8>) -> TiffResult<()> {
-        out.extend_from_slice(&self.to_u16().to_le_bytes())?;
-        Ok(())
-    }
 
     ghost alone = { λ p. refl };
 
@@ -166,8 +153,9 @@ impl TiffValue for Predictor {
     }
 
     #[tactic(auto, unfolding(crate::specs::Data::data_of))]
-    fn data(&self, alloc: Global) -> TiffResult<Vec<u8>> {
-        Ok(Vec::from_slice(alloc, &self.to_u16().to_le_bytes())?)
+    fn push_to(&self, out: &mut Vec<u8>) -> TiffResult<()> {
+        out.extend_from_slice(&self.to_u16().to_le_bytes())?;
+        Ok(())
     }
 
     ghost sized = { λ p. unfold data_of in (refl, refl, refl) };
@@ -177,11 +165,6 @@ impl TiffScalar for Predictor {
     ghost scalars = { predictors };
 
     ghost spelled = { λ p. le 2 (predictor_number p) };
-
-    fn push_to(&self, out: &mut Vec<u8>) -> TiffResult<()> {
-        out.extend_from_slice(&self.to_u16().to_le_bytes())?;
-        Ok(())
-    }
 
     ghost alone = { λ p. refl };
 
@@ -210,8 +193,9 @@ impl TiffValue for ResolutionUnit {
     }
 
     #[tactic(auto, unfolding(crate::specs::Data::data_of))]
-    fn data(&self, alloc: Global) -> TiffResult<Vec<u8>> {
-        Ok(Vec::from_slice(alloc, &self.to_u16().to_le_bytes())?)
+    fn push_to(&self, out: &mut Vec<u8>) -> TiffResult<()> {
+        out.extend_from_slice(&self.to_u16().to_le_bytes())?;
+        Ok(())
     }
 
     ghost sized = { λ u. unfold data_of in (refl, refl, refl) };
@@ -221,11 +205,6 @@ impl TiffScalar for ResolutionUnit {
     ghost scalars = { units };
 
     ghost spelled = { λ u. le 2 (unit_number u) };
-
-    fn push_to(&self, out: &mut Vec<u8>) -> TiffResult<()> {
-        out.extend_from_slice(&self.to_u16().to_le_bytes())?;
-        Ok(())
-    }
 
     ghost alone = { λ u. refl };
 
@@ -254,8 +233,9 @@ impl TiffValue for SampleFormat {
     }
 
     #[tactic(auto, unfolding(crate::specs::Data::data_of))]
-    fn data(&self, alloc: Global) -> TiffResult<Vec<u8>> {
-        Ok(Vec::from_slice(alloc, &self.to_u16().to_le_bytes())?)
+    fn push_to(&self, out: &mut Vec<u8>) -> TiffResult<()> {
+        out.extend_from_slice(&self.to_u16().to_le_bytes())?;
+        Ok(())
     }
 
     ghost sized = { λ f. unfold data_of in (refl, refl, refl) };
@@ -265,11 +245,6 @@ impl TiffScalar for SampleFormat {
     ghost scalars = { formats };
 
     ghost spelled = { λ f. le 2 (format_number f) };
-
-    fn push_to(&self, out: &mut Vec<u8>) -> TiffResult<()> {
-        out.extend_from_slice(&self.to_u16().to_le_bytes())?;
-        Ok(())
-    }
 
     ghost alone = { λ f. refl };
 
@@ -298,8 +273,9 @@ impl TiffValue for ExtraSamples {
     }
 
     #[tactic(auto, unfolding(crate::specs::Data::data_of))]
-    fn data(&self, alloc: Global) -> TiffResult<Vec<u8>> {
-        Ok(Vec::from_slice(alloc, &self.to_u16().to_le_bytes())?)
+    fn push_to(&self, out: &mut Vec<u8>) -> TiffResult<()> {
+        out.extend_from_slice(&self.to_u16().to_le_bytes())?;
+        Ok(())
     }
 
     ghost sized = { λ e. unfold data_of in (refl, refl, refl) };
@@ -309,11 +285,6 @@ impl TiffScalar for ExtraSamples {
     ghost scalars = { extras };
 
     ghost spelled = { λ e. le 2 (extra_number e) };
-
-    fn push_to(&self, out: &mut Vec<u8>) -> TiffResult<()> {
-        out.extend_from_slice(&self.to_u16().to_le_bytes())?;
-        Ok(())
-    }
 
     ghost alone = { λ e. refl };
 

@@ -9,7 +9,6 @@ ghost use Rattle.tiff_value.specs.ValueLaws.{mapped_values};
 
 use super::octets::push_numbers;
 use super::tiff_value::{Ifd, Ifd8, TiffScalar, TiffValue};
-use std::alloc::Global;
 use tiff_base::error::TiffResult;
 use tiff_base::tags::{Bits32, Bits64, Type};
 
@@ -33,8 +32,9 @@ impl TiffValue for u8 {
     }
 
     #[tactic(auto, unfolding(crate::specs::Data::data_of))]
-    fn data(&self, alloc: Global) -> TiffResult<Vec<u8>> {
-        Ok(Vec::from_slice(alloc, &self.to_le_bytes())?)
+    fn push_to(&self, out: &mut Vec<u8>) -> TiffResult<()> {
+        out.extend_from_slice(&self.to_le_bytes())?;
+        Ok(())
     }
 
     ghost sized = { λ n. unfold data_of in (refl, refl, refl) };
@@ -44,11 +44,6 @@ impl TiffScalar for u8 {
     ghost scalars = { u8s };
 
     ghost spelled = { le 1 };
-
-    fn push_to(&self, out: &mut Vec<u8>) -> TiffResult<()> {
-        out.extend_from_slice(&self.to_le_bytes())?;
-        Ok(())
-    }
 
     // one copy
     fn push_all(items: &[u8], out: &mut Vec<u8>) -> TiffResult<()> {
@@ -83,8 +78,9 @@ impl TiffValue for i8 {
     }
 
     #[tactic(auto, unfolding(crate::specs::Data::data_of))]
-    fn data(&self, alloc: Global) -> TiffResult<Vec<u8>> {
-        Ok(Vec::from_slice(alloc, &self.to_le_bytes())?)
+    fn push_to(&self, out: &mut Vec<u8>) -> TiffResult<()> {
+        out.extend_from_slice(&self.to_le_bytes())?;
+        Ok(())
     }
 
     ghost sized = { λ n. unfold data_of in (refl, refl, refl) };
@@ -94,11 +90,6 @@ impl TiffScalar for i8 {
     ghost scalars = { i8s };
 
     ghost spelled = { signed_le w8 };
-
-    fn push_to(&self, out: &mut Vec<u8>) -> TiffResult<()> {
-        out.extend_from_slice(&self.to_le_bytes())?;
-        Ok(())
-    }
 
     fn push_all(items: &[i8], out: &mut Vec<u8>) -> TiffResult<()> {
         push_numbers(items, out)
@@ -131,8 +122,9 @@ impl TiffValue for u16 {
     }
 
     #[tactic(auto, unfolding(crate::specs::Data::data_of))]
-    fn data(&self, alloc: Global) -> TiffResult<Vec<u8>> {
-        Ok(Vec::from_slice(alloc, &self.to_le_bytes())?)
+    fn push_to(&self, out: &mut Vec<u8>) -> TiffResult<()> {
+        out.extend_from_slice(&self.to_le_bytes())?;
+        Ok(())
     }
 
     ghost sized = { λ n. unfold data_of in (refl, refl, refl) };
@@ -142,11 +134,6 @@ impl TiffScalar for u16 {
     ghost scalars = { u16s };
 
     ghost spelled = { le 2 };
-
-    fn push_to(&self, out: &mut Vec<u8>) -> TiffResult<()> {
-        out.extend_from_slice(&self.to_le_bytes())?;
-        Ok(())
-    }
 
     fn push_all(items: &[u16], out: &mut Vec<u8>) -> TiffResult<()> {
         push_numbers(items, out)
@@ -179,8 +166,9 @@ impl TiffValue for i16 {
     }
 
     #[tactic(auto, unfolding(crate::specs::Data::data_of))]
-    fn data(&self, alloc: Global) -> TiffResult<Vec<u8>> {
-        Ok(Vec::from_slice(alloc, &self.to_le_bytes())?)
+    fn push_to(&self, out: &mut Vec<u8>) -> TiffResult<()> {
+        out.extend_from_slice(&self.to_le_bytes())?;
+        Ok(())
     }
 
     ghost sized = { λ n. unfold data_of in (refl, refl, refl) };
@@ -190,11 +178,6 @@ impl TiffScalar for i16 {
     ghost scalars = { i16s };
 
     ghost spelled = { signed_le w16 };
-
-    fn push_to(&self, out: &mut Vec<u8>) -> TiffResult<()> {
-        out.extend_from_slice(&self.to_le_bytes())?;
-        Ok(())
-    }
 
     fn push_all(items: &[i16], out: &mut Vec<u8>) -> TiffResult<()> {
         push_numbers(items, out)
@@ -227,8 +210,9 @@ impl TiffValue for u32 {
     }
 
     #[tactic(auto, unfolding(crate::specs::Data::data_of))]
-    fn data(&self, alloc: Global) -> TiffResult<Vec<u8>> {
-        Ok(Vec::from_slice(alloc, &self.to_le_bytes())?)
+    fn push_to(&self, out: &mut Vec<u8>) -> TiffResult<()> {
+        out.extend_from_slice(&self.to_le_bytes())?;
+        Ok(())
     }
 
     ghost sized = { λ n. unfold data_of in (refl, refl, refl) };
@@ -238,11 +222,6 @@ impl TiffScalar for u32 {
     ghost scalars = { u32s };
 
     ghost spelled = { le 4 };
-
-    fn push_to(&self, out: &mut Vec<u8>) -> TiffResult<()> {
-        out.extend_from_slice(&self.to_le_bytes())?;
-        Ok(())
-    }
 
     fn push_all(items: &[u32], out: &mut Vec<u8>) -> TiffResult<()> {
         push_numbers(items, out)
@@ -275,8 +254,9 @@ impl TiffValue for i32 {
     }
 
     #[tactic(auto, unfolding(crate::specs::Data::data_of))]
-    fn data(&self, alloc: Global) -> TiffResult<Vec<u8>> {
-        Ok(Vec::from_slice(alloc, &self.to_le_bytes())?)
+    fn push_to(&self, out: &mut Vec<u8>) -> TiffResult<()> {
+        out.extend_from_slice(&self.to_le_bytes())?;
+        Ok(())
     }
 
     ghost sized = { λ n. unfold data_of in (refl, refl, refl) };
@@ -286,11 +266,6 @@ impl TiffScalar for i32 {
     ghost scalars = { i32s };
 
     ghost spelled = { signed_le w32 };
-
-    fn push_to(&self, out: &mut Vec<u8>) -> TiffResult<()> {
-        out.extend_from_slice(&self.to_le_bytes())?;
-        Ok(())
-    }
 
     fn push_all(items: &[i32], out: &mut Vec<u8>) -> TiffResult<()> {
         push_numbers(items, out)
@@ -323,8 +298,9 @@ impl TiffValue for u64 {
     }
 
     #[tactic(auto, unfolding(crate::specs::Data::data_of))]
-    fn data(&self, alloc: Global) -> TiffResult<Vec<u8>> {
-        Ok(Vec::from_slice(alloc, &self.to_le_bytes())?)
+    fn push_to(&self, out: &mut Vec<u8>) -> TiffResult<()> {
+        out.extend_from_slice(&self.to_le_bytes())?;
+        Ok(())
     }
 
     ghost sized = { λ n. unfold data_of in (refl, refl, refl) };
@@ -334,11 +310,6 @@ impl TiffScalar for u64 {
     ghost scalars = { u64s };
 
     ghost spelled = { le 8 };
-
-    fn push_to(&self, out: &mut Vec<u8>) -> TiffResult<()> {
-        out.extend_from_slice(&self.to_le_bytes())?;
-        Ok(())
-    }
 
     fn push_all(items: &[u64], out: &mut Vec<u8>) -> TiffResult<()> {
         push_numbers(items, out)
@@ -371,8 +342,9 @@ impl TiffValue for i64 {
     }
 
     #[tactic(auto, unfolding(crate::specs::Data::data_of))]
-    fn data(&self, alloc: Global) -> TiffResult<Vec<u8>> {
-        Ok(Vec::from_slice(alloc, &self.to_le_bytes())?)
+    fn push_to(&self, out: &mut Vec<u8>) -> TiffResult<()> {
+        out.extend_from_slice(&self.to_le_bytes())?;
+        Ok(())
     }
 
     ghost sized = { λ n. unfold data_of in (refl, refl, refl) };
@@ -382,11 +354,6 @@ impl TiffScalar for i64 {
     ghost scalars = { i64s };
 
     ghost spelled = { signed_le w64 };
-
-    fn push_to(&self, out: &mut Vec<u8>) -> TiffResult<()> {
-        out.extend_from_slice(&self.to_le_bytes())?;
-        Ok(())
-    }
 
     fn push_all(items: &[i64], out: &mut Vec<u8>) -> TiffResult<()> {
         push_numbers(items, out)
@@ -419,8 +386,9 @@ impl TiffValue for Bits32 {
     }
 
     #[tactic(auto, unfolding(crate::specs::Data::data_of))]
-    fn data(&self, alloc: Global) -> TiffResult<Vec<u8>> {
-        Ok(Vec::from_slice(alloc, &self.0.to_le_bytes())?)
+    fn push_to(&self, out: &mut Vec<u8>) -> TiffResult<()> {
+        out.extend_from_slice(&self.0.to_le_bytes())?;
+        Ok(())
     }
 
     ghost sized = { λ n. unfold data_of in (refl, refl, refl) };
@@ -430,11 +398,6 @@ impl TiffScalar for Bits32 {
     ghost scalars = { λ ns. bits32s (map (λ n. n.0) ns) };
 
     ghost spelled = { λ n. le 4 n.0 };
-
-    fn push_to(&self, out: &mut Vec<u8>) -> TiffResult<()> {
-        out.extend_from_slice(&self.0.to_le_bytes())?;
-        Ok(())
-    }
 
     fn push_all(items: &[Bits32], out: &mut Vec<u8>) -> TiffResult<()> {
         push_numbers(items, out)
@@ -467,8 +430,9 @@ impl TiffValue for Bits64 {
     }
 
     #[tactic(auto, unfolding(crate::specs::Data::data_of))]
-    fn data(&self, alloc: Global) -> TiffResult<Vec<u8>> {
-        Ok(Vec::from_slice(alloc, &self.0.to_le_bytes())?)
+    fn push_to(&self, out: &mut Vec<u8>) -> TiffResult<()> {
+        out.extend_from_slice(&self.0.to_le_bytes())?;
+        Ok(())
     }
 
     ghost sized = { λ n. unfold data_of in (refl, refl, refl) };
@@ -478,11 +442,6 @@ impl TiffScalar for Bits64 {
     ghost scalars = { λ ns. bits64s (map (λ n. n.0) ns) };
 
     ghost spelled = { λ n. le 8 n.0 };
-
-    fn push_to(&self, out: &mut Vec<u8>) -> TiffResult<()> {
-        out.extend_from_slice(&self.0.to_le_bytes())?;
-        Ok(())
-    }
 
     fn push_all(items: &[Bits64], out: &mut Vec<u8>) -> TiffResult<()> {
         push_numbers(items, out)
@@ -515,8 +474,9 @@ impl TiffValue for Ifd {
     }
 
     #[tactic(auto, unfolding(crate::specs::Data::data_of))]
-    fn data(&self, alloc: Global) -> TiffResult<Vec<u8>> {
-        Ok(Vec::from_slice(alloc, &self.0.to_le_bytes())?)
+    fn push_to(&self, out: &mut Vec<u8>) -> TiffResult<()> {
+        out.extend_from_slice(&self.0.to_le_bytes())?;
+        Ok(())
     }
 
     ghost sized = { λ n. unfold data_of in (refl, refl, refl) };
@@ -526,11 +486,6 @@ impl TiffScalar for Ifd {
     ghost scalars = { λ ns. ifds (map (λ n. n.0) ns) };
 
     ghost spelled = { λ n. le 4 n.0 };
-
-    fn push_to(&self, out: &mut Vec<u8>) -> TiffResult<()> {
-        out.extend_from_slice(&self.0.to_le_bytes())?;
-        Ok(())
-    }
 
     ghost alone = { λ n. refl };
 
@@ -559,8 +514,9 @@ impl TiffValue for Ifd8 {
     }
 
     #[tactic(auto, unfolding(crate::specs::Data::data_of))]
-    fn data(&self, alloc: Global) -> TiffResult<Vec<u8>> {
-        Ok(Vec::from_slice(alloc, &self.0.to_le_bytes())?)
+    fn push_to(&self, out: &mut Vec<u8>) -> TiffResult<()> {
+        out.extend_from_slice(&self.0.to_le_bytes())?;
+        Ok(())
     }
 
     ghost sized = { λ n. unfold data_of in (refl, refl, refl) };
@@ -570,11 +526,6 @@ impl TiffScalar for Ifd8 {
     ghost scalars = { λ ns. ifd8s (map (λ n. n.0) ns) };
 
     ghost spelled = { λ n. le 8 n.0 };
-
-    fn push_to(&self, out: &mut Vec<u8>) -> TiffResult<()> {
-        out.extend_from_slice(&self.0.to_le_bytes())?;
-        Ok(())
-    }
 
     ghost alone = { λ n. refl };
 

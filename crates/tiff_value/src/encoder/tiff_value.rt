@@ -6,7 +6,7 @@ ghost use Rattle.std.specs.List.{flat_map, list_all};
 ghost use Rattle.tiff_base.specs.Answers.{AnswersBut};
 ghost use Rattle.tiff_base.specs.Types.{type_size};
 ghost use Rattle.tiff_value.specs.Data.{is_letter};
-ghost use Rattle.tiff_value.specs.Values.{byte_count, values_in, IsWritable, WritesValue};
+ghost use Rattle.tiff_value.specs.Values.{byte_count, values_in, IsWritable, Pushes, WritesValue};
 
 use crate::encoder::writer::TiffWriter;
 use std::alloc::Global;
@@ -58,10 +58,23 @@ pub trait TiffValue {
     fn check(&self) -> TiffResult<()>
         ensures { MatchResult result (λ _. IsWritable (field_data self.now)) (λ e. field_data self.now ≡ Err e) };
 
+    /// Appends its bytes, the least of each number first. A text that can't be written: `FormatError(InvalidTag)`. Its other
+    /// error is `OutOfMemory`, only of a value that can be written, after which `out` begins with what it held.
+    fn push_to(&self, out: &mut Vec<u8>) -> TiffResult<()>
+        ensures answer { Pushes (field_data self.now) out.old.items out.new.items result }
+        ensures front { StartsWith out.new.items out.old.items };
+
     /// Its bytes, the least of each number first. A text that can't be written: `FormatError(InvalidTag)`. Its other error
     /// is `OutOfMemory`, only of a value that can be written.
-    fn data(&self, alloc: Global) -> TiffResult<Vec<u8>>
-        ensures { AnswersBut (IsWritable (field_data self.now)) ⊥ (λ v. values_in value_type (value_count self.now) v.items) result (field_data self.now) };
+    #[tactic(auto, using(crate::proofs::Values::value_made))]
+    final fn data(&self, alloc: Global) -> TiffResult<Vec<u8>>
+        ensures { AnswersBut (IsWritable (field_data self.now)) ⊥ (λ v. values_in value_type (value_count self.now) v.items) result (field_data self.now) }
+    {
+        self.check()?;
+        let mut bytes = Vec::with_capacity(alloc, self.bytes())?;
+        self.push_to(&mut bytes)?;
+        Ok(bytes)
+    }
 
     /// Writes its bytes at the writer's offset, as they are. After an earlier fault: `UsageError(WriterFailed)`. Further
     /// errors are those of `data` and of `write_plain`.
@@ -92,13 +105,8 @@ pub trait TiffScalar: TiffValue + Sized {
     // The bytes of one.
     ghost spelled: { Self → List ℕ };
 
-    /// Appends its bytes. Its only error is `OutOfMemory`, after which `out` begins with what it held.
-    fn push_to(&self, out: &mut Vec<u8>) -> TiffResult<()>
-        ensures answer { MatchResult result (λ _. out.new.items ≡ out.old.items ++ spelled self.now) (λ e. e ≡ TiffError.OutOfMemory) }
-        ensures front { StartsWith out.new.items out.old.items };
-
-    /// Appends the bytes of several values. Errors are those of `push_to`, after which `out` begins with what it held.
-    #[tactic(auto, using(crate::proofs::Bytes::front_kept))]
+    /// Appends the bytes of several values. Its only error is `OutOfMemory`, after which `out` begins with what it held.
+    #[tactic(auto, using(crate::proofs::Bytes::front_kept, crate::proofs::Values::scalar_pushed))]
     fn push_all(items: &[Self], out: &mut Vec<u8>) -> TiffResult<()>
         ensures answer { MatchResult result (λ _. out.new.items ≡ out.old.items ++ flat_map spelled items.now) (λ e. e ≡ TiffError.OutOfMemory) }
         ensures front { StartsWith out.new.items out.old.items }
@@ -140,8 +148,8 @@ impl<T: TiffValue> TiffValue for &T {
         (**self).check()
     }
 
-    fn data(&self, alloc: Global) -> TiffResult<Vec<u8>> {
-        (**self).data(alloc)
+    fn push_to(&self, out: &mut Vec<u8>) -> TiffResult<()> {
+        (**self).push_to(out)
     }
 
     ghost sized = { λ x. T.sized x.now };
@@ -176,11 +184,9 @@ impl<'a, T: TiffScalar> TiffValue for Slice<'a, T> {
         Ok(())
     }
 
-    fn data(&self, alloc: Global) -> TiffResult<Vec<u8>> {
-        let size = usize::from(T::byte_len());
-        let mut out = Vec::with_capacity(alloc, self.0.len().saturating_mul(size))?;
-        T::push_all(self.0, &mut out)?;
-        Ok(out)
+    #[tactic(auto, using(crate::proofs::Values::several_pushed))]
+    fn push_to(&self, out: &mut Vec<u8>) -> TiffResult<()> {
+        T::push_all(self.0, out)
     }
 
     ghost sized = { λ s. several T.value_type T.spelled T.scalars T.listed T.value_count T.field_data T.sized T.alone s.0.now };
@@ -222,15 +228,11 @@ impl<'a> TiffValue for Text<'a> {
     }
 
     #[tactic(auto, unfolding(crate::specs::Data::text_data))]
-    fn data(&self, alloc: Global) -> TiffResult<Vec<u8>> {
-        let bytes = self.0.as_bytes();
-        if !is_text(bytes) {
-            return Err(TiffError::FormatError(TiffFormatError::InvalidTag));
-        }
-        let mut out = Vec::with_capacity(alloc, bytes.len() + 1)?;
-        out.extend_from_slice(bytes)?;
+    fn push_to(&self, out: &mut Vec<u8>) -> TiffResult<()> {
+        self.check()?;
+        out.extend_from_slice(self.0.as_bytes())?;
         out.push(0)?;
-        Ok(out)
+        Ok(())
     }
 
     ghost sized = { λ t. text_value t.0.now };

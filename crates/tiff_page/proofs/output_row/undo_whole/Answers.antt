@@ -1,8 +1,9 @@
-use Rattle.std.proofs.Common.{◌≡◌, ◌∙◌, ◌*◌, ◌/◌, ◌<◌, ℕ, length, subst, sym, ap, inr, arith}
+use Rattle.std.proofs.Common.{◌||◌, ◌≡◌, ◌∙◌, ◌*◌, ◌/◌, ◌<◌, ℕ, length, subst, sym, ap, inr, arith}
+use Rattle.std.proofs.Math.Bool.{or-true}
 use Rattle.tiff_page.specs.PageView as view
 use Rattle.tiff_page.specs.Pixels.{stored_samples, is_byte_plane, joined_number}
 use Rattle.tiff_page.specs.Row.{IsSize, Became}
-use Rattle.tiff_page.proofs.OutputRow.{joined_numbers, stored_count, stored_whole, no_byte_plane, undone_numbers, planes_room, turned_room}
+use Rattle.tiff_page.proofs.OutputRow.{joined_numbers, stored_count, stored_whole, no_byte_plane, undone_numbers}
 use Rattle.tiff_page.proofs.Rows.{some_size}
 use Rattle.tiff_page.specs.OutputRow.{is_turned}
 use Rattle.tiff_page.proofs.output_row.undo_whole.Goals as goal
@@ -27,14 +28,14 @@ undo_byte_plane-requires c =
       stored = omega arith;
       whole = subst (λ (n : ℕ). length c.args.row.now / n * n ≡ length c.args.row.now) (sym e)
           (stored_whole (view.page c.args.page.now) (length c.args.row.now) c.requires.size c.requires.deep c.requires.row);
-      room = c.requires.room (planes_room (is_byte_plane c.args.page.now.predictor) (is_turned c.args.order c.args.page.now.depth) (ap is_byte_plane c.in-FloatingPoint.is));
+      room = c.requires.room (ap (λ p. is_byte_plane p || is_turned c.args.order c.args.page.now.depth) c.in-FloatingPoint.is);
     }
 
 pub turn_whole-requires : goal.turn_whole-requires
 turn_whole-requires c = record {
   size = c.requires.size;
   whole = stored_whole (view.page c.args.page.now) (length c.args.row.now) c.requires.size c.requires.deep c.requires.row;
-  room = λ t. c.requires.room (turned_room (is_byte_plane c.args.page.now.predictor) (is_turned c.args.order c.args.page.now.depth) t);
+  room = λ t. c.requires.room (ap (λ b. is_byte_plane c.args.page.now.predictor || b) t ∙ or-true (is_byte_plane c.args.page.now.predictor));
 }
 
 pub undo_differences-requires : goal.undo_differences-requires

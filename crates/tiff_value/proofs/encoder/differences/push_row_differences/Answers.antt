@@ -1,5 +1,6 @@
-use Rattle.std.proofs.Common.{◌≤◌, length, arith}
+use Rattle.std.proofs.Common.{◌≤◌, [], ◌∷◌, Ok, length, arith}
 use Rattle.tiff_base.specs.Types.{type_size}
+use Rattle.tiff_value.proofs.Values.{scalar_pushed}
 use Rattle.tiff_value.proofs.Chunk.{bytes_begin, bytes_continue, bytes_end}
 use Rattle.tiff_value.proofs.encoder.differences.push_row_differences.Goals as goal
 
@@ -14,7 +15,9 @@ loop-i-preserved g c =
     bytes_continue (type_size g.T.TiffValue.value_type) g.T.Whole.bits g.T.TiffScalar.spelled g.met.T.Whole.by_bits g.T.Whole.modulus g.met.T.Whole.all c.args.stride c.args.row.now
     c.loop-i.i c.index-row-i.result c.index-row-i-in-loop-i.result c.less.result
     c.args.out.now.items c.loop-i.out.items c.push_to.new.out.items c.loop-i.auto.i c.loop-i-test.true c.index-row-i.is c.index-row-i-in-loop-i.is
-    c.less.ensures.difference c.less.ensures.own c.less.ensures.others c.loop-i.invariant c.in_ok-push_to.ensures.answer
+    c.less.ensures.difference c.less.ensures.own c.less.ensures.others c.loop-i.invariant
+    (scalar_pushed g.T.TiffValue.value_type g.T.TiffScalar.spelled c.less.result _ _ c.loop-i.out.items c.push_to.new.out.items (Ok tt)
+    (g.met.T.TiffScalar.alone c.less.result) (g.met.T.TiffScalar.listed (c.less.result ∷ [])) c.in_ok-push_to.ensures.answer)
 
 pub returns : goal.returns
 returns g c =
