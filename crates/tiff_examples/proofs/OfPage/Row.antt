@@ -54,3 +54,7 @@ row_unturned = λ r. omega (arith, r.numbers 0 (lit≤ tt))
 
 pub row_end_changed : s.row_end_changed
 row_end_changed = λ r. omega (arith, r.behind 2 (lit≤ tt))
+
+pub second_unturned : s.second_unturned
+unfolding number
+second_unturned = λ r. omega (arith, r 1 (lit≤ tt))

@@ -34,6 +34,22 @@ pub value_writable : s.value_writable
 unfolding text_data
 value_writable = (tt, λ h. h)
 
+pub value_pushed : s.value_pushed
+unfolding data_of
+value_pushed = refl
+
+pub value_not_alone : s.value_not_alone
+unfolding data_of
+value_not_alone h = cc
+
+pub text_not_pushed : s.text_not_pushed
+unfolding text_data
+text_not_pushed h = h
+
+pub text_push_not_wanting : s.text_push_not_wanting
+unfolding text_data
+text_push_not_wanting h = cc
+
 pub bytes_three : s.bytes_three
 bytes_three = refl
 

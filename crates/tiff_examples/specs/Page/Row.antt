@@ -2,7 +2,7 @@
 use Rattle.std.specs.Prelude.{◌≡◌, ℕ, List, [], ◌∷◌}
 use Rattle.tiff_base.specs.declared.tags.ByteOrder.TheVariants.{LittleEndian, BigEndian}
 use Rattle.tiff_page.specs.Pixels.{row_number, summed_number, summed_byte, joined_number}
-use Rattle.tiff_page.specs.Row.{Became}
+use Rattle.tiff_page.specs.Row.{Became, TurnsNumbers}
 
 -- the second number of two bytes, in either order
 abbrev pub little_second : Type 0
@@ -57,3 +57,7 @@ row_unturned = turned (0x01 ∷ 0x02 ∷ 0x09 ∷ []) → ⊥
 
 abbrev pub row_end_changed : Type 0
 row_end_changed = turned (0x02 ∷ 0x01 ∷ 0x00 ∷ []) → ⊥
+
+-- a row of two numbers, turned into another list; the second isn't left as it was
+abbrev pub second_unturned : Type 0
+second_unturned = TurnsNumbers 2 (0x01 ∷ 0x02 ∷ 0x03 ∷ 0x04 ∷ []) (0x02 ∷ 0x01 ∷ 0x03 ∷ 0x04 ∷ []) → ⊥

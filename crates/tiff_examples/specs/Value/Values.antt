@@ -14,7 +14,7 @@ use Rattle.tiff_value.specs.Buffer.{buffer_given}
 use Rattle.tiff_value.specs.Data.{u8s, u16s, data_of, text_data}
 use Rattle.tiff_value.specs.Predicted.{row_of_type, AppendsRow}
 use Rattle.tiff_value.specs.Stored.{takes_memory, StoreWants, Stores, StoresBytes}
-use Rattle.tiff_value.specs.Values.{values_in, IsValue, IsWritable, byte_count, IsWanting, ValueIsRefused, WritesValue}
+use Rattle.tiff_value.specs.Values.{values_in, IsValue, IsWritable, Pushes, byte_count, IsWanting, ValueIsRefused, WritesValue}
 use Rattle.tiff_value.specs.Written.{Written}
 use Rattle.tiff_page.specs.Layout.{LayoutRecord}
 use Rattle.tiff_laws.specs.Whole.{chunks_used, chunk_row, at_chunk, at_image, chunk_byte_count}
@@ -51,6 +51,20 @@ value_refused = IsValue t.ASCII 2 (text_data (0xe9 ∷ []))
 -- such a text can't be written, where numbers can
 abbrev pub value_writable : Type 0
 value_writable = IsWritable (Ok (data_of (u16s (5 ∷ [])))) × Never (IsWritable (text_data (0xe9 ∷ [])))
+
+-- one SHORT behind a byte, which stays
+abbrev pub value_pushed : Type 0
+value_pushed = Pushes {A = ℕ} (Ok (data_of (u16s (5 ∷ [])))) (9 ∷ []) (9 ∷ 5 ∷ 0 ∷ []) (Ok 0)
+
+abbrev pub value_not_alone : Type 0
+value_not_alone = Never (Pushes {A = ℕ} (Ok (data_of (u16s (5 ∷ [])))) (9 ∷ []) (5 ∷ 0 ∷ []) (Ok 0))
+
+-- a text that can't be written has no bytes, and wants no memory
+abbrev pub text_not_pushed : Type 0
+text_not_pushed = Never (Pushes {A = ℕ} (text_data (0xe9 ∷ [])) [] (0xe9 ∷ 0 ∷ []) (Ok 0))
+
+abbrev pub text_push_not_wanting : Type 0
+text_push_not_wanting = Never (Pushes {A = ℕ} (text_data (0xe9 ∷ [])) [] [] (Err OutOfMemory))
 
 abbrev pub bytes_three : Type 0
 bytes_three = byte_count 3 t.SHORT ≡ 6

@@ -14,5 +14,5 @@ pub fn planes()
 
 /// Rows that became others.
 pub fn rows()
-    ensures { s.row_unturned × s.row_end_changed }
+    ensures { s.row_unturned × s.row_end_changed × s.second_unturned }
 {}

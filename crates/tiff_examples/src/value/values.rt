@@ -4,8 +4,8 @@ ghost use Rattle.tiff_examples.specs.Value.Values as s;
 
 /// Values, and numbers of a kind of file.
 pub fn values()
-    ensures { s.value_given × s.is_value × s.is_not_value × s.value_refused × s.value_writable × s.bytes_three × s.bytes_most × s.value_writes × s.value_writes_not × s.wanting ×
-        s.refused × s.text_not_wanting × s.value_stopped × s.value_not_wanting × s.value_not_refused × s.not_refused × s.buffer_of_short × s.buffer_refused × s.offset_past × s.offset_not_past }
+    ensures { s.value_given × s.is_value × s.is_not_value × s.value_refused × s.value_writable × s.value_pushed × s.value_not_alone × s.text_not_pushed ×
+        s.text_push_not_wanting × s.bytes_three × s.bytes_most × s.value_writes × s.value_writes_not × s.wanting × s.refused × s.text_not_wanting × s.value_stopped × s.value_not_wanting × s.value_not_refused × s.not_refused × s.buffer_of_short × s.buffer_refused × s.offset_past × s.offset_not_past }
 {}
 
 /// Bytes that are stored by a method.

@@ -6,4 +6,5 @@ pub returns : goal.returns
 returns c = (
   p.row_unturned,
   p.row_end_changed,
+  p.second_unturned,
 )
