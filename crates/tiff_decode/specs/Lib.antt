@@ -3,6 +3,8 @@ pub mod Result
 pub mod Machine
 pub mod Outcome
 pub mod Failures
+pub mod Promise
+pub mod Sight
 pub mod Step
 pub mod Steps
 pub mod NextState

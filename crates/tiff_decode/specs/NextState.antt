@@ -9,34 +9,15 @@ use Rattle.tiff_ifd.specs.declared.value.Value.{Value}
 use Rattle.tiff_ifd.specs.Datum.{Datum}
 use Rattle.tiff_ifd.specs.View.{datum}
 use Rattle.tiff_decode.specs.declared.script.Call.{Call}
-use Rattle.tiff_decode.specs.declared.script.Call.TheVariants as call
 use Rattle.tiff_decode.specs.declared.script.Reply.{Reply}
 use Rattle.tiff_decode.specs.declared.script.Reply.TheVariants as reply
 use Rattle.tiff_decode.specs.Machine.{State, Decoding}
-use Rattle.tiff_decode.specs.Outcome as outcome
+use Rattle.tiff_decode.specs.Promise.{promise, state_after}
 use Rattle.tiff_decode.specs.Failures.{fault_in, failures}
 
--- Where each call leaves the decoder: only these move it.
+-- where each call leaves the decoder
 abbrev pub next_state : Decoding → Call → State
-next_state d (call.SetLimits limits) = (outcome.set_limits d limits).next
-next_state d (call.SeekToImage k) = (outcome.seek_to_image d k).next
-next_state d call.NextImage = (outcome.next_image d).next
-next_state d (call.GotoOffset offset) = (outcome.goto_offset d offset).next
-next_state d (call.GotoOffsetU64 offset) = (outcome.goto_offset d offset).next
-next_state d call.ReadIfdOffset = (outcome.read_ifd_offset d).next
-next_state d call.ReadByte = (outcome.read_byte d).next
-next_state d call.ReadShort = (outcome.read_short d).next
-next_state d call.ReadSshort = (outcome.read_sshort d).next
-next_state d call.ReadLong = (outcome.read_long d).next
-next_state d call.ReadSlong = (outcome.read_slong d).next
-next_state d call.ReadLong8 = (outcome.read_long8 d).next
-next_state d call.ReadSlong8 = (outcome.read_slong8 d).next
-next_state d call.ReadFloat = (outcome.read_float d).next
-next_state d call.ReadDouble = (outcome.read_double d).next
-next_state d (call.ReadString len) = (outcome.read_string d len).next
-next_state d call.ReadOffset = (outcome.read_offset d).next
-next_state d call.ReadOffsetU64 = (outcome.read_offset_u64 d).next
-next_state d which = d.state
+next_state d which = state_after d (promise d which)
 
 -- a fault that is neither want of memory nor of the device
 abbrev pub IsNamedFault : Option TiffError → Type 0

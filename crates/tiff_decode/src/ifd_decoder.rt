@@ -6,7 +6,8 @@ ghost use Rattle.tiff_ifd.specs.Fitted.{fitted_numbers};
 ghost use Rattle.tiff_ifd.specs.View.{datum};
 ghost use Rattle.tiff_decode.specs.Outcome as outcome;
 ghost use Rattle.tiff_decode.specs.Reader.{directory_or, reader_of, reading, KeepsReading, ReadsTags, IsNumber, NumberAs, NumberIfAs, NumbersAs, NumbersIfAs, TagsRead};
-ghost use Rattle.tiff_decode.specs.Step.{bits_32, bits_64, BufferLeft};
+ghost use Rattle.tiff_decode.specs.Sight.{bits_32, bits_64};
+ghost use Rattle.tiff_decode.specs.Step.{BufferLeft};
 
 use crate::decoder::Decoder;
 use std::alloc::Global;

@@ -6,7 +6,7 @@ ghost use Rattle.tiff_base.specs.Answers.{AnswersWithoutMemory, IsKept};
 ghost use Rattle.tiff_base.specs.Number.{number_at};
 ghost use Rattle.tiff_decode.specs.Machine.{Follows, FollowsWithoutMemory, FollowsWithoutEither};
 ghost use Rattle.tiff_decode.specs.Outcome as outcome;
-ghost use Rattle.tiff_decode.specs.Step.{bits_32, bits_64};
+ghost use Rattle.tiff_decode.specs.Sight.{bits_32, bits_64};
 
 use crate::decoder::Decoder;
 use tiff_base::error::{TiffFormatError, TiffResult};

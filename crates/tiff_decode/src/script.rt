@@ -8,7 +8,8 @@ ghost use Rattle.tiff_decode.specs.Machine.{Follows};
 ghost use Rattle.tiff_decode.specs.Outcome as outcome;
 ghost use Rattle.tiff_decode.specs.Reader.{TagsRead};
 ghost use Rattle.tiff_decode.specs.Result.{decoded_as};
-ghost use Rattle.tiff_decode.specs.Step.{items_of, BufferLeft, Step};
+ghost use Rattle.tiff_decode.specs.Sight.{items_of};
+ghost use Rattle.tiff_decode.specs.Step.{BufferLeft, Step};
 ghost use Rattle.tiff_decode.specs.Steps.{Ran};
 
 use crate::decoder::Decoder;
@@ -279,6 +280,7 @@ fn tag_bytes<R: Source>(
 }
 
 /// Makes one call.
+#[tactic(auto, unfolding(crate::specs::Outcome::colortype, crate::specs::Outcome::image_buffer_layout, crate::specs::Outcome::image_chunk_buffer_layout, crate::specs::Outcome::image_coding_unit_layout))]
 pub fn run_call<R: Source>(decoder: &mut Decoder<R>, call: &Call) -> Reply
     ensures { Step decoder.old call.now result decoder.new }
 {

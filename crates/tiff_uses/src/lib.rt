@@ -1,4 +1,4 @@
-//! Six uses of `tiff`, as a caller writes them.
+//! Seven uses of `tiff`, as a caller writes them.
 #![tactic(auto)]
 
 ghost use Rattle.std.specs.Prelude.{◌≡◌, ◌≤◌, IfOk, Ok, OnOk};
@@ -39,6 +39,16 @@ pub fn page_chunk(
     let mut decoder = Decoder::new(alloc, MemorySource::new(file))?;
     decoder.seek_to_image(page)?;
     decoder.read_chunk(chunk)
+}
+
+/// The width of a page, by the page's number from 0, and how many rows each of its strips has. It has no contract: that it is
+/// proved says that no file makes it abort, read past an end or run on.
+pub fn strips_of(alloc: Global, file: Vec<u8>, page: usize) -> TiffResult<(u32, u32)> {
+    let mut decoder = Decoder::new(alloc, MemorySource::new(file))?;
+    decoder.seek_to_image(page)?;
+    let (width, _) = decoder.dimensions()?;
+    let rows = decoder.get_tag_u32(Tag::RowsPerStrip)?;
+    Ok((width, rows))
 }
 
 // The width and the height of each page, from a decoder at its file's first page on.

@@ -116,7 +116,15 @@ pub next_of_long : s.next_of_long
 unfolding outcome.read_long number
 next_of_long = refl
 
+pub next_of_limits : s.next_of_limits
+unfolding outcome.set_limits
+next_of_limits = refl
+
+pub next_of_tag : s.next_of_tag
+next_of_tag = refl
+
 pub next_of_sides : s.next_of_sides
+unfolding outcome.dimensions
 next_of_sides = refl
 
 pub fault_told : s.fault_told
@@ -144,6 +152,9 @@ not_same = λ h. omega (arith, ap number_or_0 h)
 
 pub not_same_call : s.not_same_call
 not_same_call = λ h. h
+
+pub tells_nothing : s.tells_nothing
+tells_nothing = λ h. h
 
 pub directory_read : s.directory_read
 unfolding outcome.read_directory directory_at number entries_from entry_of type_of last_of_each

@@ -12,6 +12,7 @@ use Rattle.tiff_base.specs.Field.{Field}
 use Rattle.tiff_value.specs.Buffer.{empty_buffer}
 use Rattle.tiff_ifd.specs.Datum as d
 use Rattle.tiff_ifd.specs.declared.value.Value.TheVariants as v
+use Rattle.tiff_ifd.specs.Limits.{unlimited}
 use Rattle.tiff_decode.specs.declared.script.Call.{Call}
 use Rattle.tiff_decode.specs.declared.script.Call.TheVariants as call
 use Rattle.tiff_decode.specs.declared.script.Reply.{Reply}
@@ -140,6 +141,12 @@ failing_ran =
 abbrev pub next_of_long : Type 0
 next_of_long = next_state gray_decoder call.ReadLong ≡ record gray_state { offset = 12 }
 
+abbrev pub next_of_limits : Type 0
+next_of_limits = next_state gray_decoder (call.SetLimits unlimited) ≡ record gray_state { limits = unlimited }
+
+abbrev pub next_of_tag : Type 0
+next_of_tag = next_state gray_decoder (call.GetTag tag.ImageWidth) ≡ gray_state
+
 abbrev pub next_of_sides : Type 0
 next_of_sides = next_state gray_decoder call.Dimensions ≡ gray_state
 
@@ -158,13 +165,17 @@ not_named = Never (IsNamed (reply.NextImage (Err OutOfMemory)))
 
 -- two replies that tell the same, and two that don't
 abbrev pub same : Type 0
-same = SameAnswer (reply.ReadByte (Ok 7)) (reply.ReadByte (Ok 7))
+same = SameAnswer gray_decoder call.ReadByte (reply.ReadByte (Ok 7)) (reply.ReadByte (Ok 7))
 
 abbrev pub not_same : Type 0
-not_same = Never (SameAnswer (reply.ReadByte (Ok 7)) (reply.ReadByte (Ok 8)))
+not_same = Never (SameAnswer gray_decoder call.ReadByte (reply.ReadByte (Ok 7)) (reply.ReadByte (Ok 8)))
 
 abbrev pub not_same_call : Type 0
-not_same_call = Never (SameAnswer (reply.StripCount (Ok 7)) (reply.TileCount (Ok 7)))
+not_same_call = Never (SameAnswer gray_decoder call.StripCount (reply.StripCount (Ok 7)) (reply.TileCount (Ok 7)))
+
+-- a reply of another call's name tells nothing, so not the same as itself either
+abbrev pub tells_nothing : Type 0
+tells_nothing = Never (SameAnswer gray_decoder call.StripCount (reply.TileCount (Ok 7)) (reply.TileCount (Ok 7)))
 
 -- ---- directories
 

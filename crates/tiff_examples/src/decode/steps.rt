@@ -16,8 +16,9 @@ pub fn several_calls()
 
 /// What replies tell.
 pub fn replies()
-    ensures { s.next_of_long × s.next_of_sides × s.fault_told × s.no_fault_told × s.named × s.not_named × s.same × s.not_same ×
-        s.not_same_call × s.directory_read × s.directory_past × s.told_of × s.told_of_two × s.chunk_sides × s.told_of_big }
+    ensures { s.next_of_long × s.next_of_limits × s.next_of_tag × s.next_of_sides × s.fault_told × s.no_fault_told × s.named ×
+        s.not_named × s.same × s.not_same × s.not_same_call × s.tells_nothing × s.directory_read × s.directory_past ×
+        s.told_of × s.told_of_two × s.chunk_sides × s.told_of_big }
 {}
 
 /// Items of tags, and the buffers that refused reads leave.
