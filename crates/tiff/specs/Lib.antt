@@ -10,6 +10,7 @@ pub use Rattle.tiff_decode.specs.Sight
 pub use Rattle.tiff_decode.specs.Step
 pub use Rattle.tiff_decode.specs.Steps
 pub use Rattle.tiff_decode.specs.Result
+pub use Rattle.tiff_decode.specs.Lending
 pub use Rattle.tiff_encode.specs.FileBytes
 pub use Rattle.tiff_encode.specs.Model
 pub use Rattle.tiff_encode.specs.Shows

@@ -8,3 +8,4 @@ pub mod TagList
 pub mod Samples
 pub mod Pieces
 pub mod CallsMade
+pub mod Wraps

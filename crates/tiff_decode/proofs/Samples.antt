@@ -1,7 +1,7 @@
 -- Lists of samples by their bits.
-use Rattle.std.proofs.Common.{◌≡◌, ◌≤◌, ◌-◌, ℕ, zero, suc, List, ◌∷◌, map, length, take, drop, refl, ap, sym, subst, ◌∙◌, arith}
+use Rattle.std.proofs.Common.{◌≡◌, ◌≤◌, ℕ, zero, suc, List, ◌∷◌, map, length, drop, refl, ap, sym, subst, ◌∙◌}
 use Rattle.std.specs.Prelude.{replicate}
-use Rattle.std.proofs.lemmas.List.{drop-map, length-map, length-drop, take_all}
+use Rattle.std.proofs.lemmas.List.{drop-map, length-map}
 
 map_replicate : {A : Type 0} (f : A → ℕ) (x : A) (n : ℕ) → map f (replicate n x) ≡ replicate n (f x)
 map_replicate f x zero = refl
@@ -15,8 +15,6 @@ zeros_mapped f x xs n z e = ap (map f) e ∙ map_replicate f x n ∙ ap (replica
 pub length_mapped : {A : Type 0} (f : A → ℕ) (xs : List A) (n : ℕ) → n ≤ length (map f xs) → n ≤ length xs
 length_mapped f xs n h = subst (λ k. n ≤ k) (length-map xs f) h
 
--- the bits from a start on
-pub drop_mapped : {A : Type 0} (f : A → ℕ) (n : ℕ) (ys xs : List A) → ys ≡ xs → map f (take (length ys - n) (drop n ys)) ≡ drop n (map f xs)
-drop_mapped f n ys xs e =
-    let t : take (length ys - n) (drop n ys) ≡ drop n ys = take_all (length ys - n) (drop n ys) (omega (arith, length-drop n ys)) in
-    ap (map f) t ∙ sym (drop-map f n ys) ∙ ap (λ zs. drop n (map f zs)) e
+-- the bits of a list that is another's rest
+pub rest_mapped : {A : Type 0} (f : A → ℕ) (n : ℕ) (ys xs : List A) → ys ≡ drop n xs → map f ys ≡ drop n (map f xs)
+rest_mapped f n ys xs e = ap (map f) e ∙ sym (drop-map f n xs)

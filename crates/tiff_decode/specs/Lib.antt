@@ -1,5 +1,6 @@
 pub mod DefaultLimits
 pub mod Result
+pub mod Lending
 pub mod Machine
 pub mod Outcome
 pub mod Failures

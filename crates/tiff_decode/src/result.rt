@@ -1,10 +1,17 @@
 //! Lists of decoded samples.
 
+ghost use Rattle.std.specs.Borrow.{sem, Lends, Array, u8, u16, u32, u64, i8, i16, i32, i64};
 ghost use Rattle.std.specs.Prelude.{◌≡◌, ◌≤◌, length, drop, replicate, IfOk, OnErr};
+ghost use Rattle.std.specs.Vec.{with_items_from};
 ghost use Rattle.tiff_base.specs.Sparing.{GivesSparingly};
 ghost use Rattle.tiff_page.specs.Buffers.{resized_samples};
 ghost use Rattle.tiff_page.specs.Samples.{samples_as};
+ghost use Rattle.tiff_page.specs.declared.layout.DecodingSampleType.TheVariants as type;
+ghost use Rattle.tiff_decode.specs.Lending as lending;
+ghost use Rattle.tiff_decode.specs.Lending.{lends_rest, vec_row};
 ghost use Rattle.tiff_decode.specs.Result.{buffered_as, decoded_as};
+ghost use Rattle.tiff_decode.specs.contracts.result.DecodingResult.{the_row};
+ghost use Rattle.tiff_decode.specs.declared.buffer.DecodingBuffer.TheVariants as buffer;
 
 use crate::buffer::DecodingBuffer;
 use std::alloc::{AllocError, Global};
@@ -29,6 +36,15 @@ pub enum DecodingResult {
     I16(Vec<i16>),
     I32(Vec<i32>),
     I64(Vec<i64>),
+}
+
+// The items of a list from one on.
+fn rest<T>(list: &mut Vec<T>, start: usize) -> &mut [T]
+    requires within { start ≤ length list.old.items }
+    ensures* writes_back { sem 𝓛 (Lends (vec_row T.row) (Array T.row 0) list.entry result (with_items_from list.old start)) }
+    ensures value { result.now ≡ drop start list.old.items }
+{
+    list.slice_mut(start..)
 }
 
 // So many zeros of a number type.
@@ -112,25 +128,219 @@ impl DecodingResult {
         )?;
         Ok(())
     }
-    /// Its samples from one on, to be written in place; `start` is at most their number.
-    #[tactic(auto, using(crate::proofs::Samples::length_mapped, crate::proofs::Samples::drop_mapped))]
+
+    // Its number type.
+    fn sample_type(&self) -> DecodingSampleType
+        ensures { result ≡ (decoded_as self.now).sample_type }
+    {
+        match self {
+            DecodingResult::U8(_) => DecodingSampleType::U8,
+            DecodingResult::U16(_) => DecodingSampleType::U16,
+            DecodingResult::U32(_) => DecodingSampleType::U32,
+            DecodingResult::U64(_) => DecodingSampleType::U64,
+            DecodingResult::F16(_) => DecodingSampleType::F16,
+            DecodingResult::F32(_) => DecodingSampleType::F32,
+            DecodingResult::F64(_) => DecodingSampleType::F64,
+            DecodingResult::I8(_) => DecodingSampleType::I8,
+            DecodingResult::I16(_) => DecodingSampleType::I16,
+            DecodingResult::I32(_) => DecodingSampleType::I32,
+            DecodingResult::I64(_) => DecodingSampleType::I64,
+        }
+    }
+
+    // The same where it is going to be lent.
+    fn sample_type_kept(&mut self) -> DecodingSampleType
+        ensures sample_type { result ≡ (decoded_as self.old).sample_type }
+        ensures kept { self.new ≡ self.old }
+    {
+        self.sample_type()
+    }
+
+    // The rest of its samples, where they are of that number type.
+    #[tactic(auto, using(crate::proofs::Samples::length_mapped, crate::proofs::Samples::rest_mapped))]
+    fn u8_rest(&mut self, start: usize) -> &mut [u8]
+        requires sample_type { type.U8 ≡ (decoded_as self.old).sample_type }
+        requires within { start ≤ length (decoded_as self.old).numbers }
+        ensures* writes_back { sem 𝓛 (Lends the_row (Array u8 0) self.entry result (lending.with_u8 self.old start)) }
+        ensures sample_type { (buffered_as (buffer.U8 result)).sample_type ≡ (decoded_as self.old).sample_type }
+        ensures numbers { (buffered_as (buffer.U8 result)).numbers ≡ drop start (decoded_as self.old).numbers }
+    {
+        match self {
+            DecodingResult::U8(samples) => rest(samples, start),
+            _ => unreachable!(),
+        }
+    }
+
+    // The rest of its samples, where they are of that number type.
+    #[tactic(auto, using(crate::proofs::Samples::length_mapped, crate::proofs::Samples::rest_mapped))]
+    fn u16_rest(&mut self, start: usize) -> &mut [u16]
+        requires sample_type { type.U16 ≡ (decoded_as self.old).sample_type }
+        requires within { start ≤ length (decoded_as self.old).numbers }
+        ensures* writes_back { sem 𝓛 (Lends the_row (Array u16 0) self.entry result (lending.with_u16 self.old start)) }
+        ensures sample_type { (buffered_as (buffer.U16 result)).sample_type ≡ (decoded_as self.old).sample_type }
+        ensures numbers { (buffered_as (buffer.U16 result)).numbers ≡ drop start (decoded_as self.old).numbers }
+    {
+        match self {
+            DecodingResult::U16(samples) => rest(samples, start),
+            _ => unreachable!(),
+        }
+    }
+
+    // The rest of its samples, where they are of that number type.
+    #[tactic(auto, using(crate::proofs::Samples::length_mapped, crate::proofs::Samples::rest_mapped))]
+    fn u32_rest(&mut self, start: usize) -> &mut [u32]
+        requires sample_type { type.U32 ≡ (decoded_as self.old).sample_type }
+        requires within { start ≤ length (decoded_as self.old).numbers }
+        ensures* writes_back { sem 𝓛 (Lends the_row (Array u32 0) self.entry result (lending.with_u32 self.old start)) }
+        ensures sample_type { (buffered_as (buffer.U32 result)).sample_type ≡ (decoded_as self.old).sample_type }
+        ensures numbers { (buffered_as (buffer.U32 result)).numbers ≡ drop start (decoded_as self.old).numbers }
+    {
+        match self {
+            DecodingResult::U32(samples) => rest(samples, start),
+            _ => unreachable!(),
+        }
+    }
+
+    // The rest of its samples, where they are of that number type.
+    #[tactic(auto, using(crate::proofs::Samples::length_mapped, crate::proofs::Samples::rest_mapped))]
+    fn u64_rest(&mut self, start: usize) -> &mut [u64]
+        requires sample_type { type.U64 ≡ (decoded_as self.old).sample_type }
+        requires within { start ≤ length (decoded_as self.old).numbers }
+        ensures* writes_back { sem 𝓛 (Lends the_row (Array u64 0) self.entry result (lending.with_u64 self.old start)) }
+        ensures sample_type { (buffered_as (buffer.U64 result)).sample_type ≡ (decoded_as self.old).sample_type }
+        ensures numbers { (buffered_as (buffer.U64 result)).numbers ≡ drop start (decoded_as self.old).numbers }
+    {
+        match self {
+            DecodingResult::U64(samples) => rest(samples, start),
+            _ => unreachable!(),
+        }
+    }
+
+    // The rest of its samples, where they are of that number type.
+    #[tactic(auto, using(crate::proofs::Samples::length_mapped, crate::proofs::Samples::rest_mapped))]
+    fn f16_rest(&mut self, start: usize) -> &mut [Bits16]
+        requires sample_type { type.F16 ≡ (decoded_as self.old).sample_type }
+        requires within { start ≤ length (decoded_as self.old).numbers }
+        ensures* writes_back { sem 𝓛 (Lends the_row (Array lending.F16s 0) self.entry result (lending.with_f16 self.old start)) }
+        ensures sample_type { (buffered_as (buffer.F16 result)).sample_type ≡ (decoded_as self.old).sample_type }
+        ensures numbers { (buffered_as (buffer.F16 result)).numbers ≡ drop start (decoded_as self.old).numbers }
+    {
+        match self {
+            DecodingResult::F16(samples) => rest(samples, start),
+            _ => unreachable!(),
+        }
+    }
+
+    // The rest of its samples, where they are of that number type.
+    #[tactic(auto, using(crate::proofs::Samples::length_mapped, crate::proofs::Samples::rest_mapped))]
+    fn f32_rest(&mut self, start: usize) -> &mut [Bits32]
+        requires sample_type { type.F32 ≡ (decoded_as self.old).sample_type }
+        requires within { start ≤ length (decoded_as self.old).numbers }
+        ensures* writes_back { sem 𝓛 (Lends the_row (Array lending.F32s 0) self.entry result (lending.with_f32 self.old start)) }
+        ensures sample_type { (buffered_as (buffer.F32 result)).sample_type ≡ (decoded_as self.old).sample_type }
+        ensures numbers { (buffered_as (buffer.F32 result)).numbers ≡ drop start (decoded_as self.old).numbers }
+    {
+        match self {
+            DecodingResult::F32(samples) => rest(samples, start),
+            _ => unreachable!(),
+        }
+    }
+
+    // The rest of its samples, where they are of that number type.
+    #[tactic(auto, using(crate::proofs::Samples::length_mapped, crate::proofs::Samples::rest_mapped))]
+    fn f64_rest(&mut self, start: usize) -> &mut [Bits64]
+        requires sample_type { type.F64 ≡ (decoded_as self.old).sample_type }
+        requires within { start ≤ length (decoded_as self.old).numbers }
+        ensures* writes_back { sem 𝓛 (Lends the_row (Array lending.F64s 0) self.entry result (lending.with_f64 self.old start)) }
+        ensures sample_type { (buffered_as (buffer.F64 result)).sample_type ≡ (decoded_as self.old).sample_type }
+        ensures numbers { (buffered_as (buffer.F64 result)).numbers ≡ drop start (decoded_as self.old).numbers }
+    {
+        match self {
+            DecodingResult::F64(samples) => rest(samples, start),
+            _ => unreachable!(),
+        }
+    }
+
+    // The rest of its samples, where they are of that number type.
+    #[tactic(auto, using(crate::proofs::Samples::length_mapped, crate::proofs::Samples::rest_mapped))]
+    fn i8_rest(&mut self, start: usize) -> &mut [i8]
+        requires sample_type { type.I8 ≡ (decoded_as self.old).sample_type }
+        requires within { start ≤ length (decoded_as self.old).numbers }
+        ensures* writes_back { sem 𝓛 (Lends the_row (Array i8 0) self.entry result (lending.with_i8 self.old start)) }
+        ensures sample_type { (buffered_as (buffer.I8 result)).sample_type ≡ (decoded_as self.old).sample_type }
+        ensures numbers { (buffered_as (buffer.I8 result)).numbers ≡ drop start (decoded_as self.old).numbers }
+    {
+        match self {
+            DecodingResult::I8(samples) => rest(samples, start),
+            _ => unreachable!(),
+        }
+    }
+
+    // The rest of its samples, where they are of that number type.
+    #[tactic(auto, using(crate::proofs::Samples::length_mapped, crate::proofs::Samples::rest_mapped))]
+    fn i16_rest(&mut self, start: usize) -> &mut [i16]
+        requires sample_type { type.I16 ≡ (decoded_as self.old).sample_type }
+        requires within { start ≤ length (decoded_as self.old).numbers }
+        ensures* writes_back { sem 𝓛 (Lends the_row (Array i16 0) self.entry result (lending.with_i16 self.old start)) }
+        ensures sample_type { (buffered_as (buffer.I16 result)).sample_type ≡ (decoded_as self.old).sample_type }
+        ensures numbers { (buffered_as (buffer.I16 result)).numbers ≡ drop start (decoded_as self.old).numbers }
+    {
+        match self {
+            DecodingResult::I16(samples) => rest(samples, start),
+            _ => unreachable!(),
+        }
+    }
+
+    // The rest of its samples, where they are of that number type.
+    #[tactic(auto, using(crate::proofs::Samples::length_mapped, crate::proofs::Samples::rest_mapped))]
+    fn i32_rest(&mut self, start: usize) -> &mut [i32]
+        requires sample_type { type.I32 ≡ (decoded_as self.old).sample_type }
+        requires within { start ≤ length (decoded_as self.old).numbers }
+        ensures* writes_back { sem 𝓛 (Lends the_row (Array i32 0) self.entry result (lending.with_i32 self.old start)) }
+        ensures sample_type { (buffered_as (buffer.I32 result)).sample_type ≡ (decoded_as self.old).sample_type }
+        ensures numbers { (buffered_as (buffer.I32 result)).numbers ≡ drop start (decoded_as self.old).numbers }
+    {
+        match self {
+            DecodingResult::I32(samples) => rest(samples, start),
+            _ => unreachable!(),
+        }
+    }
+
+    // The rest of its samples, where they are of that number type.
+    #[tactic(auto, using(crate::proofs::Samples::length_mapped, crate::proofs::Samples::rest_mapped))]
+    fn i64_rest(&mut self, start: usize) -> &mut [i64]
+        requires sample_type { type.I64 ≡ (decoded_as self.old).sample_type }
+        requires within { start ≤ length (decoded_as self.old).numbers }
+        ensures* writes_back { sem 𝓛 (Lends the_row (Array i64 0) self.entry result (lending.with_i64 self.old start)) }
+        ensures sample_type { (buffered_as (buffer.I64 result)).sample_type ≡ (decoded_as self.old).sample_type }
+        ensures numbers { (buffered_as (buffer.I64 result)).numbers ≡ drop start (decoded_as self.old).numbers }
+    {
+        match self {
+            DecodingResult::I64(samples) => rest(samples, start),
+            _ => unreachable!(),
+        }
+    }
+
+    /// Its samples from one on, to be written in place; `start` is at most their number. Once they are written it has the samples
+    /// before them as they were, and then these.
     pub fn as_buffer(&mut self, start: usize) -> DecodingBuffer<'_>
         requires { start ≤ length (decoded_as self.old).numbers }
+        ensures* writes_back { sem 𝓛 (lends_rest self.entry start result) }
         ensures sample_type { (buffered_as result).sample_type ≡ (decoded_as self.old).sample_type }
         ensures numbers { (buffered_as result).numbers ≡ drop start (decoded_as self.old).numbers }
     {
-        match self {
-            DecodingResult::U8(samples) => DecodingBuffer::U8(&mut samples[start..]),
-            DecodingResult::U16(samples) => DecodingBuffer::U16(&mut samples[start..]),
-            DecodingResult::U32(samples) => DecodingBuffer::U32(&mut samples[start..]),
-            DecodingResult::U64(samples) => DecodingBuffer::U64(&mut samples[start..]),
-            DecodingResult::F16(samples) => DecodingBuffer::F16(&mut samples[start..]),
-            DecodingResult::F32(samples) => DecodingBuffer::F32(&mut samples[start..]),
-            DecodingResult::F64(samples) => DecodingBuffer::F64(&mut samples[start..]),
-            DecodingResult::I8(samples) => DecodingBuffer::I8(&mut samples[start..]),
-            DecodingResult::I16(samples) => DecodingBuffer::I16(&mut samples[start..]),
-            DecodingResult::I32(samples) => DecodingBuffer::I32(&mut samples[start..]),
-            DecodingResult::I64(samples) => DecodingBuffer::I64(&mut samples[start..]),
+        match self.sample_type_kept() {
+            DecodingSampleType::U8 => DecodingBuffer::U8(self.u8_rest(start)),
+            DecodingSampleType::U16 => DecodingBuffer::U16(self.u16_rest(start)),
+            DecodingSampleType::U32 => DecodingBuffer::U32(self.u32_rest(start)),
+            DecodingSampleType::U64 => DecodingBuffer::U64(self.u64_rest(start)),
+            DecodingSampleType::F16 => DecodingBuffer::F16(self.f16_rest(start)),
+            DecodingSampleType::F32 => DecodingBuffer::F32(self.f32_rest(start)),
+            DecodingSampleType::F64 => DecodingBuffer::F64(self.f64_rest(start)),
+            DecodingSampleType::I8 => DecodingBuffer::I8(self.i8_rest(start)),
+            DecodingSampleType::I16 => DecodingBuffer::I16(self.i16_rest(start)),
+            DecodingSampleType::I32 => DecodingBuffer::I32(self.i32_rest(start)),
+            DecodingSampleType::I64 => DecodingBuffer::I64(self.i64_rest(start)),
         }
     }
 }

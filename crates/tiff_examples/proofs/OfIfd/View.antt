@@ -1,6 +1,6 @@
 -- The worked examples of Views compute.
-use Rattle.std.specs.Prelude.{refl, ℤ, List, map}
-use Rattle.std.proofs.Common.{ap}
+use Rattle.std.specs.Prelude.{◌≡◌, refl, ℕ, ℤ, List, [], ◌∷◌, ◌++◌, length, map}
+use Rattle.std.proofs.Common.{ap, take, drop, ◌∙◌}
 use Rattle.std.specs.Cmp.{nat_cmp_total}
 use Rattle.std.specs.FinMap.{empty, insert, get-insert}
 use Rattle.std.specs.Int.{w8, cast_unsigned}
@@ -29,6 +29,15 @@ two_seen = refl
 
 pub bytes_decoded : s.bytes_decoded
 bytes_decoded samples = refl
+
+written : ℕ → List ℕ → Decoded
+written n xs =
+    let ws : List ℕ = take 1 xs ++ ((8 ∷ 9 ∷ []) ++ drop 2 (drop 1 xs)) in
+    record { sample_type = type.U8; numbers = take n (ws ++ drop (length ws) xs) }
+
+pub first_stays : s.first_stays
+unfolding written
+first_stays samples e = let l : samples.len ≡ 3 = samples.ok.0 ∙ ap length e in λ i. written (l i) (e i)
 
 signed : List ℤ → Decoded
 signed xs = record { sample_type = type.I8; numbers = map (cast_unsigned w8) xs }

@@ -14,6 +14,7 @@ use Rattle.tiff_ifd.specs.View.{datum, datum_list}
 use Rattle.tiff_ifd.specs.declared.value.Value.TheVariants as v
 use Rattle.tiff_page.specs.declared.layout.DecodingSampleType.TheVariants as type
 use Rattle.tiff_decode.specs.declared.result.DecodingResult.TheVariants as result
+use Rattle.tiff_decode.specs.Lending.{with_u8}
 use Rattle.tiff_decode.specs.Result.{decoded_as, whole_numbers, bytes_of}
 
 -- a number, and a list that holds a list
@@ -48,6 +49,11 @@ signed_decoded = (samples : Vec ℤ Global) → samples.items ≡ (negsuc 0 ∷ 
 abbrev pub floats_decoded : Type 0
 floats_decoded = (samples : Vec Bits16 Global) → samples.items ≡ (record { 0 = 0x3c00 } ∷ [])
     → decoded_as (result.F16 samples) ≡ record { sample_type = type.F16; numbers = 0x3c00 ∷ [] }
+
+-- samples that are written behind the first, which stays
+abbrev pub first_stays : Type 0
+first_stays = (samples : Vec ℕ Global) → samples.items ≡ (1 ∷ 2 ∷ 3 ∷ [])
+    → decoded_as (with_u8 (result.U8 samples) 1 (8 ∷ 9 ∷ [])) ≡ record { sample_type = type.U8; numbers = 1 ∷ 8 ∷ 9 ∷ [] }
 
 -- bytes whose last number is filled up, and those of whole numbers
 abbrev pub zeros_behind : Type 0

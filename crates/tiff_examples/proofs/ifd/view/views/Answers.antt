@@ -13,6 +13,7 @@ returns c = (
   p.bytes_decoded,
   p.signed_decoded,
   p.floats_decoded,
+  p.first_stays,
   p.zeros_behind,
   p.no_zeros,
   p.wide_bytes,
