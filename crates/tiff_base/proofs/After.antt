@@ -1,39 +1,16 @@
 -- The fields after a tag number.
-use Rattle.std.proofs.Common.{◌≡◌, ℕ, ◌<◌, ◌≤◌, Bool, true, false, cond, ◌&&◌, T, nat_lt, List, [], ◌∷◌, Some, None, length, drop, get_or, refl, ap, sym, ◌∙◌, subst, arith}
+use Rattle.std.proofs.Common.{◌≡◌, ℕ, ◌<◌, ◌≤◌, Bool, true, false, cond, ◌&&◌, T, nat_lt, List, [], ◌∷◌, length, drop, get_or, refl, ap, sym, ◌∙◌, subst, arith}
 use Rattle.std.proofs.lemmas.Bool.{le-ltb, lt-ltb, ltb-true, ltb-false}
 use Rattle.std.proofs.lemmas.Cmp.{ranked}
-use Rattle.std.proofs.lemmas.List.Elements.{All-head, filter_agree, filter_passes}
+use Rattle.std.proofs.lemmas.List.Elements.{All-head, filter_passes}
 use Rattle.std.specs.declared.cmp.Ordering.{Ordering}
 use Rattle.std.specs.declared.cmp.Ordering.TheVariants.{Less, Equal, Greater}
-use Rattle.std.specs.declared.ops.Bound.TheVariants.{Excluded, Unbounded}
 use Rattle.std.specs.Ordering.{nat_cmp, is_lt}
-use Rattle.std.specs.BTreeMap.Range.{range_contains, entries_between}
-use Rattle.std.specs.FinMap.{entries, from_entries, is_sorted}
+use Rattle.std.specs.FinMap.{is_sorted}
 use Rattle.std.specs.FinMap.Entries.{below_all}
-use Rattle.std.specs.List.{All, slice_get}
-use Rattle.std.specs.List.Sorted.{IsStrictlySortedBy}
-use Rattle.std.specs.Map.{keys_of}
-use Rattle.tiff_base.proofs.Maps.{entries_of_tree}
+use Rattle.std.specs.List.{All}
 use Rattle.tiff_base.specs.Directory.{fields_after}
 use Rattle.tiff_base.specs.Field.{Field}
-
-ranked_lt : (a k : ℕ) (r : Ordering) → r ≡ nat_cmp a k → (is_lt r && true) ≡ nat_lt a k
-ranked_lt a k Less e = let l : a < k = ranked a k Less e in sym (lt-ltb a k l)
-ranked_lt a k Equal e = let l : a ≡ k = ranked a k Equal e in sym (le-ltb a k (omega arith))
-ranked_lt a k Greater e = let l : k < a = ranked a k Greater e in sym (le-ltb a k (omega arith))
-
--- the entries of a tree above a number
-range_of_tree : (a : ℕ) (es : List (ℕ × Field)) → entries_between nat_cmp (Excluded a) Unbounded es ≡ fields_after a es
-range_of_tree a es = filter_agree (λ e. range_contains nat_cmp (Excluded a) Unbounded e.0) (λ e. nat_lt a e.0) (λ e. ranked_lt a e.0 (nat_cmp a e.0) refl) es
-
--- the first of them is the first field
-pub first_of_tree : (a : ℕ) (es rest : List (ℕ × Field)) (e : ℕ × Field) → IsStrictlySortedBy nat_cmp (keys_of es)
-    → entries_between nat_cmp (Excluded a) Unbounded es ≡ e ∷ rest → Some e ≡ slice_get (fields_after a (entries (from_entries {R = nat_cmp} es))) 0
-first_of_tree a es rest e h is = rw (entries_of_tree es h, sym (range_of_tree a es), is) refl
-
-pub none_of_tree : (a : ℕ) (es : List (ℕ × Field)) → IsStrictlySortedBy nat_cmp (keys_of es)
-    → entries_between nat_cmp (Excluded a) Unbounded es ≡ [] → None ≡ slice_get (fields_after a (entries (from_entries {R = nat_cmp} es))) 0
-none_of_tree a es h is = rw (entries_of_tree es h, sym (range_of_tree a es), is) refl
 
 -- ---- what follows a field
 

@@ -1,13 +1,11 @@
 -- Each entry of a directory is one that memory can hold, and stays so.
-use Rattle.std.proofs.Common.{ℕ, ◌^◌, ◌<◌, Bool, true, false, cond, List, [], ◌∷◌, refl, sym, subst, inl, inr}
+use Rattle.std.proofs.Common.{ℕ, ◌^◌, ◌<◌, List, [], ◌∷◌, refl, sym, subst, inl, inr}
 use Rattle.std.specs.declared.cmp.Ordering.{Ordering}
 use Rattle.std.specs.declared.cmp.Ordering.TheVariants.{Less, Equal, Greater}
-use Rattle.std.specs.BTreeMap.{insert_entry}
 use Rattle.std.specs.Cmp.{nat_cmp_total}
 use Rattle.std.specs.FinMap.{entries, put, from_entries, entries-insert}
 use Rattle.std.specs.FinMap.Entries.{by_order}
-use Rattle.std.specs.Map.{remove_entry}
-use Rattle.std.specs.Ordering.{nat_cmp, match_ordering}
+use Rattle.std.specs.Ordering.{nat_cmp}
 use Rattle.tiff_base.proofs.Maps.{entries_of_empty}
 use Rattle.tiff_base.specs.Field.{Field, In, IsEntry, AreEntries}
 
@@ -31,31 +29,6 @@ first_fits x es all = all x (inl refl)
 -- the same field under another number
 under : (k n : ℕ) (f : Field) → n < 2 ^ 16 → IsEntry (k, f) → IsEntry (n, f)
 under k n f h e = record { tag = h; count = e.count; whole = e.whole; octets = e.octets }
-
-order_fits : (o : Ordering) (a b c : List (ℕ × Field)) → Fit a → Fit b → Fit c → Fit (match_ordering o a b c)
-order_fits Less a b c p q r = p
-order_fits Equal a b c p q r = q
-order_fits Greater a b c p q r = r
-
--- one more entry of a tree
-pub insert_fits : (k : ℕ) (f : Field) (es : List (ℕ × Field)) → IsEntry (k, f) → Fit es → Fit (insert_entry nat_cmp es k f)
-insert_fits k f [] new all = more_fits (k, f) [] new all
-insert_fits k f (x ∷ es) new all =
-    order_fits (nat_cmp k x.0) ((k, f) ∷ x ∷ es) ((x.0, f) ∷ es) (x ∷ insert_entry nat_cmp es k f)
-    (more_fits (k, f) (x ∷ es) new all)
-    (more_fits (x.0, f) es (under k x.0 f (first_fits x es all).tag new) (fewer_fit x es all))
-    (more_fits x (insert_entry nat_cmp es k f) (first_fits x es all) (insert_fits k f es new (fewer_fit x es all)))
-
-either_fits : (b : Bool) (xs ys : List (ℕ × Field)) → Fit xs → Fit ys → Fit (cond b xs ys)
-either_fits true xs ys p q = p
-either_fits false xs ys p q = q
-
--- one fewer
-pub remove_fits : (test : ℕ → Bool) (es : List (ℕ × Field)) → Fit es → Fit (remove_entry test es)
-remove_fits test [] all = all
-remove_fits test (x ∷ es) all =
-    either_fits (test x.0) es (x ∷ remove_entry test es) (fewer_fit x es all)
-    (more_fits x (remove_entry test es) (first_fits x es all) (remove_fits test es (fewer_fit x es all)))
 
 choice_fits : (o : Ordering) (a b c : List (ℕ × Field)) → Fit a → Fit b → Fit c → Fit (by_order o a b c)
 choice_fits Less a b c p q r = p

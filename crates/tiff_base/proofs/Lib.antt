@@ -9,3 +9,5 @@ mod Extended
 pub mod After
 pub mod Fits
 pub mod Held
+pub mod Places
+pub mod Search

@@ -15,3 +15,4 @@ pub mod ByteOrders
 pub mod Blocks
 pub mod Named
 pub mod Sparing
+pub mod Place

@@ -8,13 +8,14 @@ ghost use Rattle.tiff_base.specs.declared.tags.Tag.{Tag};
 ghost use Rattle.tiff_base.specs.declared.error.TiffError.TheVariants.{OutOfMemory};
 ghost use Rattle.tiff_base.specs.Directory.{with_entries, fields_after, link};
 ghost use Rattle.tiff_base.specs.Field.{AreEntries, Field, IsEntry};
+ghost use Rattle.tiff_base.specs.Place.{IsAscending, IsBehind, IsGapFor, IsPlaceOf};
 
 use crate::error::TiffResult;
+pub use crate::place::{KeyCount, find_place};
 use crate::tags::{IfdPointer, Tag, Type};
 use std::alloc::{AllocError, Global};
-use std::collections::{BTreeMap, btree_map};
 use std::marker::Model;
-use std::ops::Bound;
+use std::slice;
 
 /// A field of a directory: the type of its values, how many there are, and their bytes or their offset.
 #[derive(Clone, Debug, Drop)]
@@ -91,7 +92,8 @@ impl Entry {
 /// The fields of a directory by their tags, and the offset of the next directory.
 #[derive(Debug, Drop)]
 pub struct Directory {
-    entries: BTreeMap<u16, Entry>,
+    // In strictly ascending tag number.
+    entries: Vec<(u16, Entry)>,
     next: u64,
 }
 
@@ -99,6 +101,7 @@ impl Model for Directory {
     ghost use Rattle.std.specs.FinMap as map;
     ghost use Rattle.std.specs.Prelude.{ℕ};
     ghost use Rattle.tiff_base.specs.Field.{DirectoryRecord, Field, In, IsEntry};
+    ghost use Rattle.tiff_base.specs.Place.{IsAscending};
 
     ghost Value = { DirectoryRecord };
 
@@ -108,9 +111,31 @@ impl Model for Directory {
 
     ghost use Rattle.tiff_base.specs.Directory.{link};
 
-    ghost view = { λ d. record { entries = map.from_entries d.entries.entries; next = link d.next } };
+    ghost view = { λ d. record { entries = map.from_entries d.entries.items; next = link d.next } };
 
-    ghost invariant = { λ d. (e : ℕ × Field) → In e d.entries.entries → IsEntry e };
+    ghost invariant = { λ d. IsAscending d.entries.items × ((e : ℕ × Field) → In e d.entries.items → IsEntry e) };
+}
+
+// Where a number stands, or where it would be inserted.
+fn place_in(entries: &Vec<(u16, Entry)>, number: u16) -> Result<usize, usize>
+    requires { IsAscending entries.now.items }
+    ensures found { IfOk result (IsPlaceOf number entries.now.items) }
+    ensures absent { IfErr result (IsGapFor number entries.now.items) }
+{
+    let mut count = KeyCount::new();
+    find_place(entries, number, &mut count)
+}
+
+// How many have at most this number.
+#[tactic(auto, using(crate::proofs::Places::behind_place, crate::proofs::Places::behind_gap))]
+fn behind(entries: &Vec<(u16, Entry)>, number: u16) -> usize
+    requires { IsAscending entries.now.items }
+    ensures { IsBehind number entries.now.items result }
+{
+    match place_in(entries, number) {
+        Ok(at) => at + 1,
+        Err(at) => at,
+    }
 }
 
 impl Directory {
@@ -119,25 +144,31 @@ impl Directory {
         ensures { result ≡ record { entries = map.empty; next = None } }
     {
         Directory {
-            entries: BTreeMap::new(alloc),
+            entries: Vec::new(alloc),
             next: 0,
         }
     }
 
     /// The field of a tag.
-    #[tactic(auto, using(crate::proofs::Maps::get_of_tree))]
+    #[tactic(auto, using(crate::proofs::Places::get_at))]
     pub fn get(&self, tag: Tag) -> Option<&Entry>
         ensures { option_map (λ e. e.now) result ≡ map.get self.now.entries (tag_number tag) }
     {
-        self.entries.get(&tag.to_u16())
+        match place_in(&self.entries, tag.to_u16()) {
+            Ok(at) => Some(&self.entries[at].1),
+            Err(_) => None,
+        }
     }
 
     /// Whether there is a field of a tag.
-    #[tactic(auto, using(crate::proofs::Maps::get_of_tree))]
+    #[tactic(auto, using(crate::proofs::Places::contains_at))]
     pub fn contains(&self, tag: Tag) -> bool
         ensures { result ≡ map.contains_key self.now.entries (tag_number tag) }
     {
-        self.entries.contains_key(&tag.to_u16())
+        match place_in(&self.entries, tag.to_u16()) {
+            Ok(_) => true,
+            Err(_) => false,
+        }
     }
 
     /// How many fields there are.
@@ -185,33 +216,42 @@ impl Directory {
     }
 
     /// The first field whose tag number is above a number, with its tag number (this project's). It takes a look-up.
-    #[tactic(auto, using(crate::proofs::After::first_of_tree, crate::proofs::After::none_of_tree))]
+    #[tactic(auto, using(crate::proofs::Places::none_behind, crate::proofs::Places::some_behind))]
     pub fn first_after(&self, number: u16) -> Option<(u16, &Entry)>
         ensures { option_map (λ x. (x.0, x.1.now)) result ≡ slice_get (fields_after number (map.entries self.now.entries)) 0 }
     {
-        let above = (Bound::Excluded(number), Bound::Unbounded);
-        let (next, entry) = self.entries.range(above).next()?;
+        let at = behind(&self.entries, number);
+        if at >= self.entries.len() {
+            return None;
+        }
+        let (next, entry) = &self.entries[at];
         Some((*next, entry))
     }
 
     /// Sets the field of a tag number.
-    #[tactic(auto, using(crate::proofs::Maps::insert_of_tree))]
+    #[tactic(auto, using(crate::proofs::Places::inserted_in_gap, crate::proofs::Places::replaced_at))]
     pub fn insert(&mut self, tag: u16, entry: Entry) -> Result<(), AllocError>
         ensures ok { OnOk result (self.new ≡ record self.old { entries = map.insert self.old.entries tag entry }) }
         ensures err { OnErr result (self.new ≡ self.old) }
     {
         entry.fits();
-        self.entries.insert(tag, entry)?;
+        match place_in(&self.entries, tag) {
+            Ok(at) => self.entries[at] = (tag, entry),
+            Err(at) => self.entries.insert(at, (tag, entry))?,
+        }
         Ok(())
     }
 
     /// Takes the field of a tag out, and answers it.
-    #[tactic(auto, using(crate::proofs::Maps::get_of_tree, crate::proofs::Maps::remove_of_tree))]
+    #[tactic(auto, using(crate::proofs::Places::get_at, crate::proofs::Places::removed_at))]
     pub fn remove(&mut self, tag: Tag) -> Option<Entry>
         ensures taken { result ≡ map.get self.old.entries (tag_number tag) }
         ensures left { self.new ≡ record self.old { entries = map.remove self.old.entries (tag_number tag) } }
     {
-        self.entries.remove(&tag.to_u16())
+        match place_in(&self.entries, tag.to_u16()) {
+            Ok(at) => Some(self.entries.remove(at).1),
+            Err(_) => None,
+        }
     }
 
     /// Sets the fields of tags in turn: of a number that comes twice the last stands. Where memory is refused, those that
@@ -268,16 +308,17 @@ impl Directory {
 /// The fields of a directory, in ascending tag number.
 #[derive(Drop)]
 pub struct Iter<'a> {
-    inner: btree_map::Iter<'a, u16, Entry>,
+    inner: slice::Iter<'a, (u16, Entry)>,
 }
 
 impl<'a> Model for Iter<'a> {
     ghost use Rattle.std.specs.Prelude.{List, ℕ};
+    ghost use Rattle.std.specs.Slice.Iter.{iter_rest};
     ghost use Rattle.tiff_base.specs.Field.{Field};
 
     ghost Value = { List (ℕ × Field) };
 
-    ghost view = { λ i. i.inner };
+    ghost view = { λ i. iter_rest i.inner };
 }
 
 impl<'a> Iterator for Iter<'a> {

@@ -9,5 +9,6 @@ pub mod error;
 pub mod io;
 pub mod laws;
 pub mod lists;
+mod place;
 pub mod read;
 pub mod tags;

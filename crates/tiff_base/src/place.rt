@@ -1,0 +1,70 @@
+//! Where a tag number stands among pairs in ascending order.
+
+ghost use Rattle.std.specs.Prelude.{◌≡◌, ℕ, ◌+◌, ◌^◌, ◌<◌, ◌≤◌, length, IfErr, IfOk};
+ghost use Rattle.std.specs.Ordering.{nat_cmp};
+ghost use Rattle.tiff_base.specs.Place.{IsAscending, IsGapFor, IsPlaceOf};
+
+use crate::count::Count;
+use crate::directory::Entry;
+use std::cmp::Ordering;
+use std::marker::Model;
+
+/// How many keys were compared. Only contracts see the number, and it has no last value.
+#[derive(Drop)]
+pub struct KeyCount {
+    count: Count,
+}
+
+impl Model for KeyCount {
+    ghost use Rattle.std.specs.Prelude.{ℕ};
+
+    ghost Value = { ℕ };
+
+    ghost view = { λ c. c.count };
+}
+
+impl KeyCount {
+    /// None so far.
+    pub fn new() -> KeyCount
+        ensures { result ≡ 0 }
+    {
+        KeyCount {
+            count: Count::new(),
+        }
+    }
+
+    /// Compares two keys, and counts it.
+    pub fn compare(&mut self, a: u16, b: u16) -> Ordering
+        ensures order { result ≡ nat_cmp a b }
+        ensures counted { self.new ≡ self.old + 1 }
+    {
+        self.count.add();
+        a.cmp(&b)
+    }
+}
+
+/// The place of a number among pairs in strictly ascending number, or the place where it would be inserted. It compares at most
+/// as many keys as their number has binary digits.
+pub fn find_place(
+    entries: &[(u16, Entry)],
+    number: u16,
+    count: &mut KeyCount,
+) -> Result<usize, usize>
+    requires { IsAscending entries.now }
+    ensures found { IfOk result (IsPlaceOf number entries.now) }
+    ensures absent { IfErr result (IsGapFor number entries.now) }
+    ensures grows { count.old ≤ count.new }
+    ensures few { (digits : ℕ) → length entries.now < 2 ^ digits → count.new ≤ count.old + digits }
+{
+    let mut low = 0;
+    let mut high = entries.len();
+    'halves: while low < high {
+        let middle = low + (high - low) / 2;
+        match count.compare(entries[middle].0, number) {
+            Ordering::Less => low = middle + 1,
+            Ordering::Equal => return Ok(middle),
+            Ordering::Greater => high = middle,
+        }
+    }
+    Err(low)
+}
