@@ -9,5 +9,6 @@ mod Extended
 pub mod After
 pub mod Fits
 pub mod Held
+mod Lasts
 pub mod Places
 pub mod Search

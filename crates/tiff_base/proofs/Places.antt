@@ -36,7 +36,7 @@ find_there number (e ∷ entries) zero x l same none = grind (arith, nat_tests, 
 find_there number (e ∷ entries) (suc at) x l same none =
     grind (arith, nat_tests, none 0 (omega arith), find_there number entries at x (omega arith) same (fewer number e entries at none))
 
-find_none : (number : ℕ) (entries : Pairs) → NoneBefore number entries (length entries) → find nat_cmp number entries ≡ None
+pub find_none : (number : ℕ) (entries : Pairs) → NoneBefore number entries (length entries) → find nat_cmp number entries ≡ None
 find_none number [] none = refl
 find_none number (e ∷ entries) none =
     grind (arith, nat_tests, none 0 (omega arith), find_none number entries (fewer number e entries (length entries) none))

@@ -6,11 +6,12 @@ ghost use Rattle.std.specs.Iterator.{Drains, ExtendsWithItems, IsFinite, YieldsF
 ghost use Rattle.tiff_base.specs.Tags.{tag_number};
 ghost use Rattle.tiff_base.specs.declared.tags.Tag.{Tag};
 ghost use Rattle.tiff_base.specs.declared.error.TiffError.TheVariants.{OutOfMemory};
-ghost use Rattle.tiff_base.specs.Directory.{with_entries, fields_after, link};
+ghost use Rattle.tiff_base.specs.Directory.{with_entries, fields_after, last_of_each, link};
 ghost use Rattle.tiff_base.specs.Field.{AreEntries, Field, IsEntry};
 ghost use Rattle.tiff_base.specs.Place.{IsAscending, IsBehind, IsGapFor, IsPlaceOf};
 
 use crate::error::TiffResult;
+use crate::gathered::left_in_order;
 pub use crate::place::{KeyCount, find_place};
 use crate::tags::{IfdPointer, Tag, Type};
 use std::alloc::{AllocError, Global};
@@ -147,6 +148,17 @@ impl Directory {
             entries: Vec::new(alloc),
             next: 0,
         }
+    }
+
+    /// A directory of fields under their tag numbers: of a number that comes twice the last stands. It has no next one. Fields
+    /// in strictly ascending number are taken as they are, others are sorted.
+    pub fn from_entries(entries: Vec<(u16, Entry)>) -> Result<Self, AllocError>
+        ensures { IfOk result (λ d. d ≡ record { entries = last_of_each entries.items; next = None }) }
+    {
+        Ok(Directory {
+            entries: left_in_order(entries)?,
+            next: 0,
+        })
     }
 
     /// The field of a tag.

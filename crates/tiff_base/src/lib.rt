@@ -6,6 +6,7 @@ pub mod color;
 mod count;
 pub mod directory;
 pub mod error;
+mod gathered;
 pub mod io;
 pub mod laws;
 pub mod lists;

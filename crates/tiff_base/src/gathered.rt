@@ -1,0 +1,49 @@
+//! Fields in any order are brought into strictly ascending tag number.
+
+ghost use Rattle.std.specs.Prelude.{◌≡◌, IfOk, All};
+ghost use Rattle.std.specs.Bool.{OnTrue};
+ghost use Rattle.std.specs.FinMap as map;
+ghost use Rattle.tiff_base.specs.Directory.{last_of_each};
+ghost use Rattle.tiff_base.specs.Field.{IsEntry};
+ghost use Rattle.tiff_base.specs.Place.{IsAscending};
+
+use crate::directory::Entry;
+use std::alloc::AllocError;
+
+// Each pair is an entry that a directory can have. It has no effect.
+fn each_fits(entries: &[(u16, Entry)])
+    ensures { All IsEntry entries.now }
+{
+    for i in 0..entries.len() {
+        let _number = entries[i].0;
+        entries[i].1.fits();
+    }
+}
+
+// Whether each number is below the next one.
+fn ascends(entries: &[(u16, Entry)]) -> bool
+    ensures { OnTrue result (IsAscending entries.now) }
+{
+    for i in 1..entries.len() {
+        if entries[i].0 <= entries[i - 1].0 {
+            return false;
+        }
+    }
+    true
+}
+
+/// The last pair of each number, in strictly ascending number. Where the numbers ascend, they are the pairs as they are.
+pub fn left_in_order(mut entries: Vec<(u16, Entry)>) -> Result<Vec<(u16, Entry)>, AllocError>
+    ensures ascending { IfOk result (λ left. IsAscending left.items) }
+    ensures last { IfOk result (λ left. map.from_entries left.items ≡ last_of_each entries.items) }
+    ensures each { IfOk result (λ left. All IsEntry left.items) }
+{
+    each_fits(&entries);
+    if ascends(&entries) {
+        return Ok(entries);
+    }
+    entries.reverse();
+    entries.sort_by_key(|e| e.0)?;
+    entries.dedup_by_key(|e| e.0);
+    Ok(entries)
+}
