@@ -1,12 +1,9 @@
 -- Directories are read entry by entry.
-use Rattle.std.proofs.Common.{◌≡◌, ℕ, ◌+◌, ◌*◌, ◌-◌, ◌≤◌, ◌<◌, Bool, true, false, cond, leb, length, List, [], ◌∷◌, ◌++◌, reverse, Option, Some, None, Result, Ok, Err, refl, ap, sym, ◌∙◌, arith, add-one, append-nil, lit<}
+use Rattle.std.proofs.Common.{◌≡◌, ℕ, ◌+◌, ◌*◌, ◌-◌, ◌≤◌, ◌<◌, Bool, true, false, cond, leb, length, List, [], ◌∷◌, ◌++◌, Option, Result, Ok, Err, refl, ap, sym, ◌∙◌, arith, add-one, lit<}
 use Rattle.std.specs.List.{filter_map, range_with_len, cons_option}
-use Rattle.std.proofs.lemmas.List.{reverse-append}
 use Rattle.std.proofs.lemmas.List.Elements.{filter_map-append}
 use Rattle.std.proofs.lemmas.Bool.{lt-leb}
 use Rattle.std.specs.Int.{Width, byte_len}
-use Rattle.std.specs.FinMap.{from_entries, insert, empty}
-use Rattle.std.specs.Ordering.{nat_cmp}
 use Rattle.tiff_base.proofs.Common.{range_more}
 use Rattle.tiff_base.specs.declared.error.TiffError.{TiffError}
 use Rattle.tiff_base.specs.declared.error.TiffError.TheVariants.{IoError}
@@ -20,8 +17,8 @@ use Rattle.tiff_base.specs.Answers.{◌>>=◌}
 use Rattle.tiff_base.specs.Field.{Field, DirectoryRecord}
 use Rattle.tiff_base.specs.Directory.{count_width, offset_width, entry_len, entry_of, entries_from, last_of_each, link, first_entry, link_offset, directory_at}
 
-pub no_entries : (kind : FileKind) (order : ByteOrder) (bytes : List ℕ) (first : ℕ) → last_of_each (entries_from kind order bytes first 0) ≡ empty
-unfolding last_of_each entries_from
+pub no_entries : (kind : FileKind) (order : ByteOrder) (bytes : List ℕ) (first : ℕ) → entries_from kind order bytes first 0 ≡ []
+unfolding entries_from
 no_entries kind order bytes first = refl
 
 -- what is read at an offset, seen by f
@@ -37,7 +34,8 @@ pub number_past : (order : ByteOrder) (w : Width) (bytes : List ℕ) (at : ℕ) 
 number_past order w bytes at some past =
     ap (λ (b : Bool). cond b (Ok (bytes_at bytes at (byte_len w))) (Err (IoError UnexpectedEof)) >>= λ found. Ok (number order w found)) (lt-leb (byte_len w) (length bytes - at) (omega arith))
 
-entries_more : (kind : FileKind) (order : ByteOrder) (bytes : List ℕ) (first i : ℕ) (o : Option (ℕ × Field))
+-- one more entry
+pub entries_more : (kind : FileKind) (order : ByteOrder) (bytes : List ℕ) (first i : ℕ) (o : Option (ℕ × Field))
     → entry_of kind order (bytes_at bytes (first + entry_len kind * i) (entry_len kind)) ≡ o
     → entries_from kind order bytes first (i + 1) ≡ entries_from kind order bytes first i ++ cons_option o []
 unfolding entries_from
@@ -49,21 +47,6 @@ entries_more kind order bytes first i o e =
     ∙ filter_map-append h (range_with_len 0 i) ((0 + i) ∷ [])
     ∙ ap (λ (k : ℕ). filter_map h (range_with_len 0 i) ++ cons_option (h k) []) same
     ∙ ap (λ (x : Option (ℕ × Field)). filter_map h (range_with_len 0 i) ++ cons_option x []) e
-
--- one more entry: of unknown type, and of a known one
-pub entry_skipped : (kind : FileKind) (order : ByteOrder) (bytes : List ℕ) (first i : ℕ)
-    → entry_of kind order (bytes_at bytes (first + entry_len kind * i) (entry_len kind)) ≡ None
-    → last_of_each (entries_from kind order bytes first (i + 1)) ≡ last_of_each (entries_from kind order bytes first i)
-entry_skipped kind order bytes first i e =
-    ap last_of_each (entries_more kind order bytes first i None e ∙ append-nil (entries_from kind order bytes first i))
-
-pub entry_kept : (kind : FileKind) (order : ByteOrder) (bytes : List ℕ) (first i tag : ℕ) (field : Field)
-    → entry_of kind order (bytes_at bytes (first + entry_len kind * i) (entry_len kind)) ≡ Some (tag, field)
-    → last_of_each (entries_from kind order bytes first (i + 1)) ≡ insert (last_of_each (entries_from kind order bytes first i)) tag field
-unfolding last_of_each
-entry_kept kind order bytes first i tag field e =
-    ap (λ (l : List (ℕ × Field)). from_entries {R = nat_cmp} (reverse l)) (entries_more kind order bytes first i (Some (tag, field)) e)
-    ∙ ap (from_entries {R = nat_cmp}) (reverse-append (entries_from kind order bytes first i) ((tag, field) ∷ []))
 
 some_bytes : (kind : FileKind) → 0 < byte_len (offset_width kind)
 some_bytes Classic = lit< tt

@@ -12,4 +12,5 @@ pub mod Begun
 pub mod Unpacking
 pub mod Ahead
 pub mod Within
+mod Trees
 mod Unsigned

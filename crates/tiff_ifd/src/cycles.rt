@@ -53,7 +53,7 @@ impl IfdCycles {
     }
 
     // The accepted link of an offset.
-    #[tactic(auto, using(tiff_base::proofs::Maps::get_of_tree))]
+    #[tactic(auto, using(crate::proofs::Trees::get_of_tree))]
     fn link_of(&self, offset: u64) -> Option<Option<u64>>
         ensures { result ≡ map.get self.now offset }
     {
@@ -69,7 +69,7 @@ impl IfdCycles {
     }
 
     // Accepts the link of an offset.
-    #[tactic(auto, using(tiff_base::proofs::Maps::insert_of_tree))]
+    #[tactic(auto, using(crate::proofs::Trees::insert_of_tree))]
     fn insert(&mut self, from: u64, to: Option<u64>) -> Result<(), AllocError>
         ensures ok { OnOk result (self.new ≡ map.insert self.old from to) }
         ensures err { OnErr result (self.new ≡ self.old) }

@@ -1,14 +1,15 @@
 //! Directories are read.
 
-ghost use Rattle.std.specs.Prelude.{◌≡◌, ◌+◌, ◌*◌, ◌≤◌, ◌<◌, None, length, IfOk, IfErr};
+ghost use Rattle.std.specs.Prelude.{◌≡◌, ◌+◌, ◌*◌, ◌≤◌, ◌<◌, ◌++◌, [], length, IfOk, IfErr, OnOk};
+ghost use Rattle.std.specs.List.{cons_option};
 ghost use Rattle.tiff_base.specs.declared.error.TiffError.TheVariants as tiff;
 ghost use Rattle.tiff_base.specs.declared.io.IoKind.TheVariants as io_kind;
 ghost use Rattle.std.specs.Int.{w16, w32, w64, byte_len};
 ghost use Rattle.tiff_base.specs.Answers.{Answers, AnswersWithoutMemory, IsCause, IsKept};
 ghost use Rattle.tiff_base.specs.Number.{number_at};
-ghost use Rattle.tiff_base.specs.Directory.{count_width, offset_width, entry_len, entry_of, entry_at, value_of, directory_at, entries_from, last_of_each};
+ghost use Rattle.tiff_base.specs.Directory.{count_width, offset_width, entry_len, entry_of, entry_at, value_of, directory_at, entries_from};
 
-use std::alloc::Global;
+use std::alloc::{AllocError, Global};
 use tiff_base::directory::{Directory, Entry};
 use tiff_base::error::TiffResult;
 use tiff_base::io::Source;
@@ -113,8 +114,19 @@ pub fn read_link_at<R: Source>(
     }
 }
 
-// The fields of the first `count` entries from an offset on, and the offset after them.
-#[tactic(auto, using(crate::proofs::Entries::no_entries, crate::proofs::Entries::read_there, crate::proofs::Entries::entry_kept, crate::proofs::Entries::entry_skipped))]
+// Adds an entry, where there is one.
+fn add(entries: &mut Vec<(u16, Entry)>, entry: Option<(u16, Entry)>) -> Result<(), AllocError>
+    ensures { OnOk result (entries.new.items ≡ entries.old.items ++ cons_option entry []) }
+{
+    if let Some(entry) = entry {
+        entries.push(entry)?;
+    }
+    Ok(())
+}
+
+// The fields of the first `count` entries from an offset on in the order of the file, each with its tag number, and the offset
+// after them.
+#[tactic(auto, using(crate::proofs::Entries::no_entries, crate::proofs::Entries::read_there, crate::proofs::Entries::entries_more))]
 fn read_entries<R: Source>(
     alloc: Global,
     source: &mut R,
@@ -122,22 +134,21 @@ fn read_entries<R: Source>(
     count: u64,
     kind: FileKind,
     order: ByteOrder,
-) -> TiffResult<(Directory, u64)>
+) -> TiffResult<(Vec<(u16, Entry)>, u64)>
     ensures kept { IsKept R.bytes R.failures result source.old source.new }
-    ensures fields { IfOk result (λ r. r.0 ≡ record { entries = last_of_each (entries_from kind order (R.bytes source.old) first count); next = None }) }
+    ensures fields { IfOk result (λ r. r.0.items ≡ entries_from kind order (R.bytes source.old) first count) }
     ensures offset { IfOk result (λ r. r.1 ≡ first + entry_len kind * count) }
     ensures cut { IfErr result (λ e. IsCause (Unit {0}) (R.failures source.old < R.failures source.new) e
         ((e ≡ tiff.IoError io_kind.UnexpectedEof) × (length (R.bytes source.old) ≤ first + entry_len kind * count))) }
 {
-    let mut directory = Directory::empty(alloc);
+    let mut entries = Vec::new(alloc);
     let mut offset = first;
     for i in 0..count {
-        if let Some((tag, entry)) = read_entry_at(source, offset, kind, order)? {
-            directory.insert(tag, entry)?;
-        }
+        let entry = read_entry_at(source, offset, kind, order)?;
+        add(&mut entries, entry)?;
         offset += entry_len(kind) as u64;
     }
-    Ok((directory, offset))
+    Ok((entries, offset))
 }
 
 /// Reads the directory at an offset: the last entry of each tag, entries of unknown type left out. Cut anywhere, it is
@@ -155,8 +166,9 @@ pub fn read_directory<R: Source>(
 {
     let count = read_count_at(source, at, kind, order)?;
     let first = at + count_len(kind);
-    let (mut directory, offset) = read_entries(alloc, source, first, count, kind, order)?;
+    let (entries, offset) = read_entries(alloc, source, first, count, kind, order)?;
     let next = read_link_at(source, offset, kind, order)?;
+    let mut directory = Directory::from_entries(entries)?;
     directory.link_to(next);
     Ok(directory)
 }

@@ -1,5 +1,5 @@
-use Rattle.std.proofs.Common.{◌≡◌, ◌+◌, ◌*◌, None}
-use Rattle.tiff_base.specs.Directory.{entry_len, entries_from, last_of_each}
+use Rattle.std.proofs.Common.{◌≡◌, ◌+◌, ◌*◌}
+use Rattle.tiff_base.specs.Directory.{entry_len, entries_from}
 use Rattle.tiff_ifd.proofs.decode.read_entries.Given as goal
 
 abbrev pub invariant-loop-i : goal.invariant-loop-i
@@ -9,5 +9,5 @@ invariant-loop-i g l =
       same_bytes : g.R.Source.bytes l.source ≡ bytes;
       failures : g.R.Source.failures l.source ≡ g.R.Source.failures l.fn.source;
       here : l.offset ≡ l.first + entry_len l.kind * l.i;
-      so_far : l.directory ≡ record { entries = last_of_each (entries_from l.kind l.order bytes l.first l.i); next = None };
+      so_far : l.entries.items ≡ entries_from l.kind l.order bytes l.first l.i;
     }
