@@ -474,7 +474,7 @@ impl<R: Source> Decoder<R> {
     {
         let (alloc, kind, order) = (self.alloc, self.tags.kind, self.tags.order);
         let source = &mut self.tags.source;
-        match self.walk.offset_of(alloc, source, kind, order, ifd_index) {
+        match self.walk.offset_of(source, kind, order, ifd_index) {
             Ok(Some(offset)) => {
                 let (tags, page) = (&mut self.tags, &mut self.page);
                 return enter_offset(alloc, tags, page, &mut self.standing, ifd_index, offset);

@@ -48,7 +48,7 @@ entries_more kind order bytes first i o e =
     ∙ ap (λ (k : ℕ). filter_map h (range_with_len 0 i) ++ cons_option (h k) []) same
     ∙ ap (λ (x : Option (ℕ × Field)). filter_map h (range_with_len 0 i) ++ cons_option x []) e
 
-some_bytes : (kind : FileKind) → 0 < byte_len (offset_width kind)
+pub some_bytes : (kind : FileKind) → 0 < byte_len (offset_width kind)
 some_bytes Classic = lit< tt
 some_bytes Big = lit< tt
 

@@ -9,6 +9,7 @@ pub mod Fitted
 mod Sames
 pub mod Followed
 pub mod Begun
+mod Passed
 pub mod Unpacking
 pub mod Ahead
 pub mod Within

@@ -7,13 +7,21 @@ use Rattle.tiff_base.specs.declared.error.TiffFormatError.TheVariants.{CycleInOf
 use Rattle.tiff_base.specs.declared.tags.ByteOrder.{ByteOrder}
 use Rattle.tiff_base.specs.declared.tags.FileKind.{FileKind}
 use Rattle.tiff_base.specs.Answers.{◌>>=◌}
-use Rattle.tiff_base.specs.Directory.{directory_at}
+use Rattle.tiff_base.specs.Directory.{count_width, directory_at, link, link_offset, offset_width}
+use Rattle.tiff_base.specs.Number.{number_at}
 
 -- the link of the directory at an offset
 abbrev pub link_from : FileKind → ByteOrder → List ℕ → ℕ → Result (Option ℕ) TiffError
 link_from kind order bytes at = do
   directory ← directory_at kind order bytes at
   Ok directory.next
+
+-- the same by the count and the link alone
+abbrev pub link_of : FileKind → ByteOrder → List ℕ → ℕ → Result (Option ℕ) TiffError
+link_of kind order bytes at = do
+  count ← number_at order (count_width kind) bytes at
+  next ← number_at order (offset_width kind) bytes (link_offset kind at count)
+  Ok (link next)
 
 -- a link, where it is none of these offsets
 abbrev pub unless_met : List ℕ → Option ℕ → Result (Option ℕ) TiffError
@@ -61,6 +69,10 @@ unfoldable pub chain : FileKind → ByteOrder → List ℕ → ℕ → Chain
 chain kind order bytes first = walk (link_from kind order bytes) (length bytes) [] (Some first)
 
 -- ---- its laws
+
+-- a directory's link, and whether it is readable, are told by its count and its link alone
+abbrev pub IsLinkOfDirectory : Type 0
+IsLinkOfDirectory = (kind : FileKind) (order : ByteOrder) (bytes : List ℕ) (at : ℕ) → link_of kind order bytes at ≡ link_from kind order bytes at
 
 -- what `chain` gives is a chain
 abbrev pub IsTheChain : Type 0

@@ -1,5 +1,5 @@
 -- How far a file's chain of directories was gone along (this project's).
-use Rattle.std.specs.Prelude.{◌≡◌, ℕ, List, [], ◌∷◌, ◌++◌, reverse, Option, None, Some, true, false, Result, Ok, Err, nat_eq}
+use Rattle.std.specs.Prelude.{◌≡◌, ℕ, List, [], ◌∷◌, ◌++◌, reverse, Option, None, Some, Bool, true, false, Result, Ok, Err, nat_eq}
 use Rattle.std.specs.List.{list_any}
 use Rattle.std.specs.FinMap.{get}
 use Rattle.tiff_base.specs.declared.error.TiffError.{TiffError}
@@ -43,6 +43,11 @@ module _ (kind : FileKind) (order : ByteOrder) (bytes : List ℕ) where
   WalkSteps before (Ok (Some directory)) after = Enters before directory after
   WalkSteps before (Ok None) after = (before.next ≡ None) × (after ≡ before)
   WalkSteps before (Err e) after = NextIsRefused before e × (after ≡ before)
+
+  -- What a step over the next offset leaves: it was entered, whatever its directory, or there is no next offset.
+  abbrev pub StepsOver : Walked → Bool → Walked → Type 0
+  StepsOver before true after = (directory : DirectoryRecord) × Enters before directory after
+  StepsOver before false after = (before.next ≡ None) × (after ≡ before)
 
   module _ (first : ℕ) where
     -- The chain from a first offset begins with these offsets, and goes on from the link behind them.

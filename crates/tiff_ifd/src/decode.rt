@@ -1,18 +1,20 @@
 //! Directories are read.
 
-ghost use Rattle.std.specs.Prelude.{◌≡◌, ◌+◌, ◌*◌, ◌≤◌, ◌<◌, ◌++◌, [], length, IfOk, IfErr, OnOk};
+ghost use Rattle.std.specs.Prelude.{◌≡◌, ◌+◌, ◌*◌, ◌≤◌, ◌<◌, ◌++◌, ◌^◌, [], length, IfOk, IfErr, IfNone, OnOk};
+ghost use Rattle.std.specs.Option.{IfSome};
 ghost use Rattle.std.specs.List.{cons_option};
 ghost use Rattle.tiff_base.specs.declared.error.TiffError.TheVariants as tiff;
 ghost use Rattle.tiff_base.specs.declared.io.IoKind.TheVariants as io_kind;
 ghost use Rattle.std.specs.Int.{w16, w32, w64, byte_len};
 ghost use Rattle.tiff_base.specs.Answers.{Answers, AnswersWithoutMemory, IsCause, IsKept};
 ghost use Rattle.tiff_base.specs.Number.{number_at};
-ghost use Rattle.tiff_base.specs.Directory.{count_width, offset_width, entry_len, entry_of, entry_at, value_of, directory_at, entries_from};
+ghost use Rattle.tiff_base.specs.Directory.{count_width, offset_width, entry_len, entry_of, entry_at, value_of, directory_at, entries_from, link_offset};
+ghost use Rattle.tiff_ifd.specs.Chain.{link_of};
 
 use std::alloc::{AllocError, Global};
 use tiff_base::directory::{Directory, Entry};
-use tiff_base::error::TiffResult;
-use tiff_base::io::Source;
+use tiff_base::error::{TiffError, TiffResult};
+use tiff_base::io::{IoKind, Source};
 use tiff_base::read::{
     read_exact_at, read_u16_at, read_u32_at, read_u64_at, u16_in, u32_in, u64_in,
 };
@@ -171,4 +173,34 @@ pub fn read_directory<R: Source>(
     let mut directory = Directory::from_entries(entries)?;
     directory.link_to(next);
     Ok(directory)
+}
+
+// Where the link of a directory with so many entries stands, unless that is past each offset of 64 bits.
+fn link_offset(kind: FileKind, at: u64, count: u64) -> Option<u64>
+    ensures there { IfSome result (λ offset. offset ≡ link_offset kind at count) }
+    ensures past { IfNone result (2 ^ 64 ≤ link_offset kind at count) }
+{
+    let entries = count.checked_mul(entry_len(kind) as u64)?;
+    let first = at.checked_add(count_len(kind))?;
+    first.checked_add(entries)
+}
+
+/// Reads the link of the directory at an offset: of the directory its count and its link alone. `None` is a link of 0. Where
+/// the directory is cut, `IoError(UnexpectedEof)`.
+#[tactic(auto, using(crate::proofs::Passed::link_past))]
+pub fn read_link_of<R: Source>(
+    source: &mut R,
+    at: u64,
+    kind: FileKind,
+    order: ByteOrder,
+) -> TiffResult<Option<u64>>
+    ensures kept { IsKept R.bytes R.failures result source.old source.new }
+    ensures answer { AnswersWithoutMemory (λ n. n) result (link_of kind order (R.bytes source.old) at) (R.failures source.old) (R.failures source.new) }
+{
+    let count = read_count_at(source, at, kind, order)?;
+    let Some(offset) = link_offset(kind, at, count) else {
+        return Err(TiffError::IoError(IoKind::UnexpectedEof));
+    };
+    let next = read_link_at(source, offset, kind, order)?;
+    Ok(if next == 0 { None } else { Some(next) })
 }

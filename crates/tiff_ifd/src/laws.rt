@@ -1,7 +1,12 @@
 //! The laws of chains and of accepted links, each the contract of a function with no work.
 
-ghost use Rattle.tiff_ifd.specs.Chain.{IsTheChain, IsOneChain, IsLongestChain, IsChainApart};
+ghost use Rattle.tiff_ifd.specs.Chain.{IsLinkOfDirectory, IsTheChain, IsOneChain, IsLongestChain, IsChainApart};
 ghost use Rattle.tiff_ifd.specs.Links.{IsAnswered, IsOneAnswer};
+
+/// A directory's link, and whether it is readable, are told by its count and its link alone.
+pub fn link_of_directory()
+    ensures { IsLinkOfDirectory }
+{}
 
 /// There is a chain from each first offset of each file, and `chain` is it.
 pub fn the_chain()

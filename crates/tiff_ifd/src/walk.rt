@@ -1,16 +1,16 @@
 //! A file's directories are entered one after another.
 
-ghost use Rattle.std.specs.Prelude.{◌≡◌, ◌==◌, ◌<◌, ◌≤◌, ◌+◌, ◌-◌, ◌++◌, ◌∷◌, ℕ, List, [], reverse, length, IfOk, IfErr, IfNone, OnErr, MatchOption, Ok, Err, None, Some, option_map};
+ghost use Rattle.std.specs.Prelude.{◌≡◌, ◌==◌, ◌<◌, ◌≤◌, ◌+◌, ◌-◌, ◌++◌, ◌∷◌, ℕ, List, [], reverse, length, IfOk, IfErr, IfNone, OnErr, MatchOption, Ok, Err, None, Some, false, option_map};
 ghost use Rattle.std.specs.List.{slice_get};
 ghost use Rattle.tiff_base.specs.Answers.{IsCause, IsKept};
 ghost use Rattle.tiff_base.specs.declared.tags.ByteOrder.{ByteOrder};
 ghost use Rattle.tiff_base.specs.declared.tags.FileKind.{FileKind};
 ghost use Rattle.tiff_ifd.specs.Chain.{unless_met, chain};
 ghost use Rattle.tiff_ifd.specs.Links.{link_target};
-ghost use Rattle.tiff_ifd.specs.Walk.{WalkSteps, ChainBegins, ChainEnds};
+ghost use Rattle.tiff_ifd.specs.Walk.{StepsOver, WalkSteps, ChainBegins, ChainEnds};
 
 use crate::cycles::IfdCycles;
-use crate::decode::read_directory;
+use crate::decode::{read_directory, read_link_of};
 use std::alloc::Global;
 use std::marker::Model;
 use tiff_base::directory::Directory;
@@ -148,12 +148,38 @@ impl Walk {
         Ok(Some(directory))
     }
 
+    // Goes over the next offset, of whose directory it reads the count and the link alone: true, or false where there is no next
+    // offset. Where the offset isn't entered, the walk is as it was, with the fault that `enter_next` answers.
+    #[tactic(auto, using(crate::proofs::Passed::passed_target, crate::proofs::Passed::unlinked, crate::proofs::Passed::unpassed, crate::proofs::Passed::one_passed, crate::proofs::Begun::ends_none, crate::proofs::Passed::begins_passed, crate::proofs::Passed::cut_unlinked, crate::proofs::Passed::cut_unpassed))]
+    fn pass_next<R: Source>(
+        &mut self,
+        source: &mut R,
+        kind: FileKind,
+        order: ByteOrder,
+    ) -> TiffResult<bool>
+        ensures kept { IsKept R.bytes R.failures result source.old source.new }
+        ensures ok { IfOk result (λ passed. StepsOver kind order (R.bytes source.old) self.old passed self.new) }
+        ensures err { IfErr result (λ e. IsCause (self.new ≡ self.old) ((R.failures source.old < R.failures source.new) × (self.new ≡ self.old)) e
+            (WalkSteps kind order (R.bytes source.old) self.old (Err e) self.new)) }
+        ensures begins { (first : ℕ) → ChainBegins kind order (R.bytes source.old) first self.old → ChainBegins kind order (R.bytes source.old) first self.new }
+        ensures end { IfOk result (λ passed. passed ≡ false → (first : ℕ) → ChainBegins kind order (R.bytes source.old) first self.old
+            → ChainEnds kind order (R.bytes source.old) first self.old None) }
+        ensures cut { IfErr result (λ e. IsCause (Unit {0}) (R.failures source.old < R.failures source.new) e
+            ((first : ℕ) → ChainBegins kind order (R.bytes source.old) first self.old → ChainEnds kind order (R.bytes source.old) first self.old (Some e))) }
+    {
+        let Some(offset) = self.next else {
+            return Ok(false);
+        };
+        let next = read_link_of(source, offset, kind, order)?;
+        self.add(offset, next)?;
+        Ok(true)
+    }
+
     /// The offset that comes after `index` others in the file's chain: goes along the chain as far as it must, and reads
     /// nothing for an offset that was entered before. `None` where the chain ends before it; where a directory on the way, or
     /// its own, isn't entered, the fault that `enter_next` answers. The offsets that were entered on the way stay so.
     pub fn offset_of<R: Source>(
         &mut self,
-        alloc: Global,
         source: &mut R,
         kind: FileKind,
         order: ByteOrder,
@@ -174,8 +200,8 @@ impl Walk {
             ((first : ℕ) → ChainBegins kind order (R.bytes source.old) first self.old
             → (slice_get (chain kind order (R.bytes source.old) first).offsets index ≡ None) × ChainEnds kind order (R.bytes source.old) first self.new (Some e))) }
     {
-        while self.len() <= index {
-            if self.enter_next(alloc, source, kind, order)?.is_none() {
+        'way: while self.len() <= index {
+            if !self.pass_next(source, kind, order)? {
                 return Ok(None);
             }
         }

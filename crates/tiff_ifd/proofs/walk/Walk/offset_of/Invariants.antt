@@ -2,8 +2,8 @@ use Rattle.std.proofs.Common.{◌≡◌, ℕ, ◌+◌, ◌-◌, ◌<◌, ◌≤�
 use Rattle.tiff_ifd.specs.Walk.{ChainBegins}
 use Rattle.tiff_ifd.proofs.walk.Walk.offset_of.Given as goal
 
-abbrev pub invariant-loop-alloc : goal.invariant-loop-alloc
-invariant-loop-alloc g l =
+abbrev pub invariant-way : goal.invariant-way
+invariant-way g l =
     let bytes = g.R.Source.bytes l.fn.source in
     record {
       same_bytes : g.R.Source.bytes l.source ≡ bytes;
@@ -14,5 +14,5 @@ invariant-loop-alloc g l =
       begins : (first : ℕ) → ChainBegins l.kind l.order bytes first l.fn.self → ChainBegins l.kind l.order bytes first l.self;
     }
 
-abbrev pub decreases-loop-alloc : goal.decreases-loop-alloc
-decreases-loop-alloc g l = l.index + 1 - length l.self.offsets
+abbrev pub decreases-way : goal.decreases-way
+decreases-way g l = l.index + 1 - length l.self.offsets

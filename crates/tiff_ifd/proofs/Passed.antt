@@ -1,0 +1,130 @@
+-- A directory on the way is known by its count and its link.
+use Rattle.std.proofs.Common.{◌≡◌, ℕ, ◌+◌, ◌^◌, ◌<◌, ◌≤◌, List, [], ◌∷◌, ◌++◌, length, reverse, Option, Some, Bool, true, false, Result, Ok, Err, refl, ap, sym, ◌∙◌, subst, arith}
+use Rattle.tiff_base.proofs.Causes.{cause_along}
+use Rattle.tiff_base.specs.Answers.{IsCause, ◌>>=◌}
+use Rattle.tiff_base.specs.declared.error.TiffError.{TiffError}
+use Rattle.tiff_base.specs.declared.error.TiffError.TheVariants.{IoError}
+use Rattle.tiff_base.specs.declared.io.IoKind.TheVariants.{UnexpectedEof}
+use Rattle.tiff_base.specs.declared.tags.ByteOrder.{ByteOrder}
+use Rattle.tiff_base.specs.declared.tags.FileKind.{FileKind}
+use Rattle.tiff_base.specs.Directory.{directory_at, link_offset, count_width, offset_width}
+use Rattle.tiff_base.specs.Field.{DirectoryRecord}
+use Rattle.tiff_base.specs.Number.{number_at}
+use Rattle.tiff_ifd.proofs.Begun.{begins_entered, cut_unread, cut_unentered, grown, one_entered, one_longer, read_target, unentered, unread}
+use Rattle.tiff_ifd.proofs.Chain.{IsFalseBit}
+use Rattle.tiff_ifd.proofs.Entries.{number_past, some_bytes}
+use Rattle.tiff_ifd.specs.Chain.{IsLinkOfDirectory, link_of, unless_met}
+use Rattle.tiff_ifd.specs.Links.{link_target}
+use Rattle.tiff_ifd.specs.Walk.{ChainBegins, ChainEnds, NextIsRefused, StepsOver, Walked}
+
+-- ---- the law
+
+along : (r : Result ℕ TiffError) (f : ℕ → Result DirectoryRecord TiffError) (g : ℕ → Result (Option ℕ) TiffError) → ((n : ℕ) → g n ≡ (f n >>= λ d. Ok d.next))
+    → (r >>= g) ≡ (r >>= f >>= λ d. Ok d.next)
+along (Ok n) f g h = h n
+along (Err e) f g h = refl
+
+pub link_of_directory : IsLinkOfDirectory
+unfolding directory_at
+link_of_directory kind order bytes at =
+    along (number_at order (count_width kind) bytes at) _ _ (λ count.
+    along (number_at order (offset_width kind) bytes (link_offset kind at count)) _ _ (λ next. refl))
+
+-- a link past each offset of 64 bits is past the end
+pub link_past : (kind : FileKind) (order : ByteOrder) (bytes : List ℕ) (at count : ℕ) → length bytes < 2 ^ 64 → 2 ^ 64 ≤ link_offset kind at count
+    → number_at order (offset_width kind) bytes (link_offset kind at count) ≡ Err (IoError UnexpectedEof)
+link_past kind order bytes at count short past = number_past order (offset_width kind) bytes (link_offset kind at count) (some_bytes kind) (omega (arith, short, past))
+
+-- ---- the directory behind a link
+
+abbrev IsReadAs : FileKind → ByteOrder → List ℕ → ℕ → Option ℕ → Type 0
+IsReadAs kind order bytes at next = (d : DirectoryRecord) × (directory_at kind order bytes at ≡ Ok d) × (next ≡ d.next)
+
+next_or : Option ℕ → Result (Option ℕ) TiffError → Option ℕ
+next_or x (Ok next) = next
+next_or x (Err e) = x
+
+abbrev IsOkNext : Result (Option ℕ) TiffError → Type 0
+IsOkNext (Ok next) = Unit {0}
+IsOkNext (Err e) = ⊥
+
+error_or : TiffError → Result (Option ℕ) TiffError → TiffError
+error_or x (Ok next) = x
+error_or x (Err e) = e
+
+read_by : (kind : FileKind) (order : ByteOrder) (bytes : List ℕ) (at : ℕ) (next : Option ℕ) (r : Result DirectoryRecord TiffError)
+    → directory_at kind order bytes at ≡ r → (r >>= λ d. Ok d.next) ≡ Ok next → IsReadAs kind order bytes at next
+unfolding next_or
+read_by kind order bytes at next (Ok d) e h = (d, e, ap (next_or next) (sym h))
+read_by kind order bytes at next (Err x) e h = absurd (subst IsOkNext (sym h) tt)
+
+unread_by : (kind : FileKind) (order : ByteOrder) (bytes : List ℕ) (at : ℕ) (fault : TiffError) (r : Result DirectoryRecord TiffError)
+    → directory_at kind order bytes at ≡ r → (r >>= λ d. Ok d.next) ≡ Err fault → directory_at kind order bytes at ≡ Err fault
+unfolding error_or
+unread_by kind order bytes at fault (Ok d) e h = absurd (subst IsOkNext h tt)
+unread_by kind order bytes at fault (Err x) e h = e ∙ ap {A = TiffError} {B = Result DirectoryRecord TiffError} Err (ap (error_or fault) h)
+
+module _ (kind : FileKind) (order : ByteOrder) (bytes : List ℕ) where
+  is_read : (at : ℕ) (next : Option ℕ) → link_of kind order bytes at ≡ Ok next → IsReadAs kind order bytes at next
+  is_read at next h = read_by kind order bytes at next (directory_at kind order bytes at) refl (sym (link_of_directory kind order bytes at) ∙ h)
+
+  isnt_read : (at : ℕ) (fault : TiffError) → link_of kind order bytes at ≡ Err fault → directory_at kind order bytes at ≡ Err fault
+  isnt_read at fault h = unread_by kind order bytes at fault (directory_at kind order bytes at) refl (sym (link_of_directory kind order bytes at) ∙ h)
+
+  pub passed_target : (at : ℕ) (next : Option ℕ) → link_of kind order bytes at ≡ Ok next → link_target next ≡ next
+  passed_target at next h =
+      let r = is_read at next h in
+      subst (λ (x : Option ℕ). link_target x ≡ x) (sym r.2) (read_target kind order bytes at r.0 r.1)
+
+  -- ---- a step over it
+
+  pub unlinked : (before : Walked) (offset : ℕ) (e : TiffError) → before.next ≡ Some offset → link_of kind order bytes offset ≡ Err e → NextIsRefused kind order bytes before e
+  unlinked before offset e n h = unread kind order bytes before offset e n (isnt_read offset e h)
+
+  pub unpassed : (before : Walked) (offset : ℕ) (next : Option ℕ) (e : TiffError) → before.next ≡ Some offset → link_of kind order bytes offset ≡ Ok next
+      → unless_met (offset ∷ reverse before.offsets) next ≡ Err e → NextIsRefused kind order bytes before e
+  unpassed before offset next e n h m =
+      let r = is_read offset next h in
+      unentered kind order bytes before offset r.0 e n r.1 (subst (λ (x : Option ℕ). unless_met (offset ∷ reverse before.offsets) x ≡ Err e) r.2 m)
+
+  pub one_passed : (before after : Walked) (offset : ℕ) (next : Option ℕ) → before.next ≡ Some offset → link_of kind order bytes offset ≡ Ok next
+      → unless_met (offset ∷ reverse before.offsets) next ≡ Ok next → after ≡ record { offsets = before.offsets ++ offset ∷ []; next = next }
+      → StepsOver kind order bytes before true after
+  one_passed before after offset next n h m w =
+      let r = is_read offset next h in
+      let P : Option ℕ → Type 0 = λ x. unless_met (offset ∷ reverse before.offsets) x ≡ Ok x in
+      let Q : Option ℕ → Type 0 = λ x. after ≡ record { offsets = before.offsets ++ offset ∷ []; next = x } in
+      (r.0, one_entered kind order bytes before after offset r.0 n r.1 (subst P r.2 m) (subst Q r.2 w))
+
+  pub begins_passed : (first : ℕ) (before after : Walked) (offset : ℕ) (next : Option ℕ) → before.next ≡ Some offset → link_of kind order bytes offset ≡ Ok next
+      → unless_met (offset ∷ reverse before.offsets) next ≡ Ok next → after ≡ record { offsets = before.offsets ++ offset ∷ []; next = next }
+      → ChainBegins kind order bytes first before → ChainBegins kind order bytes first after
+  begins_passed first before after offset next n h m w b =
+      let r = is_read offset next h in
+      begins_entered kind order bytes first before after offset r.0 next n r.1 r.2 m w b
+
+  pub cut_unlinked : (failed : Type 0) (walk : Walked) (offset : ℕ) (e : TiffError) → walk.next ≡ Some offset
+      → IsCause ⊥ failed e (link_of kind order bytes offset ≡ Err e)
+      → IsCause (Unit {0}) failed e ((first : ℕ) → ChainBegins kind order bytes first walk → ChainEnds kind order bytes first walk (Some e))
+  cut_unlinked failed walk offset e n h =
+      cut_unread kind order bytes failed walk offset e n (cause_along e (λ w. absurd w) (λ f. f) (λ g. isnt_read offset e g) h)
+
+  pub cut_unpassed : (failed : Type 0) (walk : Walked) (offset : ℕ) (next : Option ℕ) (e : TiffError) → walk.next ≡ Some offset → link_of kind order bytes offset ≡ Ok next
+      → IsCause (Unit {0}) ⊥ e (unless_met (offset ∷ reverse walk.offsets) next ≡ Err e)
+      → IsCause (Unit {0}) failed e ((first : ℕ) → ChainBegins kind order bytes first walk → ChainEnds kind order bytes first walk (Some e))
+  cut_unpassed failed walk offset next e n h c =
+      let r = is_read offset next h in
+      cut_unentered kind order bytes failed walk offset r.0 next e n r.1 r.2 c
+
+-- ---- what a step over shows
+
+-- one more offset
+pub grown_over : (kind : FileKind) (order : ByteOrder) (bytes old : List ℕ) (before after : Walked) (passed : Bool) → passed ≡ true
+    → StepsOver kind order bytes before passed after → (more : List ℕ) × (before.offsets ≡ old ++ more) → (more : List ℕ) × (after.offsets ≡ old ++ more)
+grown_over kind order bytes old before after false p h m = absurd (subst IsFalseBit p tt)
+grown_over kind order bytes old before after true p h m = grown kind order bytes old before after (Some h.0) refl h.1 m
+
+pub longer_over : (kind : FileKind) (order : ByteOrder) (bytes : List ℕ) (before after : Walked) (passed : Bool) → passed ≡ true
+    → StepsOver kind order bytes before passed after → length after.offsets ≡ length before.offsets + 1
+longer_over kind order bytes before after false p h = absurd (subst IsFalseBit p tt)
+longer_over kind order bytes before after true p h = one_longer kind order bytes before after (Some h.0) refl h.1
