@@ -17,7 +17,7 @@ use Rattle.std.specs.Ordering.{nat_cmp, is_lt}
 use Rattle.tiff_base.specs.declared.tags.«Type».TheVariants.{BYTE}
 use Rattle.tiff_base.specs.Directory.{last_of_each}
 use Rattle.tiff_base.specs.Field.{Field, In, IsEntry}
-use Rattle.tiff_base.specs.Place.{IsAscending, number_at}
+use Rattle.tiff_base.specs.Place.{IsAscending, key_at}
 use Rattle.tiff_base.proofs.Places.{find_none}
 use Rattle.tiff_base.proofs.Search.{numbers_ascend}
 
@@ -80,7 +80,7 @@ keys_deduped : (es : Pairs) → keys_of (dedup same es) ≡ dedup nat_eq (keys_o
 keys_deduped [] = refl
 keys_deduped (e ∷ es) = keys_deduped_from e es
 
-number_is : (es : Pairs) (k : ℕ) (x : ℕ × Field) → k < length es → number_at es k ≡ (get_or es k x).0
+number_is : (es : Pairs) (k : ℕ) (x : ℕ × Field) → k < length es → key_at es k ≡ (get_or es k x).0
 number_is es k x l = get_or-map (λ (e : ℕ × Field). e.0) es k x 0 l
 
 numbers_sorted : (ss : Pairs) → IsSortedByKey key nat_cmp ss → IsSorted nat_cmp (keys_of ss)
@@ -96,17 +96,17 @@ sorted_ascends ss ys sorted left =
 
 -- one more number is above the one before it
 pub one_step : (es : Pairs) (i : ℕ) (x y : ℕ × Field) → 0 < i → i < length es → (get_or es (i - 1) x).0 < (get_or es i y).0
-    → ((k : ℕ) → k + 1 < i → number_at es k < number_at es (k + 1)) → (k : ℕ) → k + 1 < i + 1 → number_at es k < number_at es (k + 1)
+    → ((k : ℕ) → k + 1 < i → key_at es k < key_at es (k + 1)) → (k : ℕ) → k + 1 < i + 1 → key_at es k < key_at es (k + 1)
 one_step es i x y some within up before k l =
     elim (cases_lt (k + 1) i) [
       | inl before_it ↦ before k before_it
       | inr at_it ↦
           let e : k + 1 ≡ i = omega arith in
           let f : k ≡ i - 1 = omega arith in
-          omega (arith, up, ap (number_at es) e, ap (number_at es) f, number_is es (i - 1) x (omega arith), number_is es i y within)
+          omega (arith, up, ap (key_at es) e, ap (key_at es) f, number_is es (i - 1) x (omega arith), number_is es i y within)
     ]
 
-pub steps_ascend : (es : Pairs) → ((k : ℕ) → k + 1 < length es → number_at es k < number_at es (k + 1)) → IsAscending es
+pub steps_ascend : (es : Pairs) → ((k : ℕ) → k + 1 < length es → key_at es k < key_at es (k + 1)) → IsAscending es
 steps_ascend es h = sorted_from_strictly_increasing (keys_of es) (λ k l. h k (omega (arith, l, length-map es (λ (e : ℕ × Field). e.0))))
 
 -- ---- pairs that ascend

@@ -15,21 +15,21 @@ use Rattle.tiff_base.proofs.Maps.{entries_of_tree}
 use Rattle.tiff_base.proofs.Search.{numbers_ascend}
 use Rattle.tiff_base.specs.Directory.{fields_after}
 use Rattle.tiff_base.specs.Field.{Field, In, IsEntry}
-use Rattle.tiff_base.specs.Place.{IsAscending, IsBehind, IsGapFor, IsPlaceOf, number_at}
+use Rattle.tiff_base.specs.Place.{IsAscending, IsBehind, IsGapFor, IsPlaceOf, key_at}
 
 abbrev pub Pairs : Type 0
 Pairs = List (ℕ × Field)
 
 -- none of the first so many has the number
 abbrev pub NoneBefore : ℕ → Pairs → ℕ → Type 0
-NoneBefore number entries n = (i : ℕ) → i < n → number_at entries i ≢ number
+NoneBefore number entries n = (i : ℕ) → i < n → key_at entries i ≢ number
 
 fewer : (number : ℕ) (e : ℕ × Field) (entries : Pairs) (n : ℕ) → NoneBefore number (e ∷ entries) (suc n) → NoneBefore number entries n
 fewer number e entries n none i l = none (suc i) (omega arith)
 
 -- ---- look-ups
 
-find_there : (number : ℕ) (entries : Pairs) (at : ℕ) (x : ℕ × Field) → at < length entries → number_at entries at ≡ number → NoneBefore number entries at
+find_there : (number : ℕ) (entries : Pairs) (at : ℕ) (x : ℕ × Field) → at < length entries → key_at entries at ≡ number → NoneBefore number entries at
     → find nat_cmp number entries ≡ Some (get_or entries at x).1
 find_there number [] at x l same none = absurd (omega arith)
 find_there number (e ∷ entries) zero x l same none = grind (arith, nat_tests, same)
@@ -65,15 +65,15 @@ find_inserted number f [] (suc at) none q = refl
 find_inserted number f (e ∷ entries) (suc at) none q =
     grind (arith, nat_tests, none 0 (omega arith), find_inserted number f entries at (fewer number e entries at none) q)
 
-find_replaced : (number : ℕ) (f : Field) (entries : Pairs) (at : ℕ) → at < length entries → number_at entries at ≡ number → NoneBefore number entries at → (q : ℕ)
+find_replaced : (number : ℕ) (f : Field) (entries : Pairs) (at : ℕ) → at < length entries → key_at entries at ≡ number → NoneBefore number entries at → (q : ℕ)
     → find nat_cmp q (set entries at (number, f)) ≡ cond (is_eq (nat_cmp q number)) (Some f) (find nat_cmp q entries)
 find_replaced number f [] at l same none q = absurd (omega arith)
 find_replaced number f (e ∷ entries) zero l same none q = grind (arith, nat_tests, same)
 find_replaced number f (e ∷ entries) (suc at) l same none q =
     grind (arith, nat_tests, none 0 (omega arith), find_replaced number f entries at (omega arith) same (fewer number e entries at none) q)
 
-find_removed : (number : ℕ) (entries : Pairs) (at : ℕ) → at < length entries → number_at entries at ≡ number
-    → ((i : ℕ) → i < length entries → number_at entries i ≡ number → i ≡ at) → (q : ℕ)
+find_removed : (number : ℕ) (entries : Pairs) (at : ℕ) → at < length entries → key_at entries at ≡ number
+    → ((i : ℕ) → i < length entries → key_at entries i ≡ number → i ≡ at) → (q : ℕ)
     → find nat_cmp q (remove entries at) ≡ cond (is_eq (nat_cmp q number)) None (find nat_cmp q entries)
 find_removed number [] at l same once q = absurd (omega arith)
 find_removed number (e ∷ entries) zero l same once q =
@@ -109,7 +109,7 @@ replaced_at number f entries at sorted is =
     (find_replaced number f entries at is.within is.same (none_before number entries at sorted is))
 
 once : (number : ℕ) (entries : Pairs) (at : ℕ) → IsAscending entries → IsPlaceOf number entries at
-    → (i : ℕ) → i < length entries → number_at entries i ≡ number → i ≡ at
+    → (i : ℕ) → i < length entries → key_at entries i ≡ number → i ≡ at
 once number entries at sorted is i l same = grind (arith, is.within, is.same, same, numbers_ascend entries sorted i at, numbers_ascend entries sorted at i)
 
 pub removed_at : (number : ℕ) (entries : Pairs) (at : ℕ) → IsAscending entries → IsPlaceOf number entries at
@@ -179,7 +179,7 @@ keys_removed [] (suc at) = refl
 keys_removed (x ∷ entries) zero = refl
 keys_removed (x ∷ entries) (suc at) = ap (λ ks. x.0 ∷ ks) (keys_removed entries at)
 
-keys_replaced : (entries : Pairs) (at number : ℕ) (f : Field) → at < length entries → number_at entries at ≡ number → keys_of (set entries at (number, f)) ≡ keys_of entries
+keys_replaced : (entries : Pairs) (at number : ℕ) (f : Field) → at < length entries → key_at entries at ≡ number → keys_of (set entries at (number, f)) ≡ keys_of entries
 keys_replaced [] at number f l same = absurd (omega arith)
 keys_replaced (x ∷ entries) zero number f l same = ap (λ k. k ∷ keys_of entries) (sym same)
 keys_replaced (x ∷ entries) (suc at) number f l same = ap (λ ks. x.0 ∷ ks) (keys_replaced entries at number f (omega arith) same)
@@ -260,7 +260,7 @@ behind_place number entries at sorted is = record {
   within = omega (arith, is.within);
   passed = λ i l. elim (cases_lt i at) [
     | inl below ↦ omega (arith, numbers_ascend entries sorted i at below is.within, is.same)
-    | inr above ↦ let e : i ≡ at = omega (arith, l, above) in omega (arith, ap (number_at entries) e, is.same)
+    | inr above ↦ let e : i ≡ at = omega (arith, l, above) in omega (arith, ap (key_at entries) e, is.same)
   ];
   greater = λ i l m. omega (arith, numbers_ascend entries sorted at i (omega (arith, l)) m, is.same);
 }

@@ -11,7 +11,7 @@ use Rattle.std.specs.List.Sorted.{IsStrictlySortedBy}
 use Rattle.std.specs.Map.{keys_of}
 use Rattle.std.specs.Ordering.{nat_cmp}
 use Rattle.tiff_base.specs.Field.{Field}
-use Rattle.tiff_base.specs.Place.{IsAscending, IsGapFor, IsPlaceOf, number_at}
+use Rattle.tiff_base.specs.Place.{IsAscending, IsGapFor, IsPlaceOf, key_at}
 
 -- ---- numbers that ascend
 
@@ -27,7 +27,7 @@ ascends (x ∷ xs) h i zero l m = absurd (omega arith)
 ascends (x ∷ xs) h zero (suc j) l m = ranked x (get_or xs j 0) Less (sym (each_at (λ y. nat_cmp x y ≡ Less) xs j (omega arith) h.0))
 ascends (x ∷ xs) h (suc i) (suc j) l m = ascends xs h.1 i j (omega arith) (omega arith)
 
-pub numbers_ascend : (entries : List (ℕ × Field)) → IsAscending entries → (i j : ℕ) → i < j → j < length entries → number_at entries i < number_at entries j
+pub numbers_ascend : (entries : List (ℕ × Field)) → IsAscending entries → (i j : ℕ) → i < j → j < length entries → key_at entries i < key_at entries j
 numbers_ascend entries h i j l m = ascends (keys_of entries) h i j l (omega (arith, m, length-map entries (λ (e : ℕ × Field). e.0)))
 
 -- ---- halves
@@ -56,8 +56,8 @@ fewer size spent whole digits some l d =
 pub record Halves (number : ℕ) (entries : List (ℕ × Field)) (before now low high : ℕ) : Type 0 where
   pub order : low ≤ high
   pub within : high ≤ length entries
-  pub smaller : (i : ℕ) → i < low → number_at entries i < number
-  pub greater : (i : ℕ) → high ≤ i → i < length entries → number < number_at entries i
+  pub smaller : (i : ℕ) → i < low → key_at entries i < number
+  pub greater : (i : ℕ) → high ≤ i → i < length entries → number < key_at entries i
   pub spent : ℕ
   pub counted : now ≡ before + spent
   pub left : (high - low) * 2 ^ spent ≤ length entries
@@ -83,7 +83,7 @@ module _ (number : ℕ) (entries : List (ℕ × Field)) (sorted : IsAscending en
   abbrev key : ℕ
   key = (get_or entries middle x).0
 
-  found : key ≡ number_at entries middle
+  found : key ≡ key_at entries middle
   found = sym (get_or-map (λ (e : ℕ × Field). e.0) entries middle x 0 (omega (arith, h.within, some)))
 
   spent_less : (left : ℕ) → left ≤ (high - low) / 2 → left * 2 ^ (h.spent + 1) ≤ length entries
@@ -100,7 +100,7 @@ module _ (number : ℕ) (entries : List (ℕ × Field)) (sorted : IsAscending en
         within = h.within;
         smaller = λ i l. elim (cases_lt i middle) [
           | inl below ↦ omega (arith, numbers_ascend entries sorted i middle below (omega (arith, h.within, some)), found, less)
-          | inr above ↦ let e : i ≡ middle = omega (arith, l, above) in omega (arith, ap (number_at entries) e, found, less)
+          | inr above ↦ let e : i ≡ middle = omega (arith, l, above) in omega (arith, ap (key_at entries) e, found, less)
         ];
         greater = h.greater;
         spent = h.spent + 1;
@@ -118,7 +118,7 @@ module _ (number : ℕ) (entries : List (ℕ × Field)) (sorted : IsAscending en
         smaller = h.smaller;
         greater = λ i l m. elim (cases_lt middle i) [
           | inl above ↦ omega (arith, numbers_ascend entries sorted middle i above m, found, more_than)
-          | inr below ↦ let e : i ≡ middle = omega (arith, l, below) in omega (arith, ap (number_at entries) e, found, more_than)
+          | inr below ↦ let e : i ≡ middle = omega (arith, l, below) in omega (arith, ap (key_at entries) e, found, more_than)
         ];
         spent = h.spent + 1;
         counted = omega (arith, more, h.counted);

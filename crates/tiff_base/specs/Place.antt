@@ -10,22 +10,22 @@ abbrev pub IsAscending : List (ℕ × Field) → Type 0
 IsAscending entries = IsStrictlySortedBy nat_cmp (keys_of entries)
 
 -- the number of the pair at a place
-abbrev pub number_at : List (ℕ × Field) → ℕ → ℕ
-number_at entries i = get_or (keys_of entries) i 0
+abbrev pub key_at : List (ℕ × Field) → ℕ → ℕ
+key_at entries i = get_or (keys_of entries) i 0
 
 -- The pair at a place has this number.
 pub record IsPlaceOf (number : ℕ) (entries : List (ℕ × Field)) (at : ℕ) : Type 0 where
   pub within : at < length entries
-  pub same : number_at entries at ≡ number
+  pub same : key_at entries at ≡ number
 
 -- The numbers before a place are smaller, and those from it on greater.
 pub record IsGapFor (number : ℕ) (entries : List (ℕ × Field)) (at : ℕ) : Type 0 where
   pub within : at ≤ length entries
-  pub smaller_before : (i : ℕ) → i < at → number_at entries i < number
-  pub greater_after : (i : ℕ) → at ≤ i → i < length entries → number < number_at entries i
+  pub smaller_before : (i : ℕ) → i < at → key_at entries i < number
+  pub greater_after : (i : ℕ) → at ≤ i → i < length entries → number < key_at entries i
 
 -- The numbers before a place are at most this one, and those from it on greater.
 pub record IsBehind (number : ℕ) (entries : List (ℕ × Field)) (at : ℕ) : Type 0 where
   pub within : at ≤ length entries
-  pub passed : (i : ℕ) → i < at → number_at entries i ≤ number
-  pub greater : (i : ℕ) → at ≤ i → i < length entries → number < number_at entries i
+  pub passed : (i : ℕ) → i < at → key_at entries i ≤ number
+  pub greater : (i : ℕ) → at ≤ i → i < length entries → number < key_at entries i

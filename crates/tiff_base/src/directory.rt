@@ -16,7 +16,7 @@ pub use crate::place::{KeyCount, find_place};
 use crate::tags::{IfdPointer, Tag, Type};
 use std::alloc::{AllocError, Global};
 use std::marker::Model;
-use std::slice;
+use std::{fmt, slice};
 
 /// A field of a directory: the type of its values, how many there are, and their bytes or their offset.
 #[derive(Clone, Debug, Drop)]
@@ -91,7 +91,7 @@ impl Entry {
 }
 
 /// The fields of a directory by their tags, and the offset of the next directory.
-#[derive(Debug, Drop)]
+#[derive(Drop)]
 pub struct Directory {
     // In strictly ascending tag number.
     entries: Vec<(u16, Entry)>,
@@ -240,6 +240,16 @@ impl Directory {
         Some((*next, entry))
     }
 
+    /// Takes room for the field of a tag, where it has none, so that to set it takes no memory.
+    pub fn make_room(&mut self, tag: Tag) -> Result<(), AllocError>
+        ensures { self.new ≡ self.old }
+    {
+        if self.contains(tag) {
+            return Ok(());
+        }
+        self.entries.reserve(1)
+    }
+
     /// Sets the field of a tag number.
     #[tactic(auto, using(crate::proofs::Places::inserted_in_gap, crate::proofs::Places::replaced_at))]
     pub fn insert(&mut self, tag: u16, entry: Entry) -> Result<(), AllocError>
@@ -314,6 +324,34 @@ impl Directory {
         ensures { self.new ≡ record self.old { next = link offset } }
     {
         self.next = offset;
+    }
+}
+
+// The fields as a map is shown.
+#[derive(Drop)]
+struct ShownFields<'a> {
+    entries: &'a [(u16, Entry)],
+}
+
+impl<'a> fmt::Debug for ShownFields<'a> {
+    fn fmt<W: fmt::Write>(&self, f: &mut fmt::Formatter<W>) -> fmt::Result {
+        let mut map = f.debug_map();
+        for (tag, entry) in self.entries {
+            map.entry(tag, entry);
+        }
+        map.finish()
+    }
+}
+
+impl fmt::Debug for Directory {
+    fn fmt<W: fmt::Write>(&self, f: &mut fmt::Formatter<W>) -> fmt::Result {
+        let fields = ShownFields {
+            entries: &self.entries,
+        };
+        f.debug_struct("Directory")
+            .field("entries", &fields)
+            .field("next", &self.next)
+            .finish()
     }
 }
 
