@@ -117,7 +117,7 @@ impl<'a, W: Sink, K: TiffKind, D: State> DirectoryEncoder<'a, W, K, D> {
         ensures leaves { (m : Model) → Stands self.old.encoder.now.kind self.old.encoder.now.bytes m
             → Leaves (calls.write_entry (T.field_data value) self.old.encoder.now) result self.old.encoder.now self.new.encoder.now m }
     {
-        let entry = self.encoder.place_value(&value)?;
+        let entry = self.encoder.place_value(&value, true)?;
         self.encoder.fits();
         Ok(entry)
     }
@@ -135,7 +135,7 @@ impl<'a, W: Sink, K: TiffKind, D: State> DirectoryEncoder<'a, W, K, D> {
             → Leaves (calls.write_entry_buf buffer.now self.old.encoder.now) result self.old.encoder.now self.new.encoder.now m }
     {
         fits_short(buffer);
-        let entry = self.encoder.place_buffer(buffer)?;
+        let entry = self.encoder.place_buffer(buffer, true)?;
         self.encoder.fits();
         Ok(entry)
     }
@@ -152,7 +152,7 @@ impl<'a, W: Sink, K: TiffKind, D: State> DirectoryEncoder<'a, W, K, D> {
         ensures leaves { (m : Model) → Stands self.old.encoder.now.kind self.old.encoder.now.bytes m
             → Leaves (calls.write_entry_bytes field_type bytes.now self.old.encoder.now) result self.old.encoder.now self.new.encoder.now m }
     {
-        let entry = self.encoder.place_entry_bytes(field_type, bytes)?;
+        let entry = self.encoder.place_entry_bytes(field_type, bytes, true)?;
         self.encoder.fits();
         Ok(entry)
     }
@@ -171,7 +171,8 @@ impl<'a, W: Sink, K: TiffKind, D: State> DirectoryEncoder<'a, W, K, D> {
         ensures leaves { (m : Model) → Stands self.old.encoder.now.kind self.old.encoder.now.bytes m
             → Leaves (calls.write_tag (D.open_directory self.old.state) tag (T.field_data value) self.old.encoder.now) result self.old.encoder.now self.new.encoder.now m }
     {
-        let entry = self.encoder.place_value(&value)?;
+        let has_room = self.state.make_room(tag);
+        let entry = self.encoder.place_value(&value, has_room)?;
         self.encoder.fits();
         self.state.set(tag, entry)?;
         Ok(())
@@ -192,7 +193,8 @@ impl<'a, W: Sink, K: TiffKind, D: State> DirectoryEncoder<'a, W, K, D> {
             → Leaves (calls.write_tag_buf (D.open_directory self.old.state) tag buffer.now self.old.encoder.now) result self.old.encoder.now self.new.encoder.now m }
     {
         fits_short(buffer);
-        let entry = self.encoder.place_buffer(buffer)?;
+        let has_room = self.state.make_room(tag);
+        let entry = self.encoder.place_buffer(buffer, has_room)?;
         self.encoder.fits();
         self.state.set(tag, entry)?;
         Ok(())

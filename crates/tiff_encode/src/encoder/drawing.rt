@@ -86,6 +86,10 @@ impl<C: ColorType> State for Drawing<C> {
 
     ghost with_directory = { with_directory_of };
 
+    fn make_room(&mut self, tag: Tag) -> bool {
+        self.directory.make_room(tag)
+    }
+
     fn set(&mut self, tag: Tag, entry: Entry) -> TiffResult<()> {
         self.directory.set(tag, entry)
     }

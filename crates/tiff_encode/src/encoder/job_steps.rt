@@ -41,7 +41,8 @@ impl<'a, W: Sink, K: TiffKind, D: State> DirectoryEncoder<'a, W, K, D> {
         ensures leaves { (m : Model) → Stands self.old.encoder.now.kind self.old.encoder.now.bytes m
             → Leaves (calls.write_tag (D.open_directory self.old.state) tag (value_data value.now) self.old.encoder.now) result self.old.encoder.now self.new.encoder.now m }
     {
-        let entry = self.encoder.place_job_value(value)?;
+        let has_room = self.state.make_room(tag);
+        let entry = self.encoder.place_job_value(value, has_room)?;
         self.state.set(tag, entry)?;
         Ok(())
     }
@@ -57,7 +58,8 @@ impl<'a, W: Sink, K: TiffKind, D: State> DirectoryEncoder<'a, W, K, D> {
         ensures leaves { (m : Model) → Stands self.old.encoder.now.kind self.old.encoder.now.bytes m
             → Leaves (calls.write_tag_buf (D.open_directory self.old.state) tag (buffer_in buffer.now) self.old.encoder.now) result self.old.encoder.now self.new.encoder.now m }
     {
-        let entry = self.encoder.place_job_buffer(buffer)?;
+        let has_room = self.state.make_room(tag);
+        let entry = self.encoder.place_job_buffer(buffer, has_room)?;
         self.state.set(tag, entry)?;
         Ok(())
     }
@@ -87,11 +89,11 @@ impl<'a, W: Sink, K: TiffKind, D: State> DirectoryEncoder<'a, W, K, D> {
                 Ok(StepReply::Number(offset))
             }
             DirectoryStep::WriteEntry(value) => {
-                let entry = self.encoder.place_job_value(value)?;
+                let entry = self.encoder.place_job_value(value, true)?;
                 Ok(StepReply::Written(entry))
             }
             DirectoryStep::WriteEntryBuf(buffer) => {
-                let entry = self.encoder.place_job_buffer(buffer)?;
+                let entry = self.encoder.place_job_buffer(buffer, true)?;
                 Ok(StepReply::Written(entry))
             }
             DirectoryStep::WriteEntryBytes(field_type, bytes) => {

@@ -94,11 +94,33 @@ impl<W: Sink, K: TiffKind> Hand<TiffEncoder<W, K>, Entry> for ForField {
         × ((m : Model) → Stands old.kind old.bytes m → Leaves (calls.write_entry given old) result old new m) };
 
     fn list<T: TiffScalar>(state: &mut TiffEncoder<W, K>, values: &Vec<T>) -> TiffResult<Entry> {
-        state.place_given(&Slice(values))
+        state.place_given(&Slice(values), true)
     }
 
     fn text(state: &mut TiffEncoder<W, K>, text: &String) -> TiffResult<Entry> {
-        state.place_given(&Text(text))
+        state.place_given(&Text(text), true)
+    }
+}
+
+// The same without room for the entry.
+pub(super) struct ForNoField;
+
+impl<W: Sink, K: TiffKind> Hand<TiffEncoder<W, K>, Entry> for ForNoField {
+    ghost use Rattle.tiff_base.specs.Field.{Field};
+    ghost use Rattle.tiff_encode.specs.Calls as calls;
+    ghost use Rattle.tiff_encode.specs.Ends.{Ends};
+    ghost use Rattle.tiff_encode.specs.Leaves.{Leaves};
+    ghost use Rattle.tiff_encode.specs.Model.{Model, Stands};
+
+    ghost hands = { λ given old result new. Ends (λ (e : Field). e) (calls.write_entry given old) result old new
+        × ((m : Model) → Stands old.kind old.bytes m → Leaves (calls.write_entry given old) result old new m) };
+
+    fn list<T: TiffScalar>(state: &mut TiffEncoder<W, K>, values: &Vec<T>) -> TiffResult<Entry> {
+        state.place_given(&Slice(values), false)
+    }
+
+    fn text(state: &mut TiffEncoder<W, K>, text: &String) -> TiffResult<Entry> {
+        state.place_given(&Text(text), false)
     }
 }
 
@@ -131,12 +153,12 @@ impl<W: Sink, K: TiffKind> TiffEncoder<W, K> {
     }
 
     // `write_entry` of a value, which leaves what stood.
-    fn place_given<T: TiffValue>(&mut self, value: &T) -> TiffResult<Entry>
+    fn place_given<T: TiffValue>(&mut self, value: &T, has_room: bool) -> TiffResult<Entry>
         ensures answer { Ends (λ e. e) (calls.write_entry (T.field_data value.now) self.old) result self.old self.new }
         ensures leaves { (m : Model) → Stands self.old.kind self.old.bytes m
             → Leaves (calls.write_entry (T.field_data value.now) self.old) result self.old self.new m }
     {
-        let entry = self.place_value(value)?;
+        let entry = self.place_value(value, has_room)?;
         self.fits();
         Ok(entry)
     }
@@ -151,11 +173,14 @@ impl<W: Sink, K: TiffKind> TiffEncoder<W, K> {
     }
 
     /// `write_entry` of a value of a job.
-    pub(crate) fn place_job_value(&mut self, value: &JobValue) -> TiffResult<Entry>
+    pub(crate) fn place_job_value(&mut self, value: &JobValue, has_room: bool) -> TiffResult<Entry>
         ensures answer { Ends (λ e. e) (calls.write_entry (value_data value.now) self.old) result self.old self.new }
         ensures leaves { (m : Model) → Stands self.old.kind self.old.bytes m
             → Leaves (calls.write_entry (value_data value.now) self.old) result self.old self.new m }
     {
+        if !has_room {
+            return hand_in::<_, _, ForNoField>(self, value);
+        }
         hand_in::<_, _, ForField>(self, value)
     }
 
@@ -169,12 +194,16 @@ impl<W: Sink, K: TiffKind> TiffEncoder<W, K> {
     }
 
     /// `write_entry_buf` of a buffer of a job.
-    pub(crate) fn place_job_buffer(&mut self, buffer: &JobBuffer) -> TiffResult<Entry>
+    pub(crate) fn place_job_buffer(
+        &mut self,
+        buffer: &JobBuffer,
+        has_room: bool,
+    ) -> TiffResult<Entry>
         ensures answer { Ends (λ e. e) (calls.write_entry_buf (buffer_in buffer.now) self.old) result self.old self.new }
         ensures leaves { (m : Model) → Stands self.old.kind self.old.bytes m
             → Leaves (calls.write_entry_buf (buffer_in buffer.now) self.old) result self.old self.new m }
     {
-        let entry = self.place_ordered(buffer.order, buffer.data_type, &buffer.bytes)?;
+        let entry = self.place_ordered(buffer.order, buffer.data_type, &buffer.bytes, has_room)?;
         self.fits();
         Ok(entry)
     }

@@ -45,6 +45,10 @@ pub trait State {
     // The same with another directory.
     ghost with_directory: { Self → OpenDirectory → Self };
 
+    /// Takes room for the field of a tag, before any byte of its value is written: whether there is some.
+    fn make_room(&mut self, tag: Tag) -> bool
+        ensures { self.new ≡ self.old };
+
     /// Sets the field of a tag, in place of one that it had. Its only error is `OutOfMemory`, and then nothing is done.
     fn set(&mut self, tag: Tag, entry: Entry) -> TiffResult<()>
         ensures { MatchResult result
@@ -70,6 +74,10 @@ impl State for Fields {
     ghost open_directory = { λ d. d };
 
     ghost with_directory = { λ s d. d };
+
+    fn make_room(&mut self, tag: Tag) -> bool {
+        self.directory.make_room(tag).is_ok()
+    }
 
     fn set(&mut self, tag: Tag, entry: Entry) -> TiffResult<()> {
         match self.directory.insert(tag.to_u16(), entry) {

@@ -129,7 +129,8 @@ impl<W: Sink, K: TiffKind> TiffEncoder<W, K> {
         ensures answer { Ends (λ _. fields.new) (calls.write_tag fields.old tag (T.field_data value.now) self.old) result
             self.old self.new }
     {
-        let entry = self.place_value(value)?;
+        let has_room = fields.make_room(tag);
+        let entry = self.place_value(value, has_room)?;
         fields.set(tag, entry)?;
         Ok(())
     }
@@ -140,7 +141,9 @@ impl<W: Sink, K: TiffKind> TiffEncoder<W, K> {
         ensures answer { Ends (λ _. fields.new) (calls.write_tag fields.old value.now.0 (Ok value.now.1) self.old) result
             self.old self.new }
     {
-        let entry = self.place_entry_bytes(value.field_type, &value.bytes[..value.len])?;
+        let has_room = fields.make_room(value.tag);
+        let bytes = &value.bytes[..value.len];
+        let entry = self.place_entry_bytes(value.field_type, bytes, has_room)?;
         fields.set(value.tag, entry)?;
         Ok(())
     }

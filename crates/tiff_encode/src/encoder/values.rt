@@ -63,20 +63,33 @@ impl<W: Sink, K: TiffKind> TiffEncoder<W, K> {
         Ok(Entry::new_u64(field_type, count, offset.to_le_bytes()))
     }
 
-    // `write_entry`
-    pub(crate) fn place_value<T: TiffValue>(&mut self, value: &T) -> TiffResult<Entry>
+    // `write_entry`. Where there is no room for the entry: `OutOfMemory`, and nothing is appended.
+    pub(crate) fn place_value<T: TiffValue>(
+        &mut self,
+        value: &T,
+        has_room: bool,
+    ) -> TiffResult<Entry>
         ensures { Ends (λ e. e) (calls.write_entry (T.field_data value.now) self.old) result self.old self.new }
     {
         let end = self.end()?;
         value.check()?;
         let count = value.count() as u64;
         check_field(self.file_kind(), end, count, value.bytes())?;
+        if !has_room {
+            return Err(TiffError::OutOfMemory);
+        }
         let data = value.data(self.alloc)?;
         self.place_entry(T::field_type(), count, &data)
     }
 
     // Bytes are handed in for a field, as values of a type; a ragged end is left out.
-    fn place_data(&mut self, end: u64, field_type: Type, bytes: &[u8]) -> TiffResult<Entry>
+    fn place_data(
+        &mut self,
+        end: u64,
+        field_type: Type,
+        bytes: &[u8],
+        has_room: bool,
+    ) -> TiffResult<Entry>
         requires fresh { self.old.fault ≡ None }
         requires at_end { end ≡ end_of self.old }
         ensures { Ends (λ e. e) (by_cause (field_cause self.old (data_in field_type bytes.now))
@@ -86,6 +99,9 @@ impl<W: Sink, K: TiffKind> TiffEncoder<W, K> {
         let count = bytes.len() / size;
         let whole = &bytes[..count * size];
         check_field(self.file_kind(), end, count as u64, whole.len())?;
+        if !has_room {
+            return Err(TiffError::OutOfMemory);
+        }
         self.place_entry(field_type, count as u64, whole)
     }
 
@@ -95,24 +111,31 @@ impl<W: Sink, K: TiffKind> TiffEncoder<W, K> {
         order: ByteOrder,
         field_type: Type,
         bytes: &[u8],
+        has_room: bool,
     ) -> TiffResult<Entry>
         ensures { Ends (λ e. e) (calls.write_entry_buf (record { order = order; data_type = field_type; bytes = bytes.now })
             self.old) result self.old self.new }
     {
         let end = self.end()?;
         check_order(order)?;
-        self.place_data(end, field_type, bytes)
+        self.place_data(end, field_type, bytes, has_room)
     }
 
     // The same of a buffer.
-    pub(crate) fn place_buffer(&mut self, buffer: &ValueBuffer) -> TiffResult<Entry>
+    pub(crate) fn place_buffer(&mut self, buffer: &ValueBuffer, has_room: bool) -> TiffResult<Entry>
         ensures { Ends (λ e. e) (calls.write_entry_buf buffer.now self.old) result self.old self.new }
     {
-        self.place_ordered(buffer.byte_order(), buffer.data_type(), buffer.as_bytes())
+        let (order, field_type) = (buffer.byte_order(), buffer.data_type());
+        self.place_ordered(order, field_type, buffer.as_bytes(), has_room)
     }
 
     // `write_entry_bytes`
-    pub(crate) fn place_entry_bytes(&mut self, field_type: Type, bytes: &[u8]) -> TiffResult<Entry>
+    pub(crate) fn place_entry_bytes(
+        &mut self,
+        field_type: Type,
+        bytes: &[u8],
+        has_room: bool,
+    ) -> TiffResult<Entry>
         ensures { Ends (λ e. e) (calls.write_entry_bytes field_type bytes.now self.old) result self.old self.new }
     {
         let end = self.end()?;
@@ -123,7 +146,7 @@ impl<W: Sink, K: TiffKind> TiffEncoder<W, K> {
                 found,
             }));
         }
-        self.place_data(end, field_type, bytes)
+        self.place_data(end, field_type, bytes, has_room)
     }
 
     // `write_data` of a directory

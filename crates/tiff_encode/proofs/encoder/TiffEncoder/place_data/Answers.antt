@@ -1,8 +1,9 @@
-use Rattle.std.proofs.Common.{rules, ◌∙◌}
+use Rattle.std.proofs.Common.{rules, Err, refl, ◌∙◌}
+use Rattle.tiff_base.specs.declared.error.TiffError.TheVariants.{OutOfMemory}
 use Rattle.tiff_encode.specs.Value.{data_in}
 use Rattle.tiff_encode.specs.Calls.{placed_field}
 use Rattle.tiff_encode.specs.Causes.{field_cause}
-use Rattle.tiff_encode.proofs.Calling.{refused, uncaused, data_test, data_placed}
+use Rattle.tiff_encode.proofs.Calling.{refused, uncaused, wanting, data_test, data_placed}
 use Rattle.tiff_encode.proofs.encoder.TiffEncoder.place_data.Goals as goal
 
 pub returns-in_err-check_field : goal.returns-in_err-check_field
@@ -24,3 +25,12 @@ returns g c =
     size c.requires.at_end in
     uncaused (λ f. f) (field_cause old v) (placed_field v) c.place_entry.result old c.place_entry.new.self (test ∙ c.in_ok-check_field.ensures)
     (data_placed c.args.field_type c.args.bytes.now c.from-size.result c.place_entry.result old c.place_entry.new.self size c.place_entry.ensures)
+
+pub returns-then-not-has_room : goal.returns-then-not-has_room
+returns-then-not-has_room g c =
+    let old = c.args.self.now in
+    let v = data_in c.args.field_type c.args.bytes.now in
+    let test = data_test old c.file_kind.result c.args.field_type c.args.bytes.now c.from-size.result c.args.end c.file_kind.ensures
+    (c.from-size.ensures ∙ c.byte_len.ensures) c.requires.at_end in
+    uncaused (λ f. f) (field_cause old v) (placed_field v) (Err OutOfMemory) old old (test ∙ c.in_ok-check_field.ensures)
+    (wanting (λ f. f) (placed_field v old) OutOfMemory old c.requires.fresh refl tt)

@@ -1,7 +1,8 @@
-use Rattle.std.proofs.Common.{rules, ℕ, ◌≡◌, Ok, Err, Result, List, sym, ◌∙◌, subst}
+use Rattle.std.proofs.Common.{rules, ℕ, ◌≡◌, Ok, Err, Result, List, refl, sym, ◌∙◌, subst}
 use Rattle.tiff_base.specs.Field.{Field}
 use Rattle.tiff_base.specs.declared.tags.«Type».{«Type»}
 use Rattle.tiff_base.specs.declared.error.TiffError.{TiffError}
+use Rattle.tiff_base.specs.declared.error.TiffError.TheVariants.{OutOfMemory}
 use Rattle.tiff_value.specs.Data.{FieldData}
 use Rattle.tiff_value.specs.Values.{values_in, IsValue}
 use Rattle.tiff_encode.specs.Calls.{placed_field}
@@ -72,3 +73,16 @@ returns g c =
     let r : Result Field TiffError = c.place_entry.result in
     entry_uncaused (λ f. f) given v r old c.place_entry.new.self c.in_ok-end.ensures.0 is_v uncaused
     (placed_ends v r old c.place_entry.new.self c.place_entry.ensures)
+
+pub returns-then-not-has_room : goal.returns-then-not-has_room
+returns-then-not-has_room g c =
+    let old = c.args.self.now in
+    let given : Result FieldData TiffError = g.T.TiffValue.field_data c.args.value.now in
+    let type = g.T.TiffValue.value_type in
+    let count = g.T.TiffValue.value_count c.args.value.now in
+    let d = writable given c.in_ok-check.ensures in
+    let is : IsValue type count (Ok d.0) = subst (λ v. IsValue type count v) d.1 (g.met.T.TiffValue.sized c.args.value.now) in
+    let uncaused = sym (test_is old c.file_kind.result type count d.0 c.in_ok-end.end c.count-count.result c.bytes.result c.file_kind.ensures is c.in_ok-end.ensures.1 c.count-count.ensures c.bytes.ensures)
+    ∙ c.in_ok-check_field.ensures in
+    entry_uncaused (λ f. f) given d.0 (Err OutOfMemory) old old c.in_ok-end.ensures.0 d.1 uncaused
+    (wanting (λ f. f) (placed_field d.0 old) OutOfMemory old c.in_ok-end.ensures.0 refl tt)

@@ -1,4 +1,4 @@
-use Rattle.std.proofs.Common.{rules, Ok, ap, sym, subst, ◌∙◌}
+use Rattle.std.proofs.Common.{◌≡◌, rules, Ok, ap, sym, subst, ◌∙◌}
 use Rattle.tiff_encode.specs.Calls as calls
 use Rattle.tiff_encode.specs.Ends.{IsTold}
 use Rattle.tiff_encode.specs.JobValues.{buffer_in}
@@ -15,7 +15,7 @@ returns-in_err-entry-clause-answer g c =
 
 pub returns-clause-answer : goal.returns-clause-answer
 returns-clause-answer g c =
-    subst (λ d. IsTold (calls.write_tag_buf (g.D.State.open_directory c.args.self.now.state) c.args.tag (buffer_in c.args.buffer.now) c.args.self.now.encoder.now) (Ok d) c.place_job_buffer.new.self) (sym (ap g.D.State.open_directory c.in_ok-set.ensures ∙ g.met.D.State.given_directory c.args.self.now.state _))
+    subst (λ d. IsTold (calls.write_tag_buf (g.D.State.open_directory c.args.self.now.state) c.args.tag (buffer_in c.args.buffer.now) c.args.self.now.encoder.now) (Ok d) c.place_job_buffer.new.self) (sym (ap g.D.State.open_directory (subst (λ s. c.set.new.self ≡ g.D.State.with_directory s (calls.with_field (g.D.State.open_directory s) c.args.tag c.in_ok-entry.entry)) c.make_room-has_room.ensures c.in_ok-set.ensures) ∙ g.met.D.State.given_directory c.args.self.now.state _))
     (tag_buf_told (g.D.State.open_directory c.args.self.now.state) c.args.tag (buffer_in c.args.buffer.now) c.in_ok-entry.entry c.args.self.now.encoder.now c.place_job_buffer.new.self c.in_ok-entry.ensures.answer)
 
 pub returns-clause-leaves : goal.returns-clause-leaves

@@ -1,4 +1,4 @@
-use Rattle.std.proofs.Common.{rules, Ok, ap, sym, subst, ◌∙◌}
+use Rattle.std.proofs.Common.{◌≡◌, rules, Ok, ap, sym, subst, ◌∙◌}
 use Rattle.tiff_encode.specs.Calls as calls
 use Rattle.tiff_encode.specs.Ends.{IsTold}
 use Rattle.tiff_encode.proofs.Leaving.{tag_plain}
@@ -20,7 +20,7 @@ returns-in_err-entry-clause-leaves g c m s =
 
 pub returns-clause-answer : goal.returns-clause-answer
 returns-clause-answer g c =
-    subst (λ d. IsTold (calls.write_tag (g.D.State.open_directory c.args.self.now.state) c.args.tag (g.T.TiffValue.field_data c.args.value) c.args.self.now.encoder.now) (Ok d) c.place_value.new.self) (sym (ap g.D.State.open_directory c.in_ok-set.ensures ∙ g.met.D.State.given_directory c.args.self.now.state _))
+    subst (λ d. IsTold (calls.write_tag (g.D.State.open_directory c.args.self.now.state) c.args.tag (g.T.TiffValue.field_data c.args.value) c.args.self.now.encoder.now) (Ok d) c.place_value.new.self) (sym (ap g.D.State.open_directory (subst (λ s. c.set.new.self ≡ g.D.State.with_directory s (calls.with_field (g.D.State.open_directory s) c.args.tag c.in_ok-entry.entry)) c.make_room-has_room.ensures c.in_ok-set.ensures) ∙ g.met.D.State.given_directory c.args.self.now.state _))
     (tag_told (g.D.State.open_directory c.args.self.now.state) c.args.tag (g.T.TiffValue.field_data c.args.value) c.in_ok-entry.entry c.args.self.now.encoder.now c.place_value.new.self c.in_ok-entry.ensures)
 
 pub returns-clause-leaves : goal.returns-clause-leaves
