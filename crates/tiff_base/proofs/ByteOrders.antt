@@ -1,9 +1,9 @@
 -- Numbers that are turned twice are as they were.
-use Rattle.std.proofs.Common.{◌≡◌, ℕ, zero, suc, ◌+◌, ◌*◌, ◌/◌, ◌-◌, ◌≤◌, ◌<◌, List, ◌++◌, length, take, drop, reverse, refl, ap, sym, ◌∙◌, arith, length-append, length-drop}
+use Rattle.std.proofs.Common.{◌≡◌, ℕ, zero, suc, ◌+◌, ◌*◌, ◌/◌, ◌-◌, ◌≤◌, ◌<◌, List, ◌++◌, length, take, drop, reverse, refl, ap, sym, ◌∙◌, arith, append-nil, length-append, length-drop, []}
 use Rattle.std.proofs.Math.Seq.{take-append-add, drop-append-add}
 use Rattle.std.specs.List.{flat_map, range_with_len}
-use Rattle.std.proofs.lemmas.List.{drop-drop, append_assoc, length-reverse, take_at, drop_at, take-append-drop, reverse-reverse, length-take-le}
-use Rattle.std.proofs.Math.Nat.{mod-add-div, mul-div-le, mul-le-mul_left, le_trans}
+use Rattle.std.proofs.lemmas.List.{take_all, drop_all, take-append-le, drop-append-le, drop-drop, append_assoc, length-reverse, take_at, drop_at, take-append-drop, reverse-reverse, length-take-le}
+use Rattle.std.proofs.Math.Nat.{mul_comm, mod-add-div, mul-div-le, mul-le-mul_left, le_trans}
 use Rattle.std.proofs.lemmas.List.Edits.{paste_all}
 use Rattle.std.proofs.lemmas.Slice.{put_mid-paste}
 use borrow.Rule.Slice.PartMut.{put_mid}
@@ -138,3 +138,79 @@ next_unit size i bytes now part h e p =
 pub last_unit : (size i : ℕ) (bytes now : List ℕ) → i ≡ length bytes / size → now ≡ turned_units size i bytes
     → now ≡ turned_units size (length bytes / size) bytes
 last_unit size i bytes now h e = e ∙ ap (λ (n : ℕ). turned_units size n bytes) h
+
+-- ---- many at once
+
+-- some numbers that are turned, and then some more behind them
+pub turned_behind : (size a b : ℕ) (bytes : List ℕ) → size * a ≤ length bytes
+    → take (a * size) (turned_units size a bytes) ++ turned_units size b (drop (a * size) (turned_units size a bytes)) ≡ turned_units size (a + b) bytes
+turned_behind size zero b bytes h =
+    let z : zero * size ≡ zero = omega arith in
+    let e : b ≡ zero + b = omega arith in
+    (λ i. take (z i) (turned_units size zero bytes) ++ turned_units size b (drop (z i) (turned_units size zero bytes)))
+    ∙ ap (turned_units size b) (turned_none size bytes)
+    ∙ ap (λ (n : ℕ). turned_units size n bytes) e
+turned_behind size (suc a) b bytes h =
+    let U = reverse (take size bytes) in
+    let rest = turned_units size a (drop size bytes) in
+    let u : length (reverse (take size bytes)) ≡ size = unit_whole size a bytes h in
+    let k : suc a * size ≡ size + a * size = omega arith in
+    let l : suc a + b ≡ suc (a + b) = omega arith in
+    let t : take (suc a * size) (U ++ rest) ≡ U ++ take (a * size) rest = ap (λ (n : ℕ). take n (U ++ rest)) (k ∙ ap (λ (n : ℕ). n + a * size) (sym u)) ∙ take-append-add U rest (a * size) in
+    let d : drop (suc a * size) (U ++ rest) ≡ drop (a * size) rest = ap (λ (n : ℕ). drop n (U ++ rest)) (k ∙ ap (λ (n : ℕ). n + a * size) (sym u)) ∙ drop-append-add U rest (a * size) in
+    ap (λ xs. take (suc a * size) xs ++ turned_units size b (drop (suc a * size) xs)) (turned_first size a bytes)
+    ∙ (λ i. t i ++ turned_units size b (d i))
+    ∙ append_assoc U (take (a * size) rest) (turned_units size b (drop (a * size) rest))
+    ∙ ap (λ xs. U ++ xs) (turned_behind size a b (drop size bytes) (rest_whole size a bytes h))
+    ∙ sym (turned_first size (a + b) bytes)
+    ∙ ap (λ (n : ℕ). turned_units size n bytes) (sym l)
+
+-- numbers that are turned in a part alone
+pub turned_in : (size count : ℕ) (xs ys : List ℕ) → length xs ≡ size * count → turned_units size count (xs ++ ys) ≡ turned_units size count xs ++ ys
+turned_in size zero xs ys h =
+    turned_none size (xs ++ ys) ∙ ap (λ l. l ++ ys) (sym (turned_none size xs))
+turned_in size (suc count) xs ys h =
+    let e : take size (xs ++ ys) ≡ take size xs = take-append-le size xs ys (omega (arith, h)) in
+    let d : drop size (xs ++ ys) ≡ drop size xs ++ ys = drop-append-le size xs ys (omega (arith, h)) in
+    turned_first size count (xs ++ ys)
+    ∙ (λ i. reverse (e i) ++ turned_units size count (d i))
+    ∙ ap (λ l. reverse (take size xs) ++ l) (turned_in size count (drop size xs) ys (omega (arith, h, length-drop size xs)))
+    ∙ sym (append_assoc (reverse (take size xs)) (turned_units size count (drop size xs)) ys)
+    ∙ ap (λ l. l ++ ys) (sym (turned_first size count xs))
+
+-- one turn of a loop that turns m numbers of a slice at once, L bytes of it
+pub next_block : (size m L at k : ℕ) (bytes now part : List ℕ) → L ≡ size * m → at ≡ m * k * size → at + L ≤ length bytes → now ≡ turned_units size (m * k) bytes
+    → part ≡ turned_units size m (take (at + L - at) (drop at now)) → put_mid at (at + L - at) now part ≡ turned_units size (m * k + m) bytes
+next_block size m L at k bytes now part whole there room e p =
+    let n : at + L - at ≡ L = omega arith in
+    let front : size * (m * k) ≤ length bytes = omega (arith, room, there, mul_comm size (m * k)) in
+    let rest = drop at now in
+    let long : length rest ≡ length bytes - at = length-drop at now ∙ ap (λ (j : ℕ). j - at) (ap length e ∙ length-turned_units size (m * k) bytes front) in
+    let cut : length (take L rest) ≡ size * m = length-take-le L rest (omega (arith, long, room)) ∙ whole in
+    let zs = turned_units size m (take L rest) in
+    let q : part ≡ zs = p ∙ ap (λ (j : ℕ). turned_units size m (take j rest)) n in
+    let len : L ≡ length zs = sym (length-turned_units size m (take L rest) (omega (arith, cut)) ∙ cut ∙ sym whole) in
+    put_mid-paste at (at + L - at) now part zs L q (sym n) len
+    ∙ paste_all now at zs L len
+    ∙ ap (λ l. take at now ++ (zs ++ l)) (sym (drop-drop L at now ∙ ap (λ (j : ℕ). drop j now) (omega arith)))
+    ∙ ap (λ l. take at now ++ l) (sym (turned_in size m (take L rest) (drop L rest) cut))
+    ∙ ap (λ l. take at now ++ turned_units size m l) (take-append-drop L rest)
+    ∙ ap (λ xs. take at xs ++ turned_units size m (drop at xs)) e
+    ∙ ap (λ (j : ℕ). take j (turned_units size (m * k) bytes) ++ turned_units size m (drop j (turned_units size (m * k) bytes))) there
+    ∙ turned_behind size (m * k) m bytes front
+
+-- what follows such blocks, turned to the end
+pub last_block : (size m at k b : ℕ) (bytes now part : List ℕ) → at ≡ m * k * size → at ≤ length bytes → now ≡ turned_units size (m * k) bytes
+    → part ≡ turned_units size b (take (length now - at) (drop at now)) → put_mid at (length now - at) now part ≡ turned_units size (m * k + b) bytes
+last_block size m at k b bytes now part there room e p =
+    let front : size * (m * k) ≤ length bytes = omega (arith, room, there, mul_comm size (m * k)) in
+    let rest = drop at now in
+    let long : length rest ≡ length now - at = length-drop at now in
+    let whole : take (length now - at) rest ≡ rest = take_all (length now - at) rest (omega (arith, long)) in
+    let none : drop (length now - at) rest ≡ [] = drop_all (length now - at) rest (omega (arith, long)) in
+    (λ i. take at now ++ (p i ++ none i))
+    ∙ ap (λ l. take at now ++ (turned_units size b l ++ [])) whole
+    ∙ ap (λ l. take at now ++ l) (append-nil (turned_units size b rest))
+    ∙ ap (λ xs. take at xs ++ turned_units size b (drop at xs)) e
+    ∙ ap (λ (j : ℕ). take j (turned_units size (m * k) bytes) ++ turned_units size b (drop j (turned_units size (m * k) bytes))) there
+    ∙ turned_behind size (m * k) b bytes front

@@ -3,6 +3,8 @@ pub mod Bytes
 pub mod Causes
 pub mod Maps
 pub mod ByteOrders
+mod Sixteen
+mod Turned
 pub mod Blocks
 mod Named
 mod Extended

@@ -13,3 +13,4 @@ pub mod lists;
 mod place;
 pub mod read;
 pub mod tags;
+mod turn;

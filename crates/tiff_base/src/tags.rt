@@ -1,12 +1,13 @@
 //! The numbers of TIFF as enums, byte orders, and bit patterns.
 
-ghost use Rattle.std.specs.Prelude.{◌≡◌, ◌<◌, ◌/◌, false, true, length};
+ghost use Rattle.std.specs.Prelude.{◌≡◌, ◌<◌, false, true};
 ghost use Rattle.std.specs.Fmt.{WritesOnOk, digits};
 ghost use Rattle.tiff_base.specs.Tags.{extra_number, extra_of, format_number, format_of, interpretation_number, interpretation_of, method_number, method_of, planar_number, planar_of, predictor_number, predictor_of, tag_number, tag_of, type_number, type_of, unit_number, unit_of, named_tag, named_method, named_format};
-ghost use Rattle.tiff_base.specs.ByteOrders.{convert, turned_units, unit_size};
+ghost use Rattle.tiff_base.specs.ByteOrders.{convert, unit_size};
 ghost use Rattle.tiff_base.specs.Types.{type_size};
 ghost use Rattle.tiff_base.specs.declared.tags.ByteOrder.TheVariants.{LittleEndian};
 
+use crate::turn::turn_units;
 use std::fmt;
 
 /// The tags of a directory (TIFF 6.0, its supplements, GeoTIFF, EXIF, ICC, GDAL).
@@ -704,18 +705,6 @@ fn unit_size(ty: Type) -> usize
         Type::SHORT | Type::SSHORT => 2,
         Type::LONG | Type::SLONG | Type::FLOAT | Type::IFD => 4,
         Type::DOUBLE | Type::LONG8 | Type::SLONG8 | Type::IFD8 => 8,
-    }
-}
-
-// Turns each whole number of so many bytes the other way round.
-fn turn_units(buffer: &mut [u8], size: usize)
-    requires { 0 < size }
-    ensures { buffer.new ≡ turned_units size (length buffer.old / size) buffer.old }
-{
-    let units = buffer.len() / size;
-    'units: for i in 0..units {
-        let at = i * size;
-        buffer[at..at + size].reverse();
     }
 }
 

@@ -1,6 +1,6 @@
 use Rattle.std.proofs.Common.{sym, arith}
 use Rattle.tiff_base.proofs.ByteOrders.{turned_none, next_unit, last_unit}
-use Rattle.tiff_base.proofs.tags.turn_units.Goals as goal
+use Rattle.tiff_base.proofs.turn.turn_plain.Goals as goal
 
 pub units-init : goal.units-init
 units-init c = sym (turned_none c.args.size c.args.buffer.now)
