@@ -1,8 +1,8 @@
 -- Rows of samples as bytes.
-use Rattle.std.proofs.Common.{zero, suc, ◌≡◌, ℕ, ◌+◌, ◌-◌, ◌%◌, ◌^◌, ◌<◌, ◌≤◌, List, [], ◌∷◌, ◌++◌, map, get_or, length, take, drop, inl, inr, Result, Ok, Err, MatchResult, refl, ap, sym, ◌∙◌, arith, add-one, append-nil, append_assoc}
+use Rattle.std.proofs.Common.{zero, suc, ◌≡◌, ℕ, ◌+◌, ◌-◌, ◌%◌, ◌^◌, ◌<◌, ◌≤◌, List, [], ◌∷◌, ◌++◌, map, get_or, length, take, drop, inl, inr, Result, Ok, Err, MatchResult, refl, ap, sym, ◌∙◌, arith, add-one, append-nil, append_assoc, length-append}
 use Rattle.std.specs.List.{range_with_len, flat_map}
-use Rattle.std.proofs.Math.Nat.{mod-eq_of_lt, mod-mod, mod-add-mod}
-use Rattle.std.proofs.lemmas.List.{flat_map_more, get_or-take, get_or-drop, take-map, drop-map, length-take-le, length-drop}
+use Rattle.std.proofs.Math.Nat.{mod-eq_of_lt, mod-add-mod}
+use Rattle.std.proofs.lemmas.List.{get_or-append-add, map-id, get_or-take, get_or-drop, take-map, drop-map, length-take-le, length-drop}
 use Rattle.std.proofs.lemmas.List.FromFn.{fill_by_all, map-range_with_len_more, length-map-range_with_len, get_or-map-range_with_len}
 use Rattle.std.proofs.lemmas.Grind.{flat_map-append}
 use Rattle.std.proofs.lemmas.Bool.{lt-ltb, le-ltb, cases_lt}
@@ -14,9 +14,9 @@ use Rattle.tiff_base.specs.declared.tags.Predictor.TheVariants.{Horizontal}
 use Rattle.tiff_base.specs.declared.tags.Predictor.TheVariants as predictor
 use Rattle.tiff_value.specs.ColorType.{sample_number}
 use Rattle.tiff_value.specs.Differences.{stored_difference, differences, predicted_row}
+use Rattle.tiff_value.specs.Predicted.{IsAppended, AppendsRow}
 use Rattle.tiff_value.proofs.Differences.{predicted}
 use Rattle.tiff_value.proofs.Lowest.{spelled_by}
-use Rattle.tiff_value.proofs.Predicted as p
 
 -- each number in its turn
 in_turn : (ns : List ℕ) → map (λ k. get_or ns k 0) (range_with_len 0 (length ns)) ≡ ns
@@ -55,46 +55,49 @@ module _ {A : Type 0} (size : ℕ) (b : A → ℕ) (spelled : A → List ℕ) (b
   pushed_plain (Err e) predictor m l s xs old given new other same h = h
 
   module _ (m : ℕ) (all : m ≡ 256 ^ size) (s : ℕ) (row : List A) where
-    -- the bytes of the first so many differences of a row
-    abbrev bytes_made : ℕ → List ℕ
-    bytes_made n = flat_map (le size) (p.made num m s row n)
-
-    -- those of its first pixel
-    pub bytes_begin : (old new : List ℕ) → s ≤ length row → new ≡ old ++ flat_map spelled (take s row) → new ≡ old ++ bytes_made s
-    bytes_begin old new whole e =
-        e ∙ ap (λ (ys : List ℕ). old ++ ys) (spelled_all (take s row))
-        ∙ ap (λ (ns : List ℕ). old ++ flat_map (le size) ns) (p.begun num m s row whole)
-
     -- a number of bits that are few enough
     plain : (x : A) → b x < m → num x ≡ b x
     plain x h = ap (λ (k : ℕ). b x % k) (sym all) ∙ mod-eq_of_lt h
 
-    less : (x before next : A) → b next ≡ (b x + m - b before) % m → b x < m → b before < m → num next ≡ (num x + m - num before) % m
-    less x before next e hx hb =
-        ap (λ (k : ℕ). b next % k) (sym all) ∙ ap (λ (k : ℕ). k % m) e ∙ mod-mod (b x + m - b before) m
-        ∙ ap (λ (k : ℕ). (k + m - b before) % m) (sym (plain x hx))
-        ∙ ap (λ (k : ℕ). (num x + m - k) % m) (sym (plain before hb))
+    -- numbers of bits that are few enough
+    plain_all : (xs : List A) → ((k : ℕ) → k < length xs → get_or (map b xs) k 0 < m) → map num xs ≡ map b xs
+    plain_all [] h = refl
+    plain_all (x ∷ xs) h = λ i. plain x (h 0 (omega arith)) i ∷ plain_all xs (λ k lt. h (suc k) (omega (arith, lt))) i
 
-    -- the next of them
-    pub bytes_continue : (i : ℕ) (x before next : A) (old given new : List ℕ) → s ≤ i → i < length row
-        → x ≡ get_or row i x → before ≡ get_or row (i - s) before
-        → b next ≡ (b x + m - b before) % m → b x < m → b before < m
-        → given ≡ old ++ bytes_made i → new ≡ given ++ spelled next → new ≡ old ++ bytes_made (i + 1)
-    bytes_continue i x before next old given new first within is_x is_before is_next hx hb was e =
-        let F = stored_difference Horizontal m (length (map num row)) s (map num row) in
-        let step : F i ≡ num next = p.next_made num m s row i x before next first within is_x is_before (less x before next is_next hx hb) in
-        e ∙ ap (λ (ys : List ℕ). ys ++ spelled next) was
-        ∙ ap (λ (ys : List ℕ). (old ++ bytes_made i) ++ ys) (spell next)
-        ∙ flat_map_more (le size) old (p.made num m s row i) (num next)
-        ∙ ap (λ (y : ℕ). old ++ flat_map (le size) (p.made num m s row i ++ y ∷ [])) (sym step)
-        ∙ ap (λ (ns : List ℕ). old ++ flat_map (le size) ns) (sym (map-range_with_len_more F 0 i i (omega arith)))
+    -- differences that are made in a list of their own, as bytes
+    pub made_pushed : {B : Type 0} (r : Result B TiffError) (none made seen sent : List A) (old new : List ℕ) → none ≡ [] → seen ≡ made → sent ≡ made
+        → ((k : ℕ) → k < length row → get_or (map b row) k 0 < m) → ((k : ℕ) → k < length seen → get_or (map b seen) k 0 < m)
+        → IsAppended b (predicted_row m s (map b row)) none made
+        → MatchResult r (λ _. new ≡ old ++ flat_map spelled sent) (λ e. e ≡ OutOfMemory)
+        → MatchResult r (λ _. new ≡ old ++ flat_map (le size) (predicted_row m s (map num row))) (λ e. e ≡ OutOfMemory)
+    made_pushed (Ok x) none made seen sent old new empty here there low held is h =
+        h ∙ ap (λ (ys : List ℕ). old ++ ys) (spelled_all sent)
+        ∙ ap (λ (ns : List ℕ). old ++ flat_map (le size) ns)
+        (ap (map num) (there ∙ sym here) ∙ plain_all seen held ∙ ap (map b) (here ∙ is.whole ∙ ap (λ (ys : List A). ys ++ is.added) empty) ∙ is.same ∙ ap (predicted_row m s) (sym (plain_all row low)))
+    made_pushed (Err e) none made seen sent old new empty here there low held is h = h
 
-    -- all of them
-    pub bytes_end : (i : ℕ) (old new : List ℕ) → 0 < s → s ≤ length row → i ≡ length row → new ≡ old ++ bytes_made i
-        → new ≡ old ++ flat_map (le size) (predicted_row m s (map num row))
-    bytes_end i old new some whole last was =
-        was ∙ ap (λ (k : ℕ). old ++ bytes_made k) last
-        ∙ ap (λ (ns : List ℕ). old ++ flat_map (le size) ns) (p.whole_row num m s row some whole)
+-- bytes are written as they are
+alone : (xs : List ℕ) → ((i : ℕ) → i < length xs → get_or xs i 0 < 256) → flat_map (le 1) xs ≡ xs
+alone [] h = refl
+alone (x ∷ xs) h =
+    let e : x % 256 ≡ x = mod-eq_of_lt (h 0 (omega arith)) in
+    let rest : flat_map (le 1) xs ≡ xs = alone xs (λ i lt. h (suc i) (omega (arith, lt))) in
+    ap (λ (b : ℕ). b ∷ flat_map (le 1) xs) e ∙ ap (λ (bs : List ℕ). x ∷ bs) rest
+
+-- the differences of bytes are their bytes
+pub bytes_pushed : {B : Type 0} (r : Result B TiffError) (s : ℕ) (row old new : List ℕ)
+    → ((k : ℕ) → k < length row → get_or row k 0 < 256) → ((k : ℕ) → k < length new → get_or new k 0 < 256)
+    → AppendsRow (λ (n : ℕ). n) (Ok (predicted_row 256 s (map (λ (n : ℕ). n) row))) old new r
+    → MatchResult r (λ _. new ≡ old ++ flat_map (le 1) (predicted_row 256 s (map (sample_number 1 (λ (n : ℕ). n)) row))) (λ e. e ≡ OutOfMemory)
+bytes_pushed (Ok x) s row old new low held is =
+    let same : map (λ (n : ℕ). n) row ≡ row = map-id row in
+    let plain : map (sample_number 1 (λ (n : ℕ). n)) row ≡ map (λ (n : ℕ). n) row =
+    plain_all 1 (λ (n : ℕ). n) (le 1) (λ n. refl) 256 refl s row row (λ k h. omega (arith, low k h, ap (λ (ns : List ℕ). get_or ns k 0) same)) in
+    let fit : (k : ℕ) → k < length is.added → get_or is.added k 0 < 256 = λ k h.
+    omega (arith, held (length old + k) (omega (arith, h, ap length is.whole, length-append old is.added)), get_or-append-add old is.added k 0, ap (λ (ns : List ℕ). get_or ns (length old + k) 0) is.whole) in
+    is.whole ∙ ap (λ (ns : List ℕ). old ++ ns)
+    (sym (alone is.added fit) ∙ ap (flat_map (le 1)) (sym (map-id is.added) ∙ is.same ∙ ap (predicted_row 256 s) (sym plain)))
+bytes_pushed (Err e) s row old new low held is = is.0
 
 -- what some numbers give, and what those behind them give
 joined : {X : Type 0} (F : ℕ → X) (n k : ℕ) → map F (range_with_len 0 n) ++ map (λ j. F (n + j)) (range_with_len 0 k) ≡ map F (range_with_len 0 (n + k))

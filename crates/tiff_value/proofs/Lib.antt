@@ -8,3 +8,4 @@ pub mod Packing
 pub mod Predicted
 pub mod Chunk
 pub mod Lowest
+pub mod Lanes

@@ -13,3 +13,4 @@ pub mod Stored
 pub mod Compressors
 pub mod Lends
 pub mod ColorLaws
+pub mod Lanes

@@ -1,7 +1,7 @@
 //! Rows of samples as differences: each sample less the one a stride before it.
 
 ghost use Rattle.std.specs.Int.{w8, w16, w32, w64, cast_unsigned};
-ghost use Rattle.std.specs.Prelude.{◌≡◌, ◌+◌, ◌-◌, ◌^◌, ◌%◌, ◌<◌, ◌++◌, map, Ok, IfSome, MatchResult, refl};
+ghost use Rattle.std.specs.Prelude.{◌≡◌, ◌+◌, ◌-◌, ◌^◌, ◌%◌, ◌<◌, ◌≤◌, ◌++◌, ℕ, get_or, length, map, Ok, IfSome, MatchResult, refl};
 ghost use Rattle.std.specs.List.{flat_map};
 ghost use Rattle.tiff_base.specs.Number.{le};
 ghost use Rattle.tiff_base.specs.Types.{type_size};
@@ -10,6 +10,7 @@ ghost use Rattle.tiff_value.specs.Differences.{predicted_row};
 ghost use Rattle.tiff_value.specs.Predicted.{AppendsRow};
 
 use super::tiff_value::TiffScalar;
+use std::simd::prelude::*;
 use tiff_base::error::{TiffError, TiffResult, UsageError};
 use tiff_base::tags::{Bits32, Bits64};
 
@@ -57,7 +58,8 @@ pub trait Sample: TiffScalar + Copy {
 
 // A number of so many bits.
 trait Whole: TiffScalar + Copy {
-    ghost use Rattle.std.specs.Prelude.{ℕ};
+    ghost use Rattle.std.specs.Prelude.{◌≡◌, ◌+◌, ◌-◌, ◌%◌, ◌<◌, ◌≤◌, ℕ, length, map};
+    ghost use Rattle.tiff_value.specs.Lanes.{less_from};
     ghost use Rattle.tiff_base.specs.Number.{le};
 
     ghost bits: { Self → ℕ };
@@ -71,6 +73,18 @@ trait Whole: TiffScalar + Copy {
         ensures own { bits self < modulus }
         ensures others { bits other < modulus };
 
+    // The same of sixteen numbers of a row, from number `at` on, each less the one from number `before` on.
+    fn less_lanes(row: &[Self], at: usize, before: usize, out: &mut [Self])
+        requires order { before ≤ at }
+        requires row { at + 16 ≤ length row.now }
+        requires out { length out.old ≡ 16 }
+        ensures { map bits out.new ≡ less_from modulus 16 at before (map bits row.now) }
+    {
+        'each: for k in 0..16 {
+            out[k] = row[at + k].less(row[before + k]);
+        }
+    }
+
     // It is written as the bytes of its bits, the lowest first.
     ghost by_bits: { (x : Self) → Self.spelled x ≡ le (type_size Self.value_type) (bits x) };
 
@@ -78,34 +92,58 @@ trait Whole: TiffScalar + Copy {
     ghost all: { modulus ≡ 256 ^ type_size Self.value_type };
 }
 
+// The bits of each sample are below their modulus, which nothing else says of signed numbers in a slice. The loop does
+// nothing else, and the compiler leaves it out.
+fn all_below<T: Whole>(row: &[T])
+    ensures { (k : ℕ) → k < length row.now → get_or (map T.bits row.now) k 0 < T.modulus }
+{
+    'seen: for i in 0..row.len() {
+        let _none = row[i].less(row[i]);
+    }
+}
+
+// Puts the differences of a row, but those of its first pixel, in the place of its copy.
+fn less_all<T: Whole>(row: &[T], stride: usize, out: &mut [T])
+    requires some { 0 < stride }
+    requires whole { stride ≤ length row.now }
+    requires begun { out.old ≡ row.now }
+    ensures { map T.bits out.new ≡ predicted_row T.modulus stride (map T.bits row.now) }
+{
+    all_below(row);
+    let parts = (row.len() - stride) / 16;
+    'parts: for k in 0..parts {
+        let at = stride + k * 16;
+        T::less_lanes(row, at, at - stride, &mut out[at..at + 16]);
+    }
+    'rest: for i in stride + parts * 16..row.len() {
+        out[i] = row[i].less(row[i - stride]);
+    }
+}
+
+// Appends a row, and then its differences in its place.
 fn push_differences<T: Whole>(row: &[T], stride: usize, out: &mut Vec<T>) -> TiffResult<()>
     ensures { AppendsRow T.bits (Ok (predicted_row T.modulus stride (map T.bits row.now))) out.old.items out.new.items result }
 {
     if stride == 0 || row.len() < stride {
         return Ok(());
     }
-    out.reserve(row.len())?;
-    out.extend_from_slice(&row[..stride])?;
-    for i in stride..row.len() {
-        out.push_reserved(row[i].less(row[i - stride]));
-    }
+    let start = out.len();
+    out.extend_from_slice(row)?;
+    less_all(row, stride, &mut out[start..]);
     Ok(())
 }
 
-// The same as bytes, of each number the lowest first.
+// The same as bytes, of each number the lowest first: the differences are made in a list of their own.
 fn push_row_differences<T: Whole>(row: &[T], stride: usize, out: &mut Vec<u8>) -> TiffResult<()>
     ensures { MatchResult result
         (λ _. out.new.items ≡ out.old.items ++ flat_map (le (type_size T.value_type)) (predicted_row T.modulus stride (map (sample_number (type_size T.value_type) T.bits) row.now)))
         (λ e. e ≡ TiffError.OutOfMemory) }
 {
-    if stride == 0 || row.len() < stride {
-        return Ok(());
-    }
-    T::push_all(&row[..stride], out)?;
-    for i in stride..row.len() {
-        row[i].less(row[i - stride]).push_to(out)?;
-    }
-    Ok(())
+    let mut differences = Vec::new(out.allocator().clone()?);
+    push_differences(row, stride, &mut differences)?;
+    all_below(row);
+    all_below(&differences);
+    T::push_all(&differences, out)
 }
 
 impl Whole for u8 {
@@ -115,6 +153,10 @@ impl Whole for u8 {
 
     fn less(self, other: u8) -> u8 {
         self.wrapping_sub(other)
+    }
+
+    fn less_lanes(row: &[u8], at: usize, before: usize, out: &mut [u8]) {
+        (u8x16::from_slice(&row[at..]) - u8x16::from_slice(&row[before..])).copy_to_slice(out);
     }
 
     ghost by_bits = { λ x. refl };
@@ -137,8 +179,9 @@ impl Sample for u8 {
         push_differences(row, stride, out)
     }
 
+    // the differences are the bytes
     fn push_row(row: &[u8], stride: usize, out: &mut Vec<u8>) -> TiffResult<()> {
-        push_row_differences(row, stride, out)
+        push_differences(row, stride, out)
     }
 
     fn as_bytes(samples: &[u8]) -> Option<&[u8]> {
@@ -156,6 +199,10 @@ impl Whole for i8 {
     #[tactic(auto, using(crate::proofs::Predicted::signed_less, crate::proofs::Predicted::signed_below))]
     fn less(self, other: i8) -> i8 {
         self.wrapping_sub(other)
+    }
+
+    fn less_lanes(row: &[i8], at: usize, before: usize, out: &mut [i8]) {
+        (i8x16::from_slice(&row[at..]) - i8x16::from_slice(&row[before..])).copy_to_slice(out);
     }
 
     ghost by_bits = { λ x. refl };
@@ -199,6 +246,10 @@ impl Whole for u16 {
         self.wrapping_sub(other)
     }
 
+    fn less_lanes(row: &[u16], at: usize, before: usize, out: &mut [u16]) {
+        (u16x16::from_slice(&row[at..]) - u16x16::from_slice(&row[before..])).copy_to_slice(out);
+    }
+
     ghost by_bits = { λ x. refl };
 
     ghost all = { refl };
@@ -238,6 +289,10 @@ impl Whole for i16 {
     #[tactic(auto, using(crate::proofs::Predicted::signed_less, crate::proofs::Predicted::signed_below))]
     fn less(self, other: i16) -> i16 {
         self.wrapping_sub(other)
+    }
+
+    fn less_lanes(row: &[i16], at: usize, before: usize, out: &mut [i16]) {
+        (i16x16::from_slice(&row[at..]) - i16x16::from_slice(&row[before..])).copy_to_slice(out);
     }
 
     ghost by_bits = { λ x. refl };
@@ -281,6 +336,10 @@ impl Whole for u32 {
         self.wrapping_sub(other)
     }
 
+    fn less_lanes(row: &[u32], at: usize, before: usize, out: &mut [u32]) {
+        (u32x16::from_slice(&row[at..]) - u32x16::from_slice(&row[before..])).copy_to_slice(out);
+    }
+
     ghost by_bits = { λ x. refl };
 
     ghost all = { refl };
@@ -320,6 +379,10 @@ impl Whole for i32 {
     #[tactic(auto, using(crate::proofs::Predicted::signed_less, crate::proofs::Predicted::signed_below))]
     fn less(self, other: i32) -> i32 {
         self.wrapping_sub(other)
+    }
+
+    fn less_lanes(row: &[i32], at: usize, before: usize, out: &mut [i32]) {
+        (i32x16::from_slice(&row[at..]) - i32x16::from_slice(&row[before..])).copy_to_slice(out);
     }
 
     ghost by_bits = { λ x. refl };
@@ -363,6 +426,10 @@ impl Whole for u64 {
         self.wrapping_sub(other)
     }
 
+    fn less_lanes(row: &[u64], at: usize, before: usize, out: &mut [u64]) {
+        (u64x16::from_slice(&row[at..]) - u64x16::from_slice(&row[before..])).copy_to_slice(out);
+    }
+
     ghost by_bits = { λ x. refl };
 
     ghost all = { refl };
@@ -402,6 +469,10 @@ impl Whole for i64 {
     #[tactic(auto, using(crate::proofs::Predicted::signed_less, crate::proofs::Predicted::signed_below))]
     fn less(self, other: i64) -> i64 {
         self.wrapping_sub(other)
+    }
+
+    fn less_lanes(row: &[i64], at: usize, before: usize, out: &mut [i64]) {
+        (i64x16::from_slice(&row[at..]) - i64x16::from_slice(&row[before..])).copy_to_slice(out);
     }
 
     ghost by_bits = { λ x. refl };
