@@ -23,3 +23,4 @@ pub mod Portions
 pub mod Reach
 mod Sums
 pub mod Wants
+mod Complements

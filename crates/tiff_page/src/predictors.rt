@@ -5,6 +5,7 @@ ghost use Rattle.tiff_base.specs.declared.tags.ByteOrder.TheVariants.{LittleEndi
 ghost use Rattle.tiff_page.specs.Pixels.{summed_number, joined_number};
 ghost use Rattle.tiff_page.specs.Row.{IsSize, Became, AddsNumber, TurnsNumber, TurnsNumbers};
 
+use std::simd::prelude::*;
 use tiff_base::read::{u16_in, u32_in, u64_in};
 use tiff_base::tags::ByteOrder;
 
@@ -267,11 +268,25 @@ pub fn undo_byte_plane(row: &mut [u8], room: &mut [u8], size: usize, stored: usi
     join_planes(room, size, row);
 }
 
+// Complements sixteen bytes at once.
+#[inline(always)]
+fn invert_lanes(part: &mut [u8])
+    requires { length part.old ≡ 16 }
+    ensures { EachIndex part.new (λ i. slice_index part.new i ≡ 255 - slice_index part.old i) }
+{
+    (u8x16::splat(255) - u8x16::from_slice(part)).copy_to_slice(part);
+}
+
 /// Complements each byte of a row, and so each number of it.
 pub fn invert(row: &mut [u8])
     ensures { EachIndex row.new (λ i. slice_index row.new i ≡ 255 - slice_index row.old i) }
 {
-    for byte in row.iter_mut() {
-        *byte = 255 - *byte;
+    let parts = row.len() / 16;
+    'parts: for k in 0..parts {
+        let at = k * 16;
+        invert_lanes(&mut row[at..at + 16]);
+    }
+    'rest: for i in parts * 16..row.len() {
+        row[i] = 255 - row[i];
     }
 }

@@ -1,0 +1,5 @@
+use Rattle.tiff_page.proofs.Complements.{complements}
+use Rattle.tiff_page.proofs.predictors.invert_lanes.Goals as goal
+
+pub returns : goal.returns
+returns c = complements c.args.part.now c.requires (λ k. (c.items_fit k).fits)
