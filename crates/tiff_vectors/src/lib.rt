@@ -14,6 +14,8 @@ mod expect;
 #[cfg(test)]
 mod image_forms;
 #[cfg(test)]
+mod lanes;
+#[cfg(test)]
 mod lent;
 #[cfg(test)]
 mod packed;
