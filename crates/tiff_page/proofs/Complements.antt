@@ -1,5 +1,5 @@
 -- Complements of bytes.
-use Rattle.std.proofs.Common.{◌≡◌, ℕ, ◌+◌, ◌-◌, ◌%◌, ◌<◌, ◌≤◌, ◌^◌, List, length, get_or, take, replicate, ap, sym, ◌∙◌, arith}
+use Rattle.std.proofs.Common.{◌≡◌, ℕ, ◌+◌, ◌-◌, ◌%◌, ◌<◌, ◌≤◌, ◌^◌, List, length, get_or, take, replicate, Fits, w8, ap, sym, ◌∙◌, arith}
 use Rattle.std.proofs.lemmas.List.{get_or-take, length-take-le}
 use Rattle.std.proofs.lemmas.Simd.{put_chunk_whole, length-put_chunk, length-zip2, get_or-zip2, length-replicate, get_or-replicate}
 use lib.Lanes.{zip2, put_chunk}
@@ -11,7 +11,7 @@ pub record Upto (n : ℕ) (old new : List ℕ) : Type 0 where
   pub rest : (i : ℕ) → n ≤ i → i < length old → get_or new i 0 ≡ get_or old i 0
 
 -- each lane of 255 less the byte
-pub complements : (xs : List ℕ) → length xs ≡ 16 → ((k : ℕ) → get_or xs k 0 < 256) → let v = zip2 (λ a b. (a + (2 ^ 8 - b)) % 2 ^ 8) (replicate 16 255) (take 16 xs) in
+pub complements : (xs : List ℕ) → length xs ≡ 16 → ((k : ℕ) → Fits w8 (get_or xs k 0)) → let v = zip2 (λ a b. (a + (2 ^ 8 - b)) % 2 ^ 8) (replicate 16 255) (take 16 xs) in
     (i : ℕ) → i < length (put_chunk 0 xs v) → get_or (put_chunk 0 xs v) i 0 ≡ 255 - get_or xs i 0
 complements xs long fits i h =
     let f : ℕ → ℕ → ℕ = λ a b. (a + (2 ^ 8 - b)) % 2 ^ 8 in
@@ -25,4 +25,4 @@ complements xs long fits i h =
     ap (λ (l : List ℕ). get_or l i 0) (put_chunk_whole xs v (long ∙ sym lv))
     ∙ get_or-zip2 f all (take 16 xs) i 0 0 0 (omega (arith, low, r)) (omega (arith, low, t))
     ∙ (λ j. f (get_or-replicate 16 i most 0 low j) (get_or-take 16 xs i 0 low j))
-    ∙ omega (arith, fits i)
+    ∙ omega (arith, (fits i).fits)

@@ -1,5 +1,6 @@
+use Rattle.std.proofs.Common.{rules}
 use Rattle.tiff_page.proofs.Complements.{complements}
 use Rattle.tiff_page.proofs.predictors.invert_lanes.Goals as goal
 
 pub returns : goal.returns
-returns c = complements c.args.part.now c.requires (λ k. (c.items_fit k).fits)
+returns c = complements c.args.part.now c.requires (search rules)
