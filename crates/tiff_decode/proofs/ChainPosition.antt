@@ -1,5 +1,5 @@
 -- A decoder goes along the chain of its file.
-use Rattle.std.proofs.Common.{◌≡◌, ℕ, zero, suc, ◌+◌, ◌-◌, ◌<◌, ◌≤◌, List, [], ◌∷◌, ◌++◌, length, Option, None, Some, Bool, true, false, cond, Result, Ok, Err, refl, ap, sym, ◌∙◌, subst, arith, nat_eq}
+use Rattle.std.proofs.Common.{◌≡◌, ℕ, zero, suc, ◌+◌, ◌-◌, ◌<◌, ◌≤◌, List, [], ◌∷◌, ◌++◌, length, length-append, Option, None, Some, Bool, true, false, cond, Result, Ok, Err, refl, ap, sym, ◌∙◌, subst, arith, nat_eq}
 use Rattle.std.proofs.lemmas.Bool.Decides.{nat_tests}
 use Rattle.std.proofs.lemmas.Map.Keys.{IsDistinct-head, IsDistinct-tail}
 use Rattle.std.proofs.lemmas.Option.{slice_get_within, slice_get_past}
@@ -63,6 +63,15 @@ pub stands_longer : (offsets longer more_offsets : List ℕ) (pointer : Option I
     → IsAt offsets pointer at more → IsAt longer pointer at more
 stands_longer offsets longer more_offsets (Some p) at more e h = ap (λ (ps : List ℕ). slice_get ps at) e ∙ front offsets more_offsets at p.0 h
 stands_longer offsets longer more_offsets None at more e h = h
+
+-- some are entered where some were
+pub some_longer : (offsets longer more_offsets : List ℕ) → longer ≡ offsets ++ more_offsets → 0 < length offsets → 0 < length longer
+some_longer offsets longer more_offsets e l = (let n = ap length e ∙ length-append offsets more_offsets in omega arith)
+
+-- The chain of a decoder has an offset.
+pub some_offsets : (kind : FileKind) (order : ByteOrder) (bytes : List ℕ) (first : ℕ) (walk : Walked) (pointer : Option IfdPointer) (at : ℕ) (more : Bool)
+    → IsInChain kind order bytes first walk pointer at more → 0 < length (chain kind order bytes first).offsets
+some_offsets kind order bytes first walk pointer at more c = some_longer walk.offsets (chain kind order bytes first).offsets c.begins.rest c.begins.offsets c.some
 
 -- ---- the offset behind it
 
@@ -217,13 +226,13 @@ shown_open r seen old new e m h =
     subst P e (open_wanting (next_image seen) r seen new m h)
 
 pub along_on : (kind kind' : FileKind) (order order' : ByteOrder) (bytes bytes' : List ℕ) (first : ℕ) (walk : Walked) (pointer : Option IfdPointer) (at : ℕ) (more : Bool)
-    → kind' ≡ kind → order' ≡ order → bytes' ≡ bytes → ChainBegins kind order bytes first walk → IsAt walk.offsets pointer at more
-    → IsInChain kind' order' bytes' first walk pointer at more
-along_on kind kind' order order' bytes bytes' first walk pointer at more k o b w s =
+    → kind' ≡ kind → order' ≡ order → bytes' ≡ bytes → ChainBegins kind order bytes first walk → 0 < length walk.offsets
+    → IsAt walk.offsets pointer at more → IsInChain kind' order' bytes' first walk pointer at more
+along_on kind kind' order order' bytes bytes' first walk pointer at more k o b w l s =
     let K : FileKind → Type 0 = λ x. IsInChain x order' bytes' first walk pointer at more in
     let O : ByteOrder → Type 0 = λ x. IsInChain kind x bytes' first walk pointer at more in
     let B : List ℕ → Type 0 = λ x. IsInChain kind order x first walk pointer at more in
-    subst K (sym k) (subst O (sym o) (subst B (sym b) (record { begins = w; stands = s })))
+    subst K (sym k) (subst O (sym o) (subst B (sym b) (record { begins = w; some = l; stands = s })))
 
 -- ---- next_image
 

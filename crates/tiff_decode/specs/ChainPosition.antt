@@ -1,5 +1,5 @@
 -- How a decoder goes along the chain of its file's directories (this project's).
-use Rattle.std.specs.Prelude.{◌≡◌, ℕ, List, Option, None, Some, Bool, false}
+use Rattle.std.specs.Prelude.{◌≡◌, ℕ, ◌<◌, List, length, Option, None, Some, Bool, false}
 use Rattle.std.specs.List.{slice_get}
 use Rattle.tiff_base.specs.declared.tags.ByteOrder.{ByteOrder}
 use Rattle.tiff_base.specs.declared.tags.FileKind.{FileKind}
@@ -11,7 +11,8 @@ abbrev pub IsAt : List ℕ → Option IfdPointer → ℕ → Bool → Type 0
 IsAt offsets (Some pointer) at more = slice_get offsets at ≡ Some pointer.0
 IsAt offsets None at more = more ≡ false
 
--- The offsets that were entered are a beginning of the file's chain, and the pointer is one of them.
+-- The offsets that were entered are a beginning of the file's chain, at least its first one, and the pointer is one of them.
 pub record IsInChain (kind : FileKind) (order : ByteOrder) (bytes : List ℕ) (first : ℕ) (walk : Walked) (pointer : Option IfdPointer) (at : ℕ) (more : Bool) : Type 0 where
   pub begins : ChainBegins kind order bytes first walk
+  pub some : 0 < length walk.offsets
   pub stands : IsAt walk.offsets pointer at more

@@ -408,6 +408,19 @@ impl<R: Source> Decoder<R> {
         self.standing.more
     }
 
+    /// Tells a contract that each decoder stands in a chain of at least one directory, and does nothing.
+    #[tactic(auto, using(crate::proofs::ChainPosition::some_offsets))]
+    pub fn has_pages(&self)
+        ensures { 0 < length (outcome.chain_of self.now).offsets }
+    {
+        let _walk = &self.walk;
+    }
+
+    /// The allocator that the decoder was given.
+    pub fn allocator(&self) -> Global {
+        self.alloc
+    }
+
     /// The byte order of the file.
     pub fn byte_order(&self) -> ByteOrder
         ensures { result ≡ self.now.order }

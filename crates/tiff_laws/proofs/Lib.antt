@@ -12,3 +12,5 @@ mod Samples
 mod SampleChunks
 mod UnitChunks
 mod UnitBytes
+mod Walking
+pub mod Listed

@@ -4,3 +4,4 @@ pub mod Whole
 pub mod Bytes
 pub mod Samples
 pub mod Units
+pub mod Pages

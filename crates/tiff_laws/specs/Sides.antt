@@ -2,7 +2,7 @@
 use Rattle.std.specs.Prelude.{◌≡◌, ◌<◌, Ok}
 use Rattle.tiff_ifd.specs.Look.{Look}
 use Rattle.tiff_page.specs.Page.{PageRecord}
-use Rattle.tiff_page.specs.Checks.{page_of}
+use Rattle.tiff_page.specs.Checks.{method_in, page_of}
 use Rattle.tiff_page.specs.Laws.{HasSides}
 
 -- a pixel has samples, of some bits
@@ -13,3 +13,7 @@ pub record HasSamples (p : PageRecord) : Type 0 where
 -- the page that the tags tell has sides, and its pixels have samples
 abbrev pub PageHasSides : Type 0
 PageHasSides = (look : Look) (p : PageRecord) → page_of look ≡ Ok p → HasSides p × HasSamples p
+
+-- it has the method of compression that the tags tell
+abbrev pub PageHasMethod : Type 0
+PageHasMethod = (look : Look) (p : PageRecord) → page_of look ≡ Ok p → method_in look ≡ Ok p.method

@@ -3,3 +3,4 @@
 
 pub mod decoder;
 pub mod page;
+pub mod pages;

@@ -1,7 +1,7 @@
 //! The laws of a page, each the contract of a function with no work.
 
 ghost use Rattle.tiff_laws.specs.Bytes.{OneByte};
-ghost use Rattle.tiff_laws.specs.Sides.{PageHasSides};
+ghost use Rattle.tiff_laws.specs.Sides.{PageHasMethod, PageHasSides};
 
 use crate::decoder::planes_covered;
 use tiff_page::laws;
@@ -10,6 +10,11 @@ use tiff_page::laws;
 /// bits.
 pub fn page_has_sides()
     ensures { PageHasSides }
+{}
+
+/// The method of compression of a page that the tags tell is the one that they tell.
+pub fn page_has_method()
+    ensures { PageHasMethod }
 {}
 
 /// Each position of an image's planes is of one byte of one row of one chunk of one plane, which it tells and which tell it.

@@ -2,7 +2,7 @@ use Rattle.std.proofs.Common.{refl, sym, ◌∙◌}
 use Rattle.tiff_page.specs.PageView as view
 use Rattle.tiff_decode.specs.Machine.{Decoding, decoding}
 use Rattle.tiff_decode.specs.Outcome.{seek_to_image}
-use Rattle.tiff_decode.proofs.ChainPosition.{seek_known, along_on, stands_longer, shown, told_same}
+use Rattle.tiff_decode.proofs.ChainPosition.{seek_known, along_on, some_longer, stands_longer, shown, told_same}
 use Rattle.tiff_decode.proofs.decoder.Decoder.seek_to_image.Goals as goal
 
 pub invariant_of-self : goal.invariant_of-self
@@ -11,7 +11,7 @@ invariant_of-self g c =
     let longer = c.offset_of.ensures.longer in
     along_on s.tags.kind _ s.tags.order _ (g.R.Source.bytes s.tags.source) _ s.first c.offset_of.new.self _ _ _
     c.enter_offset.ensures.kind c.enter_offset.ensures.order (c.enter_offset.ensures.kept.told ∙ c.offset_of.ensures.kept.told)
-    (c.offset_of.ensures.begins s.first c.self.invariant.begins)
+    (c.offset_of.ensures.begins s.first c.self.invariant.begins) (some_longer s.walk.offsets c.offset_of.new.self.offsets longer.0 longer.1 c.self.invariant.some)
     (c.enter_offset.ensures.stands c.offset_of.new.self.offsets
     (stands_longer s.walk.offsets c.offset_of.new.self.offsets longer.0 s.standing.pointer s.standing.at s.standing.more longer.1 c.self.invariant.stands)
     (sym (rw c.in-Ok-Some.field-0-is at c.in-Ok-Some.ensures.there)))
@@ -22,6 +22,7 @@ invariant_of-self-then-keeps_state g c =
     let longer = c.offset_of.ensures.longer in
     along_on s.tags.kind _ s.tags.order _ (g.R.Source.bytes s.tags.source) _ s.first c.offset_of.new.self _ _ _
     refl refl c.offset_of.ensures.kept.told (c.offset_of.ensures.begins s.first c.self.invariant.begins)
+    (some_longer s.walk.offsets c.offset_of.new.self.offsets longer.0 longer.1 c.self.invariant.some)
     (stands_longer s.walk.offsets c.offset_of.new.self.offsets longer.0 s.standing.pointer s.standing.at s.standing.more longer.1 c.self.invariant.stands)
 
 pub returns-in-Ok-Some : goal.returns-in-Ok-Some
