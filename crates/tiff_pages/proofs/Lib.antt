@@ -1,7 +1,3 @@
-mod Digits
-mod Found
-mod GrayJob
-mod Lines
-mod Replied
-mod CallsMade
-mod Visits
+mod Facts
+mod Along
+pub mod Kept

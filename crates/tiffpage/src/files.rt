@@ -1,9 +1,11 @@
 //! The files of the machine.
 
-use std::io::{ErrorKind, Input};
+use std::fs;
+use std::io::{self, ErrorKind, Input, Read};
 use std::rt::Files as Machine;
-use std::{fs, io};
-use tiff_pages::files::{FileFault, Files};
+use tiff::io::IoKind;
+use tiff::{TiffError, TiffResult};
+use tiff_program::files::Files;
 
 /// The files of the machine.
 #[derive(Drop)]
@@ -18,28 +20,31 @@ impl<'a, R: Machine + AllocGlobal + Input> MachineFiles<'a, R> {
 }
 
 // A fault of the machine.
-fn fault(kind: ErrorKind) -> FileFault {
+fn fault(kind: ErrorKind) -> TiffError {
     match kind {
-        ErrorKind::OutOfMemory => FileFault::OutOfMemory,
-        ErrorKind::NotFound | ErrorKind::NotADirectory => FileFault::NotFound,
-        ErrorKind::PermissionDenied => FileFault::NoPermission,
-        ErrorKind::IsADirectory => FileFault::Folder,
-        ErrorKind::FileTooLarge => FileFault::TooLarge,
-        ErrorKind::InvalidData => FileFault::NoText,
-        _ => FileFault::Other,
+        ErrorKind::OutOfMemory => TiffError::OutOfMemory,
+        _ => TiffError::IoError(IoKind::Device),
     }
 }
 
+// All bytes of standard input.
+fn input<R: AllocGlobal + Input>(rt: &R) -> io::Result<Vec<u8>> {
+    let mut bytes = Vec::new(rt.alloc());
+    rt.reader().read_to_end(&mut bytes)?;
+    Ok(bytes)
+}
+
 impl<R: Machine + AllocGlobal + Input> Files for MachineFiles<'_, R> {
-    fn read(&mut self, name: &str) -> Result<Vec<u8>, FileFault> {
-        fs::read(self.rt, name).map_err(|e| fault(e.kind()))
+    fn read(&mut self, name: &str) -> TiffResult<Vec<u8>> {
+        let read = if name == "-" {
+            input(self.rt)
+        } else {
+            fs::read(self.rt, name)
+        };
+        read.map_err(|e| fault(e.kind()))
     }
 
-    fn write(&mut self, name: &str, bytes: &[u8]) -> Result<(), FileFault> {
+    fn write(&mut self, name: &str, bytes: &[u8]) -> TiffResult<()> {
         fs::write(self.rt, name, bytes).map_err(|e| fault(e.kind()))
-    }
-
-    fn read_input(&mut self) -> Result<String, FileFault> {
-        io::read_to_string(self.rt.alloc(), self.rt.reader()).map_err(|e| fault(e.kind()))
     }
 }

@@ -1,5 +1,5 @@
-//! Writes the bytes of a file as a gray TIFF page, and the samples of a page into a file, lists the entries of a page, makes
-//! the calls of a list, and writes a file by the jobs of one.
+//! Writes the bytes of a file as a gray TIFF page, and the samples of a page into a file, lists the entries of a page and
+//! the pages of a file, reads every page whole, makes the calls of a list, and writes a file by the jobs of one.
 #![tactic(auto)]
 
 mod files;
@@ -7,7 +7,7 @@ mod files;
 use files::MachineFiles;
 use std::process::ExitCode;
 use std::{env, io};
-use tiff_pages::program::run;
+use tiff_program::program::run;
 
 fn main(rt: HostRuntime) -> io::Result<ExitCode> {
     let mut words = Vec::new(rt.alloc());

@@ -1,0 +1,230 @@
+-- Pages that are read whole.
+use Rattle.std.proofs.Common.{◌≡◌, ℕ, zero, suc, ◌+◌, ◌<◌, ◌≤◌, List, [], ◌∷◌, ◌++◌, length, map, take, Option, None, Some, true, false, Result, Ok, Err, IfOk, OnOk, refl, ap, sym, ◌∙◌, subst, arith}
+use Rattle.std.proofs.lemmas.List.{map-append}
+use Rattle.std.proofs.Math.Seq.{take-length}
+use Rattle.std.specs.Prelude.{unwrap_or}
+use Rattle.std.specs.List.{slice_get}
+use Rattle.tiff_base.specs.declared.error.TiffError.{TiffError}
+use Rattle.tiff_base.specs.declared.error.TiffError.TheVariants.{FormatError, UnsupportedError, IoError, LimitsExceeded, IntSizeError, UsageError, OutOfMemory}
+use Rattle.tiff_base.specs.declared.io.IoKind.TheVariants.{UnexpectedEof, InvalidData, InvalidInput, WriteZero, Device}
+use Rattle.tiff_base.specs.declared.tags.IfdPointer.{IfdPointer}
+use Rattle.tiff.specs.Answers.{◌>>=◌, Answers, AnswersWithoutSource, IsCause}
+use Rattle.tiff_base.specs.Directory.{directory_at}
+use Rattle.tiff_base.specs.Field.{DirectoryRecord}
+use Rattle.tiff_base.proofs.Causes.{cause_along}
+use Rattle.tiff_page.specs.Page.{PageRecord}
+use Rattle.tiff.specs.Machine.{Decoding, Outcome, Follows, GivesOutcome, StandsAt, keeps_state, stays}
+use Rattle.tiff.specs.Outcome.{chain_of, page_in, seek_to_image}
+use Rattle.tiff_laws.specs.Pages.{Arrives, IsAlong, PageAnswers, SameFile, WalkSeeks, page_at}
+use Rattle.tiff_laws.proofs.Listed.{take_next}
+use Rattle.tiff_pages.specs.declared.pages.PageList.{PageList}
+use Rattle.tiff_pages.specs.Pages.{IsOfFile, Pages, pages_in, pages_of, state_along, times_to_end}
+use Rattle.tiff_program.specs.declared.check.ImageSum.{ImageSum}
+use Rattle.tiff_program.specs.declared.check.PageCheck.{PageCheck}
+use Rattle.tiff_program.specs.Check.{Checks, IsCheckOf, ReadsPage, check_at, checks_of, image_sum}
+
+abbrev Answer : Type 0
+Answer = Result (Unit {0}) TiffError
+
+-- ---- reads of a page
+
+-- What a call that reads pixels follows.
+pub reads_page : {X Y : Type 0} (view : X → Y) (a : Result Y TiffError) (r : Result X TiffError) (d new : Decoding) → Follows view (stays d a) r d new → ReadsPage view a r d new
+reads_page view a (Ok x) d new h = record { answer = h.answer; stays = λ k. h.at }
+reads_page view a (Err OutOfMemory) d new h = record { answer = tt; stays = λ k. absurd (cc) }
+reads_page view a (Err (IoError Device)) d new h = record { answer = h.grew; stays = λ k. absurd (cc) }
+reads_page view a (Err (IoError UnexpectedEof)) d new h = record { answer = h.answer; stays = λ k. h.at }
+reads_page view a (Err (IoError InvalidData)) d new h = record { answer = h.answer; stays = λ k. h.at }
+reads_page view a (Err (IoError InvalidInput)) d new h = record { answer = h.answer; stays = λ k. h.at }
+reads_page view a (Err (IoError WriteZero)) d new h = record { answer = h.answer; stays = λ k. h.at }
+reads_page view a (Err (FormatError x)) d new h = record { answer = h.answer; stays = λ k. h.at }
+reads_page view a (Err (UnsupportedError x)) d new h = record { answer = h.answer; stays = λ k. h.at }
+reads_page view a (Err LimitsExceeded) d new h = record { answer = h.answer; stays = λ k. h.at }
+reads_page view a (Err IntSizeError) d new h = record { answer = h.answer; stays = λ k. h.at }
+reads_page view a (Err (UsageError x)) d new h = record { answer = h.answer; stays = λ k. h.at }
+
+-- A refusal is that of what follows.
+pub read_refused : {X X' Y Y' : Type 0} (view : X → Y) (view' : X' → Y') (a : Result Y TiffError) (f : Y → Result Y' TiffError) (e : TiffError) (d new : Decoding)
+    → ReadsPage {X = X} view a (Err e) d new → ReadsPage {X = X'} view' (a >>= f) (Err e) d new
+read_refused view view' a f e d new h = record {
+  answer = cause_along e (λ w. w) (λ x. x) (λ g. ap (λ r. r >>= f) g) h.answer;
+  stays = h.stays;
+}
+
+then_answers : {X Y : Type 0} (view : X → Y) (r : Result X TiffError) (given given' : Result Y TiffError) (m n : ℕ) → given' ≡ given → AnswersWithoutSource view r given → Answers view r given' m n
+then_answers view (Ok x) given given' m n e h = e ∙ h
+then_answers view (Err x) given given' m n e h = cause_along x (λ w. w) (λ f. absurd f) (λ g. e ∙ g) h
+
+-- What follows a read reads nothing.
+pub read_then : {X X' Y Y' : Type 0} (view : X → Y) (view' : X' → Y') (a : Result Y TiffError) (f : Y → Result Y' TiffError) (x : X) (r : Result X' TiffError) (d new : Decoding)
+    → ReadsPage view a (Ok x) d new → AnswersWithoutSource view' r (f (view x)) → ReadsPage view' (a >>= f) r d new
+read_then view view' a f x r d new h t = record {
+  answer = then_answers view' r (f (view x)) (a >>= f) d.failures new.failures (ap (λ y. y >>= f) h.answer) t;
+  stays = λ k. h.stays tt;
+}
+
+-- ---- one page
+
+of_file : (o : Outcome (Unit {0})) (r : Answer) (old new : Decoding) → IsOfFile r → Follows (λ x. x) o r old new → GivesOutcome r o old new
+of_file o (Ok u) old new k h = h
+of_file o (Err OutOfMemory) old new k h = absurd (cc)
+of_file o (Err (IoError Device)) old new k h = absurd (cc)
+of_file o (Err (IoError UnexpectedEof)) old new k h = h
+of_file o (Err (IoError InvalidData)) old new k h = h
+of_file o (Err (IoError InvalidInput)) old new k h = h
+of_file o (Err (IoError WriteZero)) old new k h = h
+of_file o (Err (FormatError x)) old new k h = h
+of_file o (Err (UnsupportedError x)) old new k h = h
+of_file o (Err LimitsExceeded) old new k h = h
+of_file o (Err IntSizeError) old new k h = h
+of_file o (Err (UsageError x)) old new k h = h
+
+-- The decoder came to the page of a number.
+pub came_to : WalkSeeks → (d new : Decoding) (number : ℕ) (answer entered : Answer) → number < length (chain_of d).offsets → (entered ≡ answer) × IsOfFile answer
+    → Follows (λ x. x) (seek_to_image d number) answer d new → Arrives d number entered new × (new.failures ≡ d.failures)
+came_to seeks d new number answer entered some told h =
+    let gives = of_file (seek_to_image d number) answer d new told.1 h in
+    let P : Answer → Type 0 = λ x. Arrives d number x new in (
+      subst P (sym told.0) (seeks d d new number answer (record { bytes = refl; kind = refl; order = refl; first = refl; limits = refl }) some gives),
+      ap (λ (x : Decoding). x.failures) gives.at,
+    )
+
+-- the sum of a page that was entered, or the fault that was answered in its place
+abbrev pub sum_told : Answer → Decoding → Result ImageSum TiffError
+sum_told (Ok u) d = image_sum d d.state.page
+sum_told (Err e) d = Err e
+
+sum_of_file : (a b : Decoding) (page : PageRecord) → SameFile a b → image_sum b page ≡ image_sum a page
+sum_of_file a b page s = λ i. image_sum (record a { bytes = s.bytes i; order = s.order i; state = record a.state { limits = s.limits i } }) page
+
+sum_by : (d new : Decoding) (offset : ℕ) (answer : Answer) → SameFile d new → PageAnswers d offset answer new → sum_told answer new ≡ (page_at d offset >>= image_sum d)
+sum_by d new offset (Ok u) s p =
+    sum_of_file d new new.state.page s
+    ∙ sym (ap (λ (r : Result DirectoryRecord TiffError). r >>= page_in d.kind d.order d.bytes d.state.limits >>= image_sum d) p.0
+    ∙ ap (λ (r : Result PageRecord TiffError). r >>= image_sum d) p.1)
+sum_by d new offset (Err e) s p = sym (ap (λ (r : Result PageRecord TiffError). r >>= image_sum d) p)
+
+place_is : (o : Option IfdPointer) (p q : IfdPointer) → o ≡ Some p → o ≡ Some q → p ≡ q
+place_is o p q h k = ap (λ (x : Option IfdPointer). unwrap_or x p) (sym h ∙ k)
+
+-- It is the page's check.
+pub check_made : (d new : Decoding) (number : ℕ) (answer : Answer) (place : IfdPointer) (image : Result ImageSum TiffError) → Arrives d number answer new
+    → new.state.pointer ≡ Some place → image ≡ sum_told answer new → IsCheckOf d number (record { place = place; image = image })
+check_made d new number answer place image a pointer is =
+    let at = place_is new.state.pointer place (record { 0 = a.along.offset }) pointer a.along.pointer in
+    let sum = is ∙ sum_by d new a.along.offset answer a.along.same a.page in
+    (a.along.offset, a.along.is_offset, λ i. record { place = at i; image = sum i })
+
+-- an answer of the file is the one that is given
+given_is : {X : Type 0} (r given : Result X TiffError) (m n : ℕ) → IsOfFile r → Answers (λ x. x) r given m n → given ≡ r
+given_is (Ok x) given m n k h = h
+given_is (Err OutOfMemory) given m n k h = absurd (cc)
+given_is (Err (IoError Device)) given m n k h = absurd (cc)
+given_is (Err (IoError UnexpectedEof)) given m n k h = h
+given_is (Err (IoError InvalidData)) given m n k h = h
+given_is (Err (IoError InvalidInput)) given m n k h = h
+given_is (Err (IoError WriteZero)) given m n k h = h
+given_is (Err (FormatError x)) given m n k h = h
+given_is (Err (UnsupportedError x)) given m n k h = h
+given_is (Err LimitsExceeded) given m n k h = h
+given_is (Err IntSizeError) given m n k h = h
+given_is (Err (UsageError x)) given m n k h = h
+
+-- Its image was read.
+pub image_told : (new mid last : Decoding) (u : Unit {0}) (entered : Answer) (r image : Result ImageSum TiffError) → mid ≡ new → entered ≡ Ok u
+    → ReadsPage (λ s. s) (image_sum mid mid.state.page) r mid last → (image ≡ r) × IsOfFile r → image ≡ sum_told entered new
+image_told new mid last u entered r image s e h told =
+    told.0 ∙ sym (given_is r (image_sum mid mid.state.page) mid.failures last.failures told.1 h.answer)
+    ∙ ap (λ (d : Decoding). image_sum d d.state.page) s ∙ sym (ap (λ (a : Answer). sum_told a new) e)
+
+-- It has a fault.
+pub fault_told : (new : Decoding) (e : TiffError) (entered : Answer) (image : Result ImageSum TiffError) → entered ≡ Err e → image ≡ Err e → image ≡ sum_told entered new
+fault_told new e entered image h k = k ∙ sym (ap (λ (a : Answer). sum_told a new) h)
+
+-- The file is the same where the decoder is.
+pub same_then : (d new last : Decoding) (number : ℕ) (entered : Answer) → Arrives d number entered new × (new.failures ≡ d.failures) → last ≡ new
+    → SameFile d last × (last.failures ≡ d.failures)
+same_then d new last number entered a e =
+    let P : Decoding → Type 0 = λ x. SameFile d x × (x.failures ≡ d.failures) in
+    subst P (sym e) (a.0.along.same, a.1)
+
+-- ---- one after another
+
+-- So many pages were checked.
+pub record ChecksAlong (start d : Decoding) (count : ℕ) (checks : List PageCheck) : Type 0 where
+  pub same : SameFile start d
+  pub failures : d.failures ≡ start.failures
+  pub checked : checks ≡ map (check_at start) (take count (chain_of start).offsets)
+
+same_chain : (a b : Decoding) → SameFile a b → chain_of b ≡ chain_of a
+same_chain a b s = (let k = s.kind in let o = s.order in let y = s.bytes in let f = s.first in cc)
+
+same_check : (a b : Decoding) (offset : ℕ) → SameFile a b → check_at b offset ≡ check_at a offset
+same_check a b offset s =
+    λ i. check_at (record a { bytes = s.bytes i; kind = s.kind i; order = s.order i; state = record a.state { limits = s.limits i } }) offset
+
+same_checks : (a b : Decoding) (offsets : List ℕ) → SameFile a b → map (check_at b) offsets ≡ map (check_at a) offsets
+same_checks a b [] s = refl
+same_checks a b (o ∷ os) s = λ i. same_check a b o s i ∷ same_checks a b os s i
+
+same_after : (a b c : Decoding) → SameFile a b → SameFile b c → SameFile a c
+same_after a b c s t = record { bytes = t.bytes ∙ s.bytes; kind = t.kind ∙ s.kind; order = t.order ∙ s.order; first = t.first ∙ s.first; limits = t.limits ∙ s.limits }
+
+pub none_checked : (d : Decoding) (checks : List PageCheck) → checks ≡ [] → ChecksAlong d d 0 checks
+none_checked d checks h = record {
+  same = record { bytes = refl; kind = refl; order = refl; first = refl; limits = refl };
+  failures = refl;
+  checked = h;
+}
+
+-- There is a page of the number.
+pub some_left : (start d : Decoding) (count : ℕ) (checks : List PageCheck) → ChecksAlong start d count checks → count < length (chain_of start).offsets → count < length (chain_of d).offsets
+some_left start d count checks c l = subst (λ (n : ℕ). count < n) (ap (λ x. length x.offsets) (sym (same_chain start d c.same))) l
+
+-- One more was checked.
+pub one_checked : (start old new : Decoding) (count : ℕ) (check : PageCheck) (before checks : List PageCheck) → ChecksAlong start old count before → IsCheckOf old count check
+    → SameFile old new × (new.failures ≡ old.failures) → checks ≡ before ++ check ∷ [] → ChecksAlong start new (count + 1) checks
+one_checked start old new count check before checks c is same e =
+    let n : count + 1 ≡ suc count = omega arith in
+    let there = sym (ap (λ x. slice_get x.offsets count) (same_chain start old c.same)) ∙ is.1 in
+    let one = is.2 ∙ same_check start old is.0 c.same in
+    record {
+      same = same_after start old new c.same same.0;
+      failures = same.1 ∙ c.failures;
+      checked = e ∙ ap (λ (xs : List PageCheck). xs ++ check ∷ []) c.checked ∙ ap (λ (x : PageCheck). map (check_at start) (take count (chain_of start).offsets) ++ x ∷ []) one
+          ∙ sym (map-append (check_at start) (take count (chain_of start).offsets) (is.0 ∷ []))
+          ∙ ap (map (check_at start)) (sym (ap (λ (k : ℕ). take k (chain_of start).offsets) n ∙ take_next (chain_of start).offsets count is.0 there));
+    }
+
+-- All were checked.
+pub all_checked : (start d : Decoding) (count all : ℕ) (checks : List PageCheck) → ChecksAlong start d count checks → all ≡ length (chain_of start).offsets → count ≡ all
+    → checks ≡ map (check_at start) (chain_of start).offsets
+all_checked start d count all checks c h e =
+    c.checked ∙ ap (λ (n : ℕ). map (check_at start) (take n (chain_of start).offsets)) (e ∙ h) ∙ ap (map (check_at start)) (take-length (chain_of start).offsets)
+
+abbrev answered : Pages → Result Pages TiffError
+answered pages = Ok pages
+
+abbrev checks_answered : Checks → Result Checks TiffError
+checks_answered checks = Ok checks
+
+-- how the chain ends, by an answer
+abbrev end_told : Result Pages TiffError → Option TiffError
+end_told (Ok pages) = pages.end
+end_told (Err e) = None
+
+-- All pages of the file that were listed were checked.
+pub checks_all : (old mid : Decoding) (listed : PageList) (checks : List PageCheck) → Ok (pages_of old) ≡ answered (pages_in listed)
+    → mid ≡ record old { state = state_along old (times_to_end old) } → mid.state.limits ≡ old.state.limits
+    → checks ≡ map (check_at mid) (chain_of mid).offsets → Ok (checks_of old) ≡ checks_answered (record { items = checks; end = listed.end })
+checks_all old mid listed checks told at limits all =
+    let same : SameFile old mid = record {
+      bytes = ap (λ (d : Decoding). d.bytes) at;
+      kind = ap (λ (d : Decoding). d.kind) at;
+      order = ap (λ (d : Decoding). d.order) at;
+      first = ap (λ (d : Decoding). d.first) at;
+      limits = limits;
+    } in
+    let here = all ∙ ap (λ x. map (check_at mid) x.offsets) (same_chain old mid same) ∙ same_checks old mid (chain_of old).offsets same in
+    let end : (chain_of old).end ≡ listed.end = ap end_told told in
+    λ i. Ok (record { items = sym here i; end = end i })

@@ -1,0 +1,9 @@
+mod Digits
+mod Found
+mod GrayJob
+mod Lines
+mod Replied
+mod CallsMade
+mod Checked
+mod Sums
+mod Visits

@@ -1,0 +1,15 @@
+use Rattle.std.proofs.Common.{◌<◌, ◌^◌, ◌++◌, length, subst, sym, ap, ◌∙◌, List, ℕ, arith}
+use Rattle.tiff.specs.Shows.{ShowsGray}
+use Rattle.tiff_program.proofs.GrayJob.{gray_left}
+use Rattle.tiff_program.proofs.gray.gray_file.Goals as goal
+
+pub returns : goal.returns
+returns c =
+    let h = c.in_ok-sink.ensures in
+    let file = c.into_vec.result in
+    let short : length file.items < 2 ^ 64 = omega (arith, file.ok, file.small) in
+    subst (λ (bs : List ℕ). ShowsGray bs c.args.width c.args.height c.args.samples.now) (sym c.into_vec.ensures)
+    (gray_left c.args.width c.args.height c.args.samples.now c.type_inv.samples c.ranges.width.fits c.ranges.height.fits
+    c.in_ok-gray_job.field-0 h.0 c.only.result c.in_ok-end_of.ensures.0 (c.new-sink.ensures ∙ c.new.ensures.items)
+    (subst (λ (bs : List ℕ). length bs < 2 ^ 64) c.into_vec.ensures short) c.in_ok-gray_job.ensures
+    (sym (h.1.0 ∙ ap (λ l. l ++ h.0) c.new-replies.ensures.items) ∙ c.only.ensures) c.in_ok-end_of.ensures.1 h.1.1)

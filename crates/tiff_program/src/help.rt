@@ -1,0 +1,14 @@
+//! What the program's commands are.
+
+/// Each command with its words, and what it does.
+pub const HELP: &str = "tiffpage: TIFF and BigTIFF pages
+
+  gray OUT W H IN        writes the bytes of IN as one gray page of W by H samples
+  raw IN PAGE OUT        writes the samples of a page, numbered from 0, as bytes, the lowest of each first
+  tags IN PAGE           prints a line for each entry of a page: tag, type, count, bytes
+  list IN                prints a line for each page: number, offset, sides, color, method, kind and number of chunks
+  check IN               reads each page whole, and prints a line for each: number, offset, ok, bytes, Adler-32
+  calls IN < LIST        makes the calls of a decoder that LIST has, and prints the reply to each
+  jobs OUT [big] < LIST  writes the file of the jobs that LIST has, a BigTIFF one with big, and prints the reply to each
+  help                   prints these lines
+";

@@ -1,0 +1,17 @@
+//! What the program `tiffpage` does: pages of files in memory as bytes and as lines, the replies to lists of calls and of jobs, and the
+//! command line over files by their names.
+#![tactic(auto)]
+
+pub mod adler;
+pub mod calls;
+pub mod check;
+mod command;
+pub mod files;
+pub mod gray;
+mod help;
+pub mod jobs;
+pub mod list;
+pub mod listing;
+pub mod program;
+mod replies;
+pub mod samples;

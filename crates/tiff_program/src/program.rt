@@ -1,0 +1,294 @@
+//! What the program does.
+
+ghost use Rattle.std.specs.Prelude.{◌≡◌, ◌≤◌};
+
+use crate::calls::replies_to;
+use crate::command::{Command, parse};
+use crate::files::Files;
+use crate::gray::gray_file;
+use crate::help::HELP;
+use crate::jobs::{Written, write_by};
+use crate::list::{PageLines, file_check, file_list};
+use crate::listing::page_tags;
+use crate::samples::page_samples;
+use std::alloc::Global;
+use std::fmt;
+use std::io::Write;
+use tiff::TiffError;
+use tiff::decoder::script::Call;
+use tiff::encoder::script::Job;
+use tiff::tags::FileKind;
+use tiff_lists::call::calls_of;
+use tiff_lists::jobs::jobs_of;
+
+/// Why a command was not done.
+#[derive(Drop)]
+enum Failure<'a> {
+    Read(&'a str),
+    Write(&'a str),
+    Tiff(TiffError),
+
+    /// The line of this number tells of no call.
+    NoCall(usize),
+
+    /// The line of this number tells of no job.
+    NoJob(usize),
+}
+
+impl fmt::Display for Failure<'_> {
+    fn fmt<W: fmt::Write>(&self, f: &mut fmt::Formatter<W>) -> fmt::Result {
+        match self {
+            Failure::Read(name) => write!(f, "cannot read {name}"),
+            Failure::Write(name) => write!(f, "cannot write {name}"),
+            Failure::Tiff(fault) => write!(f, "{fault}"),
+            Failure::NoCall(number) => write!(f, "line {number} is no call"),
+            Failure::NoJob(number) => write!(f, "line {number} is no job"),
+        }
+    }
+}
+
+impl<'a> From<TiffError> for Failure<'a> {
+    ghost use Rattle.tiff_program.specs.declared.program.Failure.TheVariants as failure;
+
+    ghost from_gives = { λ fault f. f ≡ failure.Tiff fault };
+
+    fn from(fault: TiffError) -> Failure<'a> {
+        Failure::Tiff(fault)
+    }
+}
+
+impl Failure<'_> {
+    // The status that it ends with.
+    fn status(&self) -> u8
+        ensures { result ≤ 2 }
+    {
+        match self {
+            Failure::NoCall(_) | Failure::NoJob(_) => 2,
+            _ => 1,
+        }
+    }
+}
+
+fn read<'a, F: Files>(files: &mut F, name: &'a str) -> Result<Vec<u8>, Failure<'a>> {
+    match files.read(name) {
+        Ok(bytes) => Ok(bytes),
+        Err(TiffError::OutOfMemory) => Err(Failure::Tiff(TiffError::OutOfMemory)),
+        Err(_) => Err(Failure::Read(name)),
+    }
+}
+
+fn write<'a, F: Files>(files: &mut F, name: &'a str, bytes: &[u8]) -> Result<(), Failure<'a>> {
+    match files.write(name, bytes) {
+        Ok(()) => Ok(()),
+        Err(TiffError::OutOfMemory) => Err(Failure::Tiff(TiffError::OutOfMemory)),
+        Err(_) => Err(Failure::Write(name)),
+    }
+}
+
+// The text of standard input.
+fn read_input<'a, F: Files>(files: &mut F) -> Result<String, Failure<'a>> {
+    let bytes = read(files, "-")?;
+    String::from_utf8(bytes).map_err(|_| Failure::Read("-"))
+}
+
+// The calls that standard input lists.
+fn listed_calls<'a, F: Files>(alloc: Global, files: &mut F) -> Result<Vec<Call>, Failure<'a>> {
+    let text = read_input(files)?;
+    match calls_of(alloc, text.as_str()) {
+        Ok(calls) => calls.map_err(|number| Failure::NoCall(number)),
+        Err(_) => Err(Failure::Tiff(TiffError::OutOfMemory)),
+    }
+}
+
+// The jobs that standard input lists.
+fn listed_jobs<'a, F: Files>(alloc: Global, files: &mut F) -> Result<Vec<Job>, Failure<'a>> {
+    let text = read_input(files)?;
+    match jobs_of(alloc, text.as_str()) {
+        Ok(jobs) => jobs.map_err(|number| Failure::NoJob(number)),
+        Err(_) => Err(Failure::Tiff(TiffError::OutOfMemory)),
+    }
+}
+
+// The replies to the calls that standard input lists, a line for each.
+fn call_replies<'a, F: Files>(
+    alloc: Global,
+    input: &'a str,
+    files: &mut F,
+) -> Result<String, Failure<'a>> {
+    let file = read(files, input)?;
+    let calls = listed_calls(alloc, files)?;
+    Ok(replies_to(alloc, file, &calls)?)
+}
+
+// Writes the file that the jobs write that standard input lists, and answers their replies, a line for each.
+fn job_replies<'a, F: Files>(
+    alloc: Global,
+    output: &'a str,
+    kind: FileKind,
+    files: &mut F,
+) -> Result<String, Failure<'a>> {
+    let jobs = listed_jobs(alloc, files)?;
+    let Written { file, lines } = write_by(alloc, kind, &jobs)?;
+    write(files, output, &file)?;
+    Ok(lines)
+}
+
+// Writes the file of a gray page, whose samples are the bytes of the input.
+fn write_gray<'a, F: Files>(
+    alloc: Global,
+    output: &'a str,
+    (width, height): (u32, u32),
+    input: &'a str,
+    files: &mut F,
+) -> Result<(), Failure<'a>> {
+    let samples = read(files, input)?;
+    let file = gray_file(alloc, width, height, &samples)?;
+    write(files, output, &file)
+}
+
+// Writes the samples of a page.
+fn write_samples<'a, F: Files>(
+    alloc: Global,
+    input: &'a str,
+    page: u32,
+    output: &'a str,
+    files: &mut F,
+) -> Result<(), Failure<'a>> {
+    let file = read(files, input)?;
+    let samples = page_samples(alloc, file, page)?;
+    write(files, output, &samples)
+}
+
+// The entries of a page of a file, a line for each.
+fn list_page<'a, F: Files>(
+    alloc: Global,
+    input: &'a str,
+    page: u32,
+    files: &mut F,
+) -> Result<String, Failure<'a>> {
+    let file = read(files, input)?;
+    Ok(page_tags(alloc, file, page)?)
+}
+
+// The pages of a file, a line for each.
+fn list_pages<'a, F: Files>(
+    alloc: Global,
+    input: &'a str,
+    files: &mut F,
+) -> Result<PageLines, Failure<'a>> {
+    let file = read(files, input)?;
+    Ok(file_list(alloc, file)?)
+}
+
+// The pages of a file, each read whole, a line for each.
+fn check_pages<'a, F: Files>(
+    alloc: Global,
+    input: &'a str,
+    files: &mut F,
+) -> Result<PageLines, Failure<'a>> {
+    let file = read(files, input)?;
+    Ok(file_check(alloc, file)?)
+}
+
+// Lines of which each is well.
+fn told(text: String) -> PageLines {
+    PageLines {
+        text,
+        end: None,
+        well: true,
+    }
+}
+
+// Does what a command asks for, and answers what is to be printed.
+fn execute<'a, F: Files>(
+    alloc: Global,
+    command: Command<'a>,
+    files: &mut F,
+) -> Result<PageLines, Failure<'a>> {
+    match command {
+        Command::Gray {
+            output,
+            width,
+            height,
+            input,
+        } => {
+            write_gray(alloc, output, (width, height), input, files)?;
+            Ok(told(String::new(alloc)))
+        }
+        Command::Raw {
+            input,
+            page,
+            output,
+        } => {
+            write_samples(alloc, input, page, output, files)?;
+            Ok(told(String::new(alloc)))
+        }
+        Command::Tags { input, page } => Ok(told(list_page(alloc, input, page, files)?)),
+        Command::List { input } => list_pages(alloc, input, files),
+        Command::Check { input } => check_pages(alloc, input, files),
+        Command::Calls { input } => Ok(told(call_replies(alloc, input, files)?)),
+        Command::Jobs { output, kind } => Ok(told(job_replies(alloc, output, kind, files)?)),
+        Command::Help => Ok(told(String::from_str(alloc, HELP).map_err(TiffError::from)?)),
+    }
+}
+
+const USAGE: &str = "usage: tiffpage gray|raw|tags|list ..";
+
+// Prints the line of a failure: by one write, but where there is no memory for its text.
+fn print_failure<E: Write>(alloc: Global, failure: &Failure<'_>, err: &mut E) {
+    let _ = match format!(in alloc; "error: {failure}\n") {
+        Ok(line) => err.write_all(line.as_bytes()),
+        Err(_) => writeln!(err, "error: {failure}"),
+    };
+}
+
+// Prints lines, and the line of the fault behind them, if there is one; and answers the status.
+fn print_lines<O: Write, E: Write>(alloc: Global, lines: PageLines, out: &mut O, err: &mut E) -> u8
+    ensures { result ≤ 1 }
+{
+    let PageLines { text, end, well } = lines;
+    if out.write_all(text.as_bytes()).is_err() {
+        return 1;
+    }
+    match end {
+        Some(fault) => {
+            print_failure(alloc, &Failure::Tiff(fault), err);
+            1
+        }
+        None => u8::from(!well),
+    }
+}
+
+/// Does what the words of a command line ask for, and answers the status: 0; 1 for a fault, with a line `error: ..` on `err`, where a
+/// write to `out` or `err` fails, and where a page that is checked has a fault; 2 for a wrong command line, with the usage line on
+/// `err`, and for a line of standard input that is no call or no job, with a line `error: ..` that has its number, before any is
+/// called. No words give the usage line on `out`. Faults are found in this order: the command line, reading the input, reading
+/// standard input, its lines, the decoder's or the encoder's, writing the output. On a fault nothing is written to `out`, but where
+/// the chain of a file whose pages are listed or checked ends by it: then their lines are.
+pub fn run<F: Files, O: Write, E: Write>(
+    alloc: Global,
+    words: &[String],
+    files: &mut F,
+    out: &mut O,
+    err: &mut E,
+) -> u8
+    ensures { result ≤ 2 }
+{
+    if words.is_empty() {
+        return u8::from(writeln!(out, "{USAGE}").is_err());
+    }
+    let Some(command) = parse(words) else {
+        return if writeln!(err, "{USAGE}").is_ok() {
+            2
+        } else {
+            1
+        };
+    };
+    match execute(alloc, command, files) {
+        Ok(lines) => print_lines(alloc, lines, out, err),
+        Err(failure) => {
+            print_failure(alloc, &failure, err);
+            failure.status()
+        }
+    }
+}
