@@ -156,6 +156,28 @@ struct tiff_chunks {
 };
 tiff_status tiff_page_chunks(const uint8_t *file, size_t len, size_t page, struct tiff_chunks *chunks);
 
+/* A page in a list of pages: the offset of its directory in the file, and its facts as the calls on a page tell them. Where the page is
+   refused, STATUS is its first fault, and all behind it is 0. A page without a color has the fault of that in COLOR_STATUS, and one whose
+   chunks aren't counted in COUNT_STATUS; the numbers that belong to it are 0 then. */
+struct tiff_listed_page {
+    uint64_t offset;
+    tiff_status status;
+    uint32_t width;
+    uint32_t height;
+    uint32_t method; /* the number of its method of compression, as in the tag Compression */
+    tiff_status color_status;
+    struct tiff_color color;
+    uint32_t chunk_kind; /* TIFF_STRIPS or TIFF_TILES */
+    tiff_status count_status;
+    uint32_t count; /* of its chunks, in all planes */
+};
+
+/* Lists the pages of a file, along its chain of directories, refused ones too: as many as ROOM lets in, from the first one on, into PAGES;
+   those of PAGES behind them stay. *COUNT is how many pages there are, also where ROOM is less. One opening and one walk serve for all. The
+   status is TIFF_DONE where the chain ends by a link of 0, else the fault by which it ends. Where nothing is listed, *COUNT is 0, PAGES stays,
+   and the status is the fault of the header or the first page, or TIFF_OUT_OF_MEMORY. A call with a ROOM of 0 asks for the count alone. */
+tiff_status tiff_list_pages(const uint8_t *file, size_t len, struct tiff_listed_page *pages, size_t room, size_t *count);
+
 /* Reads the chunk of this number, from 0, into BUFFER, as it is in the image and in one plane; the other bytes of BUFFER stay. A
    BUFFER that is shorter than the chunk: TIFF_INSUFFICIENT_OUTPUT_BUFFER_SIZE. */
 tiff_status tiff_read_chunk_bytes(const uint8_t *file, size_t len, size_t page, uint32_t chunk, uint8_t *buffer, size_t size);

@@ -5,3 +5,4 @@ pub mod Octets
 pub mod PieceNumbers
 pub mod Writing
 pub mod Delivered
+pub mod Listed

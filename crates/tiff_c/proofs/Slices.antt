@@ -62,7 +62,7 @@ tag_refused view given (UsageError x) m n r a b = r
 tag_refused view given LimitsExceeded m n r a b = r
 tag_refused view given IntSizeError m n r a b = r
 
-answer_here : {X Y : Type 0} → (view : X → Y) → (given : Result Y TiffError) → (result : Result X TiffError) → (m n : ℕ) → Answers view result given m n
+pub answer_here : {X Y : Type 0} → (view : X → Y) → (given : Result Y TiffError) → (result : Result X TiffError) → (m n : ℕ) → Answers view result given m n
     → m ≡ 0 → n ≡ 0 → AnswersWithoutSource view result given
 answer_here view given (Ok x) m n r a b = r
 answer_here view given (Err e) m n r a b = tag_refused view given e m n r a b

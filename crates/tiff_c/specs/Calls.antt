@@ -77,11 +77,15 @@ color_number (YCbCr b) = 7
 color_number (Lab b) = 8
 color_number (Multiband b n) = 9
 
+-- a color by its numbers
+abbrev pub color_by : ColorType → Color
+color_by color = record { kind = color_number color; bits = bit_depth color; samples = num_samples color }
+
 -- the color of a page
 abbrev pub color_of_page : Decoding → Result Color TiffError
 color_of_page d = do
   color ← (outcome.colortype d).answer
-  Ok (record { kind = color_number color; bits = bit_depth color; samples = num_samples color })
+  Ok (color_by color)
 
 abbrev pub page_color : List ℕ → ℕ → Result Color TiffError
 page_color file page = decoder_at_page file page >>= color_of_page

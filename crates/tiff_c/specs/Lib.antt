@@ -2,3 +2,4 @@ pub mod Status
 pub mod Calls
 pub mod Writer
 pub use Rattle.tiff_base.specs.Answers
+pub mod List

@@ -15,6 +15,7 @@ use tiff_base::error::{TiffFormatError, TiffResult};
 use tiff_base::io::{SliceSource, Source};
 use tiff_base::tags::{ByteOrder, Tag};
 use tiff_decode::decoder::Decoder;
+use tiff_laws::pages::{walk_ends, walk_goes_on, walk_opens};
 use tiff_page::layout::TiffCodingUnit;
 
 /// The width and the height of a page.
@@ -61,14 +62,14 @@ pub struct FieldSize {
 }
 
 // No read of a slice failed.
-fn never_failed(decoder: &Decoder<SliceSource<'_>>)
+pub(crate) fn never_failed(decoder: &Decoder<SliceSource<'_>>)
     ensures { decoder.now.failures ≡ 0 }
 {
     let _source = decoder.inner();
 }
 
 // A decoder at the first page of a file.
-fn open_first(alloc: Global, file: &[u8]) -> TiffResult<Decoder<SliceSource<'_>>>
+pub(crate) fn open_first(alloc: Global, file: &[u8]) -> TiffResult<Decoder<SliceSource<'_>>>
     ensures { AnswersWithoutSource (λ d. d) result (outcome.decoder_of file.now 0) }
 {
     let decoder = Decoder::new(alloc, SliceSource::new(file))?;
@@ -92,6 +93,7 @@ fn seek(decoder: &mut Decoder<SliceSource<'_>>, page: usize) -> TiffResult<()>
 fn open_at(alloc: Global, file: &[u8], page: usize) -> TiffResult<Decoder<SliceSource<'_>>>
     ensures { AnswersWithoutSource (λ d. d) result (calls.decoder_at_page file.now page) }
 {
+    walk_opens();
     let mut decoder = open_first(alloc, file)?;
     if page == 0 {
         return Ok(decoder);
@@ -217,17 +219,23 @@ fn color_number(color: ColorType) -> u32
     }
 }
 
+// A color, as C is told of it.
+pub(crate) fn color_by(color: ColorType) -> Color
+    ensures { result ≡ calls.color_by color }
+{
+    Color {
+        kind: color_number(color),
+        bits: u32::from(color.bit_depth()),
+        samples: u32::from(color.num_samples()),
+    }
+}
+
 // The color of a decoder's page.
 #[tactic(auto, unfolding(tiff_decode::specs::Outcome::colortype))]
 fn color_here(decoder: &mut Decoder<SliceSource<'_>>) -> TiffResult<Color>
     ensures { AnswersWithoutSource (λ c. c) result (calls.color_of_page decoder.old) }
 {
-    let color = decoder.colortype()?;
-    Ok(Color {
-        kind: color_number(color),
-        bits: u32::from(color.bit_depth()),
-        samples: u32::from(color.num_samples()),
-    })
+    Ok(color_by(decoder.colortype()?))
 }
 
 /// The color of a page.
@@ -310,6 +318,9 @@ fn count_pages(decoder: &mut Decoder<SliceSource<'_>>) -> TiffResult<usize>
     requires { outcome.decoder_of decoder.old.bytes 0 ≡ Ok decoder.old }
     ensures { AnswersWithoutSource (λ n. n) result (calls.page_count decoder.old.bytes) }
 {
+    walk_opens();
+    walk_goes_on();
+    walk_ends();
     bytes_fit(decoder);
     let mut count = 1;
     'pages: while decoder.more_images() {
@@ -323,6 +334,7 @@ fn count_pages(decoder: &mut Decoder<SliceSource<'_>>) -> TiffResult<usize>
 pub fn page_count(alloc: Global, file: &[u8]) -> TiffResult<usize>
     ensures { AnswersWithoutSource (λ n. n) result (calls.page_count file.now) }
 {
+    walk_opens();
     let mut decoder = open_first(alloc, file)?;
     count_pages(&mut decoder)
 }

@@ -4,6 +4,7 @@
 
 ghost use Rattle.std.specs.Prelude.{◌≡◌, ◌⊎◌};
 ghost use Rattle.tiff_c.specs.Calls as calls;
+ghost use Rattle.tiff_c.specs.List.{ListTells, list_of};
 ghost use Rattle.tiff_c.specs.Status.{StatusTells};
 ghost use Rattle.tiff_c.specs.Writer as writer;
 ghost use Rattle.tiff_c.specs.Writer.{IsShown};
@@ -11,6 +12,7 @@ ghost use Rattle.tiff_c.specs.Writer.{IsShown};
 use std::alloc::Global;
 
 mod calls;
+mod list;
 mod samples;
 mod status;
 mod writer;
@@ -19,6 +21,7 @@ use crate::calls::{
     Chunks, Color, FieldSize, Layout, Sides, byte_order, chunk_bytes, image_bytes, page_chunks,
     page_color, page_count, page_layout, page_sides, tag_bytes, tag_field, tag_number, unit_bytes,
 };
+use crate::list::{ListedPage, list_into};
 use crate::status::{done, given, text_of};
 use crate::writer::{NewImage, deliver, write_new};
 
@@ -175,6 +178,19 @@ pub extern "C" fn tiff_page_count(alloc: Global, file: &[u8], pages: &mut usize)
     ensures { StatusTells (calls.page_count file.now) result pages.new }
 {
     given(page_count(alloc, file), pages)
+}
+
+/// Lists the pages of a file.
+#[unsafe(no_mangle)]
+pub extern "C" fn tiff_list_pages(
+    alloc: Global,
+    file: &[u8],
+    pages: &mut [ListedPage],
+    count: &mut usize,
+) -> u32
+    ensures { ListTells (list_of file.now) result pages.old pages.new count.new }
+{
+    list_into(alloc, file, pages, count)
 }
 
 /// Writes a file of one image into a slice, and tells how many bytes it has.

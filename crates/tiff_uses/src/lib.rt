@@ -19,6 +19,7 @@ use tiff::encoder::colortype::Gray8;
 use tiff::io::{MemorySink, MemorySource, Source};
 use tiff::tags::Tag;
 use tiff_laws::decoder::{image_is_its_chunks, read_where_chunks};
+use tiff_laws::pages::{walk_ends, walk_goes_on, walk_opens};
 
 /// The samples of a file's first page, or the first fault.
 pub fn first_image(alloc: Global, file: Vec<u8>) -> TiffResult<DecodingResult>
@@ -57,6 +58,9 @@ fn sides_along(alloc: Global, decoder: &mut Decoder<MemorySource>) -> TiffResult
     requires { decoder_of decoder.old.bytes 0 ≡ Ok (record decoder.old { failures = 0 }) }
     ensures { IfOk result (λ sides. AreSides decoder.old.bytes sides.items) }
 {
+    walk_opens();
+    walk_goes_on();
+    walk_ends();
     let mut sides = Vec::new(alloc);
     sides.push(decoder.dimensions()?)?;
     'pages: while decoder.more_images() {
@@ -70,6 +74,7 @@ fn sides_along(alloc: Global, decoder: &mut Decoder<MemorySource>) -> TiffResult
 pub fn page_sides(alloc: Global, file: Vec<u8>) -> TiffResult<Vec<(u32, u32)>>
     ensures { IfOk result (λ sides. AreSides file.items sides.items) }
 {
+    walk_opens();
     let mut decoder = Decoder::new(alloc, MemorySource::new(file))?;
     sides_along(alloc, &mut decoder)
 }

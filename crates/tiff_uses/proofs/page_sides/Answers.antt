@@ -1,13 +1,15 @@
-use Rattle.std.proofs.Common.{ℕ, List, IfOk, subst, ◌∙◌}
+use Rattle.std.proofs.Common.{ℕ, List, IfOk, ap, subst, ◌∙◌}
+use Rattle.tiff_decode.specs.Outcome.{decoder_of}
 use Rattle.tiff_uses.specs.Pages.{AreSides}
-use Rattle.tiff_uses.proofs.Standing.{begun_again, bytes_begun}
 use Rattle.tiff_uses.proofs.page_sides.Goals as goal
 
 pub sides_along-requires : goal.sides_along-requires
-sides_along-requires c = begun_again _ c.in_ok-decoder.decoder c.in_ok-decoder.ensures.answer
+sides_along-requires c =
+    let h = c.in_ok-decoder.ensures.answer in
+    ap (λ (b : List ℕ). decoder_of b 0) (c.walk_opens.ensures _ 0 _ h).bytes ∙ h
 
 pub returns : goal.returns
 returns c =
-    let bytes = bytes_begun _ c.in_ok-decoder.decoder c.in_ok-decoder.ensures.answer ∙ c.new.ensures in
+    let bytes = (c.walk_opens.ensures _ 0 _ c.in_ok-decoder.ensures.answer).bytes ∙ c.new.ensures in
     let P : List ℕ → Type 0 = λ b. IfOk c.sides_along.result (λ sides. AreSides b sides.items) in
     subst P bytes c.sides_along.ensures

@@ -1,25 +1,25 @@
-use Rattle.std.proofs.Common.{◌≡◌, true, false, refl}
-use Rattle.tiff_uses.proofs.Standing.{all_sides, fewer_left, first_listed, next_listed}
+use Rattle.std.proofs.Common.{◌≡◌, true, false}
+use Rattle.tiff_uses.proofs.Standing.{all_sides, begun, fewer_left, first_listed, next_listed}
 use Rattle.tiff_uses.proofs.sides_along.Goals as goal
 
 pub pages-init : goal.pages-init
 pages-init c =
-    first_listed c.args.decoder.now.bytes _ c.args.decoder.now c.dimensions.new.self c.in_ok-dimensions.field-0 c.new-sides.result.items c.push.new.self.items
-    refl c.requires c.in_ok-dimensions.ensures c.new-sides.ensures.items c.in_ok-push.ensures.items
+    first_listed c.walk_opens.ensures c.args.decoder.now c.dimensions.new.self c.in_ok-dimensions.field-0 c.new-sides.result.items c.push.new.self.items
+    c.requires c.in_ok-dimensions.ensures c.new-sides.ensures.items c.in_ok-push.ensures.items
 
 pub pages-preserved : goal.pages-preserved
 pages-preserved c =
     let more : c.pages.decoder.state.more ≡ true = (let e = c.more_images.ensures in let t = c.pages-test.true in cc) in
-    next_listed c.args.decoder.now.bytes c.pages.decoder c.next_image.new.self c.dimensions-in-pages.new.self c.in_ok-dimensions-2.field-0 c.pages.sides.items
-    c.push-in-pages.new.self.items c.pages.invariant more c.in_ok-next_image.ensures c.in_ok-dimensions-2.ensures c.in_ok-push-2.ensures.items
+    next_listed c.walk_goes_on.ensures (begun c.args.decoder.now) c.pages.decoder c.next_image.new.self c.dimensions-in-pages.new.self c.in_ok-dimensions-2.field-0
+    c.pages.sides.items c.push-in-pages.new.self.items c.pages.invariant more c.in_ok-next_image.ensures c.in_ok-dimensions-2.ensures c.in_ok-push-2.ensures.items
 
 pub pages-smaller : goal.pages-smaller
 pages-smaller c =
     let more : c.pages.decoder.state.more ≡ true = (let e = c.more_images.ensures in let t = c.pages-test.true in cc) in
-    fewer_left c.args.decoder.now.bytes c.pages.decoder c.next_image.new.self c.dimensions-in-pages.new.self c.in_ok-dimensions-2.field-0 c.pages.sides.items
-    c.push-in-pages.new.self.items c.pages.invariant more c.in_ok-next_image.ensures c.in_ok-dimensions-2.ensures c.in_ok-push-2.ensures.items
+    fewer_left c.walk_goes_on.ensures (begun c.args.decoder.now) c.pages.decoder c.next_image.new.self c.dimensions-in-pages.new.self c.in_ok-dimensions-2.field-0
+    c.pages.sides.items c.push-in-pages.new.self.items c.pages.invariant more c.in_ok-next_image.ensures c.in_ok-dimensions-2.ensures c.in_ok-push-2.ensures.items
 
 pub returns : goal.returns
 returns c =
     let ended : c.pages.decoder.state.more ≡ false = (let e = c.more_images.ensures in let t = c.pages-test.false in cc) in
-    all_sides c.args.decoder.now.bytes c.pages.sides.items c.pages.decoder c.pages.invariant ended
+    all_sides c.walk_ends.ensures c.args.decoder.now.bytes (begun c.args.decoder.now) c.pages.decoder c.pages.sides.items c.requires c.pages.invariant ended

@@ -4,7 +4,7 @@ use Rattle.tiff_c.proofs.Counting.{Counting}
 use Rattle.tiff_c.proofs.calls.count_pages.Given as goal
 
 abbrev pub invariant-pages : goal.invariant-pages
-invariant-pages l = Counting l.fn.decoder.bytes l.count l.decoder
+invariant-pages l = Counting l.fn.decoder l.count l.decoder
 
 abbrev pub decreases-pages : goal.decreases-pages
-decreases-pages l = length (chain_of l.decoder).offsets - l.count
+decreases-pages l = length (chain_of l.fn.decoder).offsets - l.count

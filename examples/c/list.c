@@ -1,0 +1,58 @@
+/* Lists the pages of a TIFF file: number, offset, sides, color, method, chunks; or why a page is refused. How the chain of pages ends, where it
+   ends by a fault, stands on standard error.
+     cc -I ../../crates/tiff_c/include list.c ../../crates/tiff_c/out/libtiff_c.a "$KIT/c/liblibc_c.a" -o list
+     ./list page.tif
+   First build the library by `rt lib` in crates/tiff_c; KIT is the folder of the toolchain. */
+#include <inttypes.h>
+#include <stdio.h>
+#include <stdlib.h>
+#include "tiff.h"
+
+static uint8_t *read_file(const char *name, size_t *len) {
+    FILE *in = fopen(name, "rb");
+    if (!in || fseek(in, 0, SEEK_END)) return NULL;
+    long end = ftell(in);
+    uint8_t *bytes = end < 0 ? NULL : malloc((size_t)end + 1);
+    rewind(in);
+    *len = bytes ? fread(bytes, 1, (size_t)end, in) : 0;
+    fclose(in);
+    return bytes;
+}
+
+static void print_fault(FILE *out, tiff_status status) {
+    uint8_t text[160];
+    size_t len = tiff_fault_text(status, text, sizeof text);
+    fprintf(out, "error: %.*s\n", (int)(len < sizeof text ? len : sizeof text), (const char *)text);
+}
+
+static void print_page(size_t number, const struct tiff_listed_page *page) {
+    printf("%zu %" PRIu64 " ", number, page->offset);
+    if (page->status != TIFF_DONE) {
+        print_fault(stdout, page->status);
+        return;
+    }
+    printf("%" PRIu32 "x%" PRIu32 " ", page->width, page->height);
+    if (page->color_status == TIFF_DONE)
+        printf("color %" PRIu32 " of %" PRIu32 " x %" PRIu32 " bits", page->color.kind, page->color.samples, page->color.bits);
+    else
+        printf("no color");
+    printf(", method %" PRIu32 ", %" PRIu32 " %s\n", page->method, page->count, page->chunk_kind == TIFF_TILES ? "tiles" : "strips");
+}
+
+int main(int argc, char **argv) {
+    size_t len = 0, count = 0;
+    uint8_t *file = argc == 2 ? read_file(argv[1], &len) : NULL;
+    if (!file) {
+        fprintf(stderr, "usage: list FILE\n");
+        return 2;
+    }
+    struct tiff_listed_page first;
+    tiff_status end = tiff_list_pages(file, len, &first, 0, &count);
+    struct tiff_listed_page *pages = count ? malloc(count * sizeof *pages) : NULL;
+    if (pages) end = tiff_list_pages(file, len, pages, count, &count);
+    for (size_t i = 0; pages && i < count; i++) print_page(i, &pages[i]);
+    if (end != TIFF_DONE) print_fault(stderr, end);
+    free(pages);
+    free(file);
+    return end == TIFF_DONE ? 0 : 1;
+}
