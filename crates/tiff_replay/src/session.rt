@@ -5,12 +5,14 @@ use crate::source::ScriptedSource;
 use crate::writer::Writer;
 use std::alloc::{AllocError, Global};
 use std::boxed::Box;
+use std::fmt::Write;
 use std::rt::Files;
 use tiff_base::error::TiffResult;
 use tiff_decode::decoder::Decoder;
 use tiff_decode::reply::{refusal_text, reply_text};
 use tiff_decode::script::Call;
 use tiff_lists::call::call_of;
+use tiff_program::list::{PageLines, check_lines, list_lines};
 
 /// The decoder of the file that was opened last, if it was not refused, and the writer of lists of jobs.
 #[derive(Drop)]
@@ -25,6 +27,33 @@ pub struct Session {
 fn decoder_of(alloc: Global, source: ScriptedSource) -> TiffResult<Box<Decoder<ScriptedSource>>> {
     let decoder = Decoder::new(alloc, source)?;
     Ok(Box::new(alloc, decoder)?)
+}
+
+// The lines of the pages of a decoder's file on one line, parted by ` | `, and behind them the fault by which the chain ends.
+fn pages_text(
+    alloc: Global,
+    decoder: &mut Decoder<ScriptedSource>,
+    checks: bool,
+) -> Result<String, AllocError> {
+    let lines = if checks {
+        check_lines(alloc, decoder)
+    } else {
+        list_lines(alloc, decoder)
+    };
+    let PageLines { text, end, well } = match lines {
+        Ok(lines) => lines,
+        Err(fault) => return refusal_text(alloc, &fault),
+    };
+    let mut told = String::new(alloc);
+    for line in text.as_str().lines() {
+        told.push_str(line)?;
+        told.push_str(" | ")?;
+    }
+    match end {
+        Some(fault) => write!(told, "error: {fault}")?,
+        None => told.push_str(if well { "end" } else { "end, not well" })?,
+    }
+    Ok(told)
 }
 
 impl Session {
@@ -69,8 +98,19 @@ impl Session {
         }
     }
 
+    // The lines of the pages of the file: what they are, or what reading them gives.
+    fn pages(&mut self, alloc: Global, checks: bool) -> Result<String, AllocError> {
+        match &mut self.decoder {
+            Some(decoder) => pages_text(alloc, decoder, checks),
+            None => String::from_str(alloc, "no file"),
+        }
+    }
+
     // Makes the call that the words tell of.
     fn make_words(&mut self, alloc: Global, words: &str) -> Result<String, AllocError> {
+        if words == "list" || words == "check" {
+            return self.pages(alloc, words == "check");
+        }
         match call_of(alloc, words)? {
             Some(call) => self.make(alloc, &call),
             None => String::from_str(alloc, "no such call"),

@@ -1,9 +1,12 @@
 //! What the program `tiffpage` does, over files in memory.
 
 use std::alloc::Global;
+use std::process::Abort;
 use std::test::Fail;
-use tiff_pages::files::{FileFault, Files};
-use tiff_pages::program::run;
+use tiff::io::IoKind;
+use tiff::{TiffError, TiffResult};
+use tiff_program::files::Files;
+use tiff_program::program::run;
 
 // A file in memory.
 #[derive(Drop)]
@@ -12,29 +15,22 @@ struct File {
     bytes: Vec<u8>,
 }
 
-// Files in memory, and what standard input has. One name can't be written, and some can't be read.
+// Files in memory; standard input is the one of the name `-`. One name can't be written, and one can't be read.
 #[derive(Drop)]
 struct MemoryFiles {
     alloc: Global,
     files: Vec<File>,
-    input: &'static str,
 }
 
 const UNWRITABLE: &str = "FULL";
 
-const UNREADABLE: [(&str, FileFault); 4] = [
-    ("LOCKED", FileFault::NoPermission),
-    ("FOLDER", FileFault::Folder),
-    ("HUGE", FileFault::TooLarge),
-    ("BROKEN", FileFault::Other),
-];
+const UNREADABLE: &str = "LOCKED";
 
 impl MemoryFiles {
-    fn with(alloc: Global, name: &str, bytes: &[u8]) -> Result<Self, FileFault> {
+    fn with(alloc: Global, name: &str, bytes: &[u8]) -> TiffResult<Self> {
         let mut files = MemoryFiles {
             alloc,
             files: Vec::new(alloc),
-            input: "",
         };
         files.write(name, bytes)?;
         Ok(files)
@@ -42,32 +38,26 @@ impl MemoryFiles {
 }
 
 impl Files for MemoryFiles {
-    fn read(&mut self, name: &str) -> Result<Vec<u8>, FileFault> {
-        for (unreadable, fault) in UNREADABLE {
-            if name == unreadable {
-                return Err(fault);
-            }
+    fn read(&mut self, name: &str) -> TiffResult<Vec<u8>> {
+        if name == UNREADABLE {
+            return Err(TiffError::IoError(IoKind::Device));
         }
         for file in self.files.iter() {
             if file.name.as_str() == name {
                 return Ok(Vec::from_slice(self.alloc, file.bytes.as_slice())?);
             }
         }
-        Err(FileFault::NotFound)
+        Err(TiffError::IoError(IoKind::Device))
     }
 
-    fn write(&mut self, name: &str, bytes: &[u8]) -> Result<(), FileFault> {
+    fn write(&mut self, name: &str, bytes: &[u8]) -> TiffResult<()> {
         if name == UNWRITABLE {
-            return Err(FileFault::Other);
+            return Err(TiffError::IoError(IoKind::Device));
         }
         let name = String::from_str(self.alloc, name)?;
         let bytes = Vec::from_slice(self.alloc, bytes)?;
         self.files.insert(0, File { name, bytes })?;
         Ok(())
-    }
-
-    fn read_input(&mut self) -> Result<String, FileFault> {
-        Ok(String::from_str(self.alloc, self.input)?)
     }
 }
 
@@ -79,7 +69,7 @@ struct Run {
     err: Vec<u8>,
 }
 
-fn all_words(alloc: Global, words: &[&str]) -> Result<Vec<String>, FileFault> {
+fn all_words(alloc: Global, words: &[&str]) -> TiffResult<Vec<String>> {
     let mut all = Vec::new(alloc);
     for word in words {
         all.push(String::from_str(alloc, word)?)?;
@@ -87,7 +77,7 @@ fn all_words(alloc: Global, words: &[&str]) -> Result<Vec<String>, FileFault> {
     Ok(all)
 }
 
-fn run_words(alloc: Global, files: &mut MemoryFiles, words: &[&str]) -> Result<Run, FileFault> {
+fn run_words(alloc: Global, files: &mut MemoryFiles, words: &[&str]) -> TiffResult<Run> {
     let all = all_words(alloc, words)?;
     let mut out = Vec::new(alloc);
     let mut err = Vec::new(alloc);
@@ -95,16 +85,7 @@ fn run_words(alloc: Global, files: &mut MemoryFiles, words: &[&str]) -> Result<R
     Ok(Run { status, out, err })
 }
 
-const USAGE: &[u8] = b"usage: tiffpage gray|raw|tags|calls|jobs ..
-  gray OUT W H IN
-  raw FILE PAGE OUT
-  tags FILE PAGE
-  calls FILE < LIST
-  jobs OUT [big] < LIST
-";
-
-// How many bytes of the usage go to standard output.
-const FIRST_LINE: usize = 44;
+const USAGE: &[u8] = b"usage: tiffpage gray|raw|tags|list ..\n";
 
 /// The file of one gray sample 7, byte by byte.
 const ONE: [u8; 199] = [
@@ -178,9 +159,9 @@ fn samples_of_two_bytes_are_written_lowest_first(rt: HostRuntime) -> Result<(), 
     Ok(())
 }
 
-// A command line, its status and its lines on the error stream; IN has three bytes, ONE the file of one sample, and
-// standard input NO_CALL.
-const FAULTS: [(&[&str], u8, &[u8]); 37] = [
+// A command line, its status and its line on the error stream; IN has three bytes, ONE the file of one sample, CUT that file without
+// its last byte, and standard input NO_CALL.
+const FAULTS: [(&[&str], u8, &[u8]); 38] = [
     (
         &["gray", "OUT", "0", "5", "IN"],
         1,
@@ -189,22 +170,22 @@ const FAULTS: [(&[&str], u8, &[u8]); 37] = [
     (
         &["gray", "OUT", "2", "2", "IN"],
         1,
-        b"error: invalid data\n4 bytes are wanted, and IN has 3\n",
+        b"error: invalid data\n",
     ),
     (
         &["gray", "OUT", "1", "1000001", "IN"],
         1,
-        b"error: invalid data\n1000001 bytes are wanted, and IN has 3\n",
+        b"error: invalid data\n",
     ),
     (
         &["gray", "OUT", "1", "1", "NONE"],
         1,
-        b"error: cannot read NONE: not found\n",
+        b"error: cannot read NONE\n",
     ),
     (
         &["gray", "OUT", "0", "5", "NONE"],
         1,
-        b"error: cannot read NONE: not found\n",
+        b"error: cannot read NONE\n",
     ),
     (
         &["gray", "FULL", "1", "1", "IN"],
@@ -251,52 +232,33 @@ const FAULTS: [(&[&str], u8, &[u8]); 37] = [
         b"error: format error: image file directory not found\n",
     ),
     (&["tags", "CUT", "0"], 1, b"error: unexpected end of file\n"),
-    (
-        &["tags", "NONE", "0"],
-        1,
-        b"error: cannot read NONE: not found\n",
-    ),
+    (&["tags", "NONE", "0"], 1, b"error: cannot read NONE\n"),
     (&["tags", "ONE"], 2, USAGE),
     (&["tags", "ONE", "0", "OUT"], 2, USAGE),
     (&["tags", "NONE", "-1"], 2, USAGE),
     (
-        &["gray", "OUT", "1", "1", "LOCKED"],
+        &["raw", "LOCKED", "0", "OUT"],
         1,
-        b"error: cannot read LOCKED: no permission\n",
-    ),
-    (
-        &["raw", "FOLDER", "0", "OUT"],
-        1,
-        b"error: cannot read FOLDER: a folder\n",
-    ),
-    (
-        &["tags", "HUGE", "0"],
-        1,
-        b"error: cannot read HUGE: too large\n",
-    ),
-    (&["tags", "BROKEN", "0"], 1, b"error: cannot read BROKEN\n"),
-    (
-        &["gray", "IN", "1", "1", "IN"],
-        2,
-        b"tiffpage: IN is an input too\n",
-    ),
-    (
-        &["raw", "NONE", "0", "NONE"],
-        2,
-        b"tiffpage: NONE is an input too\n",
+        b"error: cannot read LOCKED\n",
     ),
     (&["gray", "IN", "1", "x", "IN"], 2, USAGE),
+    (&["list"], 2, USAGE),
+    (&["list", "ONE", "0"], 2, USAGE),
+    (&["list", "NONE"], 1, b"error: cannot read NONE\n"),
+    (&["list", "CUT"], 1, b"error: unexpected end of file\n"),
+    (
+        &["check", "IN"],
+        1,
+        b"error: format error: TIFF signature not found\n",
+    ),
+    (&["check"], 2, USAGE),
+    (&["help", "list"], 2, USAGE),
     (&["calls"], 2, USAGE),
     (&["calls", "ONE", "0"], 2, USAGE),
-    (
-        &["calls", "NONE"],
-        1,
-        b"error: cannot read NONE: not found\n",
-    ),
+    (&["calls", "NONE"], 1, b"error: cannot read NONE\n"),
     (&["calls", "IN"], 2, b"error: line 3 is no call\n"),
     (&["jobs"], 2, USAGE),
     (&["jobs", "OUT", "small"], 2, USAGE),
-    (&["jobs", "OUT", "big", "x"], 2, USAGE),
     (&["jobs", "FULL"], 2, b"error: line 1 is no job\n"),
 ];
 
@@ -307,14 +269,14 @@ fn faults_are_told_in_their_order(rt: HostRuntime) -> Result<(), Fail> {
     let mut files = MemoryFiles::with(rt.alloc(), "IN", &[1, 2, 3])?;
     files.write("ONE", ONE.as_slice())?;
     files.write("CUT", &ONE.as_slice()[..198])?;
-    files.input = NO_CALL;
+    files.write("-", NO_CALL.as_bytes())?;
     for (words, status, line) in FAULTS {
         let run = run_words(rt.alloc(), &mut files, words)?;
         assert_eq!(rt; run.status, status, "{line:?}");
         assert_eq!(rt; run.out.len(), 0);
         assert_eq!(rt; run.err.as_slice(), line);
         assert!(rt; files.read("OUT").is_err());
-        assert_eq!(rt; files.files.len(), 3);
+        assert_eq!(rt; files.files.len(), 4);
     }
     Ok(())
 }
@@ -352,7 +314,7 @@ const BIG_LISTING: &[u8] = b"256 4 1 00000001
 ";
 
 // Lists the entries of a file's first page.
-fn run_tags(alloc: Global, file: &[u8]) -> Result<Run, FileFault> {
+fn run_tags(alloc: Global, file: &[u8]) -> TiffResult<Run> {
     let mut files = MemoryFiles::with(alloc, "IN", file)?;
     run_words(alloc, &mut files, &["tags", "IN", "0"])
 }
@@ -398,8 +360,88 @@ fn no_words_give_the_usage(rt: HostRuntime) -> Result<(), Fail> {
     let mut files = MemoryFiles::with(rt.alloc(), "IN", &[7])?;
     let run = run_words(rt.alloc(), &mut files, &[])?;
     assert_eq!(rt; run.status, 0);
-    assert_eq!(rt; run.out.as_slice(), &USAGE[..FIRST_LINE]);
-    assert_eq!(rt; run.err.as_slice(), &USAGE[FIRST_LINE..]);
+    assert_eq!(rt; run.out.as_slice(), USAGE);
+    assert_eq!(rt; run.err.len(), 0);
+    Ok(())
+}
+
+#[test]
+fn help_tells_each_command(rt: HostRuntime) -> Result<(), Fail> {
+    let mut files = MemoryFiles::with(rt.alloc(), "IN", &[7])?;
+    let run = run_words(rt.alloc(), &mut files, &["help"])?;
+    assert_eq!(rt; run.status, 0);
+    assert_eq!(rt; run.err.len(), 0);
+    let told = run.out.as_slice();
+    assert!(rt; told.starts_with(b"tiffpage: TIFF and BigTIFF pages\n\n  gray OUT W H IN "));
+    assert!(rt; told.ends_with(b"\n  help                   prints these lines\n"));
+    Ok(())
+}
+
+#[test]
+fn a_file_takes_the_place_of_its_input(rt: HostRuntime) -> Result<(), Fail> {
+    let mut files = MemoryFiles::with(rt.alloc(), "IN", &[7])?;
+    let gray = run_words(rt.alloc(), &mut files, &["gray", "IN", "1", "1", "IN"])?;
+    assert_eq!(rt; gray.status, 0);
+    assert_eq!(rt; files.read("IN")?.as_slice(), ONE.as_slice());
+    Ok(())
+}
+
+// Runs a command on a file, whose status and lines are then these.
+fn expect_run(
+    rt: &impl Abort,
+    alloc: Global,
+    (command, file): (&str, &[u8]),
+    (status, out, err): (u8, &[u8], &[u8]),
+) -> TiffResult<()> {
+    let mut files = MemoryFiles::with(alloc, "IN", file)?;
+    let run = run_words(alloc, &mut files, &[command, "IN"])?;
+    assert_eq!(rt; run.out.as_slice(), out);
+    assert_eq!(rt; run.err.as_slice(), err);
+    assert_eq!(rt; run.status, status);
+    Ok(())
+}
+
+const CYCLE: &[u8] = b"error: format error: file contained a cycle in the list of IFDs\n";
+
+const ONE_LISTED: &[u8] = b"0 25 1x1 Gray8 1 strip 1\n";
+
+const ONE_CHECKED: &[u8] = b"0 25 ok 1 00080008\n";
+
+const ONE_CUT: &[u8] = b"0 25 error: unexpected end of file\n";
+
+const NO_SIDES: &[u8] = b"0 25 1x1 Gray8 1 strip 1
+1 199 error: format error: required tag `ImageWidth` not found
+";
+
+#[test]
+fn pages_are_listed(rt: HostRuntime) -> Result<(), Fail> {
+    let alloc = rt.alloc();
+    expect_run(&rt, alloc, ("list", &ONE), (0, ONE_LISTED, b""))?;
+    expect_run(&rt, alloc, ("list", &BIG), (0, ONE_LISTED, b""))?;
+    // A directory without entries at 199, linked from 195; and then one that leads back to the first.
+    let mut file = Vec::from_slice(alloc, &ONE)?;
+    file.extend_from_slice(&[0, 0, 0, 0, 0, 0])?;
+    assert_eq!(rt; file.len(), 205);
+    file[195] = 0xc7;
+    expect_run(&rt, alloc, ("list", &file), (0, NO_SIDES, b""))?;
+    file[201] = 25;
+    expect_run(&rt, alloc, ("list", &file), (1, ONE_LISTED, CYCLE))?;
+    Ok(())
+}
+
+#[test]
+fn pages_are_checked(rt: HostRuntime) -> Result<(), Fail> {
+    let alloc = rt.alloc();
+    expect_run(&rt, alloc, ("check", &ONE), (0, ONE_CHECKED, b""))?;
+    let mut file = Vec::from_slice(alloc, &ONE)?;
+    file.extend_from_slice(&[0, 0, 25, 0, 0, 0])?;
+    assert_eq!(rt; file.len(), 205);
+    file[195] = 0xc7;
+    expect_run(&rt, alloc, ("check", &file), (1, ONE_CHECKED, CYCLE))?;
+    // The strip lies past the end.
+    file[195] = 0;
+    file[95] = 0xff;
+    expect_run(&rt, alloc, ("check", &file), (1, ONE_CUT, b""))?;
     Ok(())
 }
 
@@ -420,7 +462,7 @@ U8([7])
 fn listed_calls_are_made(rt: HostRuntime) -> Result<(), Fail> {
     let mut files = MemoryFiles::with(rt.alloc(), "ONE", ONE.as_slice())?;
     files.write("CUT", &ONE.as_slice()[..198])?;
-    files.input = CALLS;
+    files.write("-", CALLS.as_bytes())?;
     let made = run_words(rt.alloc(), &mut files, &["calls", "ONE"])?;
     assert_eq!(rt; made.status, 0);
     assert_eq!(rt; made.out.as_slice(), REPLIES);
@@ -457,7 +499,7 @@ write_tag 65000 u8 1
 #[test]
 fn listed_jobs_are_written(rt: HostRuntime) -> Result<(), Fail> {
     let mut files = MemoryFiles::with(rt.alloc(), "ONE", ONE.as_slice())?;
-    files.input = JOBS;
+    files.write("-", JOBS.as_bytes())?;
     let done = run_words(rt.alloc(), &mut files, &["jobs", "OUT"])?;
     assert_eq!(rt; done.status, 0);
     assert_eq!(rt; done.out.as_slice(), JOB_REPLIES);
@@ -479,7 +521,7 @@ fn listed_jobs_are_written(rt: HostRuntime) -> Result<(), Fail> {
 #[test]
 fn jobs_that_end_within_one_are_not_run(rt: HostRuntime) -> Result<(), Fail> {
     let mut files = MemoryFiles::with(rt.alloc(), "ONE", ONE.as_slice())?;
-    files.input = UNENDED;
+    files.write("-", UNENDED.as_bytes())?;
     let run = run_words(rt.alloc(), &mut files, &["jobs", "OUT"])?;
     assert_eq!(rt; run.status, 2);
     assert_eq!(rt; run.err.as_slice(), b"error: line 3 is no job\n".as_slice());
@@ -504,7 +546,7 @@ const SECOND_LISTING: &[u8] = b"256 4 1 01000000
 #[test]
 fn a_second_page_is_taken(rt: HostRuntime) -> Result<(), Fail> {
     let mut files = MemoryFiles::with(rt.alloc(), "ONE", ONE.as_slice())?;
-    files.input = TWO;
+    files.write("-", TWO.as_bytes())?;
     let written = run_words(rt.alloc(), &mut files, &["jobs", "OUT"])?;
     assert_eq!(rt; written.status, 0);
     let raw = run_words(rt.alloc(), &mut files, &["raw", "OUT", "1", "BACK"])?;
