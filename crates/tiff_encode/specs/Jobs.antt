@@ -434,7 +434,7 @@ pub record LeavesJobs (kind : FileKind) (jobs : List Job) (replies : List JobRep
 
 -- a sink, by the bytes that it took, how many of its writes failed, and what the last one answered where it failed
 module _ {W : Type 0} (told : W → List ℕ) (failures : W → ℕ) (fault : W → Option SinkFault) where
-  -- No job was called: there was no room for the replies, and nothing was written; or the sink failed while the header was.
+  -- No job was called: there was no room for the replies; or the sink failed while the header was written.
   abbrev pub RefusesJobs : FileKind → W → TiffError → Type 0
   RefusesJobs kind sink e = (e ≡ OutOfMemory) ⊎ HeaderFails kind told failures fault sink e
 

@@ -31,7 +31,7 @@ fn run_kind<K: TiffKind>(alloc: Global, jobs: &[Job]) -> TiffResult<Written>
 }
 
 /// Runs jobs one after another, and answers the file of this kind that they write, with the text of their replies, a refusal
-/// too, a line for each. Want of memory for the replies or for the header: `OutOfMemory`, and nothing is written.
+/// too, a line for each. Out of memory for the replies or for the header: `OutOfMemory`, and there is no file.
 pub fn write_by(alloc: Global, kind: FileKind, jobs: &[Job]) -> TiffResult<Written>
     ensures { IfOk result (λ written. Wrote kind jobs.now written.file.items) }
 {

@@ -233,8 +233,8 @@ fn run_new<W: Sink + Drop, K: TiffKind>(
 }
 
 /// Writes a header of a kind at a sink's end, and runs jobs one after another; the reply of each, a fault too, is put behind those in
-/// `replies`. It answers the sink. Room for all replies is taken first: where that is refused, `OutOfMemory`, and nothing is
-/// written; a fault of the sink in the header: `IoError(Device)` or `OutOfMemory`. After an error `replies` holds what it held.
+/// `replies`. It answers the sink. Room for all replies is taken first, by steps that don't have the sink: where that is refused,
+/// `OutOfMemory`; a fault of the sink in the header: `IoError(Device)` or `OutOfMemory`. After an error `replies` holds what it held.
 pub fn run_jobs<W: Sink + Drop, K: TiffKind>(
     alloc: Global,
     sink: W,
