@@ -39,7 +39,8 @@ pub record Packs (list bytes : List ℕ) : Type 0 where
   pub is_list : list ≡ flat_map packed_block blocks
   pub stands : bytes ≡ flat_map plain_block blocks
 
--- A packed list is one that may be written for these bytes: such blocks, and not longer than it has to be.
+-- A packed list is one that may be written for these bytes: such blocks, and at most one byte longer than the bytes for each 128 of
+-- them or part of 128.
 pub record IsPacked (bytes list : List ℕ) : Type 0 where
   pub packs : Packs list bytes
   pub bound : length list ≤ packed_bound (length bytes)

@@ -198,21 +198,6 @@ pub units_of : s.units_of
 unfolding unit_of
 units_of = (refl, refl)
 
-pub gray_known : s.gray_known
-gray_known = refl
-
-pub gray_wide : s.gray_wide
-gray_wide = refl
-
-pub gray_white : s.gray_white
-gray_white = refl
-
-pub gray_signed : s.gray_signed
-gray_signed = refl
-
-pub gray_two : s.gray_two
-gray_two = (refl, refl, refl)
-
 pub gray_type_is : s.gray_type_is
 gray_type_is = samples_alike meaning.BlackIsZero 1 1 format.Uint (lit< tt) (lit< tt)
 

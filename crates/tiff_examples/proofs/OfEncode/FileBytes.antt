@@ -58,18 +58,6 @@ two_fields = directory_by Classic ((258, short_field 8) ∷ (256, long_field 5) 
 pub no_field : s.no_field
 no_field = directory_by Big []
 
-pub gray_8 : s.gray_8
-gray_8 = refl
-
-pub gray_16 : s.gray_16
-gray_16 = refl
-
-pub gray_signed : s.gray_signed
-gray_signed = refl
-
-pub white_8 : s.white_8
-white_8 = refl
-
 pub appended : s.appended
 appended = refl
 

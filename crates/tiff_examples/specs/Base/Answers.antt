@@ -1,5 +1,5 @@
 -- Worked words: what a call may answer, what a source is left as, and what a writer does.
-use Rattle.std.specs.Prelude.{◌≡◌, ℕ, List, [], ◌∷◌, Some, None, true, false, Result, Ok, Err}
+use Rattle.std.specs.Prelude.{◌≡◌, ℕ, List, [], ◌∷◌, Some, None, Result, Ok, Err}
 use Rattle.std.specs.FinMap.{empty, insert}
 use Rattle.tiff_base.specs.declared.error.TiffError.{TiffError}
 use Rattle.tiff_base.specs.declared.error.TiffError.TheVariants.{IoError, UsageError, LimitsExceeded, IntSizeError, OutOfMemory}
@@ -16,7 +16,7 @@ use Rattle.tiff_base.specs.declared.tags.«Type».TheVariants.{SHORT}
 use Rattle.tiff_base.specs.Field.{Field, In, IsEntry, AreEntries}
 use Rattle.tiff_base.specs.SourceAndSink.{sink_error}
 use Rattle.tiff_base.specs.Tags.{named_tag, named_method, named_format, unit_of}
-use Rattle.tiff_value.specs.ColorType.{ColorTypeRecord, IsColorType, is_gray_8}
+use Rattle.tiff_value.specs.ColorType.{ColorTypeRecord, IsColorType}
 use Rattle.tiff_value.specs.Written.{Written, new_writer, writer_after, writer_after_counted, SinkFails, IsStopped, IsCut, WritesRaw, WritesCounted}
 
 abbrev pub Never : Type 0 → Type 0
@@ -223,27 +223,9 @@ formats_named = (named_format format.Void ≡ Some format.Void) × (named_format
 abbrev pub units_of : Type 0
 units_of = (unit_of 2 ≡ Some unit.Inch) × (unit_of 4 ≡ None)
 
--- gray of one byte a sample, where 0 is black, and others
+-- gray of one byte a sample, where 0 is black
 abbrev pub gray_type : ColorTypeRecord
 gray_type = record { interpretation = meaning.BlackIsZero; bits = 8 ∷ []; formats = format.Uint ∷ [] }
-
-abbrev pub gray_known : Type 0
-gray_known = is_gray_8 gray_type ≡ true
-
-abbrev pub gray_wide : Type 0
-gray_wide = is_gray_8 (record gray_type { bits = 16 ∷ [] }) ≡ false
-
-abbrev pub gray_white : Type 0
-gray_white = is_gray_8 (record gray_type { interpretation = meaning.WhiteIsZero }) ≡ false
-
-abbrev pub gray_signed : Type 0
-gray_signed = is_gray_8 (record gray_type { formats = format.Int ∷ [] }) ≡ false
-
-abbrev pub gray_two : Type 0
-gray_two =
-    (is_gray_8 (record gray_type { bits = 8 ∷ 8 ∷ [] }) ≡ false)
-    × (is_gray_8 (record gray_type { formats = format.Uint ∷ format.Uint ∷ [] }) ≡ false)
-    × (is_gray_8 (record gray_type { bits = [] }) ≡ false)
 
 -- bytes of one sample or of two; a byte and a short one after the other; more formats than bits; no sample; two formats
 abbrev pub gray_type_is : Type 0

@@ -1,12 +1,9 @@
 -- Worked files of the writer.
-use Rattle.std.specs.Prelude.{◌≡◌, ℕ, ◌++◌, true, false, List, [], ◌∷◌, None}
+use Rattle.std.specs.Prelude.{◌≡◌, ℕ, ◌++◌, List, [], ◌∷◌, None}
 use Rattle.std.specs.FinMap.{from_entries}
 use Rattle.tiff_base.specs.declared.tags.CompressionMethod.TheVariants as method
 use Rattle.tiff_base.specs.declared.tags.FileKind.TheVariants.{Classic, Big}
-use Rattle.tiff_base.specs.declared.tags.PhotometricInterpretation.TheVariants.{BlackIsZero, WhiteIsZero}
 use Rattle.tiff_base.specs.declared.tags.Predictor.TheVariants as predictor
-use Rattle.tiff_base.specs.declared.tags.SampleFormat.TheVariants.{Uint, Int}
-use Rattle.tiff_value.specs.ColorType.{is_gray_8}
 use Rattle.tiff_value.specs.Written.{Written, writer_after, writer_after_counted}
 use Rattle.tiff_encode.specs.FileBytes.{header_bytes, entry_bytes, directory_bytes, padding, rows_per_strip}
 use Rattle.tiff_encode.specs.Machine.{FileState}
@@ -81,19 +78,6 @@ begun bytes = record {
 
 abbrev pub fresh : FileState
 fresh = begun (header_bytes Classic)
-
--- color types: gray of 8 bits, of 16 bits, of signed numbers, and with white as 0
-abbrev pub gray_8 : Type 0
-gray_8 = is_gray_8 (record { interpretation = BlackIsZero; bits = 8 ∷ []; formats = Uint ∷ [] }) ≡ true
-
-abbrev pub gray_16 : Type 0
-gray_16 = is_gray_8 (record { interpretation = BlackIsZero; bits = 16 ∷ []; formats = Uint ∷ [] }) ≡ false
-
-abbrev pub gray_signed : Type 0
-gray_signed = is_gray_8 (record { interpretation = BlackIsZero; bits = 8 ∷ []; formats = Int ∷ [] }) ≡ false
-
-abbrev pub white_8 : Type 0
-white_8 = is_gray_8 (record { interpretation = WhiteIsZero; bits = 8 ∷ []; formats = Uint ∷ [] }) ≡ false
 
 -- a writer at the end of two bytes
 abbrev pub at_end : Written

@@ -21,8 +21,7 @@ pub fn writers()
 
 /// Names.
 pub fn names()
-    ensures { s.tags_named × s.methods_named × s.formats_named × s.units_of × s.gray_known × s.gray_wide × s.gray_white ×
-        s.gray_signed × s.gray_two }
+    ensures { s.tags_named × s.methods_named × s.formats_named × s.units_of }
 {}
 
 /// What color types are.

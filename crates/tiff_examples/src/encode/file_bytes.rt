@@ -13,7 +13,7 @@ pub fn files()
     ensures { s.two_fields × s.no_field }
 {}
 
-/// Color types, and what a write does.
+/// What a write does.
 pub fn writes()
-    ensures { s.gray_8 × s.gray_16 × s.gray_signed × s.white_8 × s.appended × s.over }
+    ensures { s.appended × s.over }
 {}

@@ -8,9 +8,4 @@ returns c = (
   p.methods_named,
   p.formats_named,
   p.units_of,
-  p.gray_known,
-  p.gray_wide,
-  p.gray_white,
-  p.gray_signed,
-  p.gray_two,
 )
