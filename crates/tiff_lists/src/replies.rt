@@ -1,10 +1,6 @@
 //! The text of what calls and jobs are answered.
 
-ghost use Rattle.std.specs.Prelude.{List, [], Ok, IfOk};
-ghost use Rattle.tiff_decode.specs.declared.script.Reply.{Reply};
-ghost use Rattle.tiff_decode.specs.Steps.{Ran};
-ghost use Rattle.tiff_encode.specs.declared.encoder.script.JobReply.{JobReply};
-ghost use Rattle.tiff_encode.specs.Jobs.{RunsJobs};
+ghost use Rattle.tiff_lists.specs.Told.{LinesOfCalls, LinesOfJobs};
 
 use crate::digits::push_digits;
 use std::alloc::{AllocError, Global};
@@ -88,13 +84,14 @@ fn all_lines<T: Lines>(alloc: Global, replies: &[T]) -> Result<String, AllocErro
 // Lets a value go. A list of replies is let go here: where a function isn't generic, that is long to prove.
 fn let_go<T: Drop>(_value: T) {}
 
-/// Makes calls of a decoder, as `run_calls` does, and answers what each is answered, a refusal too, a line for each.
+/// Makes calls of a decoder, as `run_calls` does, and answers what each is answered, a refusal too, a line for each. Its only error is
+/// `OutOfMemory`: for the replies, and then no call was made, or for the lines, and then all were.
 pub fn lines_of_calls<R: Source>(
     alloc: Global,
     decoder: &mut Decoder<R>,
     calls: &[Call],
 ) -> TiffResult<String>
-    ensures { IfOk result (λ _. (replies : List Reply) × Ran decoder.old calls.now [] replies decoder.new) }
+    ensures { LinesOfCalls decoder.old calls.now result decoder.new }
 {
     let mut replies = Vec::new(alloc);
     let made = run_calls(decoder, calls, &mut replies);
@@ -104,14 +101,14 @@ pub fn lines_of_calls<R: Source>(
     Ok(lines?)
 }
 
-/// Runs jobs over a sink, as `run_jobs` does, and answers the sink with the lines of what the jobs were answered.
+/// Runs jobs over a sink, as `run_jobs` does, and answers the sink with the lines of what the jobs were answered. Its errors are those of
+/// `run_jobs`, and `OutOfMemory` for the lines.
 pub fn run_told<W: Sink + Drop, K: TiffKind>(
     alloc: Global,
     sink: W,
     jobs: &[Job],
 ) -> TiffResult<(W, String)>
-    ensures { IfOk result (λ told. (replies : List JobReply) × RunsJobs W.told W.failures W.fault K.kind jobs.now sink [] replies
-        (Ok told.0)) }
+    ensures { LinesOfJobs W.told W.failures W.fault K.kind jobs.now sink result }
 {
     let mut replies = Vec::new(alloc);
     let answered = run_jobs::<W, K>(alloc, sink, jobs, &mut replies);
