@@ -173,7 +173,7 @@ fn write_samples<K: TiffKind, C: NamedColorType>(
     ensures { WritesImageFile settings.now width height (map (sample_number (type_size C.Inner.value_type) C.Inner.bits)
         samples.now) (view_of_result (λ v. v.items) result) }
 {
-    let size = usize::from(C::Inner::byte_len());
+    let size = usize::from(C::Inner::BYTE_LEN);
     let room = samples.len().saturating_mul(size).saturating_add(FRAME);
     let mut encoder = begin::<K>(alloc, settings, room)?;
     let answer = encoder.write_image::<C>(width, height, samples);
@@ -198,9 +198,10 @@ fn write_pieces<K: TiffKind, C: NamedColorType, U: Number<N>, const N: usize>(
     ensures { WritesBytes settings.now width height (writer.samples_from_bytes settings.now.color bytes.now)
         (view_of_result (λ v. v.items) result) }
 {
+    let (ty, _len) = C::Inner::type_and_len();
     if bytes.len() % N != 0 {
         return Err(TiffError::UsageError(UsageError::MismatchedEntryLength {
-            ty: C::Inner::field_type(),
+            ty,
             found: bytes.len(),
         }));
     }

@@ -47,9 +47,10 @@ impl ValueBuffer {
         ensures { AnswersBut (IsWritable (V.field_data value.now)) ⊥ (λ b. b) result (buffer_given (V.field_data value.now)) }
     {
         let bytes = value.data(alloc)?;
+        let (data_type, _len) = V::type_and_len();
         Ok(ValueBuffer {
             order: ByteOrder::native(),
-            data_type: V::field_type(),
+            data_type,
             bytes,
         })
     }

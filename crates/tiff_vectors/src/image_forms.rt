@@ -245,15 +245,15 @@ where
 {
     let count = shape
         .pixels()
-        .saturating_mul(C::bits_per_sample().len() as u64);
+        .saturating_mul(C::BITS_PER_SAMPLE.len() as u64);
     let samples = samples_made::<C::Inner>(alloc, count)?;
     drawn::<C, K>(alloc, shape, &samples)
 }
 
 // The bytes that are read of it.
 fn made_bytes<C: ColorType>(alloc: Global, shape: Shape) -> TiffResult<Vec<u8>> {
-    let samples = C::bits_per_sample().len() as u64;
-    let size = usize::from(C::Inner::byte_len());
+    let samples = C::BITS_PER_SAMPLE.len() as u64;
+    let size = usize::from(C::Inner::BYTE_LEN);
     if shape.is_planar() {
         bytes_of_planes(alloc, shape.pixels(), samples, size)
     } else {

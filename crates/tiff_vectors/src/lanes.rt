@@ -123,7 +123,7 @@ fn both_bytes<T: Sample>(
 }
 
 fn expect_differences<T: Sample>(rt: &impl Abort, alloc: Global) -> TiffResult<()> {
-    let size = usize::from(T::byte_len());
+    let size = usize::from(T::BYTE_LEN);
     for stride in 1..6 {
         for len in 0..81 {
             let plain = plain_bytes(alloc, size, len, stride)?;

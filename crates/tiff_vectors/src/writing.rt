@@ -76,6 +76,6 @@ fn a_writer_writes_over_and_on(rt: HostRuntime) {
 #[test]
 fn gray_is_one_byte(rt: HostRuntime) {
     assert!(rt; matches!(Gray8::TIFF_VALUE, PhotometricInterpretation::BlackIsZero));
-    assert_eq!(rt; Gray8::bits_per_sample(), [8].as_slice());
-    assert_eq!(rt; Gray8::sample_format(), [SampleFormat::Uint].as_slice());
+    assert_eq!(rt; Gray8::BITS_PER_SAMPLE, [8].as_slice());
+    assert_eq!(rt; Gray8::SAMPLE_FORMAT, [SampleFormat::Uint].as_slice());
 }

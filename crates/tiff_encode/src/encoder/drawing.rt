@@ -123,7 +123,7 @@ impl<C: ColorType> Drawing<C> {
         ensures count { result ≡ all_samples self.now }
         ensures few { result < 2 ^ 16 }
     {
-        C::bits_per_sample().len() as u64 + self.extra.len() as u64
+        C::sample_bits().len() as u64 + self.extra.len() as u64
     }
 
     /// Whether a chunk was written.

@@ -89,8 +89,12 @@ impl<'a, T: TiffScalar> TiffValue for Repeated<'a, T> {
 
     ghost field_data = { λ xs. Ok (data_of (T.scalars xs)) };
 
-    fn field_type() -> Type {
-        T::field_type()
+    const BYTE_LEN: u8 = T::BYTE_LEN;
+
+    const FIELD_TYPE: Type = T::FIELD_TYPE;
+
+    fn type_and_len() -> (Type, u8) {
+        T::type_and_len()
     }
 
     fn count(&self) -> usize {
@@ -153,12 +157,17 @@ impl<'a, K: TiffKind> TiffValue for ChunkNumbers<'a, K> {
 
     ghost field_data = { λ p. Ok (data_of (offset_values K.kind (map (number_of_part p.part) p.chunks.now))) };
 
-    fn field_type() -> Type
-        ensures { result ≡ offset_type K.kind }
+    const BYTE_LEN: u8 = K::OFFSET_LEN;
+
+    const FIELD_TYPE: Type = K::OFFSET_TYPE;
+
+    fn type_and_len() -> (Type, u8)
+        ensures kind { result.0 ≡ offset_type K.kind }
+        ensures len { result.1 ≡ type_size (offset_type K.kind) }
     {
         match K::file_kind() {
-            FileKind::Classic => Type::LONG,
-            FileKind::Big => Type::LONG8,
+            FileKind::Classic => (Type::LONG, 4),
+            FileKind::Big => (Type::LONG8, 8),
         }
     }
 
@@ -283,8 +292,8 @@ impl<W: Sink, K: TiffKind> TiffEncoder<W, K> {
         let chunk_type = image.form.chunk_type;
         self.set_samples(
             &mut image.directory,
-            C::bits_per_sample(),
-            C::sample_format(),
+            C::sample_bits(),
+            C::sample_formats(),
             extra,
         )?;
         self.set_lists(&mut image.directory, chunk_type, &image.chunks)?;

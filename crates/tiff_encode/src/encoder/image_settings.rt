@@ -53,7 +53,7 @@ impl<W: Sink, K: TiffKind> TiffEncoder<W, K> {
         if image.is_begun() {
             return Err(TiffError::UsageError(UsageError::ReconfiguredAfterImageWrite));
         }
-        if is_past_samples(C::bits_per_sample().len(), extra.len()) {
+        if is_past_samples(C::sample_bits().len(), extra.len()) {
             return Err(TiffError::IntSizeError);
         }
         self.check_extras(end, extra)

@@ -114,7 +114,7 @@ impl<W: Sink, K: TiffKind> TiffEncoder<W, K> {
             self.file_kind(),
             end,
             self.predictor,
-            C::sample_format(),
+            C::sample_formats(),
             (width, height),
         )?;
         Ok(())
@@ -126,7 +126,8 @@ impl<W: Sink, K: TiffKind> TiffEncoder<W, K> {
         ensures { result ≡ image_in self.now (new_directory (Some self.now.chain) true) C.described
             (type_size C.Inner.value_type) width height }
     {
-        let pixel = C::bits_per_sample().len() as u64 * u64::from(C::Inner::byte_len());
+        let (_kind, len) = C::Inner::type_and_len();
+        let pixel = C::sample_bits().len() as u64 * u64::from(len);
         let rows = rows_of_strip(self.compression, u64::from(width) * pixel);
         Drawing {
             directory: Fields {
@@ -185,7 +186,7 @@ fn layout_values<C: ColorType>(image: &Drawing<C>) -> [TagValue; 5]
 {
     [
         TagValue::long(Tag::RowsPerStrip, image.form.chunk_height),
-        TagValue::short(Tag::SamplesPerPixel, C::bits_per_sample().len() as u16),
+        TagValue::short(Tag::SamplesPerPixel, C::sample_bits().len() as u16),
         TagValue::rational(Tag::XResolution, 1, 1),
         TagValue::rational(Tag::YResolution, 1, 1),
         TagValue::short(Tag::ResolutionUnit, ResolutionUnit::None.to_u16()),

@@ -79,7 +79,8 @@ impl<W: Sink, K: TiffKind> TiffEncoder<W, K> {
             return Err(TiffError::OutOfMemory);
         }
         let data = value.data(self.alloc)?;
-        self.place_entry(T::field_type(), count, &data)
+        let (field_type, _len) = T::type_and_len();
+        self.place_entry(field_type, count, &data)
     }
 
     // Bytes are handed in for a field, as values of a type; a ragged end is left out.

@@ -27,7 +27,7 @@ pub fn push_chunk<T: Sample>(
         (λ _. out.new.items ≡ out.old.items ++ flat_map (le (type_size T.value_type)) (differences predictor (256 ^ type_size T.value_type) row stride (map (sample_number (type_size T.value_type) T.bits) samples.now)))
         (λ e. e ≡ TiffError.OutOfMemory) }
 {
-    let size = usize::from(T::byte_len());
+    let size = usize::from(T::BYTE_LEN);
     out.reserve(samples.len().saturating_mul(size))?;
     match predictor {
         Predictor::Horizontal => push_rows(samples, row, stride, out),

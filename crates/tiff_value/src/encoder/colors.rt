@@ -22,12 +22,16 @@ impl ColorType for RGB8 {
 
     const TIFF_VALUE: PhotometricInterpretation = PhotometricInterpretation::RGB;
 
-    fn bits_per_sample() -> &'static [u16] {
-        &[8; 3]
+    const BITS_PER_SAMPLE: &'static [u16] = &[8; 3];
+
+    const SAMPLE_FORMAT: &'static [SampleFormat] = &[SampleFormat::Uint; 3];
+
+    fn sample_bits() -> &'static [u16] {
+        Self::BITS_PER_SAMPLE
     }
 
-    fn sample_format() -> &'static [SampleFormat] {
-        &[SampleFormat::Uint; 3]
+    fn sample_formats() -> &'static [SampleFormat] {
+        Self::SAMPLE_FORMAT
     }
 
     ghost interpreted = { refl };
@@ -55,12 +59,16 @@ impl ColorType for RGB16 {
 
     const TIFF_VALUE: PhotometricInterpretation = PhotometricInterpretation::RGB;
 
-    fn bits_per_sample() -> &'static [u16] {
-        &[16; 3]
+    const BITS_PER_SAMPLE: &'static [u16] = &[16; 3];
+
+    const SAMPLE_FORMAT: &'static [SampleFormat] = &[SampleFormat::Uint; 3];
+
+    fn sample_bits() -> &'static [u16] {
+        Self::BITS_PER_SAMPLE
     }
 
-    fn sample_format() -> &'static [SampleFormat] {
-        &[SampleFormat::Uint; 3]
+    fn sample_formats() -> &'static [SampleFormat] {
+        Self::SAMPLE_FORMAT
     }
 
     ghost interpreted = { refl };
@@ -88,12 +96,16 @@ impl ColorType for RGB32 {
 
     const TIFF_VALUE: PhotometricInterpretation = PhotometricInterpretation::RGB;
 
-    fn bits_per_sample() -> &'static [u16] {
-        &[32; 3]
+    const BITS_PER_SAMPLE: &'static [u16] = &[32; 3];
+
+    const SAMPLE_FORMAT: &'static [SampleFormat] = &[SampleFormat::Uint; 3];
+
+    fn sample_bits() -> &'static [u16] {
+        Self::BITS_PER_SAMPLE
     }
 
-    fn sample_format() -> &'static [SampleFormat] {
-        &[SampleFormat::Uint; 3]
+    fn sample_formats() -> &'static [SampleFormat] {
+        Self::SAMPLE_FORMAT
     }
 
     ghost interpreted = { refl };
@@ -121,12 +133,16 @@ impl ColorType for RGB64 {
 
     const TIFF_VALUE: PhotometricInterpretation = PhotometricInterpretation::RGB;
 
-    fn bits_per_sample() -> &'static [u16] {
-        &[64; 3]
+    const BITS_PER_SAMPLE: &'static [u16] = &[64; 3];
+
+    const SAMPLE_FORMAT: &'static [SampleFormat] = &[SampleFormat::Uint; 3];
+
+    fn sample_bits() -> &'static [u16] {
+        Self::BITS_PER_SAMPLE
     }
 
-    fn sample_format() -> &'static [SampleFormat] {
-        &[SampleFormat::Uint; 3]
+    fn sample_formats() -> &'static [SampleFormat] {
+        Self::SAMPLE_FORMAT
     }
 
     ghost interpreted = { refl };
@@ -154,12 +170,16 @@ impl ColorType for RGB32Float {
 
     const TIFF_VALUE: PhotometricInterpretation = PhotometricInterpretation::RGB;
 
-    fn bits_per_sample() -> &'static [u16] {
-        &[32; 3]
+    const BITS_PER_SAMPLE: &'static [u16] = &[32; 3];
+
+    const SAMPLE_FORMAT: &'static [SampleFormat] = &[SampleFormat::IEEEFP; 3];
+
+    fn sample_bits() -> &'static [u16] {
+        Self::BITS_PER_SAMPLE
     }
 
-    fn sample_format() -> &'static [SampleFormat] {
-        &[SampleFormat::IEEEFP; 3]
+    fn sample_formats() -> &'static [SampleFormat] {
+        Self::SAMPLE_FORMAT
     }
 
     ghost interpreted = { refl };
@@ -187,12 +207,16 @@ impl ColorType for RGB64Float {
 
     const TIFF_VALUE: PhotometricInterpretation = PhotometricInterpretation::RGB;
 
-    fn bits_per_sample() -> &'static [u16] {
-        &[64; 3]
+    const BITS_PER_SAMPLE: &'static [u16] = &[64; 3];
+
+    const SAMPLE_FORMAT: &'static [SampleFormat] = &[SampleFormat::IEEEFP; 3];
+
+    fn sample_bits() -> &'static [u16] {
+        Self::BITS_PER_SAMPLE
     }
 
-    fn sample_format() -> &'static [SampleFormat] {
-        &[SampleFormat::IEEEFP; 3]
+    fn sample_formats() -> &'static [SampleFormat] {
+        Self::SAMPLE_FORMAT
     }
 
     ghost interpreted = { refl };
@@ -220,12 +244,16 @@ impl ColorType for RGBA8 {
 
     const TIFF_VALUE: PhotometricInterpretation = PhotometricInterpretation::RGB;
 
-    fn bits_per_sample() -> &'static [u16] {
-        &[8; 4]
+    const BITS_PER_SAMPLE: &'static [u16] = &[8; 4];
+
+    const SAMPLE_FORMAT: &'static [SampleFormat] = &[SampleFormat::Uint; 4];
+
+    fn sample_bits() -> &'static [u16] {
+        Self::BITS_PER_SAMPLE
     }
 
-    fn sample_format() -> &'static [SampleFormat] {
-        &[SampleFormat::Uint; 4]
+    fn sample_formats() -> &'static [SampleFormat] {
+        Self::SAMPLE_FORMAT
     }
 
     ghost interpreted = { refl };
@@ -253,12 +281,16 @@ impl ColorType for RGBA16 {
 
     const TIFF_VALUE: PhotometricInterpretation = PhotometricInterpretation::RGB;
 
-    fn bits_per_sample() -> &'static [u16] {
-        &[16; 4]
+    const BITS_PER_SAMPLE: &'static [u16] = &[16; 4];
+
+    const SAMPLE_FORMAT: &'static [SampleFormat] = &[SampleFormat::Uint; 4];
+
+    fn sample_bits() -> &'static [u16] {
+        Self::BITS_PER_SAMPLE
     }
 
-    fn sample_format() -> &'static [SampleFormat] {
-        &[SampleFormat::Uint; 4]
+    fn sample_formats() -> &'static [SampleFormat] {
+        Self::SAMPLE_FORMAT
     }
 
     ghost interpreted = { refl };
@@ -286,12 +318,16 @@ impl ColorType for RGBA32 {
 
     const TIFF_VALUE: PhotometricInterpretation = PhotometricInterpretation::RGB;
 
-    fn bits_per_sample() -> &'static [u16] {
-        &[32; 4]
+    const BITS_PER_SAMPLE: &'static [u16] = &[32; 4];
+
+    const SAMPLE_FORMAT: &'static [SampleFormat] = &[SampleFormat::Uint; 4];
+
+    fn sample_bits() -> &'static [u16] {
+        Self::BITS_PER_SAMPLE
     }
 
-    fn sample_format() -> &'static [SampleFormat] {
-        &[SampleFormat::Uint; 4]
+    fn sample_formats() -> &'static [SampleFormat] {
+        Self::SAMPLE_FORMAT
     }
 
     ghost interpreted = { refl };
@@ -319,12 +355,16 @@ impl ColorType for RGBA64 {
 
     const TIFF_VALUE: PhotometricInterpretation = PhotometricInterpretation::RGB;
 
-    fn bits_per_sample() -> &'static [u16] {
-        &[64; 4]
+    const BITS_PER_SAMPLE: &'static [u16] = &[64; 4];
+
+    const SAMPLE_FORMAT: &'static [SampleFormat] = &[SampleFormat::Uint; 4];
+
+    fn sample_bits() -> &'static [u16] {
+        Self::BITS_PER_SAMPLE
     }
 
-    fn sample_format() -> &'static [SampleFormat] {
-        &[SampleFormat::Uint; 4]
+    fn sample_formats() -> &'static [SampleFormat] {
+        Self::SAMPLE_FORMAT
     }
 
     ghost interpreted = { refl };
@@ -352,12 +392,16 @@ impl ColorType for RGBA32Float {
 
     const TIFF_VALUE: PhotometricInterpretation = PhotometricInterpretation::RGB;
 
-    fn bits_per_sample() -> &'static [u16] {
-        &[32; 4]
+    const BITS_PER_SAMPLE: &'static [u16] = &[32; 4];
+
+    const SAMPLE_FORMAT: &'static [SampleFormat] = &[SampleFormat::IEEEFP; 4];
+
+    fn sample_bits() -> &'static [u16] {
+        Self::BITS_PER_SAMPLE
     }
 
-    fn sample_format() -> &'static [SampleFormat] {
-        &[SampleFormat::IEEEFP; 4]
+    fn sample_formats() -> &'static [SampleFormat] {
+        Self::SAMPLE_FORMAT
     }
 
     ghost interpreted = { refl };
@@ -385,12 +429,16 @@ impl ColorType for RGBA64Float {
 
     const TIFF_VALUE: PhotometricInterpretation = PhotometricInterpretation::RGB;
 
-    fn bits_per_sample() -> &'static [u16] {
-        &[64; 4]
+    const BITS_PER_SAMPLE: &'static [u16] = &[64; 4];
+
+    const SAMPLE_FORMAT: &'static [SampleFormat] = &[SampleFormat::IEEEFP; 4];
+
+    fn sample_bits() -> &'static [u16] {
+        Self::BITS_PER_SAMPLE
     }
 
-    fn sample_format() -> &'static [SampleFormat] {
-        &[SampleFormat::IEEEFP; 4]
+    fn sample_formats() -> &'static [SampleFormat] {
+        Self::SAMPLE_FORMAT
     }
 
     ghost interpreted = { refl };
@@ -418,12 +466,16 @@ impl ColorType for CMYK8 {
 
     const TIFF_VALUE: PhotometricInterpretation = PhotometricInterpretation::CMYK;
 
-    fn bits_per_sample() -> &'static [u16] {
-        &[8; 4]
+    const BITS_PER_SAMPLE: &'static [u16] = &[8; 4];
+
+    const SAMPLE_FORMAT: &'static [SampleFormat] = &[SampleFormat::Uint; 4];
+
+    fn sample_bits() -> &'static [u16] {
+        Self::BITS_PER_SAMPLE
     }
 
-    fn sample_format() -> &'static [SampleFormat] {
-        &[SampleFormat::Uint; 4]
+    fn sample_formats() -> &'static [SampleFormat] {
+        Self::SAMPLE_FORMAT
     }
 
     ghost interpreted = { refl };
@@ -451,12 +503,16 @@ impl ColorType for CMYK16 {
 
     const TIFF_VALUE: PhotometricInterpretation = PhotometricInterpretation::CMYK;
 
-    fn bits_per_sample() -> &'static [u16] {
-        &[16; 4]
+    const BITS_PER_SAMPLE: &'static [u16] = &[16; 4];
+
+    const SAMPLE_FORMAT: &'static [SampleFormat] = &[SampleFormat::Uint; 4];
+
+    fn sample_bits() -> &'static [u16] {
+        Self::BITS_PER_SAMPLE
     }
 
-    fn sample_format() -> &'static [SampleFormat] {
-        &[SampleFormat::Uint; 4]
+    fn sample_formats() -> &'static [SampleFormat] {
+        Self::SAMPLE_FORMAT
     }
 
     ghost interpreted = { refl };
@@ -484,12 +540,16 @@ impl ColorType for CMYK32 {
 
     const TIFF_VALUE: PhotometricInterpretation = PhotometricInterpretation::CMYK;
 
-    fn bits_per_sample() -> &'static [u16] {
-        &[32; 4]
+    const BITS_PER_SAMPLE: &'static [u16] = &[32; 4];
+
+    const SAMPLE_FORMAT: &'static [SampleFormat] = &[SampleFormat::Uint; 4];
+
+    fn sample_bits() -> &'static [u16] {
+        Self::BITS_PER_SAMPLE
     }
 
-    fn sample_format() -> &'static [SampleFormat] {
-        &[SampleFormat::Uint; 4]
+    fn sample_formats() -> &'static [SampleFormat] {
+        Self::SAMPLE_FORMAT
     }
 
     ghost interpreted = { refl };
@@ -517,12 +577,16 @@ impl ColorType for CMYK64 {
 
     const TIFF_VALUE: PhotometricInterpretation = PhotometricInterpretation::CMYK;
 
-    fn bits_per_sample() -> &'static [u16] {
-        &[64; 4]
+    const BITS_PER_SAMPLE: &'static [u16] = &[64; 4];
+
+    const SAMPLE_FORMAT: &'static [SampleFormat] = &[SampleFormat::Uint; 4];
+
+    fn sample_bits() -> &'static [u16] {
+        Self::BITS_PER_SAMPLE
     }
 
-    fn sample_format() -> &'static [SampleFormat] {
-        &[SampleFormat::Uint; 4]
+    fn sample_formats() -> &'static [SampleFormat] {
+        Self::SAMPLE_FORMAT
     }
 
     ghost interpreted = { refl };
@@ -550,12 +614,16 @@ impl ColorType for CMYK32Float {
 
     const TIFF_VALUE: PhotometricInterpretation = PhotometricInterpretation::CMYK;
 
-    fn bits_per_sample() -> &'static [u16] {
-        &[32; 4]
+    const BITS_PER_SAMPLE: &'static [u16] = &[32; 4];
+
+    const SAMPLE_FORMAT: &'static [SampleFormat] = &[SampleFormat::IEEEFP; 4];
+
+    fn sample_bits() -> &'static [u16] {
+        Self::BITS_PER_SAMPLE
     }
 
-    fn sample_format() -> &'static [SampleFormat] {
-        &[SampleFormat::IEEEFP; 4]
+    fn sample_formats() -> &'static [SampleFormat] {
+        Self::SAMPLE_FORMAT
     }
 
     ghost interpreted = { refl };
@@ -583,12 +651,16 @@ impl ColorType for CMYK64Float {
 
     const TIFF_VALUE: PhotometricInterpretation = PhotometricInterpretation::CMYK;
 
-    fn bits_per_sample() -> &'static [u16] {
-        &[64; 4]
+    const BITS_PER_SAMPLE: &'static [u16] = &[64; 4];
+
+    const SAMPLE_FORMAT: &'static [SampleFormat] = &[SampleFormat::IEEEFP; 4];
+
+    fn sample_bits() -> &'static [u16] {
+        Self::BITS_PER_SAMPLE
     }
 
-    fn sample_format() -> &'static [SampleFormat] {
-        &[SampleFormat::IEEEFP; 4]
+    fn sample_formats() -> &'static [SampleFormat] {
+        Self::SAMPLE_FORMAT
     }
 
     ghost interpreted = { refl };
@@ -616,12 +688,16 @@ impl ColorType for YCbCr8 {
 
     const TIFF_VALUE: PhotometricInterpretation = PhotometricInterpretation::YCbCr;
 
-    fn bits_per_sample() -> &'static [u16] {
-        &[8; 3]
+    const BITS_PER_SAMPLE: &'static [u16] = &[8; 3];
+
+    const SAMPLE_FORMAT: &'static [SampleFormat] = &[SampleFormat::Uint; 3];
+
+    fn sample_bits() -> &'static [u16] {
+        Self::BITS_PER_SAMPLE
     }
 
-    fn sample_format() -> &'static [SampleFormat] {
-        &[SampleFormat::Uint; 3]
+    fn sample_formats() -> &'static [SampleFormat] {
+        Self::SAMPLE_FORMAT
     }
 
     ghost interpreted = { refl };
@@ -649,12 +725,16 @@ impl ColorType for CMYKA8 {
 
     const TIFF_VALUE: PhotometricInterpretation = PhotometricInterpretation::CMYK;
 
-    fn bits_per_sample() -> &'static [u16] {
-        &[8; 5]
+    const BITS_PER_SAMPLE: &'static [u16] = &[8; 5];
+
+    const SAMPLE_FORMAT: &'static [SampleFormat] = &[SampleFormat::Uint; 5];
+
+    fn sample_bits() -> &'static [u16] {
+        Self::BITS_PER_SAMPLE
     }
 
-    fn sample_format() -> &'static [SampleFormat] {
-        &[SampleFormat::Uint; 5]
+    fn sample_formats() -> &'static [SampleFormat] {
+        Self::SAMPLE_FORMAT
     }
 
     ghost interpreted = { refl };

@@ -34,11 +34,17 @@ pub trait ColorType {
     const TIFF_VALUE: PhotometricInterpretation;
 
     /// The bits of each sample of a pixel.
-    fn bits_per_sample() -> &'static [u16]
-        ensures { result.now ≡ described.bits };
+    const BITS_PER_SAMPLE: &'static [u16];
 
     /// The format of each sample of a pixel.
-    fn sample_format() -> &'static [SampleFormat]
+    const SAMPLE_FORMAT: &'static [SampleFormat];
+
+    /// `BITS_PER_SAMPLE`, as contracts know it (this project's).
+    fn sample_bits() -> &'static [u16]
+        ensures { result.now ≡ described.bits };
+
+    /// `SAMPLE_FORMAT`, as contracts know it (this project's).
+    fn sample_formats() -> &'static [SampleFormat]
         ensures { result.now ≡ described.formats };
 
     /// Appends a row's first `stride` samples, then each less, modulo its width, the one `stride` before it (this
@@ -58,7 +64,7 @@ pub trait ColorType {
     final fn horizontal_predict(row: &[Self::Inner], out: &mut Vec<Self::Inner>) -> TiffResult<()>
         ensures { AppendsRow Self.Inner.bits (row_of_type Self.Inner.value_type (length described.bits) (map Self.Inner.bits row.now)) out.old.items out.new.items result }
     {
-        Self::horizontal_predict_stride(row, Self::bits_per_sample().len(), out)
+        Self::horizontal_predict_stride(row, Self::sample_bits().len(), out)
     }
 
     ghost interpreted: { TIFF_VALUE ≡ described.interpretation };
@@ -99,12 +105,16 @@ impl ColorType for Gray8 {
 
     const TIFF_VALUE: PhotometricInterpretation = PhotometricInterpretation::BlackIsZero;
 
-    fn bits_per_sample() -> &'static [u16] {
-        &[8]
+    const BITS_PER_SAMPLE: &'static [u16] = &[8];
+
+    const SAMPLE_FORMAT: &'static [SampleFormat] = &[SampleFormat::Uint];
+
+    fn sample_bits() -> &'static [u16] {
+        Self::BITS_PER_SAMPLE
     }
 
-    fn sample_format() -> &'static [SampleFormat] {
-        &[SampleFormat::Uint]
+    fn sample_formats() -> &'static [SampleFormat] {
+        Self::SAMPLE_FORMAT
     }
 
     ghost interpreted = { refl };

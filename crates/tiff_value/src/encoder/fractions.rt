@@ -18,8 +18,12 @@ impl TiffValue for Rational {
 
     ghost field_data = { λ r. Ok (data_of (rationals ((r.n, r.d) ∷ []))) };
 
-    fn field_type() -> Type {
-        Type::RATIONAL
+    const BYTE_LEN: u8 = 8;
+
+    const FIELD_TYPE: Type = Type::RATIONAL;
+
+    fn type_and_len() -> (Type, u8) {
+        (Self::FIELD_TYPE, Self::BYTE_LEN)
     }
 
     fn count(&self) -> usize {
@@ -60,8 +64,12 @@ impl TiffValue for SRational {
 
     ghost field_data = { λ r. Ok (data_of (srationals ((r.n, r.d) ∷ []))) };
 
-    fn field_type() -> Type {
-        Type::SRATIONAL
+    const BYTE_LEN: u8 = 8;
+
+    const FIELD_TYPE: Type = Type::SRATIONAL;
+
+    fn type_and_len() -> (Type, u8) {
+        (Self::FIELD_TYPE, Self::BYTE_LEN)
     }
 
     fn count(&self) -> usize {

@@ -22,12 +22,16 @@ impl ColorType for Gray16 {
 
     const TIFF_VALUE: PhotometricInterpretation = PhotometricInterpretation::BlackIsZero;
 
-    fn bits_per_sample() -> &'static [u16] {
-        &[16]
+    const BITS_PER_SAMPLE: &'static [u16] = &[16];
+
+    const SAMPLE_FORMAT: &'static [SampleFormat] = &[SampleFormat::Uint];
+
+    fn sample_bits() -> &'static [u16] {
+        Self::BITS_PER_SAMPLE
     }
 
-    fn sample_format() -> &'static [SampleFormat] {
-        &[SampleFormat::Uint]
+    fn sample_formats() -> &'static [SampleFormat] {
+        Self::SAMPLE_FORMAT
     }
 
     ghost interpreted = { refl };
@@ -55,12 +59,16 @@ impl ColorType for Gray32 {
 
     const TIFF_VALUE: PhotometricInterpretation = PhotometricInterpretation::BlackIsZero;
 
-    fn bits_per_sample() -> &'static [u16] {
-        &[32]
+    const BITS_PER_SAMPLE: &'static [u16] = &[32];
+
+    const SAMPLE_FORMAT: &'static [SampleFormat] = &[SampleFormat::Uint];
+
+    fn sample_bits() -> &'static [u16] {
+        Self::BITS_PER_SAMPLE
     }
 
-    fn sample_format() -> &'static [SampleFormat] {
-        &[SampleFormat::Uint]
+    fn sample_formats() -> &'static [SampleFormat] {
+        Self::SAMPLE_FORMAT
     }
 
     ghost interpreted = { refl };
@@ -88,12 +96,16 @@ impl ColorType for Gray64 {
 
     const TIFF_VALUE: PhotometricInterpretation = PhotometricInterpretation::BlackIsZero;
 
-    fn bits_per_sample() -> &'static [u16] {
-        &[64]
+    const BITS_PER_SAMPLE: &'static [u16] = &[64];
+
+    const SAMPLE_FORMAT: &'static [SampleFormat] = &[SampleFormat::Uint];
+
+    fn sample_bits() -> &'static [u16] {
+        Self::BITS_PER_SAMPLE
     }
 
-    fn sample_format() -> &'static [SampleFormat] {
-        &[SampleFormat::Uint]
+    fn sample_formats() -> &'static [SampleFormat] {
+        Self::SAMPLE_FORMAT
     }
 
     ghost interpreted = { refl };
@@ -121,12 +133,16 @@ impl ColorType for GrayI8 {
 
     const TIFF_VALUE: PhotometricInterpretation = PhotometricInterpretation::BlackIsZero;
 
-    fn bits_per_sample() -> &'static [u16] {
-        &[8]
+    const BITS_PER_SAMPLE: &'static [u16] = &[8];
+
+    const SAMPLE_FORMAT: &'static [SampleFormat] = &[SampleFormat::Int];
+
+    fn sample_bits() -> &'static [u16] {
+        Self::BITS_PER_SAMPLE
     }
 
-    fn sample_format() -> &'static [SampleFormat] {
-        &[SampleFormat::Int]
+    fn sample_formats() -> &'static [SampleFormat] {
+        Self::SAMPLE_FORMAT
     }
 
     ghost interpreted = { refl };
@@ -154,12 +170,16 @@ impl ColorType for GrayI16 {
 
     const TIFF_VALUE: PhotometricInterpretation = PhotometricInterpretation::BlackIsZero;
 
-    fn bits_per_sample() -> &'static [u16] {
-        &[16]
+    const BITS_PER_SAMPLE: &'static [u16] = &[16];
+
+    const SAMPLE_FORMAT: &'static [SampleFormat] = &[SampleFormat::Int];
+
+    fn sample_bits() -> &'static [u16] {
+        Self::BITS_PER_SAMPLE
     }
 
-    fn sample_format() -> &'static [SampleFormat] {
-        &[SampleFormat::Int]
+    fn sample_formats() -> &'static [SampleFormat] {
+        Self::SAMPLE_FORMAT
     }
 
     ghost interpreted = { refl };
@@ -187,12 +207,16 @@ impl ColorType for GrayI32 {
 
     const TIFF_VALUE: PhotometricInterpretation = PhotometricInterpretation::BlackIsZero;
 
-    fn bits_per_sample() -> &'static [u16] {
-        &[32]
+    const BITS_PER_SAMPLE: &'static [u16] = &[32];
+
+    const SAMPLE_FORMAT: &'static [SampleFormat] = &[SampleFormat::Int];
+
+    fn sample_bits() -> &'static [u16] {
+        Self::BITS_PER_SAMPLE
     }
 
-    fn sample_format() -> &'static [SampleFormat] {
-        &[SampleFormat::Int]
+    fn sample_formats() -> &'static [SampleFormat] {
+        Self::SAMPLE_FORMAT
     }
 
     ghost interpreted = { refl };
@@ -220,12 +244,16 @@ impl ColorType for GrayI64 {
 
     const TIFF_VALUE: PhotometricInterpretation = PhotometricInterpretation::BlackIsZero;
 
-    fn bits_per_sample() -> &'static [u16] {
-        &[64]
+    const BITS_PER_SAMPLE: &'static [u16] = &[64];
+
+    const SAMPLE_FORMAT: &'static [SampleFormat] = &[SampleFormat::Int];
+
+    fn sample_bits() -> &'static [u16] {
+        Self::BITS_PER_SAMPLE
     }
 
-    fn sample_format() -> &'static [SampleFormat] {
-        &[SampleFormat::Int]
+    fn sample_formats() -> &'static [SampleFormat] {
+        Self::SAMPLE_FORMAT
     }
 
     ghost interpreted = { refl };
@@ -253,12 +281,16 @@ impl ColorType for Gray32Float {
 
     const TIFF_VALUE: PhotometricInterpretation = PhotometricInterpretation::BlackIsZero;
 
-    fn bits_per_sample() -> &'static [u16] {
-        &[32]
+    const BITS_PER_SAMPLE: &'static [u16] = &[32];
+
+    const SAMPLE_FORMAT: &'static [SampleFormat] = &[SampleFormat::IEEEFP];
+
+    fn sample_bits() -> &'static [u16] {
+        Self::BITS_PER_SAMPLE
     }
 
-    fn sample_format() -> &'static [SampleFormat] {
-        &[SampleFormat::IEEEFP]
+    fn sample_formats() -> &'static [SampleFormat] {
+        Self::SAMPLE_FORMAT
     }
 
     ghost interpreted = { refl };
@@ -286,12 +318,16 @@ impl ColorType for Gray64Float {
 
     const TIFF_VALUE: PhotometricInterpretation = PhotometricInterpretation::BlackIsZero;
 
-    fn bits_per_sample() -> &'static [u16] {
-        &[64]
+    const BITS_PER_SAMPLE: &'static [u16] = &[64];
+
+    const SAMPLE_FORMAT: &'static [SampleFormat] = &[SampleFormat::IEEEFP];
+
+    fn sample_bits() -> &'static [u16] {
+        Self::BITS_PER_SAMPLE
     }
 
-    fn sample_format() -> &'static [SampleFormat] {
-        &[SampleFormat::IEEEFP]
+    fn sample_formats() -> &'static [SampleFormat] {
+        Self::SAMPLE_FORMAT
     }
 
     ghost interpreted = { refl };

@@ -20,8 +20,12 @@ impl TiffValue for CompressionMethod {
 
     ghost field_data = { λ m. Ok (data_of (methods (m ∷ []))) };
 
-    fn field_type() -> Type {
-        Type::SHORT
+    const BYTE_LEN: u8 = 2;
+
+    const FIELD_TYPE: Type = Type::SHORT;
+
+    fn type_and_len() -> (Type, u8) {
+        (Self::FIELD_TYPE, Self::BYTE_LEN)
     }
 
     fn count(&self) -> usize {
@@ -60,8 +64,12 @@ impl TiffValue for PhotometricInterpretation {
 
     ghost field_data = { λ i. Ok (data_of (interpretations (i ∷ []))) };
 
-    fn field_type() -> Type {
-        Type::SHORT
+    const BYTE_LEN: u8 = 2;
+
+    const FIELD_TYPE: Type = Type::SHORT;
+
+    fn type_and_len() -> (Type, u8) {
+        (Self::FIELD_TYPE, Self::BYTE_LEN)
     }
 
     fn count(&self) -> usize {
@@ -100,8 +108,12 @@ impl TiffValue for PlanarConfiguration {
 
     ghost field_data = { λ p. Ok (data_of (planars (p ∷ []))) };
 
-    fn field_type() -> Type {
-        Type::SHORT
+    const BYTE_LEN: u8 = 2;
+
+    const FIELD_TYPE: Type = Type::SHORT;
+
+    fn type_and_len() -> (Type, u8) {
+        (Self::FIELD_TYPE, Self::BYTE_LEN)
     }
 
     fn count(&self) -> usize {
@@ -140,8 +152,12 @@ impl TiffValue for Predictor {
 
     ghost field_data = { λ p. Ok (data_of (predictors (p ∷ []))) };
 
-    fn field_type() -> Type {
-        Type::SHORT
+    const BYTE_LEN: u8 = 2;
+
+    const FIELD_TYPE: Type = Type::SHORT;
+
+    fn type_and_len() -> (Type, u8) {
+        (Self::FIELD_TYPE, Self::BYTE_LEN)
     }
 
     fn count(&self) -> usize {
@@ -180,8 +196,12 @@ impl TiffValue for ResolutionUnit {
 
     ghost field_data = { λ u. Ok (data_of (units (u ∷ []))) };
 
-    fn field_type() -> Type {
-        Type::SHORT
+    const BYTE_LEN: u8 = 2;
+
+    const FIELD_TYPE: Type = Type::SHORT;
+
+    fn type_and_len() -> (Type, u8) {
+        (Self::FIELD_TYPE, Self::BYTE_LEN)
     }
 
     fn count(&self) -> usize {
@@ -220,8 +240,12 @@ impl TiffValue for SampleFormat {
 
     ghost field_data = { λ f. Ok (data_of (formats (f ∷ []))) };
 
-    fn field_type() -> Type {
-        Type::SHORT
+    const BYTE_LEN: u8 = 2;
+
+    const FIELD_TYPE: Type = Type::SHORT;
+
+    fn type_and_len() -> (Type, u8) {
+        (Self::FIELD_TYPE, Self::BYTE_LEN)
     }
 
     fn count(&self) -> usize {
@@ -260,8 +284,12 @@ impl TiffValue for ExtraSamples {
 
     ghost field_data = { λ e. Ok (data_of (extras (e ∷ []))) };
 
-    fn field_type() -> Type {
-        Type::SHORT
+    const BYTE_LEN: u8 = 2;
+
+    const FIELD_TYPE: Type = Type::SHORT;
+
+    fn type_and_len() -> (Type, u8) {
+        (Self::FIELD_TYPE, Self::BYTE_LEN)
     }
 
     fn count(&self) -> usize {

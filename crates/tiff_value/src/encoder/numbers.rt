@@ -19,8 +19,12 @@ impl TiffValue for u8 {
 
     ghost field_data = { λ n. Ok (data_of (u8s (n ∷ []))) };
 
-    fn field_type() -> Type {
-        Type::BYTE
+    const BYTE_LEN: u8 = 1;
+
+    const FIELD_TYPE: Type = Type::BYTE;
+
+    fn type_and_len() -> (Type, u8) {
+        (Self::FIELD_TYPE, Self::BYTE_LEN)
     }
 
     fn count(&self) -> usize {
@@ -65,8 +69,12 @@ impl TiffValue for i8 {
 
     ghost field_data = { λ n. Ok (data_of (i8s (n ∷ []))) };
 
-    fn field_type() -> Type {
-        Type::SBYTE
+    const BYTE_LEN: u8 = 1;
+
+    const FIELD_TYPE: Type = Type::SBYTE;
+
+    fn type_and_len() -> (Type, u8) {
+        (Self::FIELD_TYPE, Self::BYTE_LEN)
     }
 
     fn count(&self) -> usize {
@@ -109,8 +117,12 @@ impl TiffValue for u16 {
 
     ghost field_data = { λ n. Ok (data_of (u16s (n ∷ []))) };
 
-    fn field_type() -> Type {
-        Type::SHORT
+    const BYTE_LEN: u8 = 2;
+
+    const FIELD_TYPE: Type = Type::SHORT;
+
+    fn type_and_len() -> (Type, u8) {
+        (Self::FIELD_TYPE, Self::BYTE_LEN)
     }
 
     fn count(&self) -> usize {
@@ -153,8 +165,12 @@ impl TiffValue for i16 {
 
     ghost field_data = { λ n. Ok (data_of (i16s (n ∷ []))) };
 
-    fn field_type() -> Type {
-        Type::SSHORT
+    const BYTE_LEN: u8 = 2;
+
+    const FIELD_TYPE: Type = Type::SSHORT;
+
+    fn type_and_len() -> (Type, u8) {
+        (Self::FIELD_TYPE, Self::BYTE_LEN)
     }
 
     fn count(&self) -> usize {
@@ -197,8 +213,12 @@ impl TiffValue for u32 {
 
     ghost field_data = { λ n. Ok (data_of (u32s (n ∷ []))) };
 
-    fn field_type() -> Type {
-        Type::LONG
+    const BYTE_LEN: u8 = 4;
+
+    const FIELD_TYPE: Type = Type::LONG;
+
+    fn type_and_len() -> (Type, u8) {
+        (Self::FIELD_TYPE, Self::BYTE_LEN)
     }
 
     fn count(&self) -> usize {
@@ -241,8 +261,12 @@ impl TiffValue for i32 {
 
     ghost field_data = { λ n. Ok (data_of (i32s (n ∷ []))) };
 
-    fn field_type() -> Type {
-        Type::SLONG
+    const BYTE_LEN: u8 = 4;
+
+    const FIELD_TYPE: Type = Type::SLONG;
+
+    fn type_and_len() -> (Type, u8) {
+        (Self::FIELD_TYPE, Self::BYTE_LEN)
     }
 
     fn count(&self) -> usize {
@@ -285,8 +309,12 @@ impl TiffValue for u64 {
 
     ghost field_data = { λ n. Ok (data_of (u64s (n ∷ []))) };
 
-    fn field_type() -> Type {
-        Type::LONG8
+    const BYTE_LEN: u8 = 8;
+
+    const FIELD_TYPE: Type = Type::LONG8;
+
+    fn type_and_len() -> (Type, u8) {
+        (Self::FIELD_TYPE, Self::BYTE_LEN)
     }
 
     fn count(&self) -> usize {
@@ -329,8 +357,12 @@ impl TiffValue for i64 {
 
     ghost field_data = { λ n. Ok (data_of (i64s (n ∷ []))) };
 
-    fn field_type() -> Type {
-        Type::SLONG8
+    const BYTE_LEN: u8 = 8;
+
+    const FIELD_TYPE: Type = Type::SLONG8;
+
+    fn type_and_len() -> (Type, u8) {
+        (Self::FIELD_TYPE, Self::BYTE_LEN)
     }
 
     fn count(&self) -> usize {
@@ -373,8 +405,12 @@ impl TiffValue for Bits32 {
 
     ghost field_data = { λ n. Ok (data_of (bits32s (n.0 ∷ []))) };
 
-    fn field_type() -> Type {
-        Type::FLOAT
+    const BYTE_LEN: u8 = 4;
+
+    const FIELD_TYPE: Type = Type::FLOAT;
+
+    fn type_and_len() -> (Type, u8) {
+        (Self::FIELD_TYPE, Self::BYTE_LEN)
     }
 
     fn count(&self) -> usize {
@@ -417,8 +453,12 @@ impl TiffValue for Bits64 {
 
     ghost field_data = { λ n. Ok (data_of (bits64s (n.0 ∷ []))) };
 
-    fn field_type() -> Type {
-        Type::DOUBLE
+    const BYTE_LEN: u8 = 8;
+
+    const FIELD_TYPE: Type = Type::DOUBLE;
+
+    fn type_and_len() -> (Type, u8) {
+        (Self::FIELD_TYPE, Self::BYTE_LEN)
     }
 
     fn count(&self) -> usize {
@@ -461,8 +501,12 @@ impl TiffValue for Ifd {
 
     ghost field_data = { λ n. Ok (data_of (ifds (n.0 ∷ []))) };
 
-    fn field_type() -> Type {
-        Type::IFD
+    const BYTE_LEN: u8 = 4;
+
+    const FIELD_TYPE: Type = Type::IFD;
+
+    fn type_and_len() -> (Type, u8) {
+        (Self::FIELD_TYPE, Self::BYTE_LEN)
     }
 
     fn count(&self) -> usize {
@@ -501,8 +545,12 @@ impl TiffValue for Ifd8 {
 
     ghost field_data = { λ n. Ok (data_of (ifd8s (n.0 ∷ []))) };
 
-    fn field_type() -> Type {
-        Type::IFD8
+    const BYTE_LEN: u8 = 8;
+
+    const FIELD_TYPE: Type = Type::IFD8;
+
+    fn type_and_len() -> (Type, u8) {
+        (Self::FIELD_TYPE, Self::BYTE_LEN)
     }
 
     fn count(&self) -> usize {

@@ -31,16 +31,16 @@ pub trait TiffValue {
     // What a field is given, or why it can't be.
     ghost field_data: { Self → Result FieldData TiffError };
 
-    /// How many bytes a value of its type has: the Rust crate's `BYTE_LEN`.
-    final fn byte_len() -> u8
-        ensures { result ≡ type_size value_type }
-    {
-        Self::field_type().byte_len()
-    }
+    /// How many bytes a value of its type has.
+    const BYTE_LEN: u8;
 
-    /// The type of its values: the Rust crate's `FIELD_TYPE`.
-    fn field_type() -> Type
-        ensures { result ≡ value_type };
+    /// The type of its values.
+    const FIELD_TYPE: Type;
+
+    /// `FIELD_TYPE` and `BYTE_LEN`, as contracts know them (this project's).
+    fn type_and_len() -> (Type, u8)
+        ensures kind { result.0 ≡ value_type }
+        ensures len { result.1 ≡ type_size value_type };
 
     /// How many values it has.
     fn count(&self) -> usize
@@ -50,7 +50,8 @@ pub trait TiffValue {
     final fn bytes(&self) -> usize
         ensures { result ≡ byte_count (value_count self.now) value_type }
     {
-        self.count().saturating_mul(usize::from(Self::byte_len()))
+        let (_kind, len) = Self::type_and_len();
+        self.count().saturating_mul(usize::from(len))
     }
 
     /// Whether a field can be given it (this project's); it takes no memory. A text that can't be written:
@@ -134,10 +135,15 @@ impl<T: TiffValue> TiffValue for &T {
 
     ghost field_data = { λ x. T.field_data x.now };
 
-    fn field_type() -> Type
-        ensures { result ≡ T.value_type }
+    const BYTE_LEN: u8 = T::BYTE_LEN;
+
+    const FIELD_TYPE: Type = T::FIELD_TYPE;
+
+    fn type_and_len() -> (Type, u8)
+        ensures kind { result.0 ≡ T.value_type }
+        ensures len { result.1 ≡ type_size T.value_type }
     {
-        T::field_type()
+        T::type_and_len()
     }
 
     fn count(&self) -> usize {
@@ -170,10 +176,15 @@ impl<'a, T: TiffScalar> TiffValue for Slice<'a, T> {
 
     ghost field_data = { λ s. Ok (data_of (T.scalars s.0.now)) };
 
-    fn field_type() -> Type
-        ensures { result ≡ T.value_type }
+    const BYTE_LEN: u8 = T::BYTE_LEN;
+
+    const FIELD_TYPE: Type = T::FIELD_TYPE;
+
+    fn type_and_len() -> (Type, u8)
+        ensures kind { result.0 ≡ T.value_type }
+        ensures len { result.1 ≡ type_size T.value_type }
     {
-        T::field_type()
+        T::type_and_len()
     }
 
     fn count(&self) -> usize {
@@ -208,10 +219,15 @@ impl<'a> TiffValue for Text<'a> {
 
     ghost field_data = { λ t. text_data t.0.now };
 
-    fn field_type() -> Type
-        ensures { result ≡ Type.ASCII }
+    const BYTE_LEN: u8 = 1;
+
+    const FIELD_TYPE: Type = Type::ASCII;
+
+    fn type_and_len() -> (Type, u8)
+        ensures kind { result.0 ≡ Type.ASCII }
+        ensures len { result.1 ≡ type_size Type.ASCII }
     {
-        Type::ASCII
+        (Self::FIELD_TYPE, Self::BYTE_LEN)
     }
 
     fn count(&self) -> usize {
