@@ -6,6 +6,7 @@ ghost use Rattle.tiff_base.specs.declared.io.SinkFault.{SinkFault};
 
 use crate::count::Count;
 use std::alloc::{AllocError, Global};
+use std::fmt;
 use thiserror::Error;
 
 // How many bytes the buffer of a source holds.
@@ -120,7 +121,7 @@ fn read_of(items: &[u8], at: u64, buf: &mut [u8]) -> usize
 }
 
 /// A source in memory. No read of it fails.
-#[derive(Drop)]
+#[derive(Debug, Drop)]
 pub struct MemorySource {
     items: Vec<u8>,
     ghost offsets: { length items.items < 2 ^ 64 },
@@ -307,6 +308,16 @@ pub struct MemorySink {
     items: Vec<u8>,
     failed: Count,
     refused: bool,
+}
+
+/// Its bytes, and whether it was refused memory.
+impl fmt::Debug for MemorySink {
+    fn fmt<W: fmt::Write>(&self, f: &mut fmt::Formatter<W>) -> fmt::Result {
+        f.debug_struct("MemorySink")
+            .field("items", &self.items)
+            .field("refused", &self.refused)
+            .finish_non_exhaustive()
+    }
 }
 
 impl MemorySink {

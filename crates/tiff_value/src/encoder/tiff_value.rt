@@ -15,7 +15,7 @@ use tiff_base::io::Sink;
 use tiff_base::tags::Type;
 
 /// What a field can be given: values of one type.
-pub trait TiffValue {
+pub trait TiffValue: Drop {
     ghost use Rattle.std.specs.Prelude.{ℕ, Result};
     ghost use Rattle.tiff_base.specs.declared.error.TiffError.{TiffError};
     ghost use Rattle.tiff_base.specs.declared.tags.«Type».{«Type»};
