@@ -5,6 +5,7 @@ ghost use Rattle.std.specs.Int.{w16, w32, w64, cast_signed};
 ghost use Rattle.tiff_ifd.specs.Stream.{NumberRead, of_bits_32, of_bits_64};
 
 pub use crate::packbits::PackBitsReader;
+use std::fmt;
 use std::marker::Model;
 use tiff_base::error::TiffResult;
 use tiff_base::io::Source;
@@ -12,7 +13,7 @@ use tiff_base::read::{read_u16_at, read_u32_at, read_u64_at};
 use tiff_base::tags::{Bits32, Bits64, ByteOrder};
 
 /// Reads numbers of one byte order, one after the other.
-#[derive(Debug, Drop)]
+#[derive(Drop)]
 pub struct EndianReader<R: Source> {
     source: R,
     byte_order: ByteOrder,
@@ -30,6 +31,16 @@ impl<R: Source> Model for EndianReader<R> {
       order = r.byte_order;
       offset = r.offset;
     } };
+}
+
+/// Its byte order and where it is; nothing is asked of the source.
+impl<R: Source> fmt::Debug for EndianReader<R> {
+    fn fmt<W: fmt::Write>(&self, f: &mut fmt::Formatter<W>) -> fmt::Result {
+        f.debug_struct("EndianReader")
+            .field("byte_order", &self.byte_order)
+            .field("offset", &self.offset)
+            .finish_non_exhaustive()
+    }
 }
 
 impl<R: Source> EndianReader<R> {

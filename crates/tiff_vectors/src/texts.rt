@@ -1,12 +1,15 @@
-//! Texts of faults that no list of calls or of jobs is answered, and faults that are compared.
+//! Texts of faults that no list of calls or of jobs is answered, and faults that are compared; texts of sources, sinks and
+//! readers.
 
-use crate::expect::{expect_text, expect_true};
+use crate::doubles::FailingSource;
+use crate::expect::{copy_of, expect_text, expect_true};
 use std::alloc::Global;
 use std::hash::{DefaultHasher, Hash, Hasher};
 use tiff_base::error::{TiffError, TiffResult, TiffUnsupportedError, UsageError};
-use tiff_base::io::IoKind;
+use tiff_base::io::{IoKind, MemorySink, MemorySource};
 use tiff_base::lists::SampleFormats;
-use tiff_base::tags::SampleFormat;
+use tiff_base::tags::{ByteOrder, SampleFormat};
+use tiff_ifd::stream::EndianReader;
 
 fn texts(alloc: Global) -> TiffResult<String> {
     let written = TiffError::from(IoKind::WriteZero);
@@ -60,4 +63,25 @@ fn faults_are_compared(rt: HostRuntime) {
     expect_true(&rt, 0, are_equal(alloc, (1, 9), (1, 9)));
     expect_true(&rt, 1, are_unequal(alloc, (1, 9), (1, 8)));
     expect_true(&rt, 2, are_unequal(alloc, (3, 1), (1, 3)));
+}
+
+fn memory_text(alloc: Global) -> TiffResult<String> {
+    let source = MemorySource::new(copy_of(alloc, &[7, 8])?);
+    let sink = MemorySink::new(copy_of(alloc, &[9])?);
+    Ok(format!(in alloc; "{source:?} {sink:?}")?)
+}
+
+// The text of a reader over a source that has none.
+fn reader_text(alloc: Global) -> TiffResult<String> {
+    let source = FailingSource::new(MemorySource::new(Vec::new(alloc)), 0);
+    let reader = EndianReader::new(source, ByteOrder::BigEndian);
+    Ok(format!(in alloc; "{reader:?}")?)
+}
+
+#[test]
+fn sources_and_readers_are_shown(rt: HostRuntime) {
+    let wanted = "MemorySource { items: [7, 8] } MemorySink { items: [9], refused: false, .. }";
+    expect_text(&rt, 0, memory_text(rt.alloc()), wanted);
+    let wanted = "EndianReader { byte_order: BigEndian, offset: 0, .. }";
+    expect_text(&rt, 1, reader_text(rt.alloc()), wanted);
 }

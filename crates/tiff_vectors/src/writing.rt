@@ -5,9 +5,10 @@ use crate::expect::{copy_of, empty_sink, expect_bytes, expect_text, told_with};
 use std::alloc::Global;
 use tiff_base::error::TiffResult;
 use tiff_base::io::{MemorySink, Sink};
-use tiff_base::tags::{PhotometricInterpretation, SampleFormat};
+use tiff_base::tags::{PhotometricInterpretation, SampleFormat, Type};
 use tiff_encode::encoder::{TiffEncoder, TiffKindBig};
 use tiff_value::encoder::colortype::{ColorType, Gray8};
+use tiff_value::encoder::tiff_value::{Rational, Slice, TiffValue};
 use tiff_value::encoder::writer::TiffWriter;
 
 // The header of a BigTIFF file, by the call for that kind.
@@ -78,4 +79,15 @@ fn gray_is_one_byte(rt: HostRuntime) {
     assert!(rt; matches!(Gray8::TIFF_VALUE, PhotometricInterpretation::BlackIsZero));
     assert_eq!(rt; Gray8::BITS_PER_SAMPLE, [8].as_slice());
     assert_eq!(rt; Gray8::SAMPLE_FORMAT, [SampleFormat::Uint].as_slice());
+}
+
+#[test]
+fn constants_are_those_of_the_items(rt: HostRuntime) {
+    assert_eq!(rt; <&i16 as TiffValue>::FIELD_TYPE, Type::SSHORT);
+    assert_eq!(rt; <&i16 as TiffValue>::BYTE_LEN, 2);
+    assert_eq!(rt;
+        <Slice<'_, Rational> as TiffValue>::FIELD_TYPE,
+        Type::RATIONAL
+    );
+    assert_eq!(rt; <Slice<'_, Rational> as TiffValue>::BYTE_LEN, 8);
 }
