@@ -2,8 +2,9 @@
 
 pub use tiff_base::tags::Predictor;
 pub use tiff_encode::encoder::{
-    Compression, DirectoryEncoder, DirectoryOffset, ImageEncoder, TiffEncoder, TiffKind,
-    TiffKindBig, TiffKindStandard, data_laws, fit_laws, image_laws, laws, reading_laws, script,
+    Compression, DirectoryEncoder, DirectoryOffset, ImageEncoder, OffsetNumber, TiffEncoder,
+    TiffKind, TiffKindBig, TiffKindStandard, data_laws, fit_laws, image_laws, laws, reading_laws,
+    script,
 };
 pub use tiff_value::encoder::tiff_value::{
     Ifd, Ifd8, Rational, SRational, Slice, Text, TiffScalar, TiffValue,

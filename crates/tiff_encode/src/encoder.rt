@@ -40,7 +40,7 @@ ghost use Rattle.tiff_encode.specs.FileWrites.{AppendsToFile, PointsLink};
 
 pub use self::directory_encoder::DirectoryEncoder;
 pub use self::image_encoder::ImageEncoder;
-pub use self::kind::{DirectoryOffset, TiffKind, TiffKindBig, TiffKindStandard};
+pub use self::kind::{DirectoryOffset, OffsetNumber, TiffKind, TiffKindBig, TiffKindStandard};
 pub use self::settings::Compression;
 use std::alloc::Global;
 use std::marker::{Model, PhantomData};

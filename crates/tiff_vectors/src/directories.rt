@@ -4,9 +4,11 @@ use crate::expect::{empty_sink, expect_text};
 use std::alloc::Global;
 use tiff_base::directory::Directory;
 use tiff_base::error::TiffResult;
-use tiff_base::io::{MemorySink, Sink};
+use tiff_base::io::{MemorySink, MemorySource, Sink};
 use tiff_base::tags::{IfdPointer, Tag};
+use tiff_decode::decoder::Decoder;
 use tiff_encode::encoder::{DirectoryOffset, TiffEncoder, TiffKind, TiffKindBig, TiffKindStandard};
+use tiff_value::encoder::colortype::Gray8;
 use tiff_value::encoder::tiff_value::{Slice, Text};
 
 // What texts with a zero are answered, where the end of the file is then, and what the directory answers at its end.
@@ -102,4 +104,99 @@ fn offsets_of_directories_fit_the_kind(rt: HostRuntime) {
         let told = offset_told::<TiffKindBig>(rt.alloc(), offset);
         expect_text(&rt, offset, told, big);
     }
+}
+
+// Where a directory of one tag stands that is linked from nowhere yet.
+fn write_small<W: Sink, K: TiffKind>(
+    encoder: &mut TiffEncoder<W, K>,
+) -> TiffResult<DirectoryOffset<K>> {
+    let mut small = encoder.extra_directory()?;
+    let tagged = small.write_tag(Tag::ImageWidth, 5u32);
+    let ended = small.finish_with_offsets();
+    tagged?;
+    ended
+}
+
+// A page of two columns, with a directory linked from SubIfd.
+fn write_page<W: Sink, K: TiffKind>(
+    encoder: &mut TiffEncoder<W, K>,
+    linked: &DirectoryOffset<K>,
+) -> TiffResult<()> {
+    let mut page = encoder.new_image::<Gray8>(2, 1)?;
+    let tagged = page.encoder().write_tag(Tag::SubIfd, linked.offset);
+    let ended = page.write_data(&[1, 2]);
+    tagged?;
+    ended
+}
+
+// An image of three columns, linked from a directory.
+fn write_reduced<W: Sink, K: TiffKind>(
+    encoder: &mut TiffEncoder<W, K>,
+    parent: &DirectoryOffset<K>,
+) -> TiffResult<()> {
+    let mut reduced = encoder.new_image::<Gray8>(3, 1)?;
+    reduced.encoder().set_parent(parent);
+    reduced.write_data(&[3, 4, 5])
+}
+
+fn write_family<W: Sink, K: TiffKind>(encoder: &mut TiffEncoder<W, K>) -> TiffResult<()> {
+    let small = write_small(encoder)?;
+    write_page(encoder, &small)?;
+    write_reduced(encoder, &small)
+}
+
+// The file of all three.
+fn family_file<K: TiffKind>(alloc: Global) -> TiffResult<Vec<u8>> {
+    let mut encoder: TiffEncoder<MemorySink, K> = TiffEncoder::new_generic(
+        alloc,
+        empty_sink(alloc),
+    )?;
+    let answer = write_family(&mut encoder);
+    let file = encoder.into_inner().into_vec();
+    answer?;
+    Ok(file)
+}
+
+// Where the image stands that the directory linked from SubIfd links to, how wide it is, where its strip stands, and what it
+// links to.
+fn reduced_told(
+    alloc: Global,
+    decoder: &mut Decoder<MemorySource>,
+    linked: u64,
+) -> TiffResult<String> {
+    let small = decoder.read_directory(IfdPointer(linked))?;
+    let next = small.next();
+    let reduced = decoder.read_directory(next.unwrap_or(IfdPointer(0)))?;
+    let end = reduced.next();
+    let mut tags = decoder.read_directory_tags(&reduced);
+    let width = tags.get_tag_u64(Tag::ImageWidth)?;
+    let strip = tags.get_tag_u64(Tag::StripOffsets)?;
+    Ok(format!(in alloc; "{next:?} {width} {strip} {end:?}")?)
+}
+
+// Where the page and the directory linked from SubIfd stand, what the page links to, and all that of the image.
+fn family_told<K: TiffKind>(alloc: Global) -> TiffResult<String> {
+    let source = MemorySource::new(family_file::<K>(alloc)?);
+    let mut decoder = Box::new(alloc, Decoder::new(alloc, source)?)?;
+    let page = decoder.ifd_pointer();
+    let more = decoder.more_images();
+    let linked = decoder.get_tag_u64(Tag::SubIfd)?;
+    let reduced = reduced_told(alloc, &mut decoder, linked)?;
+    Ok(format!(in alloc; "{page:?} {more} {linked} {reduced}")?)
+}
+
+#[test]
+fn reduced_images_are_linked(rt: HostRuntime) {
+    expect_text(
+        &rt,
+        0,
+        family_told::<TiffKindStandard>(rt.alloc()),
+        "Some(IfdPointer(46)) false 8 Some(IfdPointer(251)) 3 248 None",
+    );
+    expect_text(
+        &rt,
+        1,
+        family_told::<TiffKindBig>(rt.alloc()),
+        "Some(IfdPointer(54)) false 16 Some(IfdPointer(375)) 3 372 None",
+    );
 }

@@ -51,7 +51,7 @@ impl<W: Sink, K: TiffKind> TiffEncoder<W, K> {
     /// Begins a directory of the chain: padding to a multiple of 4. It is linked from the chain's last link, and its
     /// own becomes the last one when it ends.
     pub fn image_directory(&mut self) -> TiffResult<DirectoryEncoder<'_, W, K>>
-        ensures* rests { sem 𝓛 (image_rests W.row K.row K.OffsetType.row W.Sink K.TiffKind self.entry result) }
+        ensures* rests { sem 𝓛 (image_rests W.row K.row K.OffsetType.row W.Sink K.TiffKind K.OffsetType.OffsetNumber K.OffsetType.TiffValue self.entry result) }
         ensures same_reference { IfOk result (λ d. d.encoder.ghost_name ≡ self.entry.ghost_name) }
         ensures begun { IfOk result (λ d. IsTold (calls.image_directory self.entry.now) (Ok d.state) d.encoder.now) }
 
@@ -74,7 +74,7 @@ impl<W: Sink, K: TiffKind> TiffEncoder<W, K> {
 
     /// Begins a directory that is linked from nowhere, unless `set_parent` names a parent: padding to a multiple of 4.
     pub fn extra_directory(&mut self) -> TiffResult<DirectoryEncoder<'_, W, K>>
-        ensures* rests { sem 𝓛 (extra_rests W.row K.row K.OffsetType.row W.Sink K.TiffKind self.entry result) }
+        ensures* rests { sem 𝓛 (extra_rests W.row K.row K.OffsetType.row W.Sink K.TiffKind K.OffsetType.OffsetNumber K.OffsetType.TiffValue self.entry result) }
         ensures same_reference { IfOk result (λ d. d.encoder.ghost_name ≡ self.entry.ghost_name) }
         ensures begun { IfOk result (λ d. IsTold (calls.extra_directory self.entry.now) (Ok d.state) d.encoder.now) }
 
@@ -107,7 +107,7 @@ impl<'a, W: Sink, K: TiffKind, D: State> DirectoryEncoder<'a, W, K, D> {
     /// that holds: an earlier fault of the sink: `UsageError(WriterFailed)`; a text that can't be written:
     /// `FormatError(InvalidTag)`; a count, or the offset of a value that doesn't fit into the entry, past 4 bytes in a
     /// classic file: `IntSizeError`. Then `OutOfMemory`, or the sink's fault: `IoError(Device)` or `OutOfMemory`.
-    pub fn write_entry<T: TiffValue + Drop>(&mut self, value: T) -> TiffResult<Entry>
+    pub fn write_entry<T: TiffValue>(&mut self, value: T) -> TiffResult<Entry>
         ensures same_reference { self.new.encoder.ghost_name ≡ self.old.encoder.ghost_name }
         ensures stays { self.new.state ≡ self.old.state }
         ensures answer { Ends (λ entry. entry) (calls.write_entry (T.field_data value) self.old.encoder.now) result
@@ -159,7 +159,7 @@ impl<'a, W: Sink, K: TiffKind, D: State> DirectoryEncoder<'a, W, K, D> {
 
     /// Writes a value as `write_entry` does, and then sets the field of a tag, in place of one that it had. Errors are those
     /// of `write_entry`; after one the fields are as they were.
-    pub fn write_tag<T: TiffValue + Drop>(&mut self, tag: Tag, value: T) -> TiffResult<()>
+    pub fn write_tag<T: TiffValue>(&mut self, tag: Tag, value: T) -> TiffResult<()>
         ensures same_reference { self.new.encoder.ghost_name ≡ self.old.encoder.ghost_name }
         ensures stays { OnErr result (self.new.state ≡ self.old.state) }
         ensures rest { self.new.state ≡ D.with_directory self.old.state (D.open_directory self.new.state) }
@@ -233,7 +233,7 @@ impl<'a, W: Sink, K: TiffKind> DirectoryEncoder<'a, W, K, Fields> {
     /// Writes a value's bytes and answers their offset, in bytes from the file's start. The first cause that holds: an earlier
     /// fault of the sink: `UsageError(WriterFailed)`; a text that can't be written: `FormatError(InvalidTag)`. Then
     /// `OutOfMemory`, or the sink's fault: `IoError(Device)` or `OutOfMemory`.
-    pub fn write_data<T: TiffValue + Drop>(&mut self, value: T) -> TiffResult<u64>
+    pub fn write_data<T: TiffValue>(&mut self, value: T) -> TiffResult<u64>
         ensures same_reference { self.new.encoder.ghost_name ≡ self.old.encoder.ghost_name }
         ensures stays { self.new.state ≡ self.old.state }
         ensures answer { Ends (λ offset. offset) (calls.write_data (T.field_data value) self.old.encoder.now) result
@@ -313,9 +313,20 @@ impl<'a, W: Sink, K: TiffKind> DirectoryEncoder<'a, W, K, Fields> {
 }
 
 impl<'a, W: Sink, K: TiffKind, C: ColorType> DirectoryEncoder<'a, W, K, Drawing<C>> {
+    /// Has the link of a directory that was finished point to this image's directory, when the image ends, in place of the
+    /// chain's last link. It writes nothing.
+    #[tactic(auto, unfolding(crate::specs::Calls::set_parent))]
+    pub fn set_parent(&mut self, offset: &DirectoryOffset<K>)
+        ensures same_reference { self.new.encoder.ghost_name ≡ self.old.encoder.ghost_name }
+        ensures stays { self.new.encoder.now ≡ self.old.encoder.now }
+        ensures state { self.new.state ≡ calls.with_directory_of self.old.state (calls.set_parent self.old.state.directory offset.now) }
+    {
+        self.state.directory.set_parent(offset.link());
+    }
+
     /// Writes a value's bytes and answers their offset, as `write_data` of a directory does; the image's own `write_data`
     /// writes samples. Errors are those of that.
-    pub fn append_data<T: TiffValue + Drop>(&mut self, value: T) -> TiffResult<u64>
+    pub fn append_data<T: TiffValue>(&mut self, value: T) -> TiffResult<u64>
         ensures same_reference { self.new.encoder.ghost_name ≡ self.old.encoder.ghost_name }
         ensures stays { self.new.state ≡ self.old.state }
         ensures answer { Ends (λ offset. offset) (calls.write_data (T.field_data value) self.old.encoder.now) result

@@ -4,6 +4,7 @@ ghost use Rattle.std.specs.Prelude.{◌≡◌, ℕ, ◌+◌, ◌^◌, ◌<◌, �
 ghost use Rattle.std.specs.Io.{StartsWith};
 ghost use Rattle.std.specs.List.{flat_map};
 ghost use Rattle.tiff_base.specs.Number.{le};
+ghost use Rattle.tiff_base.specs.Types.{type_size};
 ghost use Rattle.tiff_value.specs.Data.{data_of};
 ghost use Rattle.tiff_encode.specs.Calls as calls;
 ghost use Rattle.tiff_encode.specs.Ends.{Ends};
@@ -93,7 +94,10 @@ impl<'a, T: TiffScalar> TiffValue for Repeated<'a, T> {
 
     const FIELD_TYPE: Type = T::FIELD_TYPE;
 
-    fn type_and_len() -> (Type, u8) {
+    fn type_and_len() -> (Type, u8)
+        ensures kind { result.0 ≡ T.value_type }
+        ensures len { result.1 ≡ type_size T.value_type }
+    {
         T::type_and_len()
     }
 
@@ -157,9 +161,9 @@ impl<'a, K: TiffKind> TiffValue for ChunkNumbers<'a, K> {
 
     ghost field_data = { λ p. Ok (data_of (offset_values K.kind (map (number_of_part p.part) p.chunks.now))) };
 
-    const BYTE_LEN: u8 = K::OFFSET_LEN;
+    const BYTE_LEN: u8 = K::OffsetType::BYTE_LEN;
 
-    const FIELD_TYPE: Type = K::OFFSET_TYPE;
+    const FIELD_TYPE: Type = K::OffsetType::FIELD_TYPE;
 
     fn type_and_len() -> (Type, u8)
         ensures kind { result.0 ≡ offset_type K.kind }

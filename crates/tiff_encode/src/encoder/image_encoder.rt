@@ -42,7 +42,7 @@ impl<W: Sink, K: TiffKind> TiffEncoder<W, K> {
         width: u32,
         height: u32,
     ) -> TiffResult<ImageEncoder<'_, W, C, K>>
-        ensures* rests { sem 𝓛 (new_image_rests W.row K.row K.OffsetType.row W.Sink K.TiffKind C.described
+        ensures* rests { sem 𝓛 (new_image_rests W.row K.row K.OffsetType.row W.Sink K.TiffKind K.OffsetType.OffsetNumber K.OffsetType.TiffValue C.described
             (type_size C.Inner.value_type) width height self.entry result) }
         ensures same_reference { IfOk result (λ i. i.encoder.ghost_name ≡ self.entry.ghost_name) }
         ensures begun { IfOk result (λ i. IsTold (calls.new_image C.described (type_size C.Inner.value_type) width height

@@ -12,17 +12,53 @@ ghost use Rattle.tiff_encode.specs.Causes.{is_past, is_past_count};
 ghost use Rattle.tiff_encode.specs.FileBytes.{count_len, offset_len};
 ghost use Rattle.tiff_encode.specs.Kind.{WritesHeader, WritesWithin};
 
+use std::alloc::AllocError;
 use std::marker::{Model, PhantomData};
 use tiff_base::directory::Directory;
 use tiff_base::error::{TiffError, TiffResult, UsageError};
 use tiff_base::io::Sink;
 use tiff_base::tags::{FileKind, IfdPointer};
+use tiff_value::encoder::tiff_value::TiffValue;
 use tiff_value::encoder::writer::{TiffWriter, write_bigtiff_header, write_tiff_header};
+
+/// A number that stands for an offset (this project's): `u32` or `u64`.
+pub trait OffsetNumber: Copy {
+    ghost use Rattle.std.specs.Prelude.{◌≡◌, ℕ};
+
+    // The offset.
+    ghost number: { Self → ℕ };
+
+    // What stands for an offset.
+    ghost numbered: { ℕ → Self };
+
+    // Each stands for its own offset.
+    ghost again: { (x : Self) → numbered (number x) ≡ x };
+}
+
+impl OffsetNumber for u32 {
+    ghost use Rattle.std.specs.Prelude.{refl};
+
+    ghost number = { λ offset. offset };
+
+    ghost numbered = { λ offset. offset };
+
+    ghost again = { λ x. refl };
+}
+
+impl OffsetNumber for u64 {
+    ghost use Rattle.std.specs.Prelude.{refl};
+
+    ghost number = { λ offset. offset };
+
+    ghost numbered = { λ offset. offset };
+
+    ghost again = { λ x. refl };
+}
 
 /// A kind of file, by the numbers of its offsets.
 pub trait TiffKind {
     /// An offset in a file of this kind.
-    type OffsetType: Copy;
+    type OffsetType: OffsetNumber + TiffValue;
 
     ghost kind: { kinds.FileKind };
 
@@ -54,6 +90,9 @@ pub trait TiffKind {
     /// Writes a header that links to no directory yet. Errors are those of `TiffWriter::write_plain`.
     fn write_header<W: Sink>(writer: &mut TiffWriter<W>) -> TiffResult<()>
         ensures { WritesHeader kind writer.old writer.new result };
+
+    // An offset of this kind is the number that it stands for.
+    ghost same_number: { (x : Self.OffsetType) → Self.OffsetType.number x ≡ offset_number x };
 }
 
 /// TIFF 6.0: offsets of 4 bytes.
@@ -61,6 +100,7 @@ pub trait TiffKind {
 pub struct TiffKindStandard;
 
 impl TiffKind for TiffKindStandard {
+    ghost use Rattle.std.specs.Prelude.{refl};
     ghost use Rattle.tiff_base.specs.declared.tags.FileKind.TheVariants.{Classic};
 
     type OffsetType = u32;
@@ -106,6 +146,8 @@ impl TiffKind for TiffKindStandard {
         writer.write_u32(0)?;
         Ok(())
     }
+
+    ghost same_number = { λ x. refl };
 }
 
 /// BigTIFF: offsets of 8 bytes.
@@ -113,6 +155,7 @@ impl TiffKind for TiffKindStandard {
 pub struct TiffKindBig;
 
 impl TiffKind for TiffKindBig {
+    ghost use Rattle.std.specs.Prelude.{refl};
     ghost use Rattle.tiff_base.specs.declared.tags.FileKind.TheVariants.{Big};
 
     type OffsetType = u64;
@@ -146,19 +189,24 @@ impl TiffKind for TiffKindBig {
         writer.write_u64(0)?;
         Ok(())
     }
+
+    ghost same_number = { λ x. refl };
 }
 
-/// Where a directory that is finished stands, and its link.
-#[derive(Clone, Copy, Debug, PartialEq, Eq, Hash)]
-pub struct DirectoryOffset<K: TiffKind> {
+/// Where a directory that is finished stands, as its kind of file has offsets and as a pointer, and its link. The second
+/// parameter follows from the first: `DirectoryOffset<K>` is written.
+#[derive(Debug, PartialEq, Eq, Hash)]
+pub struct DirectoryOffset<K: TiffKind, O: OffsetNumber = <K as TiffKind>::OffsetType> {
+    pub offset: O,
     pub pointer: IfdPointer,
     link: u64,
     kind: PhantomData<K>,
 }
 
-impl<K: TiffKind> Model for DirectoryOffset<K> {
+impl<K: TiffKind, O: OffsetNumber> Model for DirectoryOffset<K, O> {
     ghost use Rattle.std.specs.Prelude.{◌≡◌};
     ghost use Rattle.std.specs.Prelude.{false};
+    ghost use Rattle.std.proofs.Common.{ap, sym, ◌∙◌};
     ghost use Rattle.tiff_encode.specs.Calls.{Offsets};
     ghost use Rattle.tiff_encode.specs.Causes.{is_past};
 
@@ -166,10 +214,25 @@ impl<K: TiffKind> Model for DirectoryOffset<K> {
 
     ghost view = { λ d. record { pointer = d.pointer.0; link = d.link } };
 
-    // The kind has such offsets.
-    ghost invariant = { λ d. is_past K.kind d.pointer.0 ≡ false };
+    // The kind has such offsets, and both are of one directory.
+    ghost invariant = { λ d. (is_past K.kind d.pointer.0 ≡ false) × (O.number d.offset ≡ d.pointer.0) };
 
-    ghost inverse = { λ o. record { pointer = record { 0 = o.pointer }; link = o.link; kind = record {} } };
+    ghost inverse = { λ o. record { offset = O.numbered o.pointer; pointer = record { 0 = o.pointer }; link = o.link; kind = record {} } };
+
+    ghost inverse_ok = { λ a h. ap (λ o. record { offset = o; pointer = a.pointer; link = a.link; kind = record {} }) (ap O.numbered (sym h.1) ∙ O.again a.offset) };
+}
+
+impl<K: TiffKind, O: OffsetNumber> Copy for DirectoryOffset<K, O> {}
+
+impl<K: TiffKind, O: OffsetNumber> Clone for DirectoryOffset<K, O> {
+    fn clone(&self) -> Result<Self, AllocError> {
+        Ok(DirectoryOffset {
+            offset: self.offset,
+            pointer: self.pointer,
+            link: self.link,
+            kind: PhantomData,
+        })
+    }
 }
 
 // The offset of the link of a directory of so many entries that stands at an offset, if it is below 2^64.
@@ -184,24 +247,18 @@ fn link_of(kind: FileKind, offset: u64, count: usize) -> Option<u64>
     offset.checked_add(head)?.checked_add(entries)
 }
 
-impl<K: TiffKind> DirectoryOffset<K> {
+impl<K: TiffKind> DirectoryOffset<K, K::OffsetType> {
     // A directory's offset, and that of its link.
     pub(crate) fn at(offset: u64, link: u64) -> Self
         requires { is_past K.kind offset ≡ false }
         ensures { result ≡ record { pointer = offset; link = link } }
     {
         DirectoryOffset {
+            offset: K::offset_at(offset),
             pointer: IfdPointer(offset),
             link,
             kind: PhantomData,
         }
-    }
-
-    /// The directory's offset as the kind has it: in place of the Rust crate's field.
-    pub fn offset(&self) -> K::OffsetType
-        ensures { K.offset_number result ≡ self.now.pointer }
-    {
-        K::offset_at(self.pointer.0)
     }
 
     // The offset of its link.

@@ -64,9 +64,9 @@ returns g c =
     let given : Result FieldData TiffError = g.T.TiffValue.field_data c.args.value.now in
     let type = g.T.TiffValue.value_type in
     let count = g.T.TiffValue.value_count c.args.value.now in
-    let v : FieldData = record { field_type = c.field_type.result; count = c.count-count.result; bytes = c.deref.result.now } in
-    let is_v = made given type c.field_type.result count c.count-count.result c.in_ok-data.data.items c.deref.result.now
-    c.in_ok-data.ensures c.field_type.ensures c.count-count.ensures c.deref.ensures.value in
+    let v : FieldData = record { field_type = c.type_and_len-field_type.result.0; count = c.count-count.result; bytes = c.deref.result.now } in
+    let is_v = made given type c.type_and_len-field_type.result.0 count c.count-count.result c.in_ok-data.data.items c.deref.result.now
+    c.in_ok-data.ensures c.type_and_len-field_type.ensures.kind c.count-count.ensures c.deref.ensures.value in
     let is : IsValue type count (Ok v) = subst (λ v. IsValue type count v) is_v (g.met.T.TiffValue.sized c.args.value.now) in
     let uncaused = sym (test_is old c.file_kind.result type count v c.in_ok-end.end c.count-count.result c.bytes.result c.file_kind.ensures is c.in_ok-end.ensures.1 c.count-count.ensures c.bytes.ensures)
     ∙ c.in_ok-check_field.ensures in
