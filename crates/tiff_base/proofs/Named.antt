@@ -35,7 +35,7 @@ chosen number n false x y p q = q
 same : (n k : ℕ) → (n == k) ≡ true → k ≡ n
 same n k h = sym (eqb-true n k h)
 
-tags : (n : ℕ) → tag_number (tag_of n) ≡ n
+pub tags : (n : ℕ) → tag_number (tag_of n) ≡ n
 unfolding tag_of
 tags n =
     chosen tag_number n (n == 254) _ _ (same n 254) (

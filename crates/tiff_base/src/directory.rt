@@ -217,7 +217,7 @@ impl Directory {
         }
     }
 
-    /// The fields, in ascending tag number.
+    /// The fields with their tags, in ascending tag number.
     #[tactic(auto, using(crate::proofs::Maps::entries_of_tree))]
     pub fn iter(&self) -> Iter<'_>
         ensures { result ≡ map.entries self.now.entries }
@@ -355,7 +355,7 @@ impl fmt::Debug for Directory {
     }
 }
 
-/// The fields of a directory, in ascending tag number.
+/// The fields of a directory with their tags, in ascending tag number.
 #[derive(Drop)]
 pub struct Iter<'a> {
     inner: slice::Iter<'a, (u16, Entry)>,
@@ -371,15 +371,24 @@ impl<'a> Model for Iter<'a> {
     ghost view = { λ i. iter_rest i.inner };
 }
 
-impl<'a> Iterator for Iter<'a> {
-    type Item = (u16, &'a Entry);
+// A field with its tag.
+#[tactic(auto, using(crate::proofs::Named::tags))]
+fn tagged(field: &(u16, Entry)) -> (Tag, &Entry)
+    ensures { (tag_number result.0, result.1.now) ≡ field.now }
+{
+    let (number, entry) = field;
+    (Tag::from_u16_exhaustive(*number), entry)
+}
 
-    ghost next_gives = { YieldsFirstBy (λ x. (x.0, x.1.now)) (λ s. s) };
+impl<'a> Iterator for Iter<'a> {
+    type Item = (Tag, &'a Entry);
+
+    ghost next_gives = { YieldsFirstBy (λ x. (tag_number x.0, x.1.now)) (λ s. s) };
 
     ghost remaining = { item_count (λ s. s) };
 
-    fn next(&mut self) -> Option<(u16, &'a Entry)> {
-        let (tag, entry) = self.inner.next()?;
-        Some((*tag, entry))
+    fn next(&mut self) -> Option<(Tag, &'a Entry)> {
+        let field = self.inner.next()?;
+        Some(tagged(field))
     }
 }

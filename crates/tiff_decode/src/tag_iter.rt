@@ -26,7 +26,10 @@ fn next_field(directory: &Directory, last: Option<u16>) -> Option<(u16, &Entry)>
     ensures { option_map (λ x. (x.0, x.1.now)) result ≡ slice_get (fields_left last (entries directory.now.entries)) 0 }
 {
     match last {
-        None => directory.iter().next(),
+        None => directory
+            .iter()
+            .next()
+            .map(|(tag, entry)| (tag.to_u16(), entry)),
         Some(number) => directory.first_after(number),
     }
 }

@@ -137,8 +137,8 @@ fn tag_numbers(alloc: Global, directory: &Directory) -> Result<Vec<u16>, AllocEr
     ensures { IfOk result (λ v. v.items ≡ map (λ e. e.0) (entries directory.now.entries)) }
 {
     let mut numbers = Vec::new(alloc);
-    for (number, _) in directory.iter() {
-        numbers.push(number)?;
+    for (tag, _) in directory.iter() {
+        numbers.push(tag.to_u16())?;
     }
     Ok(numbers)
 }

@@ -51,7 +51,7 @@ pub fn list_directory(
     let count = directory.len() as u64;
     out.extend_from_slice(&count.to_le_bytes()[..count_bytes(kind)])?;
     for (tag, entry) in directory.iter() {
-        push_entry(&mut out, kind, tag, entry)?;
+        push_entry(&mut out, kind, tag.to_u16(), entry)?;
     }
     out.extend_from_slice(&0u64.to_le_bytes()[..offset_size(kind) as usize])?;
     Ok(out)

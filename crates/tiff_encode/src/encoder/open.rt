@@ -89,7 +89,7 @@ impl State for Fields {
     fn extend_from(&mut self, directory: &Directory) -> TiffResult<()> {
         for (tag, entry) in directory.iter() {
             let copy = Entry::new_u64(entry.field_type(), entry.count(), entry.value());
-            match self.directory.insert(tag, copy) {
+            match self.directory.insert(tag.to_u16(), copy) {
                 Ok(()) => {}
                 Err(_) => return Err(TiffError::OutOfMemory),
             }

@@ -1,6 +1,7 @@
 use Rattle.std.proofs.Common.{◌≡◌, refl, ap, sym, ◌∙◌, List, [], ◌∷◌, ◌++◌, ℕ, append_assoc, append-nil}
 use Rattle.std.specs.FinMap.{insert}
 use Rattle.tiff_base.specs.Field.{Field}
+use Rattle.tiff_base.specs.Tags.{tag_number}
 use Rattle.tiff_encode.specs.Calls as calls
 use Rattle.tiff_encode.specs.Machine.{OpenDirectory}
 use Rattle.tiff_encode.proofs.Guarding.{extended_none, extended_more, some_taken}
@@ -17,17 +18,19 @@ loop-tag-preserved c =
     let inside = c.loop-tag.self-inside in
     let now : OpenDirectory = record { fields = inside.directory.entries; parent = inside.parent; chained = inside.chained } in
     let field : Field = c.in-Some.entry.now in
+    let number : ℕ = tag_number c.in-Some.tag in
     let same : c.new_u64-copy.result ≡ field =
     c.new_u64-copy.ensures
     ∙ (λ k. record { field_type = c.field_type.ensures k; count = c.count.ensures k; value = c.value.ensures k }) in
-    let fields : c.insert.new.self.entries ≡ insert inside.directory.entries c.in-Some.tag field =
-    ap (λ d. d.entries) c.in-Ok.ensures.ok ∙ ap (insert inside.directory.entries c.in-Some.tag) same in (
-      done ++ (c.in-Some.tag, field) ∷ [],
+    let fields : c.insert.new.self.entries ≡ insert inside.directory.entries number field =
+    ap (λ d. d.entries) c.in-Ok.ensures.ok ∙ ap (λ n. insert inside.directory.entries n c.new_u64-copy.result) c.to_u16.ensures
+    ∙ ap (insert inside.directory.entries number) same in (
+      done ++ (number, field) ∷ [],
       (
-        append_assoc done ((c.in-Some.tag, field) ∷ []) c.next.new.self
+        append_assoc done ((number, field) ∷ []) c.next.new.self
             ∙ (ap (λ rest. done ++ rest) (sym c.in-Some.ensures.steps) ∙ i.1.0),
         (λ k. record { fields = fields k; parent = inside.parent; chained = inside.chained })
-            ∙ extended_more c.args.self.now now done c.in-Some.tag field i.1.1,
+            ∙ extended_more c.args.self.now now done number field i.1.1,
       ),
     )
 
