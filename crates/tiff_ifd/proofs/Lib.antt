@@ -8,6 +8,7 @@ pub mod Texts
 pub mod Fitted
 mod Sames
 pub mod Followed
+mod MetAgain
 pub mod Begun
 mod Passed
 pub mod Unpacking

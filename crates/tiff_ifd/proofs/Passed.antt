@@ -10,11 +10,10 @@ use Rattle.tiff_base.specs.declared.tags.FileKind.{FileKind}
 use Rattle.tiff_base.specs.Directory.{directory_at, link_offset, count_width, offset_width}
 use Rattle.tiff_base.specs.Field.{DirectoryRecord}
 use Rattle.tiff_base.specs.Number.{number_at}
-use Rattle.tiff_ifd.proofs.Begun.{begins_entered, cut_unread, cut_unentered, grown, one_entered, one_longer, read_target, unentered, unread}
+use Rattle.tiff_ifd.proofs.Begun.{begins_entered, cut_unread, cut_unentered, grown, one_entered, one_longer, unentered, unread}
 use Rattle.tiff_ifd.proofs.Chain.{IsFalseBit}
 use Rattle.tiff_ifd.proofs.Entries.{number_past, some_bytes}
 use Rattle.tiff_ifd.specs.Chain.{IsLinkOfDirectory, link_of, unless_met}
-use Rattle.tiff_ifd.specs.Links.{link_target}
 use Rattle.tiff_ifd.specs.Walk.{ChainBegins, ChainEnds, NextIsRefused, StepsOver, Walked}
 
 -- ---- the law
@@ -70,11 +69,6 @@ module _ (kind : FileKind) (order : ByteOrder) (bytes : List ℕ) where
 
   isnt_read : (at : ℕ) (fault : TiffError) → link_of kind order bytes at ≡ Err fault → directory_at kind order bytes at ≡ Err fault
   isnt_read at fault h = unread_by kind order bytes at fault (directory_at kind order bytes at) refl (sym (link_of_directory kind order bytes at) ∙ h)
-
-  pub passed_target : (at : ℕ) (next : Option ℕ) → link_of kind order bytes at ≡ Ok next → link_target next ≡ next
-  passed_target at next h =
-      let r = is_read at next h in
-      subst (λ (x : Option ℕ). link_target x ≡ x) (sym r.2) (read_target kind order bytes at r.0 r.1)
 
   -- ---- a step over it
 

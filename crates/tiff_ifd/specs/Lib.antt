@@ -9,6 +9,7 @@ pub mod Look
 pub mod Limits
 pub mod Chain
 pub mod Links
+pub mod Met
 pub mod Walk
 pub mod Fitted
 pub mod TagQueries

@@ -1,26 +1,16 @@
 -- How far a file's chain of directories was gone along (this project's).
-use Rattle.std.specs.Prelude.{◌≡◌, ℕ, List, [], ◌∷◌, ◌++◌, reverse, Option, None, Some, Bool, true, false, Result, Ok, Err, nat_eq}
-use Rattle.std.specs.List.{list_any}
-use Rattle.std.specs.FinMap.{get}
+use Rattle.std.specs.Prelude.{◌≡◌, ℕ, List, [], ◌∷◌, ◌++◌, reverse, Option, None, Some, Bool, true, false, Result, Ok, Err}
 use Rattle.tiff_base.specs.declared.error.TiffError.{TiffError}
 use Rattle.tiff_base.specs.declared.tags.ByteOrder.{ByteOrder}
 use Rattle.tiff_base.specs.declared.tags.FileKind.{FileKind}
 use Rattle.tiff_base.specs.Field.{DirectoryRecord}
 use Rattle.tiff_base.specs.Directory.{directory_at}
 use Rattle.tiff_ifd.specs.Chain.{link_from, enter_at, IsChain, chain}
-use Rattle.tiff_ifd.specs.Links.{Links, Goes}
 
 -- the offsets that were entered one after another, and the link behind the last of them; before the first one, its offset
 pub record Walked : Type 0 where
   pub offsets : List ℕ
   pub next : Option ℕ
-
--- The accepted links are those of these offsets, the last one first: no other offset has one, they go from each offset on to
--- the next one, and that is none of these.
-pub record AreLinked (links : Links) (met : List ℕ) (next : Option ℕ) : Type 0 where
-  pub own : (offset : ℕ) → list_any (nat_eq offset) met ≡ false → get links offset ≡ None
-  pub on : (offset last : ℕ) → list_any (nat_eq offset) met ≡ true → next ≡ Some last → (others : List ℕ) × Goes links offset others last
-  pub new : (last : ℕ) → next ≡ Some last → list_any (nat_eq last) met ≡ false
 
 module _ (kind : FileKind) (order : ByteOrder) (bytes : List ℕ) where
   -- One more offset was entered, the next one, and its directory is this.

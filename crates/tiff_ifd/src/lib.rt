@@ -7,6 +7,7 @@ pub mod header;
 pub mod laws;
 pub mod limits;
 pub mod lookup;
+pub mod offsets;
 pub mod packbits;
 pub mod read_bytes;
 pub mod read_numbers;

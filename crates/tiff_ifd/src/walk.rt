@@ -1,47 +1,35 @@
 //! A file's directories are entered one after another.
 
-ghost use Rattle.std.specs.Prelude.{◌≡◌, ◌==◌, ◌<◌, ◌≤◌, ◌+◌, ◌-◌, ◌++◌, ◌∷◌, ℕ, List, [], reverse, length, IfOk, IfErr, IfNone, OnErr, MatchOption, Ok, Err, None, Some, false, option_map};
-ghost use Rattle.std.specs.List.{slice_get};
+ghost use Rattle.std.specs.Prelude.{◌≡◌, ◌==◌, ◌<◌, ◌≤◌, ◌+◌, ◌-◌, ◌++◌, ◌∷◌, ℕ, List, [], reverse, length, IfOk, IfErr, IfNone, OnErr, MatchOption, nat_eq, Ok, Err, None, Some, false, option_map};
+ghost use Rattle.std.specs.List.{list_any, slice_get};
 ghost use Rattle.tiff_base.specs.Answers.{IsCause, IsKept};
 ghost use Rattle.tiff_base.specs.declared.tags.ByteOrder.{ByteOrder};
 ghost use Rattle.tiff_base.specs.declared.tags.FileKind.{FileKind};
 ghost use Rattle.tiff_ifd.specs.Chain.{unless_met, chain};
-ghost use Rattle.tiff_ifd.specs.Links.{link_target};
 ghost use Rattle.tiff_ifd.specs.Walk.{StepsOver, WalkSteps, ChainBegins, ChainEnds};
 
-use crate::cycles::IfdCycles;
 use crate::decode::{read_directory, read_link_of};
-use std::alloc::Global;
+use crate::offsets::Offsets;
+use std::alloc::{AllocError, Global};
 use std::marker::Model;
 use tiff_base::directory::Directory;
-use tiff_base::error::TiffResult;
+use tiff_base::error::{TiffError, TiffFormatError, TiffResult};
 use tiff_base::io::Source;
-use tiff_base::tags::{ByteOrder, FileKind, IfdPointer};
+use tiff_base::tags::{ByteOrder, FileKind};
 
 /// The offsets of a file's directories, as far as they were entered, and the link behind the last of them.
 #[derive(Debug, Drop)]
 pub struct Walk {
-    offsets: Vec<u64>,
-    links: IfdCycles,
+    offsets: Offsets,
     next: Option<u64>,
 }
 
 impl Model for Walk {
-    ghost use Rattle.std.specs.Prelude.{reverse};
-    ghost use Rattle.tiff_ifd.specs.Walk.{Walked, AreLinked};
+    ghost use Rattle.tiff_ifd.specs.Walk.{Walked};
 
     ghost Value = { Walked };
 
-    ghost view = { λ w. record { offsets = w.offsets.items; next = w.next } };
-
-    ghost invariant = { λ w. AreLinked w.links (reverse w.offsets.items) w.next };
-}
-
-// The offset of a link, if it leads to one.
-fn pointer(next: Option<u64>) -> Option<IfdPointer>
-    ensures { option_map (λ p. p.0) result ≡ next }
-{
-    next.map(IfdPointer)
+    ghost view = { λ w. record { offsets = w.offsets; next = w.next } };
 }
 
 // The offset that a directory's link leads to.
@@ -53,14 +41,13 @@ fn behind(directory: &Directory) -> Option<u64>
 
 impl Walk {
     /// No offset was entered yet; `first` is the next one.
-    #[tactic(auto, using(crate::proofs::Begun::none_linked, crate::proofs::Begun::none_begun))]
+    #[tactic(auto, using(crate::proofs::Begun::none_begun))]
     pub fn new(alloc: Global, first: u64) -> Self
         ensures walked { result ≡ record { offsets = []; next = Some first } }
         ensures begins { (kind : FileKind) (order : ByteOrder) (bytes : List ℕ) → ChainBegins kind order bytes first result }
     {
         Walk {
-            offsets: Vec::new(alloc),
-            links: IfdCycles::new(alloc),
+            offsets: Offsets::new(alloc),
             next: Some(first),
         }
     }
@@ -83,14 +70,14 @@ impl Walk {
     pub fn get(&self, index: usize) -> Option<u64>
         ensures { result ≡ slice_get self.now.offsets index }
     {
-        self.offsets.get(index).copied()
+        self.offsets.get(index)
     }
 
     /// The offset that was entered last.
     pub fn last(&self) -> Option<u64>
         ensures { result ≡ slice_get self.now.offsets (length self.now.offsets - 1) }
     {
-        self.offsets.last().copied()
+        self.offsets.last()
     }
 
     /// The next offset, if there is one.
@@ -100,21 +87,32 @@ impl Walk {
         self.next
     }
 
+    // Whether a link is one of the offsets up to and with this one, the next.
+    #[tactic(auto, using(crate::proofs::Begun::is_itself, crate::proofs::Begun::is_among))]
+    fn meets(&mut self, offset: u64, link: u64) -> Result<bool, AllocError>
+        ensures met { IfOk result (λ met. met ≡ list_any (nat_eq link) (offset ∷ reverse self.old.offsets)) }
+        ensures same { self.new ≡ self.old }
+    {
+        if link == offset {
+            return Ok(true);
+        }
+        self.offsets.contains(link)
+    }
+
     // Adds the next offset with its link, unless that is one of the offsets up to and with it.
-    #[tactic(auto, using(crate::proofs::Begun::not_met, crate::proofs::Begun::why_refused, crate::proofs::Begun::stays_linked, crate::proofs::Begun::now_linked))]
+    #[tactic(auto, using(crate::proofs::Begun::unmet, crate::proofs::Begun::none_met, crate::proofs::Begun::met))]
     fn add(&mut self, offset: u64, next: Option<u64>) -> TiffResult<()>
-        requires at { self.old.next ≡ Some offset }
-        requires link { link_target next ≡ next }
         ensures unmet { IfOk result (λ _. unless_met (offset ∷ reverse self.old.offsets) next ≡ Ok next) }
         ensures added { IfOk result (λ _. self.new ≡ record { offsets = self.old.offsets ++ offset ∷ []; next = next }) }
         ensures err { IfErr result (λ e. IsCause (Unit {0}) ⊥ e (unless_met (offset ∷ reverse self.old.offsets) next ≡ Err e)) }
         ensures stays { OnErr result (self.new ≡ self.old) }
     {
-        self.offsets.push(offset)?;
-        if let Err(e) = self.links.insert_next(IfdPointer(offset), pointer(next)) {
-            self.offsets.pop();
-            return Err(e);
+        if let Some(link) = next
+            && self.meets(offset, link)?
+        {
+            return Err(TiffError::FormatError(TiffFormatError::CycleInOffsets));
         }
+        self.offsets.push(offset)?;
         self.next = next;
         Ok(())
     }
@@ -122,7 +120,7 @@ impl Walk {
     /// Enters the next offset: its directory, or `None` where there is no next offset. Where the offset isn't entered, the walk
     /// is as it was: `IoError(UnexpectedEof)` where the directory is cut, `FormatError(CycleInOffsets)` where its link is one
     /// of the offsets up to and with it; or `OutOfMemory`, or `IoError(Device)`.
-    #[tactic(auto, using(crate::proofs::Begun::read_target, crate::proofs::Begun::unread, crate::proofs::Begun::unentered, crate::proofs::Begun::one_entered, crate::proofs::Begun::ends_none, crate::proofs::Begun::begins_entered, crate::proofs::Begun::cut_unread, crate::proofs::Begun::cut_unentered))]
+    #[tactic(auto, using(crate::proofs::Begun::unread, crate::proofs::Begun::unentered, crate::proofs::Begun::one_entered, crate::proofs::Begun::ends_none, crate::proofs::Begun::begins_entered, crate::proofs::Begun::cut_unread, crate::proofs::Begun::cut_unentered))]
     pub fn enter_next<R: Source>(
         &mut self,
         alloc: Global,
@@ -150,7 +148,7 @@ impl Walk {
 
     // Goes over the next offset, of whose directory it reads the count and the link alone: true, or false where there is no next
     // offset. Where the offset isn't entered, the walk is as it was, with the fault that `enter_next` answers.
-    #[tactic(auto, using(crate::proofs::Passed::passed_target, crate::proofs::Passed::unlinked, crate::proofs::Passed::unpassed, crate::proofs::Passed::one_passed, crate::proofs::Begun::ends_none, crate::proofs::Passed::begins_passed, crate::proofs::Passed::cut_unlinked, crate::proofs::Passed::cut_unpassed))]
+    #[tactic(auto, using(crate::proofs::Passed::unlinked, crate::proofs::Passed::unpassed, crate::proofs::Passed::one_passed, crate::proofs::Begun::ends_none, crate::proofs::Passed::begins_passed, crate::proofs::Passed::cut_unlinked, crate::proofs::Passed::cut_unpassed))]
     fn pass_next<R: Source>(
         &mut self,
         source: &mut R,

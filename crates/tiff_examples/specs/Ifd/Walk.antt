@@ -10,8 +10,7 @@ use Rattle.tiff_base.specs.declared.tags.FileKind.TheVariants.{Classic}
 use Rattle.tiff_base.specs.Field.{DirectoryRecord}
 use Rattle.tiff_base.specs.SourceAndSink.{put}
 use Rattle.tiff_ifd.specs.Walk as walk
-use Rattle.tiff_ifd.specs.Walk.{Walked, AreLinked}
-use Rattle.tiff_examples.specs.Ifd.Chain.{accepted}
+use Rattle.tiff_ifd.specs.Walk.{Walked}
 use Rattle.tiff_examples.specs.Decoders.{three_file}
 
 -- the walk along three directories at 8, 14 and 20, as far as so many were entered
@@ -37,33 +36,6 @@ cut_file = take 25 three_file
 -- a directory of no fields with this next one
 abbrev pub linking : Option ℕ → DirectoryRecord
 linking next = record { entries = from_entries []; next = next }
-
--- ---- accepted links
-
--- no link, a link to the next offset, two one after another, and the last one to none
-abbrev pub none_linked : Type 0
-none_linked = AreLinked (accepted []) [] (Some 8)
-
-abbrev pub one_linked : Type 0
-one_linked = AreLinked (accepted ((8, Some 14) ∷ [])) (8 ∷ []) (Some 14)
-
-abbrev pub two_linked : Type 0
-two_linked = AreLinked (accepted ((14, Some 20) ∷ (8, Some 14) ∷ [])) (14 ∷ 8 ∷ []) (Some 20)
-
-abbrev pub last_linked : Type 0
-last_linked = AreLinked (accepted ((8, None) ∷ [])) (8 ∷ []) None
-
--- a link of an offset that wasn't entered
-abbrev pub other_linked : Type 0
-other_linked = AreLinked (accepted ((30, Some 8) ∷ (8, Some 14) ∷ [])) (8 ∷ []) (Some 14) → ⊥
-
--- no link goes on to the next offset
-abbrev pub not_linked : Type 0
-not_linked = AreLinked (accepted ((8, None) ∷ [])) (8 ∷ []) (Some 14) → ⊥
-
--- the next offset was entered before
-abbrev pub linked_back : Type 0
-linked_back = AreLinked (accepted ((8, Some 8) ∷ [])) (8 ∷ []) (Some 8) → ⊥
 
 -- ---- steps
 

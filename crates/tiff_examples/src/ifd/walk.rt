@@ -2,12 +2,6 @@
 
 ghost use Rattle.tiff_examples.specs.Ifd.Walk as s;
 
-/// Accepted links.
-pub fn links()
-    ensures { s.none_linked × s.one_linked × s.two_linked × s.last_linked × s.other_linked × s.not_linked ×
-        s.linked_back }
-{}
-
 /// Steps from one directory to the next.
 pub fn steps()
     ensures { s.enters_first × s.enters_second × s.enters_in_front × s.enters_other × s.enters_same_link ×
