@@ -1,5 +1,5 @@
 -- The numbers of the enums come back.
-use Rattle.std.proofs.Common.{◌≡◌, ℕ, Bool, true, false, Option, Some, None, refl, sym, subst}
+use Rattle.std.proofs.Common.{◌≡◌, ℕ, Bool, true, false, Option, Some, None, refl, ap, sym, subst}
 use Rattle.std.specs.Prelude.{if◌then◌else◌, ◌==◌}
 use Rattle.std.proofs.lemmas.Bool.{eqb-true}
 use Rattle.tiff_base.specs.declared.tags.Tag.{Tag}
@@ -98,6 +98,10 @@ tags n =
     chosen tag_number n (n == 36864) _ _ (same n 36864) (
     chosen tag_number n (n == 42113) _ _ (same n 42113) (
     refl)))))))))))))))))))))))))))))))))))))))))))))))))))))))))))
+
+-- the tag that its own number names
+pub tag_again : (n : ℕ) → tag_of n ≡ tag_of (tag_number (tag_of n))
+tag_again n = ap tag_of (sym (tags n))
 
 methods : (n : ℕ) → method_number (method_of n) ≡ n
 unfolding method_of

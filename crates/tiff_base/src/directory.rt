@@ -3,7 +3,8 @@
 ghost use Rattle.std.specs.Prelude.{◌≡◌, ℕ, ◌^◌, ◌<◌, ◌++◌, ◌∷◌, [], List, IfErr, IfOk, OnOk, OnErr, None, option_map, slice_get, unwrap_or, ◌==◌};
 ghost use Rattle.std.specs.FinMap as map;
 ghost use Rattle.std.specs.Iterator.{Drains, ExtendsWithItems, IsFinite, YieldsFirstBy, item_count};
-ghost use Rattle.tiff_base.specs.Tags.{tag_number};
+ghost use Rattle.std.specs.Option.{IfSome};
+ghost use Rattle.tiff_base.specs.Tags.{tag_number, tag_of};
 ghost use Rattle.tiff_base.specs.declared.tags.Tag.{Tag};
 ghost use Rattle.tiff_base.specs.declared.error.TiffError.TheVariants.{OutOfMemory};
 ghost use Rattle.tiff_base.specs.Directory.{with_entries, fields_after, last_of_each, link};
@@ -372,9 +373,10 @@ impl<'a> Model for Iter<'a> {
 }
 
 // A field with its tag.
-#[tactic(auto, using(crate::proofs::Named::tags))]
+#[tactic(auto, using(crate::proofs::Named::tags, crate::proofs::Named::tag_again))]
 fn tagged(field: &(u16, Entry)) -> (Tag, &Entry)
-    ensures { (tag_number result.0, result.1.now) ≡ field.now }
+    ensures pair { (tag_number result.0, result.1.now) ≡ field.now }
+    ensures named { result.0 ≡ tag_of (tag_number result.0) }
 {
     let (number, entry) = field;
     (Tag::from_u16_exhaustive(*number), entry)
@@ -383,7 +385,8 @@ fn tagged(field: &(u16, Entry)) -> (Tag, &Entry)
 impl<'a> Iterator for Iter<'a> {
     type Item = (Tag, &'a Entry);
 
-    ghost next_gives = { YieldsFirstBy (λ x. (tag_number x.0, x.1.now)) (λ s. s) };
+    ghost next_gives = { λ old item new. YieldsFirstBy (λ x. (tag_number x.0, x.1.now)) (λ s. s) old item new
+        × IfSome item (λ x. x.0 ≡ tag_of (tag_number x.0)) };
 
     ghost remaining = { item_count (λ s. s) };
 

@@ -28,7 +28,7 @@ loop-tag-preserved c =
       done ++ (number, field) ∷ [],
       (
         append_assoc done ((number, field) ∷ []) c.next.new.self
-            ∙ (ap (λ rest. done ++ rest) (sym c.in-Some.ensures.steps) ∙ i.1.0),
+            ∙ (ap (λ rest. done ++ rest) (sym c.in-Some.ensures.steps.0) ∙ i.1.0),
         (λ k. record { fields = fields k; parent = inside.parent; chained = inside.chained })
             ∙ extended_more c.args.self.now now done number field i.1.1,
       ),
@@ -47,5 +47,5 @@ returns-in-Err-clause-set c =
 pub returns-clause-set : goal.returns-clause-set
 returns-clause-set c =
     let i = c.loop-tag.invariant in
-    let whole : i.0 ≡ _ = sym (append-nil i.0) ∙ (ap (λ rest. i.0 ++ rest) (sym c.in-None.ensures.steps.0) ∙ i.1.0) in
+    let whole : i.0 ≡ _ = sym (append-nil i.0) ∙ (ap (λ rest. i.0 ++ rest) (sym c.in-None.ensures.steps.0.0) ∙ i.1.0) in
     i.1.1 ∙ ap (calls.extend_from c.args.self.now) whole
