@@ -14,3 +14,4 @@ pub mod Held
 mod Lasts
 pub mod Places
 pub mod Search
+pub mod MemoryFaults

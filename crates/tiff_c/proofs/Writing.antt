@@ -1,16 +1,14 @@
 -- A file that an encoder wrote into memory shows its image.
-use Rattle.std.proofs.Common.{◌≡◌, ℕ, zero, suc, ◌+◌, ◌%◌, ◌<◌, ◌⊎◌, inl, inr, Bool, true, false, cond, List, [], length, map, get_or, Fits, w8, arith, Option, None, Some, IsSome, Result, Ok, Err, refl, sym, ap, subst, ◌∙◌, lit<}
+use Rattle.std.proofs.Common.{◌≡◌, ℕ, zero, suc, ◌+◌, ◌%◌, ◌<◌, ◌⊎◌, inl, inr, true, false, List, [], length, map, get_or, Fits, w8, arith, Option, None, Some, Result, Ok, Err, refl, sym, ap, subst, ◌∙◌, lit<}
 use Rattle.tiff_base.specs.declared.error.TiffError.{TiffError}
 use Rattle.std.proofs.lemmas.Bool.Decides.{nat_tests}
 use Rattle.std.specs.Prelude.{◌==◌, if◌then◌else◌}
 use Rattle.tiff_base.specs.declared.error.TiffError.TheVariants.{OutOfMemory, UsageError}
 use Rattle.tiff_base.specs.declared.error.UsageError.TheVariants.{MismatchedEntryLength}
 use Rattle.tiff_base.specs.declared.tags.«Type».{«Type»}
-use Rattle.tiff_base.specs.declared.io.SinkFault.{SinkFault}
 use Rattle.tiff_base.specs.declared.io.SinkFault.TheVariants as sink
 use Rattle.tiff_base.specs.declared.tags.FileKind.{FileKind}
 use Rattle.tiff_base.specs.declared.tags.FileKind.TheVariants.{Classic, Big}
-use Rattle.tiff_base.specs.SourceAndSink.{sink_error}
 use Rattle.tiff_value.specs.ColorType.{ColorTypeRecord, sample_number}
 use Rattle.tiff_value.specs.ColorTypes.{color_type, inner_size, inner_type}
 use Rattle.tiff_page.specs.Pixels.{numbers_in}
@@ -32,23 +30,6 @@ pub begun_by : (s : Settings) (failures : ℕ) (told : List ℕ) (b p c : FileSt
     → p ≡ with_predictor s.predictor b → c ≡ with_compression s.compression p → c ≡ file_by s failures
 begun_by s failures told b p c empty b_is p_is c_is =
     c_is ∙ ap (with_compression s.compression) (p_is ∙ ap (with_predictor s.predictor) (b_is ∙ ap (λ t. begun_file s.kind t failures) empty))
-
--- a fault that a sink in memory tells
-abbrev pub memory_fault : Bool → Option SinkFault
-memory_fault refused = cond refused (Some sink.OutOfMemory) None
-
--- is want of memory
-pub only_memory : (fault : Option SinkFault) (refused : Bool) → (IsSome fault → memory_fault refused ≡ fault)
-    → (fault ≡ None) ⊎ (fault ≡ Some sink.OutOfMemory)
-only_memory None refused h = inl refl
-only_memory (Some f) true h = inr (sym (h refl))
-only_memory (Some f) false h = let e = h refl in absurd cc
-
--- so is the fault of a header that it took in part
-pub header_refused : (cause : SinkFault) (refused : Bool) (e : TiffError) → memory_fault refused ≡ Some cause → e ≡ sink_error cause → e ≡ OutOfMemory
-header_refused sink.OutOfMemory refused e t a = a
-header_refused sink.Device true e t a = absurd cc
-header_refused sink.Device false e t a = absurd cc
 
 -- a header has bytes
 some_header : (kind : FileKind) → 0 < length (header_bytes kind)

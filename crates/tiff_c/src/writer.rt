@@ -142,7 +142,7 @@ fn settings_of(image: &NewImage) -> TiffResult<Settings>
 }
 
 // An encoder that begins in memory, with room for so many bytes.
-#[tactic(auto, using(crate::proofs::Writing::begun_by, crate::proofs::Writing::header_refused))]
+#[tactic(auto, using(crate::proofs::Writing::begun_by, tiff_base::proofs::MemoryFaults::header_refused))]
 fn begin<K: TiffKind>(
     alloc: Global,
     settings: &Settings,
@@ -160,7 +160,7 @@ fn begin<K: TiffKind>(
 }
 
 // A file of one image of a color type.
-#[tactic(auto, using(crate::proofs::Writing::file_written, crate::proofs::Writing::fault_written, crate::proofs::Writing::only_memory))]
+#[tactic(auto, using(crate::proofs::Writing::file_written, crate::proofs::Writing::fault_written, tiff_base::proofs::MemoryFaults::only_memory))]
 fn write_samples<K: TiffKind, C: NamedColorType>(
     alloc: Global,
     settings: &Settings,

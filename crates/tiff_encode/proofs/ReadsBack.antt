@@ -3,3 +3,4 @@ pub mod Numbers
 pub mod Page
 pub mod Entries
 pub mod Written
+pub mod Whole

@@ -22,7 +22,7 @@ use Rattle.tiff_value.specs.Packed.{IsStored}
 use Rattle.tiff_encode.specs.Stored.{AreStored, unpacked_chunk}
 use Rattle.tiff_encode.specs.Shows.{Image, Shows, ShowsFirst, ShowsGray}
 use Rattle.tiff_encode.specs.Held.{image_with}
-use Rattle.tiff_encode.specs.Open.{HoldsOpen, model_by}
+use Rattle.tiff_encode.specs.Open.{HoldsOpen, IsOpen, model_by}
 
 -- an image of these samples, row by row and pixel by pixel
 abbrev pub image_of_samples : OpenImage → List ℕ → Image
@@ -114,8 +114,8 @@ ShowsFinished i samples (Ok x) old new =
     (offsets : Offsets) × (IsTold (calls.finish_image i old) (Ok offsets) new × Shows old.kind new.bytes offsets.pointer (image_with i samples))
 ShowsFinished i samples (Err e) old new = Unit {0}
 
--- A new image was written: it was begun; what stood stands, with what was done; of a named color type, the page shows the
--- samples; it stands behind what stood; the chain's last link points to it; and its own is one at which a next page can be
+-- A new image was written: it was begun; what stood stands, with what was done; of a named color type, it is such as an encoder
+-- makes, and the page shows the samples; it stands behind what stood; the chain's last link points to it; and its own is one at which a next page can be
 -- linked.
 pub record LeavesImage (color : ColorTypeRecord) (size width height : ℕ) (samples : List ℕ) (old new : FileState) (m : Model) : Type 0 where
   pub image : OpenImage
@@ -127,6 +127,7 @@ pub record LeavesImage (color : ColorTypeRecord) (size width height : ℕ) (samp
   pub after : Model
   pub after_is : after ≡ model_by mid (model_by old m (calls.new_image color size width height old)) (calls.write_image_data image samples stored mid)
   pub stands : Stands old.kind new.bytes after
+  pub open_so : (name : ColorTypeName) → color ≡ color_type name → size ≡ inner_size name → IsOpen image
   pub shows : (name : ColorTypeName) → color ≡ color_type name → size ≡ inner_size name
       → Shows old.kind new.bytes offsets.pointer (image_of_samples image samples)
   pub placed : end_of old ≤ offsets.pointer

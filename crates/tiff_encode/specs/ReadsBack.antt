@@ -1,23 +1,28 @@
 -- A page that shows an image is read as the samples that were handed in (this project's).
-use Rattle.std.specs.Prelude.{◌≡◌, ℕ, ◌*◌, ◌/◌, ◌%◌, ◌^◌, ◌<◌, ◌≤◌, true, List, length, slice_index, Ok}
+use Rattle.std.specs.Prelude.{◌≡◌, ℕ, ◌*◌, ◌/◌, ◌%◌, ◌^◌, ◌<◌, ◌≤◌, true, List, [], length, slice_index, Ok}
 use Rattle.tiff_base.specs.declared.color.ColorType.{ColorType}
 use Rattle.tiff_base.specs.declared.tags.ByteOrder.TheVariants.{LittleEndian}
 use Rattle.tiff_base.specs.declared.tags.FileKind.{FileKind}
+use Rattle.tiff_base.specs.declared.tags.PlanarConfiguration.TheVariants.{Chunky}
+use Rattle.tiff_value.specs.declared.encoder.colortype.ColorTypeName.{ColorTypeName}
+use Rattle.tiff_value.specs.ColorType.{ColorTypeRecord}
+use Rattle.tiff_value.specs.ColorTypes.{color_type, inner_size}
 use Rattle.tiff_ifd.specs.declared.limits.Limits.{Limits}
 use Rattle.tiff_page.specs.declared.layout.DecodingSampleType.{DecodingSampleType}
 use Rattle.tiff_page.specs.Page.{PageRecord}
 use Rattle.tiff_page.specs.Rect.{chunks_of_plane}
-use Rattle.tiff_page.specs.Layout.{samples_in_chunk, planes, row_bytes, whole_chroma, sample_type_of}
+use Rattle.tiff_page.specs.Layout.{samples_in_chunk, planes, row_bytes, whole_chroma, color_of, sample_type_of}
 use Rattle.tiff_page.specs.PixelFault.{is_plain, predictor_fault, method_fault, white_fault}
 use Rattle.tiff_page.specs.Pixels.{each_to}
 use Rattle.tiff_page.specs.Row.{IsSize}
 use Rattle.tiff_page.specs.PixelCalls.{image_of}
 use Rattle.tiff_page.specs.Image.{Decoded}
-use Rattle.tiff_encode.specs.Machine.{OpenImage}
+use Rattle.tiff_encode.specs.Model.{Model}
+use Rattle.tiff_encode.specs.Machine.{FileState, OpenImage}
 use Rattle.tiff_encode.specs.Chunks.{all_samples, image_page}
-use Rattle.tiff_encode.specs.Held.{IsWholeImage}
+use Rattle.tiff_encode.specs.Open.{IsOpen}
 use Rattle.tiff_encode.specs.Shows.{Image, Shows}
-use Rattle.tiff_encode.specs.ImageData.{image_of_samples}
+use Rattle.tiff_encode.specs.ImageData.{AreNumbers, LeavesImage, image_of_samples}
 
 -- the samples of an image in its order, as far as a plane shows them: pixel by pixel those of a color, of a planar page
 -- those of the first plane
@@ -69,12 +74,33 @@ ReadsBack = (kind : FileKind) (file : List ℕ) (offset : ℕ) (i : Image) (size
     → HasSamplesOf i size → sample_type_of s.page ≡ Ok type → IsReadable s.page s.color → LetsPass limits s.page s.color
     → image_of file LittleEndian s.page limits ≡ Ok (record { sample_type = type; numbers = samples_shown i s.page s.color })
 
--- so is each that an encoder made of an image and that shows these samples, of the bytes of its color type, where the
+-- so is each page of an image such as an encoder makes that shows these samples, of the bytes of its color type, where the
 -- limits let it pass
 abbrev pub WrittenReadsBack : Type 0
 WrittenReadsBack = (kind : FileKind) (file : List ℕ) (offset : ℕ) (i : OpenImage) (sample_at : ℕ → ℕ → ℕ → ℕ) (limits : Limits)
-    → IsWholeImage kind i → ((x y sample : ℕ) → sample_at x y sample < 256 ^ i.size)
+    → IsOpen i → ((x y sample : ℕ) → sample_at x y sample < 256 ^ i.size)
     → (s : Shows kind file offset (record { page = image_page i; sample_at = sample_at })) → LetsPass limits s.page s.color
     → (type : DecodingSampleType) × ((sample_type_of s.page ≡ Ok type)
     × (image_of file LittleEndian s.page limits
     ≡ Ok (record { sample_type = type; numbers = samples_shown (record { page = image_page i; sample_at = sample_at }) s.page s.color })))
+
+-- a chunky page of an image such as an encoder makes, without extra samples, shows all samples of a pixel
+abbrev pub AllShown : Type 0
+AllShown = (i : OpenImage) (p : PageRecord) (color : ColorType) → IsOpen i → i.extra ≡ [] → i.form.planar ≡ Chunky
+    → p ≡ record (image_page i) { offsets = p.offsets; byte_counts = p.byte_counts } → color_of p ≡ Ok color
+    → samples_in_chunk p.planar color ≡ all_samples i
+
+-- A chunky page that shows an image such as an encoder makes, without extra samples and handed in whole, is read as it was
+-- handed in: whatever is read of it are these samples, in their order.
+abbrev pub ShownIsRead : Type 0
+ShownIsRead = (kind : FileKind) (file : List ℕ) (offset : ℕ) (i : OpenImage) (samples : List ℕ) (limits : Limits) (d : Decoded)
+    → (s : Shows kind file offset (image_of_samples i samples)) → IsOpen i → i.extra ≡ [] → i.form.planar ≡ Chunky → AreNumbers i.size samples
+    → length samples ≡ i.height * i.width * all_samples i → image_of file LittleEndian s.page limits ≡ Ok d → d.numbers ≡ samples
+
+-- So is what `write_image` wrote, of a named color type and of as many samples as the image has.
+abbrev pub WrittenIsRead : Type 0
+WrittenIsRead = (color : ColorTypeRecord) (size width height : ℕ) (samples : List ℕ) (old new : FileState) (m : Model)
+    (l : LeavesImage color size width height samples old new m) (name : ColorTypeName) (offset : ℕ) (limits : Limits) (d : Decoded)
+    → (s : Shows old.kind new.bytes offset (image_of_samples l.image samples)) → color ≡ color_type name → size ≡ inner_size name
+    → AreNumbers size samples → length samples ≡ height * width * length color.bits → image_of new.bytes LittleEndian s.page limits ≡ Ok d
+    → d.numbers ≡ samples

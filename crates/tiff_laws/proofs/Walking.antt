@@ -340,26 +340,37 @@ first_decoding file failures header offset directory page = record {
 }
 
 was_first : (file : List ℕ) (found : Header × ℕ × DirectoryRecord) → first_directory file ≡ Ok found
-    → (slice_get (chain_from found.0 file).offsets 0 ≡ Some found.1) × (directory_at found.0.kind found.0.order file found.1 ≡ Ok found.2)
+    → (header_at file ≡ Ok found.0) × (slice_get (chain_from found.0 file).offsets 0 ≡ Some found.1)
+    × (directory_at found.0.kind found.0.order file found.1 ≡ Ok found.2)
 unfolding first_directory
 was_first file found h =
     let header = bound (header_at file) _ found h in
     let offset = bound (ok_or_fault (slice_get (chain_from header.0 file).offsets 0) (end_fault (chain_from header.0 file).end)) _ found header.2 in
     let directory = bound (directory_at header.0.kind header.0.order file offset.0) _ found offset.2 in
-    let P : Header × ℕ × DirectoryRecord → Type 0 = λ x. (slice_get (chain_from x.0 file).offsets 0 ≡ Some x.1) × (directory_at x.0.kind x.0.order file x.1 ≡ Ok x.2) in
-    subst P (given _ _ _ refl directory.2) (is_known _ _ _ offset.1, directory.1)
+    let P : Header × ℕ × DirectoryRecord → Type 0 =
+    λ x. (header_at file ≡ Ok x.0) × (slice_get (chain_from x.0 file).offsets 0 ≡ Some x.1) × (directory_at x.0.kind x.0.order file x.1 ≡ Ok x.2) in
+    subst P (given _ _ _ refl directory.2) (header.1, is_known _ _ _ offset.1, directory.1)
+
+-- the first offset of a chain is the one that it begins with
+begins_with : (link : ℕ → Link) (met : List ℕ) (first offset : ℕ) (ps : List ℕ) (end : Option TiffError)
+    → IsChain link met (Some first) ps end → slice_get ps 0 ≡ Some offset → offset ≡ first
+begins_with link met first offset [] end h s = absurd (cc)
+begins_with link met first offset (p ∷ ps) end h s = (let e : p ≡ offset = cc in sym e ∙ h.0)
 
 -- it is at the first page, as a seek to that is
 opened_at : (file : List ℕ) (failures : ℕ) (header : Header) (offset : ℕ) (directory : DirectoryRecord) (page : PageRecord)
-    → slice_get (chain_from header file).offsets 0 ≡ Some offset → directory_at header.kind header.order file offset ≡ Ok directory
-    → page_in header.kind header.order file default_limits directory ≡ Ok page
+    → header_at file ≡ Ok header → slice_get (chain_from header file).offsets 0 ≡ Some offset
+    → directory_at header.kind header.order file offset ≡ Ok directory → page_in header.kind header.order file default_limits directory ≡ Ok page
     → IsAtFirst file (first_decoding file failures header offset directory page)
-opened_at file failures header offset directory page is_offset is_directory is_page =
+opened_at file failures header offset directory page is_header is_offset is_directory is_page =
     let d = first_decoding file failures header offset directory page in
     let entered : enter d offset ≡ stays d (Ok tt) =
     enter_by d d offset directory (same_here d) is_directory ∙ ap (with_page (placed d offset directory) directory) is_page in
+    let at : offset ≡ header.first = begins_with (links d) [] d.first offset (chain_of d).offsets (chain_of d).end (chain_is d) is_offset in
     record {
       bytes = refl;
+      header = is_header;
+      first = is_offset ∙ ap (λ (o : ℕ). Some o) at;
       stays = sought_by d 0 (Some offset) is_offset ∙ entered;
       arrives = came_to d d d 0 offset (Ok tt) (same_here d) is_offset (record {
         answer = ap (λ (x : Outcome (Unit {0})). x.answer) entered;
@@ -374,4 +385,4 @@ walk_opens file failures d h =
     let page = bound (page_in found.0.0.kind found.0.0.order file default_limits found.0.2) _ d found.2 in
     let first = was_first file found.0 found.1 in
     let P : Decoding → Type 0 = λ x. IsAtFirst file x in
-    subst P (given _ _ _ refl page.2) (opened_at file failures found.0.0 found.0.1 found.0.2 page.0 first.0 first.1 page.1)
+    subst P (given _ _ _ refl page.2) (opened_at file failures found.0.0 found.0.1 found.0.2 page.0 first.0 first.1 first.2 page.1)

@@ -5,6 +5,7 @@ use Rattle.tiff_base.specs.declared.error.TiffError.{TiffError}
 use Rattle.tiff_base.specs.Answers.{◌>>=◌}
 use Rattle.tiff_base.specs.Directory.{directory_at}
 use Rattle.tiff_base.specs.Field.{DirectoryRecord}
+use Rattle.tiff_base.specs.Header.{header_at}
 use Rattle.tiff_page.specs.Page.{PageRecord}
 use Rattle.tiff_decode.specs.Machine.{Decoding, GivesOutcome, stays}
 use Rattle.tiff_decode.specs.Outcome.{chain_of, decoder_of, next_image, page_in, seek_to_image}
@@ -60,9 +61,12 @@ GoesOn start number None old answer new =
 
 -- ---- the laws
 
--- A decoder that was opened on a file is at the first page, as if it had gone there.
+-- A decoder that was opened on a file has its header, whose first directory is that of the chain, and is at the first page, as if
+-- it had gone there.
 pub record IsAtFirst (file : List ℕ) (d : Decoding) : Type 0 where
   pub bytes : d.bytes ≡ file
+  pub header : header_at file ≡ Ok (record { order = d.order; kind = d.kind; first = d.first })
+  pub first : slice_get (chain_of d).offsets 0 ≡ Some d.first
   pub stays : seek_to_image d 0 ≡ stays d (Ok tt)
   pub arrives : Arrives d 0 (Ok tt) d
 

@@ -1,3 +1,4 @@
 pub mod Chunks
 pub mod Pages
 pub mod GeoKeys
+pub mod ReadBack

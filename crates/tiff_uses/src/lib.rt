@@ -1,25 +1,30 @@
-//! Seven uses of `tiff`, as a caller writes them.
+//! Eight uses of `tiff`, as a caller writes them.
 #![tactic(auto)]
 
-ghost use Rattle.std.specs.Prelude.{◌≡◌, ◌≤◌, IfOk, Ok, OnOk};
+ghost use Rattle.std.specs.Prelude.{◌≡◌, ◌≤◌, length, map, IfOk, Ok, OnOk};
 ghost use Rattle.tiff.specs.Answers.{Answers};
 ghost use Rattle.tiff.specs.Machine.{Follows};
 ghost use Rattle.tiff.specs.Outcome.{decoder_of, read_image_bytes};
 ghost use Rattle.tiff.specs.Result.{decoded_as};
 ghost use Rattle.tiff.specs.Shows.{ShowsGray};
+ghost use Rattle.tiff_base.specs.Types.{type_size};
+ghost use Rattle.tiff_value.specs.ColorType.{sample_number};
 ghost use Rattle.tiff_uses.specs.Chunks.{IsImageOfChunks};
 ghost use Rattle.tiff_uses.specs.GeoKeys.{geo_key, key_value, value_in};
 ghost use Rattle.tiff_uses.specs.Pages.{AreSides, FileAnswers, first_image, page_chunk};
+ghost use Rattle.tiff_uses.specs.ReadBack.{ComesBack, IsFirstImage};
 
 use std::alloc::Global;
 use tiff::TiffResult;
-use tiff::decoder::{Decoder, DecodingResult};
+use tiff::decoder::{Decoder, DecodingResult, Limits};
 use tiff::encoder::TiffEncoder;
-use tiff::encoder::colortype::Gray8;
+use tiff::encoder::colortype::{Gray8, NamedColorType};
+use tiff::encoder::data_laws::first_shown;
+use tiff::encoder::reading_laws::written_is_read;
 use tiff::io::{MemorySink, MemorySource, Source};
 use tiff::tags::Tag;
 use tiff_laws::decoder::{image_is_its_chunks, read_where_chunks};
-use tiff_laws::pages::{walk_ends, walk_goes_on, walk_opens};
+use tiff_laws::pages::{walk_ends, walk_goes_on, walk_opens, walk_seeks};
 
 /// The samples of a file's first page, or the first fault.
 pub fn first_image(alloc: Global, file: Vec<u8>) -> TiffResult<DecodingResult>
@@ -129,4 +134,34 @@ pub fn gray_file(alloc: Global, width: u32, height: u32, samples: &[u8]) -> Tiff
     let mut encoder = TiffEncoder::new(alloc, MemorySink::new(Vec::new(alloc)))?;
     encoder.write_image::<Gray8>(width, height, samples)?;
     Ok(encoder.into_inner().into_vec())
+}
+
+// The image of a file's first page, read without limits.
+fn first_without_limits(alloc: Global, file: Vec<u8>) -> TiffResult<DecodingResult>
+    ensures { IfOk result (λ image. IsFirstImage file.items (decoded_as image)) }
+{
+    walk_opens();
+    walk_seeks();
+    let decoder = Decoder::new(alloc, MemorySource::new(file))?;
+    let mut decoder = decoder.with_limits(Limits::unlimited());
+    decoder.seek_to_image(0)?;
+    decoder.read_image()
+}
+
+/// Writes an image of a color type into a file in memory, and reads it back without limits. Where as many samples were handed in as the
+/// image has, those that come back are the same, in their order.
+pub fn written_and_read<C: NamedColorType>(
+    alloc: Global,
+    width: u32,
+    height: u32,
+    samples: &[C::Inner],
+) -> TiffResult<DecodingResult>
+    ensures { IfOk result (λ image. ComesBack width height (length C.described.bits)
+        (map (sample_number (type_size C.Inner.value_type) C.Inner.bits) samples.now) (decoded_as image)) }
+{
+    first_shown();
+    written_is_read();
+    let mut encoder = TiffEncoder::new(alloc, MemorySink::new(Vec::new(alloc)))?;
+    encoder.write_image::<C>(width, height, samples)?;
+    first_without_limits(alloc, encoder.into_inner().into_vec())
 }

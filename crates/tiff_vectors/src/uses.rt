@@ -1,11 +1,14 @@
-//! The six uses of `tiff_uses`, run on tiny files.
+//! The uses of `tiff_uses`, run on tiny files.
 
 use std::alloc::Global;
 use std::test::Fail;
 use tiff::TiffResult;
 use tiff::decoder::{Decoder, DecodingResult};
+use tiff::encoder::colortype::RGB16;
 use tiff::io::MemorySource;
-use tiff_uses::{first_image, geo_key, gray_file, image_of_chunks, page_chunk, page_sides};
+use tiff_uses::{
+    first_image, geo_key, gray_file, image_of_chunks, page_chunk, page_sides, written_and_read,
+};
 
 // A file of one page, 1 by 1, of 8 bits and gray: its one strip is the last byte. Its directory of keys, at offset 98, holds two: 1024
 // (GTModelType) is 2, and 2048 (GeographicType) is 4326.
@@ -52,6 +55,14 @@ fn image_in(alloc: Global, file: Vec<u8>, buffer: &mut [u8]) -> TiffResult<()> {
     image_of_chunks(&mut decoder, buffer)
 }
 
+// Whether colors of 16 bits that are written come back.
+fn comes_back(alloc: Global, samples: &[u16]) -> TiffResult<bool> {
+    match written_and_read::<RGB16>(alloc, 2, 1, samples)? {
+        DecodingResult::U16(read) => Ok(read.as_slice() == samples),
+        _ => Ok(false),
+    }
+}
+
 #[test]
 fn uses(rt: HostRuntime) -> Result<(), Fail> {
     let alloc = rt.alloc();
@@ -71,5 +82,6 @@ fn uses(rt: HostRuntime) -> Result<(), Fail> {
         key_of(alloc, Vec::from_slice(alloc, WITH_KEYS)?, 3072)?,
         None
     );
+    assert!(rt; comes_back(alloc, &[1, 2, 3, 65535, 256, 7])?);
     Ok(())
 }

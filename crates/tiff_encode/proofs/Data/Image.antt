@@ -230,15 +230,19 @@ module _ (parts_show : PartsShow) (color : ColorTypeRecord) (size width height :
         (model_stands color size width height old i mid begun m mid_short stands)
         (parent_links color size width height old i mid begun m mid_short link) w.told
 
+    -- the model holds it as it was begun
+    image_held : (name : ColorTypeName) → color ≡ color_type name → size ≡ inner_size name → HoldsOpen old.kind first_model i []
+    image_held name c s =
+        let P : ColorTypeRecord → ℕ → Type 0 = λ x n. (new_image x n width height old).answer ≡ Ok i
+        → HoldsOpen old.kind (model_by old m (new_image x n width height old)) i [] in
+        let named : P (color_type name) (inner_size name) = begins_open old m name width height i wide high packed in
+        subst (λ x. P x size) (sym c) (subst (λ n. P (color_type name) n) (sym s) named) begun.answer
+
     -- the page shows them
     image_shown : (name : ColorTypeName) → color ≡ color_type name → size ≡ inner_size name
         → Shows old.kind new.bytes w.offsets.pointer (image_of_samples i samples)
     image_shown name c s =
-        let P : ColorTypeRecord → ℕ → Type 0 = λ x n. (new_image x n width height old).answer ≡ Ok i
-        → HoldsOpen old.kind (model_by old m (new_image x n width height old)) i [] in
-        let named : P (color_type name) (inner_size name) = begins_open old m name width height i wide high packed in
-        let held : HoldsOpen old.kind first_model i [] =
-        subst (λ x. P x size) (sym c) (subst (λ n. P (color_type name) n) (sym s) named) begun.answer in
+        let held : HoldsOpen old.kind first_model i [] = image_held name c s in
         let here : Shows mid.kind new.bytes w.offsets.pointer (image_with i (parts_left i samples)) =
         data_shows i samples mid new w first_model short all_stands [] image_small
         (subst (λ kind. HoldsOpen kind first_model i []) (sym same_kind) held) in
@@ -304,6 +308,7 @@ module _ (parts_show : PartsShow) (color : ColorTypeRecord) (size width height :
       after = model_by mid first_model told;
       after_is = refl;
       stands = subst (λ kind. Stands kind new.bytes (model_by mid first_model told)) same_kind all_stands;
+      open_so = λ name c s. (image_held name c s).open_so;
       shows = image_shown;
       next = image_next;
       placed = image_behind;

@@ -9,7 +9,6 @@ use Rattle.tiff_base.specs.declared.color.ColorType.TheVariants.{Gray, RGB, RGBA
 use Rattle.tiff_base.specs.declared.error.TiffError.{TiffError}
 use Rattle.tiff_base.specs.declared.tags.CompressionMethod.{CompressionMethod}
 use Rattle.tiff_base.specs.declared.tags.CompressionMethod.TheVariants as method
-use Rattle.tiff_base.specs.declared.tags.FileKind.{FileKind}
 use Rattle.tiff_base.specs.declared.tags.PhotometricInterpretation.{PhotometricInterpretation}
 use Rattle.tiff_base.specs.declared.tags.Predictor.{Predictor}
 use Rattle.tiff_base.specs.declared.tags.Predictor.TheVariants as predictor
@@ -29,7 +28,7 @@ use Rattle.tiff_page.proofs.Rows.{each_same}
 use Rattle.tiff_page.proofs.Planes.{given_if}
 use Rattle.tiff_encode.specs.Machine.{OpenImage}
 use Rattle.tiff_encode.specs.Chunks.{all_samples, subsampling_of, image_page}
-use Rattle.tiff_encode.specs.Held.{IsWholeImage}
+use Rattle.tiff_encode.specs.Open.{IsOpen}
 use Rattle.tiff_encode.specs.ReadsBack.{IsReadable, WrittenReadsBack, ShownInOrder}
 use Rattle.tiff_encode.proofs.Shown.Color.{Family, OneGray, ThreeRgb, FourRgb, FourCmyk, FiveCmyk, ThreeYcbcr, meaning_of, IsOf, of_family, IsColored, colored}
 use Rattle.tiff_encode.proofs.ReadsBack.Entries.{reads_back}
@@ -141,7 +140,7 @@ unpacked m way =
     ]
 
 -- ---- an image, and a page of it, wherever its chunks stand
-module _ (kind : FileKind) (i : OpenImage) (w : IsWholeImage kind i) (p : PageRecord)
+module _ (i : OpenImage) (w : IsOpen i) (p : PageRecord)
     (same : p ≡ record (image_page i) { offsets = p.offsets; byte_counts = p.byte_counts }) where
   is_of : IsOf i.color i.size
   is_of =
@@ -188,14 +187,14 @@ module _ (kind : FileKind) (i : OpenImage) (w : IsWholeImage kind i) (p : PageRe
 
 pub written_reads_back : WrittenReadsBack
 written_reads_back kind file offset i sample_at limits w small s l =
-    let c = tinted kind i w s.page s.is_image in
-    let t = type_there kind i w s.page s.is_image in (
+    let c = tinted i w s.page s.is_image in
+    let t = type_there i w s.page s.is_image in (
       t.0,
       (
         t.1,
         reads_back kind file offset (record { page = image_page i; sample_at = sample_at }) i.size limits t.0 s
             (record { is_size = c.is_size; depth = c.depth; small = small }) t.1
-            (readable kind i w s.page s.is_image s.color s.is_color) l,
+            (readable i w s.page s.is_image s.color s.is_color) l,
       ),
     )
 

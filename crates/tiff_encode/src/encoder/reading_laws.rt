@@ -1,6 +1,6 @@
 //! The laws of reading what was written, each the contract of a function with no work.
 
-ghost use Rattle.tiff_encode.specs.ReadsBack.{ReadsShown, ReadsBack, WrittenReadsBack, ShownInOrder};
+ghost use Rattle.tiff_encode.specs.ReadsBack.{ReadsShown, ReadsBack, WrittenReadsBack, ShownInOrder, AllShown, ShownIsRead, WrittenIsRead};
 
 /// Whatever is read of a page that shows an image are the samples that were handed in.
 pub fn reads_shown()
@@ -20,4 +20,19 @@ pub fn written_reads_back()
 /// The samples of an image that was handed in whole are in the order in which they were handed in.
 pub fn shown_in_order()
     ensures { ShownInOrder }
+{}
+
+/// A chunky image without extra samples shows all samples of a pixel.
+pub fn all_shown()
+    ensures { AllShown }
+{}
+
+/// A chunky image without extra samples, which was handed in whole, is read as it was handed in.
+pub fn shown_is_read()
+    ensures { ShownIsRead }
+{}
+
+/// What `write_image` wrote, of a named color type and of as many samples as the image has, is read as it was handed in.
+pub fn written_is_read()
+    ensures { WrittenIsRead }
 {}

@@ -1,7 +1,8 @@
 use Rattle.std.proofs.Common.{rules, sym, ap, ◌∙◌}
 use Rattle.tiff_base.specs.Types.{type_size}
 use Rattle.tiff_value.specs.ColorTypes.{color_type, inner_type}
-use Rattle.tiff_c.proofs.Writing.{fault_written, file_written, only_memory}
+use Rattle.tiff_base.proofs.MemoryFaults.{only_memory}
+use Rattle.tiff_c.proofs.Writing.{fault_written, file_written}
 use Rattle.tiff_c.proofs.writer.write_samples.Goals as goal
 
 pub returns : goal.returns

@@ -1,0 +1,100 @@
+-- An image that was written whole is read as it was handed in.
+use Rattle.std.proofs.Common.{◌≡◌, ℕ, ◌+◌, ◌*◌, List, [], length, Ok, ap, sym, ◌∙◌, subst, arith}
+use Rattle.std.proofs.lemmas.List.{length-replicate}
+use Rattle.tiff_base.specs.declared.color.ColorType.{ColorType}
+use Rattle.tiff_base.specs.declared.color.ColorType.TheVariants.{Gray, RGB, RGBA, CMYK, CMYKA, YCbCr}
+use Rattle.tiff_base.specs.declared.tags.ExtraSamples.{ExtraSamples}
+use Rattle.tiff_base.specs.declared.tags.PhotometricInterpretation.{PhotometricInterpretation}
+use Rattle.tiff_base.specs.declared.tags.PlanarConfiguration.{PlanarConfiguration}
+use Rattle.tiff_base.specs.declared.tags.PlanarConfiguration.TheVariants.{Chunky}
+use Rattle.tiff_base.specs.Color.{num_samples}
+use Rattle.tiff_value.specs.ColorType.{ColorTypeRecord}
+use Rattle.tiff_value.specs.ColorTypes.{color_type}
+use Rattle.tiff_page.specs.Page.{PageRecord}
+use Rattle.tiff_page.specs.Layout.{color_from, color_of, samples_in_chunk}
+use Rattle.tiff_encode.specs.Machine.{OpenImage}
+use Rattle.tiff_encode.specs.Chunks.{all_samples, image_page}
+use Rattle.tiff_encode.specs.Open.{IsOpen}
+use Rattle.tiff_encode.specs.ImageData.{AreNumbers, image_of_samples}
+use Rattle.tiff_encode.specs.ReadsBack.{AllShown, HasSamplesOf, ShownIsRead, WrittenIsRead}
+use Rattle.tiff_encode.proofs.Data.Begun.{new_is}
+use Rattle.tiff_encode.proofs.ReadsBack.Entries.{reads_shown}
+use Rattle.tiff_encode.proofs.ReadsBack.Written.{shown_in_order}
+use Rattle.tiff_encode.proofs.Shown.Color.{Family, OneGray, ThreeRgb, FourRgb, FourCmyk, FiveCmyk, ThreeYcbcr, meaning_of, count_of, IsOf, of_family, IsColored, colored}
+use Rattle.tiff_encode.proofs.Slices.{ok_inj}
+
+-- ---- a color of all samples
+
+module _ (p : PageRecord) where
+  -- a page of so many samples, none of which is extra, has a color of as many
+  counted : (f : Family) (color : ColorType) → color_from (meaning_of f) (record p { samples = count_of f; extra = [] }) ≡ Ok color
+      → num_samples color ≡ count_of f
+  counted OneGray color e = ap num_samples (sym (ok_inj (Gray p.depth) color e))
+  counted ThreeRgb color e = ap num_samples (sym (ok_inj (RGB p.depth) color e))
+  counted FourRgb color e = ap num_samples (sym (ok_inj (RGBA p.depth) color e))
+  counted FourCmyk color e = ap num_samples (sym (ok_inj (CMYK p.depth) color e))
+  counted FiveCmyk color e = ap num_samples (sym (ok_inj (CMYKA p.depth) color e))
+  counted ThreeYcbcr color e = ap num_samples (sym (ok_inj (YCbCr p.depth) color e))
+
+  all_counted : (f : Family) (color : ColorType) → p.samples ≡ count_of f → p.extra ≡ [] → color_from (meaning_of f) p ≡ Ok color
+      → num_samples color ≡ count_of f
+  all_counted f color as_many none e =
+      let P : ℕ → Type 0 = λ n. color_from (meaning_of f) (record p { samples = n; extra = [] }) ≡ Ok color in
+      let Q : List ExtraSamples → Type 0 = λ xs. color_from (meaning_of f) (record p { extra = xs }) ≡ Ok color in
+      counted f color (subst P as_many (subst Q none e))
+
+-- an image's color type is of a family
+is_of : (i : OpenImage) → IsOpen i → IsOf i.color i.size
+is_of i w =
+    let P : ColorTypeRecord → Type 0 = λ c. IsOf c i.size in
+    let Q : ℕ → Type 0 = λ k. IsOf (color_type w.name) k in
+    subst P (sym w.color) (subst Q (sym w.size) (of_family w.name))
+
+-- which has as many samples as the image has, where none is extra
+as_many_samples : (i : OpenImage) (o : IsOf i.color i.size) → i.extra ≡ [] → all_samples i ≡ count_of o.family
+as_many_samples i o none =
+    let bits : length i.color.bits ≡ count_of o.family = ap (λ xs. length xs) o.bits ∙ length-replicate (count_of o.family) (8 * i.size) in
+    let extra : length i.extra ≡ 0 = ap (λ xs. length xs) none in
+    omega (arith, bits, extra)
+
+pub all_shown : AllShown
+unfolding color_of
+all_shown i p color w none chunky same is_color =
+    let o = is_of i w in
+    let planar : p.planar ≡ Chunky = ap (λ (q : PageRecord). q.planar) same ∙ chunky in
+    let samples : p.samples ≡ all_samples i = ap (λ (q : PageRecord). q.samples) same in
+    let meaning : p.interpretation ≡ meaning_of o.family = ap (λ (q : PageRecord). q.interpretation) same ∙ o.interpretation in
+    let from : color_from (meaning_of o.family) p ≡ Ok color = ap (λ (m : PhotometricInterpretation). color_from m p) (sym meaning) ∙ is_color in
+    let count : num_samples color ≡ count_of o.family =
+    all_counted p o.family color (samples ∙ as_many_samples i o none) (ap (λ (q : PageRecord). q.extra) same ∙ none) from in
+    let P : PlanarConfiguration → Type 0 = λ q. samples_in_chunk q color ≡ all_samples i in
+    subst P (sym planar) (count ∙ sym (as_many_samples i o none))
+
+-- ---- what is shown, and what was written
+
+pub shown_is_read : ShownIsRead
+shown_is_read kind file offset i samples limits d s w none chunky small whole read =
+    let t : IsColored i = colored i (is_of i w) in
+    let has : HasSamplesOf (image_of_samples i samples) i.size =
+    record { is_size = t.is_size; depth = t.depth; small = λ x y k. small ((y * i.width + x) * all_samples i + k) } in
+    let wide : s.page.width ≡ i.width = ap (λ (q : PageRecord). q.width) s.is_image in
+    let high : s.page.height ≡ i.height = ap (λ (q : PageRecord). q.height) s.is_image in
+    let long : length samples ≡ s.page.height * s.page.width * all_samples i = whole ∙ (λ t. sym high t * sym wide t * all_samples i) in
+    (reads_shown kind file offset (image_of_samples i samples) i.size limits d s has read).0
+    ∙ shown_in_order i samples s.page s.color wide (all_shown i s.page s.color w none chunky s.is_image s.is_color) long
+
+pub written_is_read : WrittenIsRead
+written_is_read color size width height samples old new m l name offset limits d s c z small whole read =
+    let i = l.image in
+    let n = new_is color size width height old i l.begun.answer in
+    let none : i.extra ≡ [] = sym (ap (λ (j : OpenImage). j.extra) n.1.0) in
+    let chunky : i.form.planar ≡ Chunky = sym (ap (λ (j : OpenImage). j.form.planar) n.1.0) in
+    let wide : i.width ≡ width = sym (ap (λ (j : OpenImage). j.width) n.1.0) in
+    let high : i.height ≡ height = sym (ap (λ (j : OpenImage). j.height) n.1.0) in
+    let bits : length i.color.bits ≡ length color.bits = sym (ap (λ (j : OpenImage). length j.color.bits) n.1.0) in
+    let extra : length i.extra ≡ 0 = ap (λ xs. length xs) none in
+    let all : all_samples i ≡ length color.bits = omega (arith, bits, extra) in
+    let size_is : i.size ≡ size = sym (ap (λ (j : OpenImage). j.size) n.1.0) in
+    let long : length samples ≡ i.height * i.width * all_samples i = whole ∙ (λ t. sym high t * sym wide t * sym all t) in
+    shown_is_read old.kind new.bytes offset i samples limits d s (l.open_so name c z) none chunky
+    (subst (λ k. AreNumbers k samples) (sym size_is) small) long read

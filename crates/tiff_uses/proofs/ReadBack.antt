@@ -1,0 +1,88 @@
+-- An image that was written behind a header, and read back.
+use Rattle.std.proofs.Common.{◌≡◌, ℕ, ◌*◌, ◌<◌, List, length, Option, Some, Result, Ok, refl, ap, sym, ◌∙◌, subst}
+use Rattle.std.proofs.lemmas.Option.{slice_get_within}
+use Rattle.std.specs.List.{slice_get}
+use Rattle.tiff_base.specs.declared.error.TiffError.{TiffError}
+use Rattle.tiff_base.specs.declared.tags.ByteOrder.{ByteOrder}
+use Rattle.tiff_base.specs.declared.tags.ByteOrder.TheVariants.{LittleEndian}
+use Rattle.tiff_base.specs.Answers.{◌>>=◌}
+use Rattle.tiff_base.specs.Directory.{directory_at}
+use Rattle.tiff_base.specs.Field.{DirectoryRecord}
+use Rattle.tiff_base.specs.Header.{Header, header_at}
+use Rattle.tiff_value.specs.declared.encoder.colortype.ColorTypeName.{ColorTypeName}
+use Rattle.tiff_value.specs.ColorType.{ColorTypeRecord}
+use Rattle.tiff_value.specs.ColorTypes.{color_type, inner_size}
+use Rattle.tiff_ifd.specs.declared.limits.Limits.{Limits}
+use Rattle.tiff_ifd.specs.Limits.{unlimited}
+use Rattle.tiff_page.specs.Page.{PageRecord}
+use Rattle.tiff_page.specs.Image.{Decoded}
+use Rattle.tiff_page.specs.PixelCalls.{image_of}
+use Rattle.tiff_decode.specs.Machine.{Decoding, GivesOutcome}
+use Rattle.tiff_decode.specs.Outcome.{chain_of, decoder_of, page_in, read_image, seek_to_image, set_limits}
+use Rattle.tiff_laws.specs.Pages.{SameFile, WalkOpens, WalkSeeks}
+use Rattle.tiff_encode.specs.Model.{Model, header_link}
+use Rattle.tiff_encode.specs.Machine.{FileState}
+use Rattle.tiff_encode.specs.Causes.{end_of}
+use Rattle.tiff_encode.specs.ImageData.{AreNumbers, FirstShown, LeavesImage}
+use Rattle.tiff_encode.specs.ReadsBack.{WrittenIsRead}
+use Rattle.tiff_uses.specs.ReadBack.{ComesBack, IsFirstImage}
+
+same_ok : {A : Type 0} (x y : A) → (let a : Result A TiffError = Ok x in let b : Result A TiffError = Ok y in a ≡ b) → x ≡ y
+same_ok x y e = cc
+
+same_some : (x y : ℕ) → (let a : Option ℕ = Some x in let b : Option ℕ = Some y in a ≡ b) → x ≡ y
+same_some x y e = cc
+
+-- a file was opened, its first page was sought without limits, and its image was read
+pub first_read : WalkOpens → WalkSeeks → (file : List ℕ) (opened free at : Decoding) (image : Decoded) → decoder_of file 0 ≡ Ok opened
+    → free ≡ record opened { state = (set_limits opened unlimited).next } → GivesOutcome (Ok tt) (seek_to_image free 0) free at
+    → (read_image at).answer ≡ Ok image → IsFirstImage file image
+unfolding read_image set_limits
+first_read opens seeks file opened free at image h e s r =
+    let o = opens file 0 opened h in
+    let bytes : free.bytes ≡ file = ap (λ (d : Decoding). d.bytes) e ∙ o.bytes in
+    let kind : free.kind ≡ opened.kind = ap (λ (d : Decoding). d.kind) e in
+    let order : free.order ≡ opened.order = ap (λ (d : Decoding). d.order) e in
+    let limits : free.state.limits ≡ unlimited = ap (λ (d : Decoding). d.state.limits) e in
+    let first : slice_get (chain_of free).offsets 0 ≡ Some opened.first = ap (λ (d : Decoding). slice_get (chain_of d).offsets 0) e ∙ o.first in
+    let same : SameFile free free = record { bytes = refl; kind = refl; order = refl; first = refl; limits = refl } in
+    let a = seeks free free at 0 (Ok tt) same (slice_get_within (chain_of free).offsets 0 opened.first first) s in
+    let offset : a.along.offset ≡ opened.first = same_some a.along.offset opened.first (sym a.along.is_offset ∙ first) in
+    let header : Header = record { order = free.order; kind = free.kind; first = a.along.offset } in
+    let D : List ℕ → Type 0 = λ b. directory_at free.kind free.order b a.along.offset ≡ Ok at.state.directory in
+    let P : List ℕ → Limits → Type 0 = λ b l. page_in free.kind free.order b l at.state.directory ≡ Ok at.state.page in
+    let I : List ℕ → ByteOrder → Limits → Type 0 = λ b q l. image_of b q at.state.page l ≡ Ok image in
+    record {
+      header = header;
+      is_header = o.header ∙ (λ t. Ok (record { order = sym order t; kind = sym kind t; first = sym offset t }));
+      directory = at.state.directory;
+      is_directory = subst D bytes a.page.0;
+      page = at.state.page;
+      is_page = subst (λ l. P file l) limits (subst (λ b. P b free.state.limits) bytes a.page.1);
+      is_image =
+          subst (λ l. I file free.order l) (a.along.same.limits ∙ limits)
+          (subst (λ q. I file q at.state.limits) a.along.same.order
+          (subst (λ b. I b at.order at.state.limits) (a.along.same.bytes ∙ bytes) r));
+    }
+
+-- its samples are those of the image that was written behind the header
+pub comes_back : FirstShown → WrittenIsRead → (color : ColorTypeRecord) (size width height : ℕ) (samples : List ℕ) (old new : FileState) (m : Model)
+    → LeavesImage color size width height samples old new m → (name : ColorTypeName) → color ≡ color_type name → size ≡ inner_size name
+    → AreNumbers size samples → old.chain ≡ header_link old.kind → 0 < end_of old → (file : List ℕ) (image : Decoded) → file ≡ new.bytes
+    → IsFirstImage file image → ComesBack width height (length color.bits) samples image
+comes_back shown_first is_read color size width height samples old new m l name c s small chain some file image is_file read whole =
+    let shown = shown_first color size width height samples old new m chain some l name c s in
+    let f : IsFirstImage new.bytes image = subst (λ b. IsFirstImage b image) is_file read in
+    let first : Header = record { order = LittleEndian; kind = old.kind; first = shown.offset } in
+    let same : f.header ≡ first = same_ok f.header first (sym f.is_header ∙ shown.first) in
+    let directory : directory_at old.kind LittleEndian new.bytes shown.offset ≡ Ok f.directory =
+    subst (λ (h : Header). directory_at h.kind h.order new.bytes h.first ≡ Ok f.directory) same f.is_directory in
+    let page : page_in old.kind LittleEndian new.bytes unlimited f.directory ≡ Ok f.page =
+    subst (λ (h : Header). page_in h.kind h.order new.bytes unlimited f.directory ≡ Ok f.page) same f.is_page in
+    let told = ap (λ (r : Result DirectoryRecord TiffError). r >>= λ x. page_in old.kind LittleEndian new.bytes unlimited x) directory ∙ page in
+    let page_is : f.page ≡ shown.shows.page = same_ok f.page shown.shows.page (sym told ∙ shown.shows.is_page) in
+    let at_first : image_of new.bytes LittleEndian f.page unlimited ≡ Ok image =
+    subst (λ (h : Header). image_of new.bytes h.order f.page unlimited ≡ Ok image) same f.is_image in
+    let image_is : image_of new.bytes LittleEndian shown.shows.page unlimited ≡ Ok image =
+    subst (λ (p : PageRecord). image_of new.bytes LittleEndian p unlimited ≡ Ok image) page_is at_first in
+    is_read color size width height samples old new m l name shown.offset unlimited image shown.shows c s small whole image_is
