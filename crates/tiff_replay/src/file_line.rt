@@ -2,23 +2,37 @@
 
 ghost use Rattle.std.specs.Prelude.{◌≤◌, IfOk, IfSome};
 
+use crate::call_count::CallCount;
+use crate::chain::chain_of;
 use crate::failure::Failure;
 use crate::source::ScriptedSource;
 use std::alloc::{AllocError, Global};
 use std::fs;
+use std::io::ErrorKind;
 use std::rt::Files;
 use tiff_lists::digits::bytes_of;
 
-// A file as the words tell of it.
+/// A file as the words of a line tell of it.
 #[derive(Drop)]
-struct File {
+pub struct File {
     alloc: Global,
     bytes: Vec<u8>,
     bytewise: bool,
     failure: Failure,
 }
 
-// The bytes of the file of a name, those that were written, or those that digits give.
+// The bytes of the file of a name, if there is one.
+fn bytes_read(rt: &(impl Files + AllocGlobal), name: &str) -> Result<Option<Vec<u8>>, AllocError> {
+    match fs::read(rt, name) {
+        Ok(bytes) => Ok(Some(bytes)),
+        Err(fault) => match fault.kind() {
+            ErrorKind::OutOfMemory => Err(AllocError),
+            _ => Ok(None),
+        },
+    }
+}
+
+// The bytes of the file of a name, those that were written, those of a chain of pages, or those that digits give.
 fn bytes_named(
     rt: &(impl Files + AllocGlobal),
     written: &[u8],
@@ -28,7 +42,13 @@ fn bytes_named(
         return Ok(Some(written.to_vec(rt.alloc())?));
     }
     if source.ends_with(".tif") {
-        return Ok(fs::read(rt, source).ok());
+        return bytes_read(rt, source);
+    }
+    if let Some(count) = source.strip_prefix("chain:") {
+        return match count.parse::<u32>() {
+            Ok(count) => chain_of(rt.alloc(), count),
+            Err(_) => Ok(None),
+        };
     }
     bytes_of(rt.alloc(), source)
 }
@@ -115,12 +135,51 @@ impl File {
     }
 }
 
-/// The source that the words of a file line tell of, if they do. These bytes were written last.
-pub fn source_of(
+impl File {
+    /// Its source, whose reads are counted.
+    pub fn source(&self, reads: &CallCount) -> Result<ScriptedSource, AllocError> {
+        self.source_of(self.bytewise, self.failure, reads)
+    }
+
+    /// A source of its bytes that gives one byte a read or not, and fails so; its reads are counted.
+    pub fn source_of(
+        &self,
+        bytewise: bool,
+        failure: Failure,
+        reads: &CallCount,
+    ) -> Result<ScriptedSource, AllocError> {
+        let bytes = self.bytes.clone()?;
+        Ok(ScriptedSource::new(bytes, bytewise, failure, reads.shared()?))
+    }
+
+    /// Whether its source gives one byte a read.
+    pub fn is_bytewise(&self) -> bool {
+        self.bytewise
+    }
+
+    /// Whether a read of its source fails.
+    pub fn fails(&self) -> bool {
+        !matches!(self.failure, Failure::Never)
+    }
+
+    /// How many bytes it has.
+    pub fn len(&self) -> usize {
+        self.bytes.len()
+    }
+
+    /// Its first bytes alone.
+    pub fn cut_to(&self, len: usize) -> Result<Vec<u8>, AllocError> {
+        let len = len.min(self.bytes.len());
+        self.bytes[..len].to_vec(self.alloc)
+    }
+}
+
+/// The file that the words of a line tell of, if they do. These bytes were written last.
+pub fn file_of(
     rt: &(impl Files + AllocGlobal),
     written: &[u8],
     line: &str,
-) -> Result<Option<ScriptedSource>, AllocError> {
+) -> Result<Option<File>, AllocError> {
     let words: Vec<&str> = line.split(' ').collect(rt.alloc())?;
     let [source, rest @ ..] = words.as_slice() else {
         return Ok(None);
@@ -134,8 +193,6 @@ pub fn source_of(
         bytewise: false,
         failure: Failure::Never,
     };
-    if !file.follow_all(rest)? {
-        return Ok(None);
-    }
-    Ok(Some(ScriptedSource::new(file.bytes, file.bytewise, file.failure)))
+    let known = file.follow_all(rest)?;
+    Ok(known.then_some(file))
 }

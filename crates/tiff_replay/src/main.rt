@@ -1,11 +1,24 @@
 //! Makes the calls of decoders and runs the jobs of writers that standard input lists, and prints each line with its reply.
 #![tactic(auto)]
 
+mod call_count;
+mod chain;
+mod cuts;
+mod expected;
 mod failure;
 mod file_line;
+mod job_lines;
+mod job_list;
+mod manner;
+mod reader;
+mod record;
+mod script;
 mod session;
 mod sink;
+mod sink_trial;
 mod source;
+mod source_trial;
+mod sums;
 mod writer;
 
 use session::Session;
@@ -16,10 +29,18 @@ fn main(rt: HostRuntime) -> io::Result<()> {
     let mut session = Session::new(rt.alloc());
     for line in BufReader::new(rt.alloc(), rt.reader())?.lines(rt.alloc()) {
         let line = line?;
+        if let Some(tried) = session.tried_before(line.as_str())? {
+            println!(rt; "{tried}")?;
+        }
         match session.reply(&rt, line.as_str())? {
             Some(reply) => println!(rt; "{line} -> {reply}")?,
             None => println!(rt; "{line}")?,
         }
     }
+    if let Some(tried) = session.tried()? {
+        println!(rt; "{tried}")?;
+    }
+    let sums = session.sums(rt.alloc())?;
+    println!(rt; "{sums}")?;
     Ok(())
 }

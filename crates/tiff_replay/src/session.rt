@@ -1,80 +1,61 @@
 //! The lines of a list of calls, one after another.
 
-use crate::file_line::source_of;
-use crate::source::ScriptedSource;
+use crate::cuts::cuts_text;
+use crate::file_line::{File, file_of};
+use crate::reader::Reader;
+use crate::script::Script;
+use crate::sums::Sums;
 use crate::writer::Writer;
 use std::alloc::{AllocError, Global};
-use std::boxed::Box;
 use std::fmt::Write;
 use std::rt::Files;
-use tiff_base::error::TiffResult;
-use tiff_decode::decoder::Decoder;
-use tiff_decode::reply::{refusal_text, reply_text};
-use tiff_decode::script::Call;
-use tiff_lists::call::call_of;
-use tiff_program::list::{PageLines, check_lines, list_lines};
 
 /// The decoder of the file that was opened last, if it was not refused, and the writer of lists of jobs.
 #[derive(Drop)]
 pub struct Session {
-    decoder: Option<Box<Decoder<ScriptedSource>>>,
+    reader: Reader,
+    // The lines on the file that was opened last, if there is one.
+    script: Option<Script>,
     writer: Writer,
     // Whether a list of jobs has begun.
     listing: bool,
+    sums: Sums,
 }
 
-// A decoder of a source.
-fn decoder_of(alloc: Global, source: ScriptedSource) -> TiffResult<Box<Decoder<ScriptedSource>>> {
-    let decoder = Decoder::new(alloc, source)?;
-    Ok(Box::new(alloc, decoder)?)
+// Whether a line has no reply.
+fn is_comment(line: &str) -> bool {
+    line.is_empty() || line.starts_with('#')
 }
 
-// The lines of the pages of a decoder's file on one line, parted by ` | `, and behind them the fault by which the chain ends.
-fn pages_text(
-    alloc: Global,
-    decoder: &mut Decoder<ScriptedSource>,
-    checks: bool,
-) -> Result<String, AllocError> {
-    let lines = if checks {
-        check_lines(alloc, decoder)
-    } else {
-        list_lines(alloc, decoder)
-    };
-    let PageLines { text, end, well } = match lines {
-        Ok(lines) => lines,
-        Err(fault) => return refusal_text(alloc, &fault),
-    };
-    let mut told = String::new(alloc);
-    for line in text.as_str().lines() {
-        told.push_str(line)?;
-        told.push_str(" | ")?;
-    }
-    match end {
-        Some(fault) => write!(told, "error: {fault}")?,
-        None => told.push_str(if well { "end" } else { "end, not well" })?,
-    }
-    Ok(told)
+// How lines begin that are no calls.
+const OTHER_LINES: [&str; 6] = ["file ", "cuts ", "jobs", "again", "written", "changed"];
+
+// Whether the lines on a file end before a line.
+fn ends_script(line: &str) -> bool {
+    is_comment(line) || OTHER_LINES.iter().any(|words| line.starts_with(*words))
 }
 
 impl Session {
     /// No file yet, and no list.
     pub fn new(alloc: Global) -> Self {
         Session {
-            decoder: None,
+            reader: Reader::new(alloc),
+            script: None,
             writer: Writer::new(alloc),
             listing: false,
+            sums: Sums::none(),
         }
     }
 
-    // Opens a source in the place of the former one.
-    fn open(&mut self, alloc: Global, source: ScriptedSource) -> Result<String, AllocError> {
-        match decoder_of(alloc, source) {
-            Ok(decoder) => {
-                self.decoder = Some(decoder);
-                String::from_str(alloc, "opened")
-            }
-            Err(fault) => refusal_text(alloc, &fault),
-        }
+    // Opens a file in the place of the former one.
+    fn open(&mut self, alloc: Global, file: File, words: &str) -> Result<String, AllocError> {
+        let mut script = Script::new(alloc, file)?;
+        let state = self.reader.state()?;
+        let source = script.file.source(&script.reads)?;
+        let reply = self.reader.open(source)?;
+        script.add(words, &reply, state)?;
+        self.script = Some(script);
+        Ok(reply)
     }
 
     // Opens the file that the words of a file line tell of.
@@ -83,47 +64,38 @@ impl Session {
         rt: &(impl Files + AllocGlobal),
         words: &str,
     ) -> Result<String, AllocError> {
-        self.decoder = None;
-        match source_of(rt, self.writer.bytes(), words)? {
-            Some(source) => self.open(rt.alloc(), source),
+        self.reader.close();
+        self.script = None;
+        match file_of(rt, self.writer.bytes(), words)? {
+            Some(file) => self.open(rt.alloc(), file, words),
             None => String::from_str(rt.alloc(), "no such file"),
         }
     }
 
-    // Makes a call.
-    fn make(&mut self, alloc: Global, call: &Call) -> Result<String, AllocError> {
-        match &mut self.decoder {
-            Some(decoder) => reply_text(decoder, call),
-            None => String::from_str(alloc, "no file"),
+    // Makes a call, and keeps it with its reply.
+    fn call(&mut self, words: &str) -> Result<String, AllocError> {
+        let state = self.reader.state()?;
+        let reply = self.reader.answer(words)?;
+        if let Some(script) = &mut self.script {
+            script.add(words, &reply, state)?;
         }
+        Ok(reply)
     }
 
-    // The lines of the pages of the file: what they are, or what reading them gives.
-    fn pages(&mut self, alloc: Global, checks: bool) -> Result<String, AllocError> {
-        match &mut self.decoder {
-            Some(decoder) => pages_text(alloc, decoder, checks),
-            None => String::from_str(alloc, "no file"),
+    // Runs the list of jobs that has ended, and tells of its runs over other sinks.
+    fn end_list(&mut self, words: &str) -> Result<String, AllocError> {
+        self.listing = false;
+        let mut reply = self.writer.run(words)?;
+        if let Some(told) = self.writer.tried(&mut self.sums)? {
+            write!(reply, "\n{told}")?;
         }
-    }
-
-    // Makes the call that the words tell of.
-    fn make_words(&mut self, alloc: Global, words: &str) -> Result<String, AllocError> {
-        if words == "list" || words == "check" {
-            return self.pages(alloc, words == "check");
-        }
-        match call_of(alloc, words)? {
-            Some(call) => self.make(alloc, &call),
-            None => String::from_str(alloc, "no such call"),
-        }
+        Ok(reply)
     }
 
     // A line of a list of jobs: it is kept, or it ends the list, which is run.
     fn list_on(&mut self, line: &str) -> Result<Option<String>, AllocError> {
         match line.strip_prefix("done") {
-            Some(words) => {
-                self.listing = false;
-                Ok(Some(self.writer.run(words)?))
-            }
+            Some(words) => Ok(Some(self.end_list(words)?)),
             None => {
                 self.writer.add(line)?;
                 Ok(None)
@@ -145,6 +117,18 @@ impl Session {
         Ok(None)
     }
 
+    // Tells of each cut of the file that the words of a line tell of.
+    fn cut_words(
+        &mut self,
+        rt: &(impl Files + AllocGlobal),
+        words: &str,
+    ) -> Result<String, AllocError> {
+        match file_of(rt, self.writer.bytes(), words)? {
+            Some(file) => cuts_text(rt.alloc(), &file),
+            None => String::from_str(rt.alloc(), "no such file"),
+        }
+    }
+
     // A line of a file, of what was written, or of a call.
     fn call_line(
         &mut self,
@@ -154,9 +138,12 @@ impl Session {
         if let Some(words) = line.strip_prefix("file ") {
             return self.open_words(rt, words);
         }
+        if let Some(words) = line.strip_prefix("cuts ") {
+            return self.cut_words(rt, words);
+        }
         match self.written_line(line)? {
             Some(reply) => Ok(reply),
-            None => self.make_words(rt.alloc(), line),
+            None => self.call(line),
         }
     }
 
@@ -170,7 +157,7 @@ impl Session {
         if self.listing {
             return self.list_on(line);
         }
-        if line.is_empty() || line.starts_with('#') {
+        if is_comment(line) {
             return Ok(None);
         }
         if line == "jobs" || line == "jobs big" {
@@ -179,5 +166,26 @@ impl Session {
             return Ok(None);
         }
         Ok(Some(self.call_line(rt, line)?))
+    }
+
+    /// What is told before a line: where those on a file end there, of the same lines over sources that fail.
+    pub fn tried_before(&mut self, line: &str) -> Result<Option<String>, AllocError> {
+        if self.listing || !ends_script(line) {
+            return Ok(None);
+        }
+        self.tried()
+    }
+
+    /// What is told of the lines on the file so far over sources that fail, where it was not yet.
+    pub fn tried(&mut self) -> Result<Option<String>, AllocError> {
+        match &mut self.script {
+            Some(script) => script.tried(&mut self.sums),
+            None => Ok(None),
+        }
+    }
+
+    /// How much failed in all.
+    pub fn sums(&self, alloc: Global) -> Result<String, AllocError> {
+        self.sums.text(alloc)
     }
 }

@@ -1,28 +1,34 @@
-//! A sink in memory that may take one byte at a time, and may fail once.
+//! A sink in memory that may take less than it is offered, and may fail once.
 
 ghost use Rattle.std.specs.Prelude.{◌+◌};
 ghost use Rattle.tiff_replay.specs.Failed.{failed};
 
 use crate::failure::Failure;
+use crate::manner::{Appetite, Manner};
+use crate::record::Record;
 use tiff_base::io::{MemorySink, Sink, SinkFault};
 
-/// A sink in memory that may take one byte at a time, and may fail once.
+/// A sink in memory that may take less than it is offered, and may fail once. What it is told is recorded.
 #[derive(Drop)]
 pub struct ScriptedSink {
     inner: MemorySink,
-    bytewise: bool,
+    appetite: Appetite,
     failure: Failure,
+    refusal: SinkFault,
     last: Option<SinkFault>,
+    record: Record,
 }
 
 impl ScriptedSink {
-    /// A sink that holds these bytes.
-    pub fn new(bytes: Vec<u8>, bytewise: bool, failure: Failure) -> Self {
+    /// A sink that holds these bytes, and takes more in a manner.
+    pub fn new(bytes: Vec<u8>, manner: Manner, record: Record) -> Self {
         ScriptedSink {
             inner: MemorySink::new(bytes),
-            bytewise,
-            failure,
+            appetite: manner.appetite,
+            failure: manner.failure,
+            refusal: manner.fault,
             last: None,
+            record,
         }
     }
 
@@ -30,9 +36,11 @@ impl ScriptedSink {
     pub fn into_vec(self) -> Vec<u8> {
         let ScriptedSink {
             inner,
-            bytewise: _,
+            appetite: _,
             failure: _,
+            refusal: _,
             last: _,
+            record: _,
         } = self;
         inner.into_vec()
     }
@@ -54,32 +62,33 @@ impl Sink for ScriptedSink {
     }
 
     fn append(&mut self, bytes: &[u8]) -> Result<usize, SinkFault> {
+        self.record.call();
         if self.failure.next() {
-            self.last = Some(SinkFault::Device);
-            return Err(SinkFault::Device);
+            self.last = Some(self.refusal);
+            return Err(self.refusal);
         }
-        let len = if self.bytewise {
-            bytes.len().min(1)
-        } else {
-            bytes.len()
-        };
+        let len = self.appetite.of(bytes.len());
+        let at = self.inner.len();
         let answer = self.inner.append(&bytes[..len]);
         self.last = answer.err();
+        if answer.is_ok() {
+            self.record.write(at, &bytes[..len]);
+        }
         answer
     }
 
     fn overwrite(&mut self, at: u64, bytes: &[u8]) -> Result<usize, SinkFault> {
+        self.record.call();
         if self.failure.next() {
-            self.last = Some(SinkFault::Device);
-            return Err(SinkFault::Device);
+            self.last = Some(self.refusal);
+            return Err(self.refusal);
         }
-        let len = if self.bytewise {
-            bytes.len().min(1)
-        } else {
-            bytes.len()
-        };
+        let len = self.appetite.of(bytes.len());
         let answer = self.inner.overwrite(at, &bytes[..len]);
         self.last = answer.err();
+        if answer.is_ok() {
+            self.record.write(at, &bytes[..len]);
+        }
         answer
     }
 }

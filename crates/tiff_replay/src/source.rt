@@ -2,24 +2,27 @@
 
 ghost use Rattle.tiff_replay.specs.Failed.{failed};
 
+use crate::call_count::CallCount;
 use crate::failure::Failure;
 use tiff_base::io::{DeviceFault, MemorySource, Source};
 
-/// A source in memory that may give one byte at a time, and may fail once.
+/// A source in memory that may give one byte at a time, and may fail once. Its reads are counted.
 #[derive(Drop)]
 pub struct ScriptedSource {
     inner: MemorySource,
     bytewise: bool,
     failure: Failure,
+    reads: CallCount,
 }
 
 impl ScriptedSource {
     /// The source of these bytes.
-    pub fn new(bytes: Vec<u8>, bytewise: bool, failure: Failure) -> Self {
+    pub fn new(bytes: Vec<u8>, bytewise: bool, failure: Failure, reads: CallCount) -> Self {
         ScriptedSource {
             inner: MemorySource::new(bytes),
             bytewise,
             failure,
+            reads,
         }
     }
 }
@@ -36,6 +39,7 @@ impl Source for ScriptedSource {
     ghost octets = { λ s. s.inner.octets };
 
     fn read_at(&mut self, at: u64, buf: &mut [u8]) -> Result<usize, DeviceFault> {
+        self.reads.add();
         if self.failure.next() {
             return Err(DeviceFault);
         }

@@ -1,19 +1,13 @@
 //! Lists of jobs, and what they write.
 
-ghost use Rattle.std.specs.Prelude.{◌≤◌, IfSome};
-
-use crate::failure::Failure;
-use crate::sink::ScriptedSink;
+use crate::job_list::{JobRun, run_text};
+use crate::manner::Manner;
+use crate::sink_trial::tried;
+use crate::sums::Sums;
 use std::alloc::{AllocError, Global};
 use std::fmt::Write;
-use std::mem;
-use tiff_base::error::TiffResult;
-use tiff_decode::reply::refusal_text;
-use tiff_encode::encoder::script::Job;
-use tiff_encode::encoder::{TiffKindBig, TiffKindStandard};
 use tiff_lists::digits::digits_text;
 use tiff_lists::jobs::jobs_of;
-use tiff_lists::replies::run_told;
 
 /// A list of jobs, and what it wrote.
 #[derive(Drop)]
@@ -26,40 +20,29 @@ pub struct Writer {
     last: Vec<u8>,
 }
 
-// A sink as the words tell of it.
-fn sink_of(alloc: Global, words: &str) -> Option<ScriptedSink> {
-    let (bytewise, words) = match words.strip_prefix(" bytewise") {
-        Some(words) => (true, words),
-        None => (false, words),
-    };
-    let failure = match words.strip_prefix(" fails ") {
-        Some(call) => Failure::Behind(call.parse::<u64>().ok()?.checked_sub(1)?),
-        None if words.is_empty() => Failure::Never,
-        None => return None,
-    };
-    Some(ScriptedSink::new(Vec::new(alloc), bytewise, failure))
-}
-
-// Runs jobs in a file of a kind.
-fn run_kind(
-    alloc: Global,
-    big: bool,
-    sink: ScriptedSink,
-    jobs: &[Job],
-) -> TiffResult<(ScriptedSink, String)> {
-    if big {
-        run_told::<ScriptedSink, TiffKindBig>(alloc, sink, jobs)
-    } else {
-        run_told::<ScriptedSink, TiffKindStandard>(alloc, sink, jobs)
-    }
-}
-
 // Adds each byte that isn't that of another list, with its offset.
 fn push_changes(text: &mut String, old: &[u8], new: &[u8]) -> Result<(), AllocError> {
     for (offset, (old, new)) in old.iter().zip(new).enumerate() {
         if old != new {
             write!(text, " {offset}:{new:02x}")?;
         }
+    }
+    Ok(())
+}
+
+// The first and the last tag of such a line, and the field.
+fn tags_and_field(line: &str) -> Option<(u16, u16, &str)> {
+    let words = line.strip_prefix("extend_from_tags ")?;
+    let (first, words) = words.split_once(' ')?;
+    let (last, field) = words.split_once(' ')?;
+    Some((first.parse::<u16>().ok()?, last.parse::<u16>().ok()?, field))
+}
+
+// Appends a step that reads the same field of each tag from one to another.
+fn push_fields(text: &mut String, first: u16, last: u16, field: &str) -> Result<(), AllocError> {
+    text.push_str("extend_from")?;
+    for tag in first..=last {
+        write!(text, " {tag}:{field}")?;
     }
     Ok(())
 }
@@ -82,9 +65,13 @@ impl Writer {
         self.big = big;
     }
 
-    /// Adds a line to the list.
+    /// Adds a line to the list. `extend_from_tags FIRST LAST FIELD` stands for `extend_from` with the same field of each tag from one to
+    /// another.
     pub fn add(&mut self, line: &str) -> Result<(), AllocError> {
-        self.list.push_str(line)?;
+        match tags_and_field(line) {
+            Some((first, last, field)) => push_fields(&mut self.list, first, last, field)?,
+            None => self.list.push_str(line)?,
+        }
         self.list.push_str("\n")
     }
 
@@ -93,27 +80,30 @@ impl Writer {
         &self.last
     }
 
-    // Runs jobs: how many bytes there are then, and what the jobs are answered.
-    fn run_all(&mut self, sink: ScriptedSink, jobs: &[Job]) -> Result<String, AllocError> {
-        match run_kind(self.alloc, self.big, sink, jobs) {
-            Ok((sink, lines)) => {
-                self.last = sink.into_vec();
-                let len = self.last.len();
-                let text = format!(in self.alloc; "{len} bytes\n{lines}")?;
-                String::from_str(self.alloc, text.as_str().trim_end())
-            }
-            Err(fault) => refusal_text(self.alloc, &fault),
-        }
+    // What a run left: how many bytes there are then, and what the jobs are answered.
+    fn told(&mut self, run: JobRun) -> Result<String, AllocError> {
+        let JobRun {
+            text,
+            handed_back,
+            recorded: _,
+        } = run;
+        let Some(bytes) = handed_back else {
+            return Ok(text);
+        };
+        self.last = bytes;
+        let len = self.last.len();
+        let told = format!(in self.alloc; "{len} bytes\n{text}")?;
+        String::from_str(self.alloc, told.as_str().trim_end())
     }
 
     /// Runs the list over a sink that the words tell of.
     pub fn run_again(&mut self, words: &str) -> Result<String, AllocError> {
         self.last = Vec::new(self.alloc);
-        let Some(sink) = sink_of(self.alloc, words) else {
+        let Some(manner) = Manner::of_words(words) else {
             return String::from_str(self.alloc, "no such sink");
         };
-        match jobs_of(self.alloc, &self.list)? {
-            Ok(jobs) => self.run_all(sink, &jobs),
+        match run_text(self.alloc, self.big, &self.list, manner)? {
+            Ok(run) => self.told(run),
             Err(number) => format!(in self.alloc; "line {number} is no job"),
         }
     }
@@ -123,6 +113,14 @@ impl Writer {
         let reply = self.run_again(words)?;
         self.first = self.last.clone()?;
         Ok(reply)
+    }
+
+    /// What is told of the list over sinks that take less than they are offered, and over those that fail, where it is one.
+    pub fn tried(&self, sums: &mut Sums) -> Result<Option<String>, AllocError> {
+        match jobs_of(self.alloc, &self.list)? {
+            Ok(jobs) => Ok(Some(tried(self.alloc, self.big, &self.list, &jobs, sums)?)),
+            Err(_) => Ok(None),
+        }
     }
 
     /// The digits of what was written last, or of so many bytes from an offset on.

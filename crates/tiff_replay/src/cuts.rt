@@ -1,0 +1,84 @@
+//! A file, cut behind each of its bytes.
+
+use crate::call_count::CallCount;
+use crate::failure::Failure;
+use crate::file_line::File;
+use crate::reader::Reader;
+use crate::source::ScriptedSource;
+use std::alloc::{AllocError, Global};
+use std::fmt::Write;
+
+// What is asked of each cut that is opened.
+const CALLS: [&str; 5] = [
+    "dimensions",
+    "next_image",
+    "ifd_pointer",
+    "more_images",
+    "check",
+];
+
+// What the lengths so far are answered: a line for each run of lengths that are answered alike, and what the last run is.
+#[derive(Drop)]
+struct Ranges {
+    lines: String,
+    first: usize,
+    reply: String,
+}
+
+impl Ranges {
+    // Ends a run of lengths before one.
+    fn end(&mut self, next: usize) -> Result<(), AllocError> {
+        let first = self.first;
+        let last = next.saturating_sub(1);
+        let reply = &self.reply;
+        if first < last {
+            write!(self.lines, "\n{first} to {last}: {reply}")?;
+        } else if first == last {
+            write!(self.lines, "\n{first}: {reply}")?;
+        }
+        Ok(())
+    }
+
+    // What the next length is answered.
+    fn add(&mut self, len: usize, reply: String) -> Result<(), AllocError> {
+        if reply.as_str() != self.reply.as_str() {
+            if len > 0 {
+                self.end(len)?;
+            }
+            self.first = len;
+            self.reply = reply;
+        }
+        Ok(())
+    }
+}
+
+// What the first bytes of a file are answered.
+fn reply_of(alloc: Global, file: &File, len: usize) -> Result<String, AllocError> {
+    let mut reader = Reader::new(alloc);
+    let reads = CallCount::new(alloc)?;
+    let source = ScriptedSource::new(file.cut_to(len)?, false, Failure::Never, reads);
+    let mut text = reader.open(source)?;
+    if text.as_str() != "opened" {
+        return Ok(text);
+    }
+    for words in CALLS {
+        let reply = reader.answer(words)?;
+        write!(text, "; {words} {reply}")?;
+    }
+    Ok(text)
+}
+
+/// How many bytes a file has, and what it is answered where it is cut behind each of them, a line for each run of lengths that are answered alike.
+pub fn cuts_text(alloc: Global, file: &File) -> Result<String, AllocError> {
+    let len = file.len();
+    let mut ranges = Ranges {
+        lines: format!(in alloc; "{len} bytes")?,
+        first: 0,
+        reply: String::new(alloc),
+    };
+    for len in 0..=file.len() {
+        ranges.add(len, reply_of(alloc, file, len)?)?;
+    }
+    ranges.end(file.len().saturating_add(1))?;
+    Ok(ranges.lines)
+}

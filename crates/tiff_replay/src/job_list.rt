@@ -1,0 +1,105 @@
+//! A list of jobs, the lines that tell of it, and its runs.
+
+use crate::manner::Manner;
+use crate::record::{Record, Recorded};
+use crate::sink::ScriptedSink;
+use std::alloc::{AllocError, Global};
+use tiff_base::error::TiffResult;
+use tiff_decode::reply::refusal_text;
+use tiff_encode::encoder::script::Job;
+use tiff_encode::encoder::{TiffKindBig, TiffKindStandard};
+use tiff_lists::jobs::jobs_of;
+use tiff_lists::replies::run_told;
+
+/// What a run of jobs left.
+#[derive(Drop)]
+pub struct JobRun {
+    /// The lines of what the jobs were answered, or the refusal of all.
+    pub text: String,
+    /// The bytes of the sink, where it was handed back.
+    pub handed_back: Option<Vec<u8>>,
+    /// What the sink was told.
+    pub recorded: Recorded,
+}
+
+impl JobRun {
+    /// Whether the sink was told these bytes, and handed back no others.
+    pub fn left(&self, bytes: &[u8]) -> bool {
+        let told = self.recorded.file.as_slice();
+        match &self.handed_back {
+            Some(handed_back) => told == bytes && handed_back.as_slice() == bytes,
+            None => told == bytes,
+        }
+    }
+}
+
+// Runs jobs in a file of a kind.
+fn run_kind(
+    alloc: Global,
+    big: bool,
+    sink: ScriptedSink,
+    jobs: &[Job],
+) -> TiffResult<(ScriptedSink, String)> {
+    if big {
+        run_told::<ScriptedSink, TiffKindBig>(alloc, sink, jobs)
+    } else {
+        run_told::<ScriptedSink, TiffKindStandard>(alloc, sink, jobs)
+    }
+}
+
+/// Runs jobs over an empty sink that takes bytes in a manner, in a file of a kind.
+pub fn run_over(
+    alloc: Global,
+    big: bool,
+    jobs: &[Job],
+    manner: Manner,
+) -> Result<JobRun, AllocError> {
+    let record = Record::new(alloc)?;
+    let sink = ScriptedSink::new(Vec::new(alloc), manner, record.shared()?);
+    let (text, handed_back) = match run_kind(alloc, big, sink, jobs) {
+        Ok((sink, lines)) => (lines, Some(sink.into_vec())),
+        Err(fault) => (refusal_text(alloc, &fault)?, None),
+    };
+    Ok(JobRun {
+        text,
+        handed_back,
+        recorded: record.take(),
+    })
+}
+
+/// Runs the jobs that a text tells of over an empty sink that takes bytes in a manner, in a file of a kind; or the number, from 1, of
+/// the first line that is no job.
+pub fn run_text(
+    alloc: Global,
+    big: bool,
+    text: &str,
+    manner: Manner,
+) -> Result<Result<JobRun, usize>, AllocError> {
+    match jobs_of(alloc, text)? {
+        Ok(jobs) => Ok(Ok(run_over(alloc, big, &jobs, manner)?)),
+        Err(number) => Ok(Err(number)),
+    }
+}
+
+/// A list of jobs in a file of a kind, the lines that tell of the jobs, and the lines that they are answered where nothing fails.
+#[derive(Clone, Copy, Drop)]
+pub struct JobList<'a> {
+    pub alloc: Global,
+    pub big: bool,
+    pub jobs: &'a [Job],
+    pub told: &'a [String],
+    pub answered: &'a [String],
+}
+
+impl<'a> JobList<'a> {
+    /// Runs all jobs over a sink that takes bytes in a manner.
+    pub fn run(&self, manner: Manner) -> Result<JobRun, AllocError> {
+        run_over(self.alloc, self.big, self.jobs, manner)
+    }
+
+    /// Runs the first jobs over a sink that takes bytes in a manner.
+    pub fn run_first(&self, count: usize, manner: Manner) -> Result<JobRun, AllocError> {
+        let count = count.min(self.jobs.len());
+        run_over(self.alloc, self.big, &self.jobs[..count], manner)
+    }
+}

@@ -1,0 +1,132 @@
+//! A decoder of a file, and what its calls are answered as text.
+
+use crate::source::ScriptedSource;
+use std::alloc::{AllocError, Global};
+use std::boxed::Box;
+use std::fmt::Write;
+use tiff_base::error::TiffResult;
+use tiff_decode::decoder::Decoder;
+use tiff_decode::reply::{refusal_text, reply_text};
+use tiff_decode::script::Call;
+use tiff_lists::call::call_of;
+use tiff_program::list::{PageLines, check_lines, list_lines};
+
+/// The decoder of the file that was opened last, if it was not refused.
+#[derive(Drop)]
+pub struct Reader {
+    alloc: Global,
+    decoder: Option<Box<Decoder<ScriptedSource>>>,
+}
+
+// Calls that read nothing.
+const STATE: [&str; 7] = [
+    "ifd_pointer",
+    "more_images",
+    "dimensions",
+    "colortype",
+    "get_chunk_type",
+    "chunk_dimensions",
+    "byte_order",
+];
+
+// A decoder of a source.
+fn decoder_of(alloc: Global, source: ScriptedSource) -> TiffResult<Box<Decoder<ScriptedSource>>> {
+    let decoder = Decoder::new(alloc, source)?;
+    Ok(Box::new(alloc, decoder)?)
+}
+
+// The lines of the pages of a decoder's file on one line, parted by ` | `, and behind them the fault by which the chain ends.
+fn pages_text(
+    alloc: Global,
+    decoder: &mut Decoder<ScriptedSource>,
+    checks: bool,
+) -> Result<String, AllocError> {
+    let lines = if checks {
+        check_lines(alloc, decoder)
+    } else {
+        list_lines(alloc, decoder)
+    };
+    let PageLines { text, end, well } = match lines {
+        Ok(lines) => lines,
+        Err(fault) => return refusal_text(alloc, &fault),
+    };
+    let mut told = String::new(alloc);
+    for line in text.as_str().lines() {
+        told.push_str(line)?;
+        told.push_str(" | ")?;
+    }
+    match end {
+        Some(fault) => write!(told, "error: {fault}")?,
+        None => told.push_str(if well { "end" } else { "end, not well" })?,
+    }
+    Ok(told)
+}
+
+/// Whether words tell of the pages of a file, and not of a call.
+pub fn tells_of_pages(words: &str) -> bool {
+    words == "list" || words == "check"
+}
+
+impl Reader {
+    /// No file yet.
+    pub fn new(alloc: Global) -> Self {
+        Reader {
+            alloc,
+            decoder: None,
+        }
+    }
+
+    /// No file any more.
+    pub fn close(&mut self) {
+        self.decoder = None;
+    }
+
+    /// Opens a source in the place of the former one.
+    pub fn open(&mut self, source: ScriptedSource) -> Result<String, AllocError> {
+        self.decoder = None;
+        match decoder_of(self.alloc, source) {
+            Ok(decoder) => {
+                self.decoder = Some(decoder);
+                String::from_str(self.alloc, "opened")
+            }
+            Err(fault) => refusal_text(self.alloc, &fault),
+        }
+    }
+
+    // Makes a call.
+    fn make(&mut self, call: &Call) -> Result<String, AllocError> {
+        match &mut self.decoder {
+            Some(decoder) => reply_text(decoder, call),
+            None => String::from_str(self.alloc, "no file"),
+        }
+    }
+
+    // The lines of the pages of the file: what they are, or what reading them gives.
+    fn pages(&mut self, checks: bool) -> Result<String, AllocError> {
+        match &mut self.decoder {
+            Some(decoder) => pages_text(self.alloc, decoder, checks),
+            None => String::from_str(self.alloc, "no file"),
+        }
+    }
+
+    /// Makes the call that the words tell of.
+    pub fn answer(&mut self, words: &str) -> Result<String, AllocError> {
+        if tells_of_pages(words) {
+            return self.pages(words == "check");
+        }
+        match call_of(self.alloc, words)? {
+            Some(call) => self.make(&call),
+            None => String::from_str(self.alloc, "no such call"),
+        }
+    }
+
+    /// Where the decoder stands: what the calls are answered that read nothing.
+    pub fn state(&mut self) -> Result<String, AllocError> {
+        let mut text = String::new(self.alloc);
+        for words in STATE {
+            let reply = self.answer(words)?;
+            write!(text, "{reply}; ")?;
+        }
+        Ok(text)
+    }
+}

@@ -1,0 +1,186 @@
+//! A list of jobs, run over sinks that take less than they are offered, and over those of which a call fails.
+
+ghost use Rattle.std.specs.Prelude.{◌<◌};
+
+use crate::call_count::{failed_text, step_of};
+use crate::expected::Expected;
+use crate::job_lines::told_lines;
+use crate::job_list::{JobList, JobRun, run_over};
+use crate::manner::{Appetite, Manner};
+use crate::record::put;
+use crate::sums::Sums;
+use std::alloc::{AllocError, Global};
+use tiff_base::error::TiffError;
+use tiff_base::io::{IoKind, SinkFault};
+use tiff_decode::reply::refusal_text;
+use tiff_encode::encoder::script::Job;
+
+// So many calls of a sink are each failed, and of more one in several.
+const EACH_CALL: u64 = 450;
+
+// The runs of a list over sinks that take so much at once.
+#[derive(Drop)]
+struct Trials<'a> {
+    list: JobList<'a>,
+    appetite: Appetite,
+    expected: Expected<'a>,
+}
+
+// The text of a sink's fault.
+fn fault_text(alloc: Global, fault: SinkFault) -> Result<String, AllocError> {
+    let fault = match fault {
+        SinkFault::Device => TiffError::IoError(IoKind::Device),
+        SinkFault::OutOfMemory => TiffError::OutOfMemory,
+    };
+    refusal_text(alloc, &fault)
+}
+
+impl<'a> Trials<'a> {
+    // The runs of a list.
+    fn new(list: JobList<'a>, appetite: Appetite) -> Result<Self, AllocError> {
+        let expected = Expected::new(list, appetite)?;
+        Ok(Trials {
+            list,
+            appetite,
+            expected,
+        })
+    }
+
+    // What is wrong with the replies of a run in which a call fails, if something is.
+    fn wrong_replies(
+        &self,
+        run: &JobRun,
+        call: u64,
+        fault: SinkFault,
+    ) -> Result<Option<String>, AllocError> {
+        let fault = fault_text(self.list.alloc, fault)?;
+        let told = run.text.as_str().trim_end();
+        let expected = self.expected.lines(call, told, &fault)?;
+        let wanted = expected.as_str().trim_end();
+        if told == wanted {
+            return Ok(None);
+        }
+        Ok(Some(format!(in self.list.alloc;
+            "MISMATCH: call {call} of the sink fails:\n{told}\nexpected\n{wanted}"
+        )?))
+    }
+
+    // Has a call fail, counted from 1: what is wrong, if something is. These bytes stood before it.
+    fn refuse(
+        &self,
+        call: u64,
+        fault: SinkFault,
+        before: &[u8],
+    ) -> Result<Option<String>, AllocError> {
+        let manner = Manner::failing(self.appetite, call.saturating_sub(1), fault);
+        let run = self.list.run(manner)?;
+        let calls = run.recorded.calls;
+        if calls != call || !run.left(before) {
+            return Ok(Some(format!(in self.list.alloc;
+                "MISMATCH: call {call} of the sink fails: {calls} calls, or another file than before it"
+            )?));
+        }
+        self.wrong_replies(&run, call, fault)
+    }
+
+    // Has a call fail by the device, and for want of memory: what is wrong, if something is.
+    fn refuse_twice(&self, call: u64, before: &[u8]) -> Result<Option<String>, AllocError> {
+        if let Some(mismatch) = self.refuse(call, SinkFault::Device, before)? {
+            return Ok(Some(mismatch));
+        }
+        self.refuse(call, SinkFault::OutOfMemory, before)
+    }
+
+    // Has each call of a run fail, or one in several: what is wrong, if something is.
+    fn refuse_each(
+        &self,
+        run: &JobRun,
+        step: u64,
+        sums: &mut Sums,
+    ) -> Result<Option<String>, AllocError>
+        requires { 0 < step }
+    {
+        let mut before = Vec::new(self.list.alloc);
+        let mut call = 0u64;
+        for written in &run.recorded.writes {
+            call = call.saturating_add(1);
+            if call % step == 0 {
+                if let Some(mismatch) = self.refuse_twice(call, &before)? {
+                    return Ok(Some(mismatch));
+                }
+                sums.writes = sums.writes.saturating_add(1);
+            }
+            put(&mut before, written.at, &written.bytes)?;
+        }
+        Ok(None)
+    }
+
+    // What is told of all runs, or what is wrong.
+    fn try_all(
+        &self,
+        good: &JobRun,
+        sums: &mut Sums,
+    ) -> Result<Result<String, String>, AllocError> {
+        let alloc = self.list.alloc;
+        let run = self.list.run(Manner::plain(self.appetite))?;
+        let calls = run.recorded.calls;
+        let text = run.text.as_str();
+        if text != good.text.as_str() || !run.left(&good.recorded.file) {
+            return Ok(Err(format!(in alloc; "MISMATCH: {calls} calls of the sink:\n{text}")?));
+        }
+        let step = step_of(calls, EACH_CALL);
+        match self.refuse_each(&run, step, sums)? {
+            Some(mismatch) => Ok(Err(mismatch)),
+            None => Ok(Ok(failed_text(alloc, calls, step)?)),
+        }
+    }
+}
+
+// What is told of a list over sinks of all appetites, or what is wrong.
+fn try_appetites(
+    list: JobList<'_>,
+    good: &JobRun,
+    sums: &mut Sums,
+) -> Result<Result<String, String>, AllocError> {
+    let all = match Trials::new(list, Appetite::All)?.try_all(good, sums)? {
+        Ok(text) => text,
+        Err(mismatch) => return Ok(Err(mismatch)),
+    };
+    let one = match Trials::new(list, Appetite::One)?.try_all(good, sums)? {
+        Ok(text) => text,
+        Err(mismatch) => return Ok(Err(mismatch)),
+    };
+    let one_less = match Trials::new(list, Appetite::OneLess)?.try_all(good, sums)? {
+        Ok(text) => text,
+        Err(mismatch) => return Ok(Err(mismatch)),
+    };
+    Ok(Ok(format!(in list.alloc;
+        "calls of the sink, by the device and for memory: {all}; of one byte: {one}; of one byte less: {one_less}"
+    )?))
+}
+
+/// What is told of jobs over sinks that take less than they are offered, and over those that fail, in a file of a kind; the jobs are
+/// those that the text tells of.
+pub fn tried(
+    alloc: Global,
+    big: bool,
+    text: &str,
+    jobs: &[Job],
+    sums: &mut Sums,
+) -> Result<String, AllocError> {
+    let good = run_over(alloc, big, jobs, Manner::plain(Appetite::All))?;
+    let told = told_lines(alloc, text)?;
+    let answered = told_lines(alloc, &good.text)?;
+    let list = JobList {
+        alloc,
+        big,
+        jobs,
+        told: &told,
+        answered: &answered,
+    };
+    sums.lists = sums.lists.saturating_add(1);
+    match try_appetites(list, &good, sums)? {
+        Ok(text) => Ok(text),
+        Err(mismatch) => Ok(mismatch),
+    }
+}

@@ -1,0 +1,37 @@
+//! How much was tried in all.
+
+use std::alloc::{AllocError, Global};
+
+/// How many lists were tried over sources and sinks that fail, and how many of their reads and writes were failed.
+#[derive(Clone, Copy, Drop)]
+pub struct Sums {
+    pub scripts: u64,
+    pub reads: u64,
+    pub lists: u64,
+    pub writes: u64,
+}
+
+impl Sums {
+    /// Nothing was tried.
+    pub fn none() -> Self {
+        Sums {
+            scripts: 0,
+            reads: 0,
+            lists: 0,
+            writes: 0,
+        }
+    }
+
+    /// The sums in words.
+    pub fn text(&self, alloc: Global) -> Result<String, AllocError> {
+        let Sums {
+            scripts,
+            reads,
+            lists,
+            writes,
+        } = *self;
+        format!(in alloc;
+            "failed in all: {reads} reads in {scripts} lists of calls, and {writes} writes, each by two faults, in {lists} lists of jobs"
+        )
+    }
+}
