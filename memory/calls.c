@@ -1,0 +1,243 @@
+/* Makes the calls of tiff_c with each of their requests for memory refused in turn, alone and with all that follow, and then makes the call again.
+
+     calls FILE ..
+
+   makes those that read on the first three pages of each file, and tiff_write_image on images of all colors, methods, predictors and kinds of
+   files. A refused request has to be answered TIFF_OUT_OF_MEMORY, with nothing written into the answer but as tiff.h says; no
+   block may be left behind; and the call that is made again has to answer what it answered at first. It prints a line for each call; what
+   isn't as it has to be stands on standard error, and the status is 1 then. */
+#include "heap.h"
+#include "tiff.h"
+
+enum { PATTERN = 0x5a, ROOM = 2048, GUARD = 16, LISTED = 4, PAGES = 3, OUT_OF_TIME = 300 };
+
+int open(const char *name, int flags, ...);
+long read(int file, void *to, size_t len);
+long lseek(int file, long offset, int from);
+int close(int file);
+int dprintf(int to, const char *form, ...);
+void *malloc(size_t size);
+void free(void *at);
+void *memset(void *to, int byte, size_t len);
+int memcmp(const void *one, const void *other, size_t len);
+unsigned alarm(unsigned seconds);
+
+/* What a call is made on. */
+struct input {
+    const char *name;
+    const uint8_t *file;
+    size_t len;
+    size_t page;
+    struct tiff_image image;
+    size_t size;
+};
+
+/* What it answers in; it has no gaps between its fields that a comparison would meet, since all of it is filled. */
+struct answer {
+    struct tiff_sides sides;
+    struct tiff_layout layout;
+    struct tiff_color color;
+    struct tiff_chunks chunks;
+    struct tiff_field field;
+    size_t number;
+    uint64_t value;
+    uint32_t order;
+    struct tiff_listed_page pages[LISTED];
+    uint8_t bytes[ROOM];
+    uint8_t guard[GUARD];
+};
+
+/* What a refusal leaves: all as it was; all but the bytes of the buffer; all but a count of 0. */
+enum left { ALL, BUT_BYTES, BUT_COUNT };
+
+struct call {
+    const char *name;
+    enum left left;
+    tiff_status (*make)(const struct input *on, struct answer *to);
+};
+
+static tiff_status page_count(const struct input *on, struct answer *to) { return tiff_page_count(on->file, on->len, &to->number); }
+
+static tiff_status page_sides(const struct input *on, struct answer *to) { return tiff_page_sides(on->file, on->len, on->page, &to->sides); }
+
+static tiff_status image_bytes(const struct input *on, struct answer *to) {
+    return tiff_read_image_bytes(on->file, on->len, on->page, to->bytes, ROOM);
+}
+
+static tiff_status page_layout(const struct input *on, struct answer *to) { return tiff_page_layout(on->file, on->len, on->page, &to->layout); }
+
+static tiff_status page_color(const struct input *on, struct answer *to) { return tiff_page_color(on->file, on->len, on->page, &to->color); }
+
+static tiff_status page_chunks(const struct input *on, struct answer *to) { return tiff_page_chunks(on->file, on->len, on->page, &to->chunks); }
+
+static tiff_status list_pages(const struct input *on, struct answer *to) { return tiff_list_pages(on->file, on->len, to->pages, LISTED, &to->number); }
+
+static tiff_status chunk_bytes(const struct input *on, struct answer *to) {
+    return tiff_read_chunk_bytes(on->file, on->len, on->page, 0, to->bytes, ROOM);
+}
+
+static tiff_status unit_bytes(const struct input *on, struct answer *to) {
+    return tiff_read_coding_unit_bytes(on->file, on->len, on->page, 0, to->bytes, ROOM);
+}
+
+static tiff_status width_field(const struct input *on, struct answer *to) { return tiff_tag_field(on->file, on->len, on->page, 256, &to->field); }
+
+static tiff_status width_number(const struct input *on, struct answer *to) { return tiff_tag_number(on->file, on->len, on->page, 256, &to->value); }
+
+static tiff_status method_number(const struct input *on, struct answer *to) { return tiff_tag_number(on->file, on->len, on->page, 259, &to->value); }
+
+static tiff_status bits_bytes(const struct input *on, struct answer *to) {
+    return tiff_tag_bytes(on->file, on->len, on->page, 258, 0, to->bytes, ROOM, &to->number);
+}
+
+static tiff_status offset_bytes(const struct input *on, struct answer *to) {
+    return tiff_tag_bytes(on->file, on->len, on->page, 273, 1, to->bytes, 6, &to->number);
+}
+
+static tiff_status byte_order(const struct input *on, struct answer *to) { return tiff_byte_order(on->file, on->len, &to->order); }
+
+static tiff_status write_image(const struct input *on, struct answer *to) {
+    return tiff_write_image(&on->image, on->file, on->len, to->bytes, on->size, &to->number);
+}
+
+static tiff_status fault_text(const struct input *on, struct answer *to) {
+    (void)on;
+    to->number = tiff_fault_text(TIFF_OUT_OF_MEMORY, to->bytes, ROOM);
+    return TIFF_DONE;
+}
+
+static const struct call readers[] = {
+    {"tiff_page_count", ALL, page_count},
+    {"tiff_page_sides", ALL, page_sides},
+    {"tiff_read_image_bytes", BUT_BYTES, image_bytes},
+    {"tiff_page_layout", ALL, page_layout},
+    {"tiff_page_color", ALL, page_color},
+    {"tiff_page_chunks", ALL, page_chunks},
+    {"tiff_list_pages", BUT_COUNT, list_pages},
+    {"tiff_read_chunk_bytes", BUT_BYTES, chunk_bytes},
+    {"tiff_read_coding_unit_bytes", BUT_BYTES, unit_bytes},
+    {"tiff_tag_field", ALL, width_field},
+    {"tiff_tag_number (256)", ALL, width_number},
+    {"tiff_tag_number (259)", ALL, method_number},
+    {"tiff_tag_bytes (258)", BUT_BYTES, bits_bytes},
+    {"tiff_tag_bytes (273)", BUT_BYTES, offset_bytes},
+    {"tiff_byte_order", ALL, byte_order},
+    {"tiff_fault_text", ALL, fault_text},
+};
+static const struct call writer = {"tiff_write_image", ALL, write_image};
+
+/* == A request that is refused */
+
+static size_t refused_at;
+static _Bool refuses_all;
+
+_Bool is_refused(void) { return refused_at && (counts->requests == refused_at || (refuses_all && counts->requests > refused_at)); }
+
+static struct answer pattern, good, got;
+
+/* Makes a call, with the request of this number refused, or none. */
+static tiff_status made(const struct call *call, const struct input *on, struct answer *to, size_t at, _Bool all) {
+    memset(to, PATTERN, sizeof *to);
+    *counts = (struct counts){0, counts->blocks, counts->bytes, counts->peak};
+    refused_at = at;
+    refuses_all = all;
+    tiff_status status = call->make(on, to);
+    refused_at = 0;
+    return status;
+}
+
+static _Bool stays(enum left left) {
+    struct answer want = pattern;
+    if (left == BUT_COUNT) want.number = 0;
+    if (left == BUT_BYTES)
+        for (size_t at = 0; at < ROOM; at++) want.bytes[at] = got.bytes[at];
+    return memcmp(&want, &got, sizeof got) == 0;
+}
+
+static _Bool is_well = 1;
+static size_t made_calls, requests, refused;
+
+static void wrong(const struct call *call, const struct input *on, size_t at, _Bool all, const char *what, tiff_status status) {
+    is_well = 0;
+    dprintf(2, "memory/run: %s of %s, page %zu, color %u, request %zu%s: %s (status %u)\n", call->name, on->name, on->page, on->image.color, at,
+            all ? " and all behind it" : "", what, status);
+}
+
+static void refuse(const struct call *call, const struct input *on, tiff_status status, size_t at, _Bool all) {
+    tiff_status other = made(call, on, &got, at, all);
+    if (other != TIFF_OUT_OF_MEMORY) wrong(call, on, at, all, "it isn't answered out of memory", other);
+    if (!stays(call->left)) wrong(call, on, at, all, "what has to stay is changed", other);
+    if (counts->blocks) wrong(call, on, at, all, "a block is left behind", other);
+    other = made(call, on, &got, 0, 0);
+    if (other != status || memcmp(&good, &got, sizeof got) != 0) wrong(call, on, at, all, "made again, it answers something else", other);
+}
+
+static void try_call(const struct call *call, const struct input *on) {
+    tiff_status status = made(call, on, &good, 0, 0);
+    size_t last = counts->requests;
+    if (counts->blocks) wrong(call, on, 0, 0, "a block is left behind", status);
+    for (size_t at = 1; at <= last; at++) {
+        refuse(call, on, status, at, 0);
+        refuse(call, on, status, at, 1);
+    }
+    made_calls++;
+    requests += last;
+    refused += 2 * last;
+}
+
+static void tell(const struct call *call) {
+    dprintf(1, "%s: %zu calls, %zu requests, each refused alone and with all behind it; peak %zu bytes\n", call->name, made_calls, requests, counts->peak);
+    made_calls = requests = counts->peak = 0;
+}
+
+/* == What the calls are made on */
+
+static struct input read_file(const char *name) {
+    int file = open(name, 0);
+    long len = file < 0 ? -1 : lseek(file, 0, 2);
+    uint8_t *bytes = len < 0 ? NULL : malloc((size_t)len + 1);
+    if (!bytes || lseek(file, 0, 0) || read(file, bytes, (size_t)len) != len) {
+        dprintf(2, "memory/run: %s can't be read\n", name);
+        return (struct input){.name = NULL};
+    }
+    close(file);
+    return (struct input){.name = name, .file = bytes, .len = (size_t)len};
+}
+
+static void try_pages(const struct call *call, const char *name) {
+    struct input on = read_file(name);
+    is_well = is_well && on.name;
+    for (; on.name && on.page < PAGES; on.page++) try_call(call, &on);
+    free((void *)on.file);
+}
+
+/* An image of 5 by 3 pixels, in a buffer with room and in one without. */
+static void try_image(struct tiff_image image) {
+    static uint8_t samples[5 * 3 * 4 * 8];
+    for (size_t at = 0; at < sizeof samples; at++) samples[at] = (uint8_t)(at / 3);
+    for (size_t size = 0; size <= ROOM; size += ROOM) {
+        struct input on = {.name = "an image", .file = samples, .len = sizeof samples, .image = image, .size = size};
+        try_call(&writer, &on);
+    }
+}
+
+static void try_color(uint32_t color) {
+    for (uint16_t version = TIFF_CLASSIC; version <= TIFF_BIG; version++)
+        for (uint16_t predictor = TIFF_NO_PREDICTOR; predictor <= TIFF_HORIZONTAL; predictor++) {
+            try_image((struct tiff_image){color, 5, 3, version, TIFF_UNCOMPRESSED, predictor});
+            try_image((struct tiff_image){color, 5, 3, version, TIFF_PACKBITS, predictor});
+        }
+}
+
+int main(int argc, char **argv) {
+    memset(&pattern, PATTERN, sizeof pattern);
+    alarm(OUT_OF_TIME);
+    for (size_t call = 0; call < sizeof readers / sizeof *readers; call++) {
+        for (int at = 1; at < argc; at++) try_pages(&readers[call], argv[at]);
+        tell(&readers[call]);
+    }
+    for (uint32_t color = TIFF_GRAY8; color <= TIFF_CMYKA8 + 1; color++) try_color(color);
+    tell(&writer);
+    dprintf(1, "tiff_c: %zu requests refused, each then made again\n", refused);
+    return is_well ? 0 : 1;
+}
