@@ -9,7 +9,7 @@
 #include "heap.h"
 #include "tiff.h"
 
-enum { PATTERN = 0x5a, ROOM = 2048, GUARD = 16, LISTED = 4, PAGES = 3, OUT_OF_TIME = 300 };
+enum { PATTERN = 0x5a, ROOM = 2048, GUARD = 16, LISTED = 4, PAGES = 3, SECONDS = 300, TOLD = 10 };
 
 int open(const char *name, int flags, ...);
 long read(int file, void *to, size_t len);
@@ -32,7 +32,7 @@ struct input {
     size_t size;
 };
 
-/* What it answers in; it has no gaps between its fields that a comparison would meet, since all of it is filled. */
+/* What it answers in, with bytes behind the buffer that are no call's. */
 struct answer {
     struct tiff_sides sides;
     struct tiff_layout layout;
@@ -138,7 +138,7 @@ static struct answer pattern, good, got;
 /* Makes a call, with the request of this number refused, or none. */
 static tiff_status made(const struct call *call, const struct input *on, struct answer *to, size_t at, _Bool all) {
     memset(to, PATTERN, sizeof *to);
-    *counts = (struct counts){0, counts->blocks, counts->bytes, counts->peak};
+    *counts = (struct counts){.peak = counts->peak};
     refused_at = at;
     refuses_all = all;
     tiff_status status = call->make(on, to);
@@ -155,10 +155,11 @@ static _Bool stays(enum left left) {
 }
 
 static _Bool is_well = 1;
-static size_t made_calls, requests, refused;
+static size_t made_calls, requests, refused, told;
 
 static void wrong(const struct call *call, const struct input *on, size_t at, _Bool all, const char *what, tiff_status status) {
     is_well = 0;
+    if (++told > TOLD) return;
     dprintf(2, "memory/run: %s of %s, page %zu, color %u, request %zu%s: %s (status %u)\n", call->name, on->name, on->page, on->image.color, at,
             all ? " and all behind it" : "", what, status);
 }
@@ -176,6 +177,7 @@ static void try_call(const struct call *call, const struct input *on) {
     tiff_status status = made(call, on, &good, 0, 0);
     size_t last = counts->requests;
     if (counts->blocks) wrong(call, on, 0, 0, "a block is left behind", status);
+    if (memcmp(good.guard, pattern.guard, GUARD) != 0) wrong(call, on, 0, 0, "bytes behind the buffer are changed", status);
     for (size_t at = 1; at <= last; at++) {
         refuse(call, on, status, at, 0);
         refuse(call, on, status, at, 1);
@@ -187,7 +189,8 @@ static void try_call(const struct call *call, const struct input *on) {
 
 static void tell(const struct call *call) {
     dprintf(1, "%s: %zu calls, %zu requests, each refused alone and with all behind it; peak %zu bytes\n", call->name, made_calls, requests, counts->peak);
-    made_calls = requests = counts->peak = 0;
+    if (told) dprintf(2, "memory/run: %s: %zu faults\n", call->name, told);
+    made_calls = requests = told = counts->peak = 0;
 }
 
 /* == What the calls are made on */
@@ -231,7 +234,7 @@ static void try_color(uint32_t color) {
 
 int main(int argc, char **argv) {
     memset(&pattern, PATTERN, sizeof pattern);
-    alarm(OUT_OF_TIME);
+    alarm(SECONDS);
     for (size_t call = 0; call < sizeof readers / sizeof *readers; call++) {
         for (int at = 1; at < argc; at++) try_pages(&readers[call], argv[at]);
         tell(&readers[call]);
