@@ -3,9 +3,9 @@
      calls FILE ..
 
    makes those that read on the first three pages of each file, and tiff_write_image on images of all colors, methods, predictors and kinds of
-   files. A refused request has to be answered TIFF_OUT_OF_MEMORY, with nothing written into the answer but as tiff.h says; no
-   block may be left behind; and the call that is made again has to answer what it answered at first. It prints a line for each call; what
-   isn't as it has to be stands on standard error, and the status is 1 then. */
+   files. A refused request has to be answered TIFF_OUT_OF_MEMORY, with nothing written into the answer but as tiff.h says, or, where the call does
+   without it, as at first; no block may be left behind; and the call that is made again has to answer what it answered at first. It prints a
+   line for each call; what isn't as it has to be stands on standard error, and the status is 1 then. */
 #include "heap.h"
 #include "tiff.h"
 
@@ -155,7 +155,7 @@ static _Bool stays(enum left left) {
 }
 
 static _Bool is_well = 1;
-static size_t made_calls, requests, refused, told;
+static size_t made_calls, requests, refused, without, told;
 
 static void wrong(const struct call *call, const struct input *on, size_t at, _Bool all, const char *what, tiff_status status) {
     is_well = 0;
@@ -166,8 +166,10 @@ static void wrong(const struct call *call, const struct input *on, size_t at, _B
 
 static void refuse(const struct call *call, const struct input *on, tiff_status status, size_t at, _Bool all) {
     tiff_status other = made(call, on, &got, at, all);
-    if (other != TIFF_OUT_OF_MEMORY) wrong(call, on, at, all, "it isn't answered out of memory", other);
-    if (!stays(call->left)) wrong(call, on, at, all, "what has to stay is changed", other);
+    _Bool is_same = other == status && memcmp(&good, &got, sizeof got) == 0;
+    if (is_same && !all) without++;
+    else if (other != TIFF_OUT_OF_MEMORY) wrong(call, on, at, all, "it isn't answered out of memory", other);
+    else if (!stays(call->left)) wrong(call, on, at, all, "what has to stay is changed", other);
     if (counts->blocks) wrong(call, on, at, all, "a block is left behind", other);
     other = made(call, on, &got, 0, 0);
     if (other != status || memcmp(&good, &got, sizeof got) != 0) wrong(call, on, at, all, "made again, it answers something else", other);
@@ -188,9 +190,10 @@ static void try_call(const struct call *call, const struct input *on) {
 }
 
 static void tell(const struct call *call) {
-    dprintf(1, "%s: %zu calls, %zu requests, each refused alone and with all behind it; peak %zu bytes\n", call->name, made_calls, requests, counts->peak);
+    dprintf(1, "%s: %zu calls, %zu requests refused in turn: %zu answered out of memory, %zu done without; peak %zu bytes\n", call->name, made_calls,
+            requests, requests - without, without, counts->peak);
     if (told) dprintf(2, "memory/run: %s: %zu faults\n", call->name, told);
-    made_calls = requests = told = counts->peak = 0;
+    made_calls = requests = without = told = counts->peak = 0;
 }
 
 /* == What the calls are made on */
