@@ -22,6 +22,8 @@ mod packed;
 #[cfg(test)]
 mod packing;
 #[cfg(test)]
+mod places;
+#[cfg(test)]
 mod program;
 #[cfg(test)]
 mod reach;

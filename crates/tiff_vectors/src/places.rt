@@ -17,20 +17,17 @@ fn shown(alloc: Global, answer: Result<usize, usize>) -> TiffResult<String> {
 }
 
 // The place of a number among no fields.
-
 fn in_none(alloc: Global, number: u16) -> TiffResult<String> {
     shown(alloc, find_place(&[], number, &mut KeyCount::new()))
 }
 
 // The same under the number 256 alone.
-
 fn in_one(alloc: Global, number: u16) -> TiffResult<String> {
     let fields = [(256, field())];
     shown(alloc, find_place(&fields, number, &mut KeyCount::new()))
 }
 
 // The same under five numbers.
-
 fn in_five(alloc: Global, number: u16) -> TiffResult<String> {
     let fields = [
         (254, field()),
