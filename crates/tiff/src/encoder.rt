@@ -6,6 +6,7 @@ pub use tiff_encode::encoder::{
     TiffKind, TiffKindBig, TiffKindStandard, data_laws, fit_laws, image_laws, laws, reading_laws,
     script,
 };
+pub use tiff_value::encoder::differences::Sample;
 pub use tiff_value::encoder::tiff_value::{
     Ifd, Ifd8, Rational, SRational, Slice, Text, TiffScalar, TiffValue,
 };
