@@ -1,5 +1,6 @@
 /* Times tiff_c beside libtiff and memcpy. Its words are three for each file: a name, the file's path, and `both` where libtiff reads it
-   too, else `alone`. A name that begins with `open` times the opening alone. Then it times writing, of images that it makes. */
+   too, else `alone`. A name that begins with `open` times the opening alone, and one that begins with `page`, as `page_9_of_ten`, how long it
+   takes to open the file and answer the sides of that page, or why there are none. Then it times writing, of images that it makes. */
 #include <stdio.h>
 #include <stdlib.h>
 #include <string.h>
@@ -11,6 +12,7 @@ enum { ROUNDS = 25, OPENINGS = 2000 };
 
 struct load {
     const char *name;
+    size_t page;
     uint8_t *file, *ours, *theirs;
     size_t len, size;
     int both;
@@ -87,6 +89,15 @@ static void open_theirs(struct load *l) {
         if (!width_by_libtiff(l->file, l->len)) stop("refused by libtiff", l->name);
 }
 
+static void sides_by_ours(struct load *l) {
+    struct tiff_sides sides;
+    (void)tiff_page_sides(l->file, l->len, l->page, &sides);
+}
+
+static void sides_by_theirs(struct load *l) {
+    if (!page_width_by_libtiff(l->file, l->len, (uint32_t)l->page)) stop("refused by libtiff", l->name);
+}
+
 /* Turns out of the caches what the work before left there, so that no work finds its bytes in them and another doesn't. */
 static void sweep(void) {
     enum { SIZE = 96 << 20, LINE = 64 };
@@ -110,6 +121,20 @@ static void print_opening(struct load *l) {
         best(&theirs, open_theirs, l);
     }
     printf("\n%s: %.2f microseconds; libtiff: %.2f\n", l->name, 1e6 * ours / OPENINGS, 1e6 * theirs / OPENINGS);
+}
+
+static void print_page(struct load *l) {
+    double ours = 0, theirs = 0;
+    struct tiff_sides sides;
+    l->page = strtoul(l->name + strlen("page_"), NULL, 10);
+    tiff_status status = tiff_page_sides(l->file, l->len, l->page, &sides);
+    for (int i = 0; i < ROUNDS; i++) {
+        best(&ours, sides_by_ours, l);
+        if (l->both) best(&theirs, sides_by_theirs, l);
+    }
+    printf("\n%s: %.2f milliseconds, status %d", l->name, 1e3 * ours, (int)status);
+    if (l->both) printf("; libtiff: %.2f", 1e3 * theirs);
+    printf("\n");
 }
 
 static void measure(struct load *l) {
@@ -236,6 +261,7 @@ int main(int argc, char **argv) {
         struct load l = {.name = argv[i], .both = strcmp(argv[i + 2], "both") == 0};
         read_file(&l, argv[i + 1]);
         if (strncmp(l.name, "open", 4) == 0) print_opening(&l);
+        else if (strncmp(l.name, "page", 4) == 0) print_page(&l);
         else print_reading(&l);
         free(l.file);
         free(l.ours);

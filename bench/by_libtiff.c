@@ -83,15 +83,17 @@ int by_libtiff(const uint8_t *file, size_t len, uint8_t *buffer) {
     return well;
 }
 
-uint32_t width_by_libtiff(const uint8_t *file, size_t len) {
+uint32_t page_width_by_libtiff(const uint8_t *file, size_t len, uint32_t page) {
     struct memory m = {file, len, 0};
     TIFF *t = open_it(&m);
     uint32_t width = 0;
     if (!t) return 0;
-    TIFFGetField(t, TIFFTAG_IMAGEWIDTH, &width);
+    if (page == 0 || TIFFSetDirectory(t, (tdir_t)page)) TIFFGetField(t, TIFFTAG_IMAGEWIDTH, &width);
     TIFFClose(t);
     return width;
 }
+
+uint32_t width_by_libtiff(const uint8_t *file, size_t len) { return page_width_by_libtiff(file, len, 0); }
 
 /* A file that is written: its room, and how much of that it has. */
 struct paper {

@@ -11,6 +11,9 @@ int by_libtiff(const uint8_t *file, size_t len, uint8_t *buffer);
 /* The width of the first page, or 0. */
 uint32_t width_by_libtiff(const uint8_t *file, size_t len);
 
+/* The width of a page, by its number from 0, or 0. */
+uint32_t page_width_by_libtiff(const uint8_t *file, size_t len, uint32_t page);
+
 /* An image: its sides, the samples of a pixel, one or three, and the bits of each; whether it is packed by PackBits, and the rows of its
    strips. */
 struct drawn {
