@@ -1,5 +1,5 @@
 -- An image that was written behind a header, and read back.
-use Rattle.std.proofs.Common.{◌≡◌, ℕ, ◌*◌, ◌<◌, List, length, Option, Some, Result, Ok, refl, ap, sym, ◌∙◌, subst}
+use Rattle.std.proofs.Common.{◌≡◌, ℕ, ◌*◌, ◌<◌, List, length, Option, Some, Result, Ok, Err, IfOk, refl, ap, sym, ◌∙◌, subst}
 use Rattle.std.proofs.lemmas.Option.{slice_get_within}
 use Rattle.std.specs.List.{slice_get}
 use Rattle.tiff_base.specs.declared.error.TiffError.{TiffError}
@@ -17,7 +17,9 @@ use Rattle.tiff_ifd.specs.Limits.{unlimited}
 use Rattle.tiff_page.specs.Page.{PageRecord}
 use Rattle.tiff_page.specs.Image.{Decoded}
 use Rattle.tiff_page.specs.PixelCalls.{image_of}
-use Rattle.tiff_decode.specs.Machine.{Decoding, GivesOutcome}
+use Rattle.tiff_decode.specs.declared.result.DecodingResult.{DecodingResult}
+use Rattle.tiff_decode.specs.Machine.{Decoding, Follows, GivesOutcome}
+use Rattle.tiff_decode.specs.Result.{decoded_as}
 use Rattle.tiff_decode.specs.Outcome.{chain_of, decoder_of, page_in, read_image, seek_to_image, set_limits}
 use Rattle.tiff_laws.specs.Pages.{SameFile, WalkOpens, WalkSeeks}
 use Rattle.tiff_encode.specs.Model.{Model, header_link}
@@ -34,12 +36,12 @@ same_some : (x y : ℕ) → (let a : Option ℕ = Some x in let b : Option ℕ =
 same_some x y e = cc
 
 -- a file was opened, its first page was sought without limits, and its image was read
-pub first_read : WalkOpens → WalkSeeks → (file : List ℕ) (opened free at : Decoding) (image : Decoded) → decoder_of file 0 ≡ Ok opened
+first_read : WalkOpens → WalkSeeks → (file : List ℕ) (opened free at : Decoding) (image : Decoded) → decoder_of file 0 ≡ Ok (record opened { failures = 0 })
     → free ≡ record opened { state = (set_limits opened unlimited).next } → GivesOutcome (Ok tt) (seek_to_image free 0) free at
     → (read_image at).answer ≡ Ok image → IsFirstImage file image
 unfolding read_image set_limits
 first_read opens seeks file opened free at image h e s r =
-    let o = opens file 0 opened h in
+    let o = opens file 0 (record opened { failures = 0 }) h in
     let bytes : free.bytes ≡ file = ap (λ (d : Decoding). d.bytes) e ∙ o.bytes in
     let kind : free.kind ≡ opened.kind = ap (λ (d : Decoding). d.kind) e in
     let order : free.order ≡ opened.order = ap (λ (d : Decoding). d.order) e in
@@ -65,8 +67,16 @@ first_read opens seeks file opened free at image h e s r =
           (subst (λ b. I b at.order at.state.limits) (a.along.same.bytes ∙ bytes) r));
     }
 
+-- so is what the call that reads it answers
+pub image_is_first : WalkOpens → WalkSeeks → (file : List ℕ) (opened free at new : Decoding) (result : Result DecodingResult TiffError)
+    → decoder_of file 0 ≡ Ok (record opened { failures = 0 }) → free ≡ record opened { state = (set_limits opened unlimited).next }
+    → GivesOutcome (Ok tt) (seek_to_image free 0) free at → Follows decoded_as (read_image at) result at new
+    → IfOk result (λ image. IsFirstImage file (decoded_as image))
+image_is_first opens seeks file opened free at new (Ok image) h e s f = first_read opens seeks file opened free at (decoded_as image) h e s f.answer
+image_is_first opens seeks file opened free at new (Err fault) h e s f = tt
+
 -- its samples are those of the image that was written behind the header
-pub comes_back : FirstShown → WrittenIsRead → (color : ColorTypeRecord) (size width height : ℕ) (samples : List ℕ) (old new : FileState) (m : Model)
+comes_back : FirstShown → WrittenIsRead → (color : ColorTypeRecord) (size width height : ℕ) (samples : List ℕ) (old new : FileState) (m : Model)
     → LeavesImage color size width height samples old new m → (name : ColorTypeName) → color ≡ color_type name → size ≡ inner_size name
     → AreNumbers size samples → old.chain ≡ header_link old.kind → 0 < end_of old → (file : List ℕ) (image : Decoded) → file ≡ new.bytes
     → IsFirstImage file image → ComesBack width height (length color.bits) samples image
@@ -86,3 +96,13 @@ comes_back shown_first is_read color size width height samples old new m l name 
     let image_is : image_of new.bytes LittleEndian shown.shows.page unlimited ≡ Ok image =
     subst (λ (p : PageRecord). image_of new.bytes LittleEndian p unlimited ≡ Ok image) page_is at_first in
     is_read color size width height samples old new m l name shown.offset unlimited image shown.shows c s small whole image_is
+
+-- so are those of what the call that reads them answers
+pub all_come_back : FirstShown → WrittenIsRead → (color : ColorTypeRecord) (size width height : ℕ) (samples : List ℕ) (old new : FileState) (m : Model)
+    → LeavesImage color size width height samples old new m → (name : ColorTypeName) → color ≡ color_type name → size ≡ inner_size name
+    → AreNumbers size samples → old.chain ≡ header_link old.kind → 0 < end_of old → (file : List ℕ) (result : Result DecodingResult TiffError)
+    → file ≡ new.bytes → IfOk result (λ image. IsFirstImage file (decoded_as image))
+    → IfOk result (λ image. ComesBack width height (length color.bits) samples (decoded_as image))
+all_come_back shown_first is_read color size width height samples old new m l name c s small chain some file (Ok image) is_file read =
+    comes_back shown_first is_read color size width height samples old new m l name c s small chain some file (decoded_as image) is_file read
+all_come_back shown_first is_read color size width height samples old new m l name c s small chain some file (Err fault) is_file read = tt

@@ -1,4 +1,5 @@
 use Rattle.std.proofs.Common.{rules, ℕ, [], ◌∷◌, ap}
+use Rattle.std.proofs.lemmas.Result.{err_from_is_err_and}
 use Rattle.tiff_base.specs.declared.tags.Tag.TheVariants as tag
 use Rattle.tiff_value.specs.Data.{Scalars, u32s}
 use Rattle.tiff_encode.specs.Machine.{OpenDirectory, OpenImage}
@@ -27,12 +28,11 @@ returns-in_err-check_rows_per_strip-clause-answer g c =
 pub returns-in_err-set_tag-clause-answer : goal.returns-in_err-set_tag-clause-answer
 unfolding set_rows_per_strip
 returns-in_err-set_tag-clause-answer g c =
-    let told =
+    let p = err_from_is_err_and c.from_residual-in_err-set_tag.result c.from_residual-in_err-set_tag.ensures.1 in
     let i = c.args.image.now in
     let old = c.args.self.now in
-    set_fails (rows_per_strip_cause old i c.args.rows) (one_tag tag.RowsPerStrip (value c.args.rows)) (set i c.args.rows) i.directory old c.in_err-set_tag.field-0.0 c.image.inside.directory c.set_tag.new.self
-    c.in_ok-check_rows_per_strip.ensures.0 (ap (λ x. x.directory) c.image.view_is) (one_adds tag.RowsPerStrip (value c.args.rows) i.directory old) c.in_err-set_tag.ensures.answer in
-    search rules
+    rw (p.1, p.2) (set_fails (rows_per_strip_cause old i c.args.rows) (one_tag tag.RowsPerStrip (value c.args.rows)) (set i c.args.rows) i.directory old c.in_err-set_tag.field-0.0 c.image.inside.directory c.set_tag.new.self
+    c.in_ok-check_rows_per_strip.ensures.0 (ap (λ x. x.directory) c.image.view_is) (one_adds tag.RowsPerStrip (value c.args.rows) i.directory old) c.in_err-set_tag.ensures.answer)
 
 pub returns-clause-answer : goal.returns-clause-answer
 unfolding set_rows_per_strip
