@@ -1,0 +1,12 @@
+use Rattle.std.proofs.Common.{◌≡◌, ℕ, List, Result, Ok, subst}
+use Rattle.tiff_base.specs.declared.error.TiffError.{TiffError}
+use Rattle.tiff_decode.specs.Outcome.{decoder_of}
+use Rattle.tiff_uses.proofs.ReadBack.{image_is_first}
+use Rattle.tiff_uses.proofs.first_without_limits.Goals as goal
+
+pub returns : goal.returns
+returns c =
+    let opened = c.in_ok-decoder.decoder in
+    let IsOpened : List ℕ → Type 0 = λ bytes. decoder_of bytes 0 ≡ Ok (record opened { failures = 0 }) in
+    image_is_first c.walk_opens.ensures c.walk_seeks.ensures c.args.file.items opened c.with_limits.result c.seek_to_image.new.self c.read_image.new.self
+    c.read_image.result (subst IsOpened c.new.ensures c.in_ok-decoder.ensures.answer) c.with_limits.ensures c.in_ok-seek_to_image.ensures c.read_image.ensures.follows
