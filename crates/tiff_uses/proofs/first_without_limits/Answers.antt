@@ -8,5 +8,5 @@ pub returns : goal.returns
 returns c =
     let opened = c.in_ok-decoder.decoder in
     let IsOpened : List ℕ → Type 0 = λ bytes. decoder_of bytes 0 ≡ Ok (record opened { failures = 0 }) in
-    image_is_first c.walk_opens.ensures c.walk_seeks.ensures c.args.file.items opened c.with_limits.result c.seek_to_image.new.self c.read_image.new.self
-    c.read_image.result (subst IsOpened c.new.ensures c.in_ok-decoder.ensures.answer) c.with_limits.ensures c.in_ok-seek_to_image.ensures c.read_image.ensures.follows
+    image_is_first c.walk_opens.ensures c.walk_seeks.ensures c.args.file.items opened c.with_limits-decoder.result c.seek_to_image.new.self c.read_image.new.self
+    c.read_image.result (subst IsOpened c.new.ensures c.in_ok-decoder.ensures.answer) c.with_limits-decoder.ensures c.in_ok-seek_to_image.ensures c.read_image.ensures.follows

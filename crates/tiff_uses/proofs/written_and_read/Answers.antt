@@ -24,5 +24,5 @@ returns g c =
     let size = type_size g.C.Inner.TiffValue.value_type in
     let samples = map (sample_number size g.C.Inner.Sample.bits) c.args.samples.now in
     all_come_back c.first_shown.ensures c.written_is_read.ensures g.C.ColorType.described size c.args.width c.args.height samples encoder c.write_image.new.self m
-    image g.C.NamedColorType.name g.C.NamedColorType.named (ap type_size g.C.NamedColorType.in_memory)
+    image g.C.NamedColorType.name g.met.C.NamedColorType.named (ap type_size g.met.C.NamedColorType.in_memory)
     (are_numbers size g.C.Inner.Sample.bits c.args.samples.now) chain some c.into_vec.result.items c.first_without_limits.result file c.first_without_limits.ensures
