@@ -5,7 +5,8 @@
    jobs, all its lines), and then the rest. What copies write goes to descriptor 3, and a line on each to descriptor 4: the number of the request,
    whether all that follow are refused too, where in the script its line stands, how long the output was, the copy's status as wait gives
    it, the blocks that it left, and how much all copies have written. The last line is on the program itself: its requests, the blocks that it left, and the peak of its bytes. In the
-   environment, REFUSED_FROM says from which byte of the script on requests are refused, and REFUSED_SECONDS how long a copy may take. */
+   environment, REFUSED_FROM says from which byte of the script on requests are refused, REFUSED_STEP of which number each multiple is, and
+   REFUSED_SECONDS how long a copy may take. */
 #include "heap.h"
 
 enum { SCRIPT = 0, OUTPUT = 1, COPIES = 3, LOG = 4 };
@@ -32,7 +33,7 @@ static const char *next, *begun, *line;
 static _Bool is_list;
 
 static struct counts *shared;
-static size_t from, seconds;
+static size_t from, step, seconds;
 static _Bool is_copy, refuses_all;
 
 static void *mapped(size_t len, int how, int file) {
@@ -52,6 +53,7 @@ __attribute__((constructor)) static void begin(void) {
     script_end = script + len;
     shared = mapped(sizeof *shared, WRITE_SHARED, -1);
     from = setting("REFUSED_FROM", 0);
+    step = setting("REFUSED_STEP", 1);
     seconds = setting("REFUSED_SECONDS", 20);
 }
 
@@ -87,6 +89,7 @@ static _Bool copied(_Bool all) {
 _Bool is_refused(void) {
     if (is_copy) return refuses_all;
     if (line ? (size_t)(line - script) < from : from > 0) return 0;
+    if (counts->requests % step) return 0;
     return copied(0) || copied(1);
 }
 

@@ -36,14 +36,16 @@ impl CallCount {
     }
 }
 
-// Of more calls than are all failed about so many are.
+// So many calls of a run are each failed, and of more one in several: about so many.
+const EACH: u64 = 12_000;
+
 const SAMPLE: u64 = 40;
 
 /// Of which number each multiple is failed, where there are so many calls: of 1, and else of more than that.
-pub fn step_of(calls: u64, limit: u64) -> u64
+pub fn step_of(calls: u64) -> u64
     ensures { 0 < result }
 {
-    if calls <= limit {
+    if calls <= EACH {
         return 1;
     }
     calls / SAMPLE + 1

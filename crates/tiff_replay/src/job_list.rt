@@ -1,7 +1,7 @@
 //! A list of jobs, the lines that tell of it, and its runs.
 
 use crate::manner::Manner;
-use crate::record::{Record, Recorded};
+use crate::record::{Kept, Record, Recorded};
 use crate::sink::ScriptedSink;
 use std::alloc::{AllocError, Global};
 use tiff_base::error::TiffResult;
@@ -47,14 +47,15 @@ fn run_kind(
     }
 }
 
-/// Runs jobs over an empty sink that takes bytes in a manner, in a file of a kind.
+/// Runs jobs over an empty sink that takes bytes in a manner, in a file of a kind, and keeps so much of what it is told.
 pub fn run_over(
     alloc: Global,
     big: bool,
     jobs: &[Job],
     manner: Manner,
+    kept: Kept,
 ) -> Result<JobRun, AllocError> {
-    let record = Record::new(alloc)?;
+    let record = Record::new(alloc, kept)?;
     let sink = ScriptedSink::new(Vec::new(alloc), manner, record.shared()?);
     let (text, handed_back) = match run_kind(alloc, big, sink, jobs) {
         Ok((sink, lines)) => (lines, Some(sink.into_vec())),
@@ -76,7 +77,7 @@ pub fn run_text(
     manner: Manner,
 ) -> Result<Result<JobRun, usize>, AllocError> {
     match jobs_of(alloc, text)? {
-        Ok(jobs) => Ok(Ok(run_over(alloc, big, &jobs, manner)?)),
+        Ok(jobs) => Ok(Ok(run_over(alloc, big, &jobs, manner, Kept::Counts)?)),
         Err(number) => Ok(Err(number)),
     }
 }
@@ -92,14 +93,20 @@ pub struct JobList<'a> {
 }
 
 impl<'a> JobList<'a> {
-    /// Runs all jobs over a sink that takes bytes in a manner.
-    pub fn run(&self, manner: Manner) -> Result<JobRun, AllocError> {
-        run_over(self.alloc, self.big, self.jobs, manner)
+    /// Runs all jobs over a sink that takes bytes in a manner, and keeps so much of what it is told.
+    pub fn run(&self, manner: Manner, kept: Kept) -> Result<JobRun, AllocError> {
+        run_over(self.alloc, self.big, self.jobs, manner, kept)
     }
 
-    /// Runs the first jobs over a sink that takes bytes in a manner.
+    /// Runs the first jobs over a sink that takes bytes in a manner, whose calls are counted.
     pub fn run_first(&self, count: usize, manner: Manner) -> Result<JobRun, AllocError> {
         let count = count.min(self.jobs.len());
-        run_over(self.alloc, self.big, &self.jobs[..count], manner)
+        run_over(
+            self.alloc,
+            self.big,
+            &self.jobs[..count],
+            manner,
+            Kept::Counts,
+        )
     }
 }

@@ -40,7 +40,8 @@ fn main(rt: HostRuntime) -> io::Result<()> {
     if let Some(tried) = session.tried()? {
         println!(rt; "{tried}")?;
     }
-    let sums = session.sums(rt.alloc())?;
-    println!(rt; "{sums}")?;
+    if let Some(sums) = session.sums(rt.alloc())? {
+        println!(rt; "{sums}")?;
+    }
     Ok(())
 }

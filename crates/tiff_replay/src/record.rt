@@ -12,29 +12,48 @@ pub struct Written {
     pub bytes: Vec<u8>,
 }
 
-/// How often a sink was called, what it wrote, one call after another, and the file that this makes.
+/// What is kept of a sink beside how often it was called and how many bytes it holds.
+#[derive(Clone, Copy, Drop)]
+pub enum Kept {
+    Counts,
+    /// The file that its writes make.
+    File,
+    /// The file, and each write.
+    Writes,
+}
+
+/// How often a sink was called, how many bytes it holds, what it wrote, one call after another, and the file that this makes, as far as
+/// these are kept.
 #[derive(Drop)]
 pub struct Recorded {
     pub calls: u64,
+    pub len: u64,
     pub writes: Vec<Written>,
     pub file: Vec<u8>,
+    kept: Kept,
 }
 
 impl Recorded {
     // No call yet.
-    fn none(alloc: Global) -> Self {
+    fn none(alloc: Global, kept: Kept) -> Self {
         Recorded {
             calls: 0,
+            len: 0,
             writes: Vec::new(alloc),
             file: Vec::new(alloc),
+            kept,
         }
     }
 
     // Takes bytes that were written.
     fn write(&mut self, alloc: Global, at: usize, bytes: &[u8]) -> Result<(), AllocError> {
-        put(&mut self.file, at, bytes)?;
-        let bytes = bytes.to_vec(alloc)?;
-        self.writes.push(Written { at, bytes })?;
+        if !matches!(self.kept, Kept::Counts) {
+            put(&mut self.file, at, bytes)?;
+        }
+        if matches!(self.kept, Kept::Writes) {
+            let bytes = bytes.to_vec(alloc)?;
+            self.writes.push(Written { at, bytes })?;
+        }
         Ok(())
     }
 }
@@ -59,8 +78,8 @@ pub struct Record {
 
 impl Record {
     /// Nothing yet.
-    pub fn new(alloc: Global) -> Result<Self, AllocError> {
-        let shared = Rc::new(alloc, RefCell::new(Recorded::none(alloc)))?;
+    pub fn new(alloc: Global, kept: Kept) -> Result<Self, AllocError> {
+        let shared = Rc::new(alloc, RefCell::new(Recorded::none(alloc, kept)))?;
         Ok(Record { alloc, shared })
     }
 
@@ -80,10 +99,12 @@ impl Record {
         }
     }
 
-    /// Bytes were written. Where there is no memory for them, they are left out.
+    /// Bytes were written. Where there is no memory for them, they are only counted.
     pub fn write(&self, at: u64, bytes: &[u8]) {
         if let Ok(mut recorded) = self.shared.try_borrow_mut() {
             let recorded = &mut *recorded;
+            let end = at.saturating_add(bytes.len() as u64);
+            recorded.len = recorded.len.max(end);
             let _ = recorded.write(self.alloc, at as usize, bytes);
         }
     }
@@ -91,8 +112,10 @@ impl Record {
     /// Takes out what was told so far.
     pub fn take(&self) -> Recorded {
         match self.shared.try_borrow_mut() {
-            Ok(mut recorded) => mem::replace(&mut *recorded, Recorded::none(self.alloc)),
-            Err(_) => Recorded::none(self.alloc),
+            Ok(mut recorded) => {
+                mem::replace(&mut *recorded, Recorded::none(self.alloc, Kept::Counts))
+            }
+            Err(_) => Recorded::none(self.alloc, Kept::Counts),
         }
     }
 }

@@ -2,7 +2,7 @@
 
 use crate::call_count::CallCount;
 use crate::file_line::File;
-use crate::source_trial::{EACH_READ, failing_reads, one_byte_reads};
+use crate::source_trial::{failing_reads, one_byte_reads};
 use crate::sums::Sums;
 use std::alloc::{AllocError, Global};
 
@@ -56,7 +56,7 @@ impl Script {
             Ok(text) => text,
             Err(mismatch) => return Ok(mismatch),
         };
-        if self.file.is_bytewise() || self.reads.get() > EACH_READ {
+        if self.file.is_bytewise() {
             return format!(in self.alloc; "reads: {each}");
         }
         match one_byte_reads(self, sums)? {

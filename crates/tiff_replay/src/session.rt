@@ -1,5 +1,6 @@
 //! The lines of a list of calls, one after another.
 
+use crate::call_count::CallCount;
 use crate::cuts::cuts_text;
 use crate::file_line::{File, file_of};
 use crate::reader::Reader;
@@ -14,11 +15,13 @@ use std::rt::Files;
 #[derive(Drop)]
 pub struct Session {
     reader: Reader,
-    // The lines on the file that was opened last, if there is one.
+    // The lines on the file that was opened last, if there is one, and they are to be tried over sources that fail.
     script: Option<Script>,
     writer: Writer,
     // Whether a list of jobs has begun.
     listing: bool,
+    // Whether lists are tried over sources and sinks that fail.
+    trying: bool,
     sums: Sums,
 }
 
@@ -27,8 +30,19 @@ fn is_comment(line: &str) -> bool {
     line.is_empty() || line.starts_with('#')
 }
 
+// Behind this line no list is tried over sources and sinks that fail.
+const WITHOUT_FAILURES: &str = "without failures";
+
 // How lines begin that are no calls.
-const OTHER_LINES: [&str; 6] = ["file ", "cuts ", "jobs", "again", "written", "changed"];
+const OTHER_LINES: [&str; 7] = [
+    "file ",
+    "cuts ",
+    "jobs",
+    "again",
+    "written",
+    "changed",
+    WITHOUT_FAILURES,
+];
 
 // Whether the lines on a file end before a line.
 fn ends_script(line: &str) -> bool {
@@ -43,12 +57,16 @@ impl Session {
             script: None,
             writer: Writer::new(alloc),
             listing: false,
+            trying: true,
             sums: Sums::none(),
         }
     }
 
     // Opens a file in the place of the former one.
     fn open(&mut self, alloc: Global, file: File, words: &str) -> Result<String, AllocError> {
+        if !self.trying {
+            return self.reader.open(file.source(&CallCount::new(alloc)?)?);
+        }
         let mut script = Script::new(alloc, file)?;
         let state = self.reader.state()?;
         let source = script.file.source(&script.reads)?;
@@ -72,13 +90,14 @@ impl Session {
         }
     }
 
-    // Makes a call, and keeps it with its reply.
+    // Makes a call, and keeps it with its reply where it is to be tried.
     fn call(&mut self, words: &str) -> Result<String, AllocError> {
+        let Some(script) = &mut self.script else {
+            return self.reader.answer(words);
+        };
         let state = self.reader.state()?;
         let reply = self.reader.answer(words)?;
-        if let Some(script) = &mut self.script {
-            script.add(words, &reply, state)?;
-        }
+        script.add(words, &reply, state)?;
         Ok(reply)
     }
 
@@ -86,6 +105,9 @@ impl Session {
     fn end_list(&mut self, words: &str) -> Result<String, AllocError> {
         self.listing = false;
         let mut reply = self.writer.run(words)?;
+        if !self.trying {
+            return Ok(reply);
+        }
         if let Some(told) = self.writer.tried(&mut self.sums)? {
             write!(reply, "\n{told}")?;
         }
@@ -148,7 +170,7 @@ impl Session {
     }
 
     /// The reply to a line: a file is opened, a call is made, or a list of jobs has ended and is run. A comment has no reply,
-    /// nor has a line of such a list.
+    /// nor has a line of such a list, nor `without failures`.
     pub fn reply(
         &mut self,
         rt: &(impl Files + AllocGlobal),
@@ -158,6 +180,10 @@ impl Session {
             return self.list_on(line);
         }
         if is_comment(line) {
+            return Ok(None);
+        }
+        if line == WITHOUT_FAILURES {
+            self.trying = false;
             return Ok(None);
         }
         if line == "jobs" || line == "jobs big" {
@@ -184,8 +210,11 @@ impl Session {
         }
     }
 
-    /// How much failed in all.
-    pub fn sums(&self, alloc: Global) -> Result<String, AllocError> {
-        self.sums.text(alloc)
+    /// How much failed in all, where each list was tried.
+    pub fn sums(&self, alloc: Global) -> Result<Option<String>, AllocError> {
+        if !self.trying {
+            return Ok(None);
+        }
+        Ok(Some(self.sums.text(alloc)?))
     }
 }

@@ -7,16 +7,13 @@ use crate::expected::Expected;
 use crate::job_lines::told_lines;
 use crate::job_list::{JobList, JobRun, run_over};
 use crate::manner::{Appetite, Manner};
-use crate::record::put;
+use crate::record::{Kept, put};
 use crate::sums::Sums;
 use std::alloc::{AllocError, Global};
 use tiff_base::error::TiffError;
 use tiff_base::io::{IoKind, SinkFault};
 use tiff_decode::reply::refusal_text;
 use tiff_encode::encoder::script::Job;
-
-// So many calls of a sink are each failed, and of more one in several.
-const EACH_CALL: u64 = 450;
 
 // The runs of a list over sinks that take so much at once.
 #[derive(Drop)]
@@ -73,7 +70,7 @@ impl<'a> Trials<'a> {
         before: &[u8],
     ) -> Result<Option<String>, AllocError> {
         let manner = Manner::failing(self.appetite, call.saturating_sub(1), fault);
-        let run = self.list.run(manner)?;
+        let run = self.list.run(manner, Kept::File)?;
         let calls = run.recorded.calls;
         if calls != call || !run.left(before) {
             return Ok(Some(format!(in self.list.alloc;
@@ -122,13 +119,13 @@ impl<'a> Trials<'a> {
         sums: &mut Sums,
     ) -> Result<Result<String, String>, AllocError> {
         let alloc = self.list.alloc;
-        let run = self.list.run(Manner::plain(self.appetite))?;
+        let run = self.list.run(Manner::plain(self.appetite), Kept::Writes)?;
         let calls = run.recorded.calls;
         let text = run.text.as_str();
         if text != good.text.as_str() || !run.left(&good.recorded.file) {
             return Ok(Err(format!(in alloc; "MISMATCH: {calls} calls of the sink:\n{text}")?));
         }
-        let step = step_of(calls, EACH_CALL);
+        let step = step_of(calls);
         match self.refuse_each(&run, step, sums)? {
             Some(mismatch) => Ok(Err(mismatch)),
             None => Ok(Ok(failed_text(alloc, calls, step)?)),
@@ -168,7 +165,7 @@ pub fn tried(
     jobs: &[Job],
     sums: &mut Sums,
 ) -> Result<String, AllocError> {
-    let good = run_over(alloc, big, jobs, Manner::plain(Appetite::All))?;
+    let good = run_over(alloc, big, jobs, Manner::plain(Appetite::All), Kept::File)?;
     let told = told_lines(alloc, text)?;
     let answered = told_lines(alloc, &good.text)?;
     let list = JobList {

@@ -10,12 +10,6 @@ use std::alloc::AllocError;
 // What a call is answered in which a read fails.
 const FAULT: &str = "refused: device fault (IoError(Device))";
 
-/// So many reads of a run are each failed, and of more one in several.
-pub const EACH_READ: u64 = 1000;
-
-// The same where a read gives one byte.
-const EACH_BYTE: u64 = 600;
-
 // A run over a source of which one read fails, counted from 1, or none where that is 0.
 #[derive(Drop)]
 struct Trial<'a> {
@@ -162,7 +156,7 @@ pub fn failing_reads(
     reads: u64,
     sums: &mut Sums,
 ) -> Result<Result<String, String>, AllocError> {
-    let step = step_of(reads, if bytewise { EACH_BYTE } else { EACH_READ });
+    let step = step_of(reads);
     for failing in 1..=reads {
         if failing % step == 0 {
             if let Err(mismatch) = Trial::new(script, bytewise, failing)?.run()? {

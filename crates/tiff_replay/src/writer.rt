@@ -80,15 +80,16 @@ impl Writer {
         &self.last
     }
 
-    // What a run left: how many bytes there are then, and what the jobs are answered.
+    // What a run left: how many bytes there are then, and what the jobs are answered, or how the whole run is refused.
     fn told(&mut self, run: JobRun) -> Result<String, AllocError> {
         let JobRun {
             text,
             handed_back,
-            recorded: _,
+            recorded,
         } = run;
         let Some(bytes) = handed_back else {
-            return Ok(text);
+            let len = recorded.len;
+            return format!(in self.alloc; "{len} bytes, {text}");
         };
         self.last = bytes;
         let len = self.last.len();
