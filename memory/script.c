@@ -4,9 +4,9 @@
    it is refused: alone, and in a second copy with all that follow. A copy is given the line that was under way once more (of a list of
    jobs, all its lines), and then the rest. What copies write goes to descriptor 3, and a line on each to descriptor 4: the number of the request,
    whether all that follow are refused too, where in the script its line stands, how long the output was, the copy's status as wait gives
-   it, the blocks that it left, and how much all copies have written. The last line is on the program itself: its requests, the blocks that it left, and the peak of its bytes. In the
-   environment, REFUSED_FROM says from which byte of the script on requests are refused, REFUSED_STEP of which number each multiple is, and
-   REFUSED_SECONDS how long a copy may take. */
+   it, the blocks that it left, and how much all copies have written. The last line is on the program itself: its requests, the blocks that it
+   left, and the peak of its bytes. In the environment, REFUSED_FROM says from which byte of the script on requests are refused, REFUSED_STEP of
+   which number each multiple is, and REFUSED_SECONDS how long a copy may take. */
 #include "heap.h"
 
 enum { SCRIPT = 0, OUTPUT = 1, COPIES = 3, LOG = 4 };

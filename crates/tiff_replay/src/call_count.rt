@@ -37,7 +37,7 @@ impl CallCount {
 }
 
 // So many calls of a run are each failed, and of more one in several: about so many.
-const EACH: u64 = 12_000;
+const EACH: u64 = 10_000;
 
 const SAMPLE: u64 = 40;
 
