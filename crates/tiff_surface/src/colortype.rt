@@ -1,0 +1,44 @@
+//! `tiff::encoder::colortype`: the differences of a row.
+
+use crate::report::Report;
+use std::fmt::Debug;
+use tiff::encoder::Sample;
+use tiff::encoder::colortype::{
+    ColorType, Gray8, Gray16, Gray32, Gray64, GrayI8, GrayI16, GrayI32, GrayI64, RGB8,
+};
+
+// The differences of a row: by the samples of a pixel, and by two.
+fn add_row<C: ColorType>(report: &mut Report, row: &[C::Inner])
+where
+    C::Inner: Debug + Drop,
+{
+    report.line("ColorType::sample_bits", C::sample_bits());
+    report.line("ColorType::sample_formats", C::sample_formats());
+    let mut out = Vec::new(report.alloc());
+    let answer = C::horizontal_predict(row, &mut out);
+    report.line("ColorType::horizontal_predict", answer);
+    report.line("ColorType::horizontal_predict", out);
+    let mut out = Vec::new(report.alloc());
+    let answer = C::horizontal_predict_stride(row, 2, &mut out);
+    report.line("ColorType::horizontal_predict_stride", answer);
+    report.line("ColorType::horizontal_predict_stride", out);
+}
+
+// The sample of the lowest bits of a number.
+fn cut<S: Sample>(number: u64) -> S {
+    S::cut(number)
+}
+
+/// Adds the lines of rows of each type of integers, and of one of three samples a pixel.
+pub fn add_lines(report: &mut Report) {
+    add_row::<Gray8>(report, &[1, 3, 2]);
+    add_row::<Gray16>(report, &[1, 3, 2]);
+    add_row::<Gray32>(report, &[1, 3, 2]);
+    add_row::<Gray64>(report, &[1, 3, 2]);
+    add_row::<GrayI8>(report, &[100, -100, -1]);
+    add_row::<GrayI16>(report, &[30000, -30000, -1]);
+    add_row::<GrayI32>(report, &[2000000000, -2000000000, -1]);
+    add_row::<GrayI64>(report, &[9223372036854775807, -2, -1]);
+    add_row::<RGB8>(report, &[1, 2, 3, 5, 7, 9]);
+    report.line("Sample::cut", cut::<u8>(258));
+}

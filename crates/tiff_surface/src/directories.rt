@@ -1,0 +1,59 @@
+//! `tiff::encoder`: directories.
+
+use crate::report::Report;
+use tiff::TiffResult;
+use tiff::encoder::{DirectoryEncoder, Slice, Text, TiffEncoder, TiffKind};
+use tiff::io::{MemorySink, Sink};
+use tiff::tags::{Tag, Type, ValueBuffer};
+
+// Values that are handed in as they are.
+fn add_values<W: Sink, K: TiffKind>(
+    report: &mut Report,
+    directory: &mut DirectoryEncoder<'_, W, K>,
+) {
+    let answer = directory.write_tag(Tag::Artist, Text("abcdef"));
+    report.line("DirectoryEncoder::write_tag", answer);
+    let answer = directory.write_entry(Slice::<u32>(&[1, 2]));
+    report.line("DirectoryEncoder::write_entry", answer);
+    let answer = directory.write_entry_bytes(Type::SHORT, &[1, 2, 3, 4]);
+    report.line("DirectoryEncoder::write_entry_bytes", answer);
+    let answer = directory.write_data(Slice::<u8>(&[9, 8]));
+    report.line("DirectoryEncoder::write_data", answer);
+}
+
+// Values that are handed in as bytes.
+fn add_buffers<W: Sink, K: TiffKind>(
+    report: &mut Report,
+    directory: &mut DirectoryEncoder<'_, W, K>,
+    buffer: &ValueBuffer,
+) {
+    let answer = directory.write_tag_buf(Tag::Make, buffer);
+    report.line("DirectoryEncoder::write_tag_buf", answer);
+    let answer = directory.write_entry_buf(buffer);
+    report.line("DirectoryEncoder::write_entry_buf", answer);
+    let answer = directory.write_data_buf(buffer);
+    report.line("DirectoryEncoder::write_data_buf", answer);
+}
+
+// A directory with all that is written into it.
+fn add_directory<W: Sink, K: TiffKind>(
+    report: &mut Report,
+    encoder: &mut TiffEncoder<W, K>,
+    buffer: &ValueBuffer,
+) -> TiffResult<()> {
+    let mut directory = encoder.image_directory()?;
+    add_values(report, &mut directory);
+    add_buffers(report, &mut directory, buffer);
+    directory.finish()
+}
+
+/// Adds the lines of directories.
+pub fn add_lines(report: &mut Report) -> TiffResult<()> {
+    let alloc = report.alloc();
+    let buffer = ValueBuffer::from_value(alloc, &Slice::<u16>(&[1, 2, 3]))?;
+    let mut encoder = TiffEncoder::new(alloc, MemorySink::new(Vec::new(alloc)))?;
+    let answer = add_directory(report, &mut encoder, &buffer);
+    report.line("DirectoryEncoder::finish", answer);
+    report.line("TiffEncoder::into_inner", encoder.into_inner().into_vec());
+    Ok(())
+}

@@ -1,0 +1,42 @@
+//! The calls of `tiff::io` and of `tiff::decoder::stream`.
+
+use tiff::decoder::stream::{EndianReader, PackBitsReader};
+use tiff::io::{BufferedSource, MemorySink, MemorySource, Sink, SliceSource, Source};
+
+// Sources and sinks.
+fn name_devices<R: Source + Drop, W: Sink>() {
+    let _call = R::read_at;
+    let _call = MemorySource::new;
+    let _call = SliceSource::new;
+    let _call = BufferedSource::<R>::new;
+    let _call = BufferedSource::<R>::into_inner;
+    let _call = W::len;
+    let _call = W::append;
+    let _call = W::overwrite;
+    let _call = MemorySink::new;
+    let _call = MemorySink::into_vec;
+}
+
+// Readers of numbers and of packed bytes.
+fn name_readers<R: Source>() {
+    let _call = EndianReader::<R>::new;
+    let _call = EndianReader::<R>::inner;
+    let _call = EndianReader::<R>::goto_offset;
+    let _call = EndianReader::<R>::read_u16;
+    let _call = EndianReader::<R>::read_i16;
+    let _call = EndianReader::<R>::read_u32;
+    let _call = EndianReader::<R>::read_i32;
+    let _call = EndianReader::<R>::read_u64;
+    let _call = EndianReader::<R>::read_i64;
+    let _call = EndianReader::<R>::read_f32;
+    let _call = EndianReader::<R>::read_f64;
+    let _call = PackBitsReader::<R>::new;
+    let _call = PackBitsReader::<R>::read;
+    let _call = PackBitsReader::<R>::read_exact;
+}
+
+/// Names the calls.
+pub fn name_calls<R: Source + Drop, W: Sink>() {
+    name_devices::<R, W>();
+    name_readers::<R>();
+}

@@ -1,0 +1,70 @@
+//! The types and traits.
+
+pub use tiff::{
+    ColorType, Directory, SampleBits, SampleFormats, TiffError, TiffFormatError, TiffResult,
+    TiffUnsupportedError, UsageError,
+};
+
+/// Of `tiff::directory`, `tiff::error` and `tiff::io`.
+pub mod base {
+    pub use tiff::directory::{Directory, Entry, Iter, KeyCount};
+    pub use tiff::error::{
+        TiffError, TiffFormatError, TiffResult, TiffUnsupportedError, UsageError,
+    };
+    pub use tiff::io::{
+        BufferedSource, DeviceFault, IoKind, MemorySink, MemorySource, Sink, SinkFault,
+        SliceSource, Source,
+    };
+}
+
+/// Of `tiff::tags`.
+pub mod tags {
+    pub use tiff::tags::{
+        Bits16, Bits32, Bits64, ByteOrder, CompressionMethod, ExtraSamples, FileKind, IfdPointer,
+        PhotometricInterpretation, PlanarConfiguration, Predictor, ResolutionUnit, SampleFormat,
+        Tag, Type, ValueBuffer,
+    };
+}
+
+/// Of `tiff::decoder`.
+pub mod decoder {
+    pub use tiff::decoder::cycles::IfdCycles;
+    pub use tiff::decoder::ifd::{AsciiText, Entry, Value, ValueList};
+    pub use tiff::decoder::script::{Call, Reply};
+    pub use tiff::decoder::stream::{EndianReader, PackBitsReader};
+    pub use tiff::decoder::{
+        BufferLayoutPreference, ChunkType, Decoder, DecodingBuffer, DecodingResult,
+        DecodingSampleType, IfdDecoder, Limits, TagIter, TiffCodingUnit,
+    };
+}
+
+/// Of `tiff::encoder`.
+pub mod encoder {
+    pub use tiff::encoder::script::{
+        DirectoryEnd, DirectoryJob, DirectoryStep, EndReply, ImageEnd, ImageJob, ImageStep, Job,
+        JobBuffer, JobReply, JobValue, StepReply,
+    };
+    pub use tiff::encoder::writer::TiffWriter;
+    pub use tiff::encoder::{
+        Compression, DirectoryEncoder, DirectoryOffset, Ifd, Ifd8, ImageEncoder, OffsetNumber,
+        Predictor, Rational, SRational, Sample, Slice, Text, TiffEncoder, TiffKind, TiffKindBig,
+        TiffKindStandard, TiffScalar, TiffValue,
+    };
+}
+
+/// Of `tiff::encoder::compression`.
+pub mod compression {
+    pub use tiff::encoder::compression::{
+        Compression, CompressionAlgorithm, Compressor, Packbits, Uncompressed,
+    };
+}
+
+/// Of `tiff::encoder::colortype`.
+pub mod colortype {
+    pub use tiff::encoder::colortype::{
+        CMYK8, CMYK16, CMYK32, CMYK32Float, CMYK64, CMYK64Float, CMYKA8, ColorType, ColorTypeName,
+        Gray8, Gray16, Gray32, Gray32Float, Gray64, Gray64Float, GrayI8, GrayI16, GrayI32, GrayI64,
+        NamedColorType, RGB8, RGB16, RGB32, RGB32Float, RGB64, RGB64Float, RGBA8, RGBA16, RGBA32,
+        RGBA32Float, RGBA64, RGBA64Float, YCbCr8,
+    };
+}

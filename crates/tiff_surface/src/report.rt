@@ -1,0 +1,45 @@
+//! The lines of calls and their answers.
+
+use std::alloc::Global;
+use std::fmt::{Debug, Write};
+
+/// Lines of calls and their answers.
+#[derive(Drop)]
+pub struct Report {
+    alloc: Global,
+    text: String,
+    // Whether there was no memory for a line.
+    lost: bool,
+}
+
+impl Report {
+    /// No line yet.
+    pub fn new(alloc: Global) -> Self {
+        Report {
+            alloc,
+            text: String::new(alloc),
+            lost: false,
+        }
+    }
+
+    /// What calls take their memory from.
+    pub fn alloc(&self) -> Global {
+        self.alloc
+    }
+
+    /// Adds the line of a call and its answer.
+    pub fn line<T: Debug + Drop>(&mut self, call: &str, answer: T) {
+        let written = writeln!(self.text, "{call}: {answer:?}");
+        self.lost = self.lost || written.is_err();
+    }
+
+    /// The lines, if there was memory for each.
+    pub fn into_text(self) -> Option<String> {
+        let Report {
+            alloc: _,
+            text,
+            lost,
+        } = self;
+        if lost { None } else { Some(text) }
+    }
+}
