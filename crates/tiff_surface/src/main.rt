@@ -1,4 +1,4 @@
-//! Names each public name of `tiff` by its path, makes the public calls that no list of calls or of jobs makes, and prints each with its
+//! Names each public name of `tiff` by its path, makes public calls that no list of calls or of jobs makes, and prints each with its
 //! answer. It stands on `tiff` alone, so every name that it uses is reached from there.
 #![tactic(auto)]
 
