@@ -1,3 +1,4 @@
 pub mod Standing
 pub mod OfChunks
 pub mod ReadBack
+pub mod GrayFile

@@ -1,16 +1,20 @@
 -- A decoder that goes along the chain of a file, and the sides of the pages that it came by.
-use Rattle.std.proofs.Common.{◌≡◌, ℕ, suc, ◌-◌, ◌<◌, List, [], ◌∷◌, ◌++◌, length, map, Option, None, Some, false, true, Result, Ok, refl, ap, sym, ◌∙◌, subst}
+use Rattle.std.proofs.Common.{◌≡◌, ℕ, zero, suc, ◌-◌, ◌<◌, List, [], ◌∷◌, ◌++◌, length, map, take, drop, Option, None, Some, false, true, Result, Ok, Err, refl, ap, sym, ◌∙◌, subst}
 use Rattle.std.proofs.lemmas.List.{length-map, map-append}
 use Rattle.std.specs.List.{slice_get}
 use Rattle.tiff_base.specs.declared.error.TiffError.{TiffError}
-use Rattle.tiff_base.specs.Answers.{◌>>=◌}
+use Rattle.tiff_base.specs.declared.error.TiffError.TheVariants.{FormatError, UnsupportedError, IoError, LimitsExceeded, IntSizeError, UsageError, OutOfMemory}
+use Rattle.tiff_base.specs.declared.io.IoKind.TheVariants.{UnexpectedEof, InvalidData, InvalidInput, WriteZero, Device}
+use Rattle.tiff_base.specs.Answers.{◌>>=◌, IsCause}
+use Rattle.tiff_base.proofs.Causes.{cause_along}
+use Rattle.tiff_base.specs.Directory.{directory_at}
 use Rattle.tiff_base.specs.Field.{DirectoryRecord}
 use Rattle.tiff_page.specs.Page.{PageRecord}
-use Rattle.tiff_decode.specs.Machine.{Decoding, FollowsWithoutEither, GivesOutcome}
+use Rattle.tiff_decode.specs.Machine.{Decoding, FollowsWithoutEither, GivesOutcome, Outcome, Refused}
 use Rattle.tiff_decode.specs.Outcome.{decoder_of, chain_of, dimensions, next_image, page_in}
-use Rattle.tiff_laws.specs.Pages.{IsAlong, PageAnswers, GoesOn, ListedAlong, WalkOpens, WalkGoesOn, WalkEnds}
+use Rattle.tiff_laws.specs.Pages.{IsAlong, PageAnswers, GoesOn, ListedAlong, WalkOpens, WalkGoesOn, WalkEnds, page_at}
 use Rattle.tiff_laws.proofs.Listed.{listed_first, listed_next, listed_fewer, listed_all}
-use Rattle.tiff_uses.specs.Pages.{AreSides, sides_at}
+use Rattle.tiff_uses.specs.Pages.{FileAnswers, each_sides, page_sides, sides_at, told_at}
 
 abbrev ok : ℕ × ℕ → Result (ℕ × ℕ) TiffError
 ok s = Ok s
@@ -81,13 +85,114 @@ next_listed goes_on start old mid new s before sides l more g f e =
         subst S (sym told.0)
         (listed_next (sides_at start) start old mid (map ok before) (map ok sides) l w.along (one_more start mid w.along.offset s before sides w.page told.1 e))
 
+-- ---- the first fault
+
+-- the sides of pages that are all told
+each_told : (d : Decoding) (offsets : List ℕ) (sides : List (ℕ × ℕ)) → map ok sides ≡ map (sides_at d) offsets → each_sides d offsets ≡ Ok sides
+each_told d [] [] h = refl
+each_told d [] (s ∷ sides) h = absurd (cc)
+each_told d (offset ∷ offsets) [] h = absurd (cc)
+each_told d (offset ∷ offsets) (s ∷ sides) h =
+    let first : sides_at d offset ≡ ok s = cc in
+    let others : map ok sides ≡ map (sides_at d) offsets = cc in
+    ap (λ (r : Result (ℕ × ℕ) TiffError). r >>= λ x. each_sides d offsets >>= λ xs. Ok (x ∷ xs)) first
+    ∙ ap (λ (r : Result (List (ℕ × ℕ)) TiffError). r >>= λ xs. Ok (s ∷ xs)) (each_told d offsets sides others)
+
+-- behind pages whose sides are told one has a fault
+each_refused : (d : Decoding) (before : List ℕ) (sides : List (ℕ × ℕ)) (offset : ℕ) (behind : List ℕ) (e : TiffError) → map ok sides ≡ map (sides_at d) before
+    → sides_at d offset ≡ Err e → each_sides d (before ++ offset ∷ behind) ≡ Err e
+each_refused d [] [] offset behind e h f = ap (λ (r : Result (ℕ × ℕ) TiffError). r >>= λ x. each_sides d behind >>= λ xs. Ok (x ∷ xs)) f
+each_refused d [] (s ∷ sides) offset behind e h f = absurd (cc)
+each_refused d (other ∷ before) [] offset behind e h f = absurd (cc)
+each_refused d (other ∷ before) (s ∷ sides) offset behind e h f =
+    let first : sides_at d other ≡ ok s = cc in
+    let others : map ok sides ≡ map (sides_at d) before = cc in
+    ap (λ (r : Result (ℕ × ℕ) TiffError). r >>= λ x. each_sides d (before ++ offset ∷ behind) >>= λ xs. Ok (x ∷ xs)) first
+    ∙ ap (λ (r : Result (List (ℕ × ℕ)) TiffError). r >>= λ xs. Ok (s ∷ xs)) (each_refused d before sides offset behind e others f)
+
+-- the fault of a page is that of its sides
+module _ (start : Decoding) (e : TiffError) where
+  abbrev page_by : DirectoryRecord → Result PageRecord TiffError
+  page_by x = page_in start.kind start.order start.bytes start.state.limits x
+
+  by_directory : (r : Result DirectoryRecord TiffError) → r >>= page_by ≡ Err e → (r >>= λ x. page_by x >>= λ page. ok (page.width, page.height)) ≡ Err e
+  by_directory (Ok x) f = ap (λ (r : Result PageRecord TiffError). r >>= λ page. ok (page.width, page.height)) f
+  by_directory (Err g) f = (let t : g ≡ e = cc in ap (λ (x : TiffError). Err x) t)
+
+  sides_refused : (offset : ℕ) → page_at start offset ≡ Err e → sides_at start offset ≡ Err e
+  sides_refused offset h = by_directory (directory_at start.kind start.order start.bytes offset) h
+
+-- what stands behind others begins with the one that is sought
+from_next : (ps : List ℕ) (i p : ℕ) → slice_get ps i ≡ Some p → ps ≡ take i ps ++ p ∷ drop (suc i) ps
+from_next [] i p h = absurd (cc)
+from_next (q ∷ qs) zero p h = (let e : q ≡ p = cc in ap (λ (x : ℕ). x ∷ qs) e)
+from_next (q ∷ qs) (suc i) p h = ap (λ (xs : List ℕ). q ∷ xs) (from_next qs i p h)
+
+-- the sides of a file's pages, by those of its chain and by the chain's end
+sides_by : (file : List ℕ) (start : Decoding) (told : Result (List (ℕ × ℕ)) TiffError) (end : Option TiffError) → decoder_of file 0 ≡ Ok start
+    → each_sides start (chain_of start).offsets ≡ told → (chain_of start).end ≡ end → page_sides file ≡ told >>= told_at end
+sides_by file start told end h t e =
+    ap (λ (r : Result Decoding TiffError). r >>= λ d. each_sides d (chain_of d).offsets >>= told_at (chain_of d).end) h
+    ∙ ap (λ (r : Result (List (ℕ × ℕ)) TiffError). r >>= told_at (chain_of start).end) t
+    ∙ ap (λ (x : Option TiffError). told >>= told_at x) e
+
 -- past the last page
-pub all_sides : WalkEnds → (file : List ℕ) (start d : Decoding) (sides : List (ℕ × ℕ)) → decoder_of file 0 ≡ Ok start → Standing start sides d → d.state.more ≡ false → AreSides file sides
-all_sides ends file start d sides h l more = record {
-  opened = start;
-  opens = h;
-  each = listed_all (sides_at start) start d (map ok sides) l None (ends start d l.number l.along more);
-}
+pub all_sides : WalkEnds → (file : List ℕ) (start d : Decoding) (sides : List (ℕ × ℕ)) → decoder_of file 0 ≡ Ok start → Standing start sides d → d.state.more ≡ false
+    → page_sides file ≡ Ok sides
+all_sides ends file start d sides h l more =
+    let end = ends start d l.number l.along more in
+    let all = listed_all (sides_at start) start d (map ok sides) l None end in
+    sides_by file start (Ok sides) None h (each_told start (chain_of start).offsets sides all) end.is_end
+
+-- the next page has a fault, or the chain ends by one
+stopped : (file : List ℕ) (start old new : Decoding) (sides : List (ℕ × ℕ)) (e : TiffError) (l : Standing start sides old) (next : Option ℕ) → decoder_of file 0 ≡ Ok start
+    → GoesOn start l.number next old (Err e) new → page_sides file ≡ Err e
+stopped file start old new sides e l (Some offset) h w =
+    let offsets = (chain_of start).offsets in
+    let split = from_next offsets (suc l.number) w.along.offset w.along.is_offset in
+    let told = each_refused start (take (suc l.number) offsets) sides w.along.offset (drop (suc (suc l.number)) offsets) e l.listed (sides_refused start e w.along.offset w.page) in
+    sides_by file start (Err e) (chain_of start).end h (ap (each_sides start) split ∙ told) refl
+stopped file start old new sides e l None h w =
+    let is : e ≡ w.0 = (let a = w.1 in cc) in
+    let all = listed_all (sides_at start) start old (map ok sides) l (Some w.0) w.2 in
+    sides_by file start (Ok sides) (Some w.0) h (each_told start (chain_of start).offsets sides all) w.2.is_end ∙ ap (λ (x : TiffError). Err x) (sym is)
+
+refused : WalkGoesOn → (file : List ℕ) (start old : Decoding) (sides : List (ℕ × ℕ)) (e : TiffError) → decoder_of file 0 ≡ Ok start → Standing start sides old → old.state.more ≡ true
+    → (next_image old).answer ≡ Err e → page_sides file ≡ Err e
+refused goes_on file start old sides e h l more a =
+    let new : Decoding = record old { state = (next_image old).next } in
+    stopped file start old new sides e l (slice_get (chain_of start).offsets (suc l.number)) h
+    (goes_on start old new l.number (Err e) l.along more (record { answer = a; at = refl }))
+
+-- what a call that was refused tells of the whole
+by_fault : {Y given : Type 0} (wanting : Type 0) (o : Outcome Y) (old new : Decoding) (e : TiffError) → (o.answer ≡ Err e → given) → Refused wanting e o old new
+    → IsCause (Unit {0}) (Unit {0}) e given
+by_fault wanting o old new OutOfMemory f h = tt
+by_fault wanting o old new (IoError Device) f h = tt
+by_fault wanting o old new (IoError UnexpectedEof) f h = f h.answer
+by_fault wanting o old new (IoError InvalidData) f h = f h.answer
+by_fault wanting o old new (IoError InvalidInput) f h = f h.answer
+by_fault wanting o old new (IoError WriteZero) f h = f h.answer
+by_fault wanting o old new (FormatError x) f h = f h.answer
+by_fault wanting o old new (UnsupportedError x) f h = f h.answer
+by_fault wanting o old new LimitsExceeded f h = f h.answer
+by_fault wanting o old new IntSizeError f h = f h.answer
+by_fault wanting o old new (UsageError x) f h = f h.answer
+
+-- a fault of going on is that of the whole
+pub refused_next : WalkGoesOn → (file : List ℕ) (start old new : Decoding) (sides : List (ℕ × ℕ)) (wanting : Type 0) (e : TiffError) → decoder_of file 0 ≡ Ok start
+    → Standing start sides old → old.state.more ≡ true → Refused wanting e (next_image old) old new
+    → FileAnswers {X = List (ℕ × ℕ)} (λ x. x) (Err e) (page_sides file)
+refused_next goes_on file start old new sides wanting e h l more = by_fault wanting (next_image old) old new e (refused goes_on file start old sides e h l more)
+
+-- a page has sides
+pub sides_told_always : (given : Type 0) (d new : Decoding) (e : TiffError) → FollowsWithoutEither {X = ℕ × ℕ} (λ x. x) (dimensions d) (Err e) d new
+    → IsCause (Unit {0}) (Unit {0}) e given
+unfolding dimensions
+sides_told_always given d new e f = cause_along {wanting = ⊥} {failed = ⊥} {wanting' = Unit {0}} {failed' = Unit {0}} e absurd absurd (λ h. absurd (never h)) f.0
+  where
+    never : ok (d.state.page.width, d.state.page.height) ≡ Err e → ⊥
+    never h = cc
 
 -- fewer offsets are left
 pub fewer_left : WalkGoesOn → (start old mid new : Decoding) (s : ℕ × ℕ) (before sides : List (ℕ × ℕ)) → Standing start before old → old.state.more ≡ true

@@ -2,3 +2,4 @@ pub mod Chunks
 pub mod Pages
 pub mod GeoKeys
 pub mod ReadBack
+pub mod GrayFile

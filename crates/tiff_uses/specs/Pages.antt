@@ -1,5 +1,5 @@
 -- What the pages of a file answer, by the outcomes of a decoder's calls.
-use Rattle.std.specs.Prelude.{◌≡◌, ℕ, List, Result, Ok, map}
+use Rattle.std.specs.Prelude.{ℕ, List, [], ◌∷◌, Option, None, Some, Result, Ok, Err}
 use Rattle.tiff_base.specs.declared.error.TiffError.{TiffError}
 use Rattle.tiff_base.specs.Answers.{◌>>=◌, AnswersBut}
 use Rattle.tiff_base.specs.Directory.{directory_at}
@@ -32,8 +32,23 @@ sides_at d offset = do
   page ← page_in d.kind d.order d.bytes d.state.limits directory
   Ok (page.width, page.height)
 
--- These are the sides of the pages of a file, one for each offset of its chain.
-pub record AreSides (file : List ℕ) (sides : List (ℕ × ℕ)) : Type 0 where
-  pub opened : Decoding
-  pub opens : decoder_of file 0 ≡ Ok opened
-  pub each : map (λ s. Ok s) sides ≡ map (sides_at opened) (chain_of opened).offsets
+-- the sides of the pages at these offsets, or the first fault
+abbrev pub each_sides : Decoding → List ℕ → Result (List (ℕ × ℕ)) TiffError
+each_sides d [] = Ok []
+each_sides d (offset ∷ offsets) = do
+  sides ← sides_at d offset
+  others ← each_sides d offsets
+  Ok (sides ∷ others)
+
+-- what is told at the end of a chain: its fault, if it ends by one
+abbrev pub told_at : {A : Type 0} → Option TiffError → A → Result A TiffError
+told_at None told = Ok told
+told_at (Some e) told = Err e
+
+-- the sides of all pages of a file, one for each offset of its chain; or the first fault: of the header and the first page, of the other
+-- pages in their order, and then of the chain's end
+abbrev pub page_sides : List ℕ → Result (List (ℕ × ℕ)) TiffError
+page_sides file = do
+  d ← decoder_of file 0
+  sides ← each_sides d (chain_of d).offsets
+  told_at (chain_of d).end sides

@@ -10,8 +10,11 @@ ghost use Rattle.tiff.specs.Shows.{ShowsGray};
 ghost use Rattle.tiff_base.specs.Types.{type_size};
 ghost use Rattle.tiff_value.specs.ColorType.{sample_number};
 ghost use Rattle.tiff_uses.specs.Chunks.{IsImageOfChunks};
+ghost use Rattle.tiff_decode.specs.NextState.{view_of_result};
+ghost use Rattle.tiff_uses.specs.GrayFile.{AnswersGray};
 ghost use Rattle.tiff_uses.specs.GeoKeys.{geo_key, key_value, value_in};
-ghost use Rattle.tiff_uses.specs.Pages.{AreSides, FileAnswers, first_image, page_chunk};
+ghost use Rattle.tiff_uses.specs.Pages as pages;
+ghost use Rattle.tiff_uses.specs.Pages.{FileAnswers, first_image, page_chunk};
 ghost use Rattle.tiff_uses.specs.ReadBack.{ComesBack, IsFirstImage};
 
 use std::alloc::Global;
@@ -61,7 +64,7 @@ pub fn strips_of(alloc: Global, file: Vec<u8>, page: usize) -> TiffResult<(u32, 
 fn sides_along(alloc: Global, decoder: &mut Decoder<MemorySource>) -> TiffResult<Vec<(u32, u32)>>
     // It was opened on its file, and no call moved it since.
     requires { decoder_of decoder.old.bytes 0 ≡ Ok (record decoder.old { failures = 0 }) }
-    ensures { IfOk result (λ sides. AreSides decoder.old.bytes sides.items) }
+    ensures { FileAnswers (λ v. v.items) result (pages.page_sides decoder.old.bytes) }
 {
     walk_opens();
     walk_goes_on();
@@ -75,9 +78,10 @@ fn sides_along(alloc: Global, decoder: &mut Decoder<MemorySource>) -> TiffResult
     Ok(sides)
 }
 
-/// The width and the height of each page, along the file's chain. It ends since the chain does.
+/// The width and the height of each page, along the file's chain; or the first fault, of the pages in their order and then of the
+/// chain's end. It ends since the chain does.
 pub fn page_sides(alloc: Global, file: Vec<u8>) -> TiffResult<Vec<(u32, u32)>>
-    ensures { IfOk result (λ sides. AreSides file.items sides.items) }
+    ensures { FileAnswers (λ v. v.items) result (pages.page_sides file.items) }
 {
     walk_opens();
     let mut decoder = Decoder::new(alloc, MemorySource::new(file))?;
@@ -127,13 +131,17 @@ pub fn image_of_chunks<R: Source>(decoder: &mut Decoder<R>, buffer: &mut [u8]) -
     decoder.read_image_bytes(buffer)
 }
 
-/// A file of one gray page, which shows the samples.
+/// A file of one gray page, which shows the samples; or the first cause that refuses it, as `write_image` tells it.
+#[tactic(auto, using(tiff_base::proofs::MemoryFaults::header_refused))]
 pub fn gray_file(alloc: Global, width: u32, height: u32, samples: &[u8]) -> TiffResult<Vec<u8>>
-    ensures { IfOk result (λ file. ShowsGray file.items width height samples.now) }
+    ensures answer { AnswersGray width height samples.now (view_of_result (λ v. v.items) result) }
+    ensures shows { IfOk result (λ file. ShowsGray file.items width height samples.now) }
 {
     let mut encoder = TiffEncoder::new(alloc, MemorySink::new(Vec::new(alloc)))?;
-    encoder.write_image::<Gray8>(width, height, samples)?;
-    Ok(encoder.into_inner().into_vec())
+    let written = encoder.write_image::<Gray8>(width, height, samples);
+    let file = encoder.into_inner().into_vec();
+    written?;
+    Ok(file)
 }
 
 // The image of a file's first page, read without limits.

@@ -1,5 +1,6 @@
-use Rattle.std.proofs.Common.{◌≡◌, true, false}
-use Rattle.tiff_uses.proofs.Standing.{all_sides, begun, fewer_left, first_listed, next_listed}
+use Rattle.std.proofs.Common.{◌≡◌, true, false, Err, rules}
+use Rattle.tiff_uses.specs.Pages.{page_sides}
+use Rattle.tiff_uses.proofs.Standing.{all_sides, begun, fewer_left, first_listed, next_listed, refused_next, sides_told_always}
 use Rattle.tiff_uses.proofs.sides_along.Goals as goal
 
 pub pages-init : goal.pages-init
@@ -18,6 +19,25 @@ pages-smaller c =
     let more : c.pages.decoder.state.more ≡ true = (let e = c.more_images.ensures in let t = c.pages-test.true in cc) in
     fewer_left c.walk_goes_on.ensures (begun c.args.decoder.now) c.pages.decoder c.next_image.new.self c.dimensions-in-pages.new.self c.in_ok-dimensions-2.field-0
     c.pages.sides.items c.push-in-pages.new.self.items c.pages.invariant more c.in_ok-next_image.ensures c.in_ok-dimensions-2.ensures c.in_ok-push-2.ensures.items
+
+pub returns-in_err-dimensions : goal.returns-in_err-dimensions
+returns-in_err-dimensions c =
+    let told = sides_told_always (page_sides c.args.decoder.now.bytes ≡ Err c.in_err-dimensions.field-0.0) c.args.decoder.now c.dimensions.new.self c.in_err-dimensions.field-0.0
+    c.in_err-dimensions.ensures in
+    search rules
+
+pub returns-in_err-next_image : goal.returns-in_err-next_image
+returns-in_err-next_image c =
+    let more : c.pages.decoder.state.more ≡ true = (let e = c.more_images.ensures in let t = c.pages-test.true in cc) in
+    let told = refused_next c.walk_goes_on.ensures c.args.decoder.now.bytes (begun c.args.decoder.now) c.pages.decoder c.next_image.new.self c.pages.sides.items _
+    c.in_err-next_image.field-0.0 c.requires c.pages.invariant more c.in_err-next_image.ensures in
+    search rules
+
+pub returns-in_err-dimensions-2 : goal.returns-in_err-dimensions-2
+returns-in_err-dimensions-2 c =
+    let told = sides_told_always (page_sides c.args.decoder.now.bytes ≡ Err c.in_err-dimensions-2.field-0.0) c.next_image.new.self c.dimensions-in-pages.new.self
+    c.in_err-dimensions-2.field-0.0 c.in_err-dimensions-2.ensures in
+    search rules
 
 pub returns : goal.returns
 returns c =

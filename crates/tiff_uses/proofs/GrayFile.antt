@@ -1,0 +1,29 @@
+-- What the file of a gray page is, or why there is none, of an encoder that began on nothing.
+use Rattle.std.proofs.Common.{◌≡◌, ◌⊎◌, ℕ, List, [], map, None, Some, Result, IfOk, inr, ap, ◌∙◌, subst}
+use Rattle.tiff_base.specs.declared.error.TiffError.{TiffError}
+use Rattle.tiff_base.specs.declared.io.SinkFault.TheVariants as sink
+use Rattle.tiff_base.specs.declared.tags.FileKind.TheVariants.{Classic}
+use Rattle.tiff_value.specs.declared.encoder.colortype.ColorTypeName.TheVariants.{Gray8}
+use Rattle.tiff_value.specs.ColorType.{sample_number}
+use Rattle.tiff_value.specs.ColorTypes.{color_type, inner_size}
+use Rattle.tiff_decode.specs.NextState.{view_of_result}
+use Rattle.tiff_encode.specs.Machine.{FileState, begun_file}
+use Rattle.tiff_encode.specs.ImageData.{WritesImage}
+use Rattle.tiff_uses.specs.GrayFile.{AnswersGray, WritesGray}
+
+abbrev Writes : ℕ → ℕ → List ℕ → Result (List ℕ) TiffError → FileState → FileState → Type 0
+Writes width height samples answer start last =
+    WritesImage (color_type Gray8) (inner_size Gray8) width height (map (sample_number 1 (λ n. n)) samples) (view_of_result {Y = Unit {0}} (λ _. tt) answer) start last
+
+pub gray_answered : (width height : ℕ) (samples told : List ℕ) (failures : ℕ) (start last : FileState) (answer : Result (List ℕ) TiffError)
+    → start ≡ begun_file Classic told failures → told ≡ [] → Writes width height samples answer start last
+    → (last.fault ≡ None) ⊎ (last.fault ≡ Some sink.OutOfMemory) → IfOk answer (λ file. file ≡ last.bytes) → AnswersGray width height samples answer
+gray_answered width height samples told failures start last answer is empty written fault file =
+    let w : WritesGray width height samples answer = record {
+      failures = failures;
+      last = last;
+      written = subst (λ s. Writes width height samples answer s last) (is ∙ ap (λ t. begun_file Classic t failures) empty) written;
+      fault = fault;
+      file = file;
+    } in
+    inr w
