@@ -1,5 +1,5 @@
 -- A decoder that goes along the chain of a file, and how many pages it came by.
-use Rattle.std.proofs.Common.{◌≡◌, ℕ, zero, suc, ◌+◌, ◌-◌, ◌<◌, ◌≤◌, List, length, Option, None, Some, true, false, Result, Ok, Err, refl, ap, sym, ◌∙◌, subst, arith}
+use Rattle.std.proofs.Common.{◌≡◌, ℕ, zero, suc, ◌+◌, ◌-◌, ◌<◌, ◌≤◌, List, length, Option, None, Some, true, false, Result, Ok, Err, refl, ap, sym, ◌∙◌, arith}
 use Rattle.std.proofs.lemmas.Map.Steps.{length-le_from_distinct_below}
 use Rattle.std.proofs.lemmas.Option.{slice_get_within}
 use Rattle.std.specs.List.{slice_get}
@@ -8,9 +8,9 @@ use Rattle.tiff_base.specs.Answers.{◌>>=◌, AnswersWithoutSource}
 use Rattle.tiff_base.proofs.Causes.{cause_along}
 use Rattle.tiff_ifd.proofs.Chain.{apart_chain}
 use Rattle.tiff_page.specs.PixelFault.{each_below}
-use Rattle.tiff_decode.specs.Machine.{Decoding, Outcome, GivesOutcome, stays}
+use Rattle.tiff_decode.specs.Machine.{Decoding}
 use Rattle.tiff_decode.specs.Outcome.{decoder_of, chain_of, next_image, seek_to_image}
-use Rattle.tiff_laws.specs.Pages.{IsAlong, Arrives, EndsBehind, GoesOn, WalkOpens, WalkGoesOn, WalkEnds}
+use Rattle.tiff_laws.specs.Pages.{IsAlong, GoesOn, WalkOpens, WalkGoesOn, WalkEnds}
 use Rattle.tiff_c.specs.Calls.{decoder_at_page, page_count, plain_end}
 
 -- the fault of the page of this number

@@ -1,9 +1,9 @@
 -- A file that an encoder wrote into memory shows its image.
-use Rattle.std.proofs.Common.{◌≡◌, ℕ, zero, suc, ◌+◌, ◌%◌, ◌<◌, ◌⊎◌, inl, inr, true, false, List, [], length, map, get_or, Fits, w8, arith, Option, None, Some, Result, Ok, Err, refl, sym, ap, subst, ◌∙◌, lit<}
+use Rattle.std.proofs.Common.{◌≡◌, ℕ, zero, suc, ◌+◌, ◌%◌, ◌<◌, ◌⊎◌, inl, inr, true, false, List, [], length, map, get_or, Fits, w8, arith, None, Some, Result, Ok, Err, refl, sym, ap, subst, ◌∙◌, lit<}
 use Rattle.tiff_base.specs.declared.error.TiffError.{TiffError}
 use Rattle.std.proofs.lemmas.Bool.Decides.{nat_tests}
 use Rattle.std.specs.Prelude.{◌==◌, if◌then◌else◌}
-use Rattle.tiff_base.specs.declared.error.TiffError.TheVariants.{OutOfMemory, UsageError}
+use Rattle.tiff_base.specs.declared.error.TiffError.TheVariants.{UsageError}
 use Rattle.tiff_base.specs.declared.error.UsageError.TheVariants.{MismatchedEntryLength}
 use Rattle.tiff_base.specs.declared.tags.«Type».{«Type»}
 use Rattle.tiff_base.specs.declared.io.SinkFault.TheVariants as sink

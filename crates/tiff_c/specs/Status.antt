@@ -91,7 +91,12 @@ status (Ok x) = 0
 status (Err e) = fault_number e
 
 -- The status of a call tells the answer that is given: 0, and what the call left is the value; or the number of the fault. Or else
--- it is want of memory.
+-- it is want of memory. What a call that is refused leaves in a slice isn't told.
 abbrev pub StatusTells : {X : Type 0} → Result X TiffError → ℕ → X → Type 0
 StatusTells (Ok x) status left = ((status ≡ 0) × (left ≡ x)) ⊎ (status ≡ fault_number OutOfMemory)
 StatusTells (Err e) status left = (status ≡ fault_number e) ⊎ (status ≡ fault_number OutOfMemory)
+
+-- The same of a call that puts its answer into a variable of the caller's, which holds what it held where the status isn't 0.
+abbrev pub StatusPuts : {X : Type 0} → Result X TiffError → ℕ → X → X → Type 0
+StatusPuts (Ok x) status old new = ((status ≡ 0) × (new ≡ x)) ⊎ ((status ≡ fault_number OutOfMemory) × (new ≡ old))
+StatusPuts (Err e) status old new = ((status ≡ fault_number e) ⊎ (status ≡ fault_number OutOfMemory)) × (new ≡ old)

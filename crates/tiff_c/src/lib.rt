@@ -5,7 +5,7 @@
 ghost use Rattle.std.specs.Prelude.{◌≡◌, ◌⊎◌};
 ghost use Rattle.tiff_c.specs.Calls as calls;
 ghost use Rattle.tiff_c.specs.List.{ListTells, list_of};
-ghost use Rattle.tiff_c.specs.Status.{StatusTells};
+ghost use Rattle.tiff_c.specs.Status.{StatusPuts, StatusTells};
 ghost use Rattle.tiff_c.specs.Writer as writer;
 ghost use Rattle.tiff_c.specs.Writer.{IsShown};
 
@@ -27,9 +27,9 @@ use crate::writer::{NewImage, deliver, write_new};
 
 /// The width and the height of a page.
 #[unsafe(no_mangle)]
-#[tactic(auto, using(crate::proofs::StatusTells::tells_left))]
+#[tactic(auto, using(crate::proofs::StatusTells::puts_told))]
 pub extern "C" fn tiff_page_sides(alloc: Global, file: &[u8], page: usize, sides: &mut Sides) -> u32
-    ensures { StatusTells (calls.page_sides file.now page) result sides.new }
+    ensures { StatusPuts (calls.page_sides file.now page) result sides.old sides.new }
 {
     given(page_sides(alloc, file, page), sides)
 }
@@ -50,37 +50,37 @@ pub extern "C" fn tiff_read_image_bytes(
 
 /// The color of a page.
 #[unsafe(no_mangle)]
-#[tactic(auto, using(crate::proofs::StatusTells::tells_left))]
+#[tactic(auto, using(crate::proofs::StatusTells::puts_told))]
 pub extern "C" fn tiff_page_color(alloc: Global, file: &[u8], page: usize, color: &mut Color) -> u32
-    ensures { StatusTells (calls.page_color file.now page) result color.new }
+    ensures { StatusPuts (calls.page_color file.now page) result color.old color.new }
 {
     given(page_color(alloc, file, page), color)
 }
 
 /// The strips or the tiles of a page.
 #[unsafe(no_mangle)]
-#[tactic(auto, using(crate::proofs::StatusTells::tells_left))]
+#[tactic(auto, using(crate::proofs::StatusTells::puts_told))]
 pub extern "C" fn tiff_page_chunks(
     alloc: Global,
     file: &[u8],
     page: usize,
     chunks: &mut Chunks,
 ) -> u32
-    ensures { StatusTells (calls.page_chunks file.now page) result chunks.new }
+    ensures { StatusPuts (calls.page_chunks file.now page) result chunks.old chunks.new }
 {
     given(page_chunks(alloc, file, page), chunks)
 }
 
 /// The bytes of the image of a page: of one plane, and of all.
 #[unsafe(no_mangle)]
-#[tactic(auto, using(crate::proofs::StatusTells::tells_left))]
+#[tactic(auto, using(crate::proofs::StatusTells::puts_told))]
 pub extern "C" fn tiff_page_layout(
     alloc: Global,
     file: &[u8],
     page: usize,
     layout: &mut Layout,
 ) -> u32
-    ensures { StatusTells (calls.page_layout file.now page) result layout.new }
+    ensures { StatusPuts (calls.page_layout file.now page) result layout.old layout.new }
 {
     given(page_layout(alloc, file, page), layout)
 }
@@ -117,7 +117,7 @@ pub extern "C" fn tiff_read_coding_unit_bytes(
 
 /// The field of a tag of a page, by the tag's number.
 #[unsafe(no_mangle)]
-#[tactic(auto, using(crate::proofs::StatusTells::tells_left))]
+#[tactic(auto, using(crate::proofs::StatusTells::puts_told))]
 pub extern "C" fn tiff_tag_field(
     alloc: Global,
     file: &[u8],
@@ -125,14 +125,14 @@ pub extern "C" fn tiff_tag_field(
     number: u16,
     field: &mut FieldSize,
 ) -> u32
-    ensures { StatusTells (calls.tag_field file.now page number) result field.new }
+    ensures { StatusPuts (calls.tag_field file.now page number) result field.old field.new }
 {
     given(tag_field(alloc, file, page, number), field)
 }
 
 /// The number of a tag of a page, by the tag's number.
 #[unsafe(no_mangle)]
-#[tactic(auto, using(crate::proofs::StatusTells::tells_left))]
+#[tactic(auto, using(crate::proofs::StatusTells::puts_told))]
 pub extern "C" fn tiff_tag_number(
     alloc: Global,
     file: &[u8],
@@ -140,14 +140,14 @@ pub extern "C" fn tiff_tag_number(
     number: u16,
     value: &mut u64,
 ) -> u32
-    ensures { StatusTells (calls.tag_number_at file.now page number) result value.new }
+    ensures { StatusPuts (calls.tag_number_at file.now page number) result value.old value.new }
 {
     given(tag_number(alloc, file, page, number), value)
 }
 
 /// Copies the bytes of the values of a tag of a page from a byte on, by the tag's number.
 #[unsafe(no_mangle)]
-#[tactic(auto, using(crate::proofs::StatusTells::tells_both))]
+#[tactic(auto, using(crate::proofs::StatusTells::tells_both, crate::proofs::StatusTells::kept_told))]
 pub extern "C" fn tiff_tag_bytes(
     alloc: Global,
     file: &[u8],
@@ -157,25 +157,26 @@ pub extern "C" fn tiff_tag_bytes(
     buffer: &mut [u8],
     written: &mut usize,
 ) -> u32
-    ensures { StatusTells (calls.tag_bytes file.now page number at buffer.old) result (written.new, buffer.new) }
+    ensures answer { StatusTells (calls.tag_bytes file.now page number at buffer.old) result (written.new, buffer.new) }
+    ensures stays { (result ≡ 0) ⊎ (written.new ≡ written.old) }
 {
     given(tag_bytes(alloc, file, page, number, at, buffer), written)
 }
 
 /// The byte order of a file.
 #[unsafe(no_mangle)]
-#[tactic(auto, using(crate::proofs::StatusTells::tells_left))]
+#[tactic(auto, using(crate::proofs::StatusTells::puts_told))]
 pub extern "C" fn tiff_byte_order(alloc: Global, file: &[u8], order: &mut u32) -> u32
-    ensures { StatusTells (calls.file_byte_order file.now) result order.new }
+    ensures { StatusPuts (calls.file_byte_order file.now) result order.old order.new }
 {
     given(byte_order(alloc, file), order)
 }
 
 /// How many pages a file has.
 #[unsafe(no_mangle)]
-#[tactic(auto, using(crate::proofs::StatusTells::tells_left))]
+#[tactic(auto, using(crate::proofs::StatusTells::puts_told))]
 pub extern "C" fn tiff_page_count(alloc: Global, file: &[u8], pages: &mut usize) -> u32
-    ensures { StatusTells (calls.page_count file.now) result pages.new }
+    ensures { StatusPuts (calls.page_count file.now) result pages.old pages.new }
 {
     given(page_count(alloc, file), pages)
 }
