@@ -30,7 +30,7 @@ use Rattle.tiff_encode.proofs.Shown.Gray.{gray_bytes_shown}
 use Rattle.tiff_encode.proofs.Header.{header_stands}
 use Rattle.tiff_encode.proofs.Shown.Parts.{parts_show}
 use Rattle.tiff_encode.proofs.Samples.{are_numbers}
-use Rattle.tiff_program.specs.Gray.{EndsWith, IsGrayImage, IsGrayJob}
+use Rattle.tiff_program.specs.Gray.{EndsWith, IsGrayImage, IsGrayJob, RefusesGray}
 
 -- an answer is no refusal
 ok_err : {A : Type 0} {x : A} {e : TiffError} → let a : Result A TiffError = Ok x in let b : Result A TiffError = Err e in a ≡ b → ⊥
@@ -168,3 +168,19 @@ gray_left width height samples octets wide high {held = held} {bytes = bytes} {f
     subst (λ t. JobsRun (new_run Classic t failures) (job ∷ []) (r ∷ []) l.run) empty replied in
     subst (λ (bs : List ℕ). ShowsGray bs width height samples) (sym l.bytes_are)
     (gray_job_shown width height samples failures octets job r x l.run wide high (subst (λ (bs : List ℕ). length bs < 2 ^ 64) l.bytes_are short) is answered from_nothing)
+
+-- a job that ended with a fault
+pub gray_refused : (width height : ℕ) (samples : List ℕ) (j : Job) (replies : List JobReply) (r : JobReply) (told bytes : List ℕ) (failures after : ℕ) (e : TiffError)
+    → IsGrayJob width height samples j → told ≡ [] → LeavesJobs Classic (j ∷ []) replies told failures bytes after → replies ≡ r ∷ [] → r.last ≡ Err e
+    → RefusesGray width height samples e
+gray_refused width height samples j replies r told bytes failures after e is empty l one ended =
+    record {
+      job = j;
+      is_job = is;
+      failures = failures;
+      reply = r;
+      run = l.run;
+      ran_so = subst (λ t. JobsRun (new_run Classic t failures) (j ∷ []) (r ∷ []) l.run) empty
+          (subst (λ rs. JobsRun (new_run Classic told failures) (j ∷ []) rs l.run) one l.ran_so);
+      ends = ended;
+    }

@@ -1,16 +1,16 @@
 //! Gray pages, each written by a job.
 
-ghost use Rattle.std.specs.Prelude.{◌≡◌, IfOk};
+ghost use Rattle.std.specs.Prelude.{◌≡◌, ◌⊎◌, IfErr, IfOk};
 ghost use Rattle.tiff.specs.Shows.{ShowsGray};
-ghost use Rattle.tiff_program.specs.Gray.{EndsAs, IsGrayJob};
+ghost use Rattle.tiff_program.specs.Gray.{EndsAs, IsGrayJob, RefusesGray};
 
 use crate::calls::{let_go, only};
 use std::alloc::{AllocError, Global};
-use tiff::TiffResult;
 use tiff::encoder::TiffKindStandard;
 use tiff::encoder::colortype::ColorTypeName;
 use tiff::encoder::script::{ImageEnd, ImageJob, Job, JobReply, run_jobs};
 use tiff::io::MemorySink;
+use tiff::{TiffError, TiffResult};
 
 // Bytes as numbers.
 fn numbers(alloc: Global, bytes: &[u8]) -> Result<Vec<u64>, AllocError>
@@ -47,9 +47,11 @@ fn end_of(reply: JobReply) -> TiffResult<()>
     Ok(())
 }
 
-/// A file of one gray page, which shows the samples.
+/// A file of one gray page, which shows the samples; or the fault by which the job that writes it ends, or `OutOfMemory`.
+#[tactic(auto, using(tiff_base::proofs::MemoryFaults::header_refused))]
 pub fn gray_file(alloc: Global, width: u32, height: u32, samples: &[u8]) -> TiffResult<Vec<u8>>
-    ensures { IfOk result (λ file. ShowsGray file.items width height samples.now) }
+    ensures shows { IfOk result (λ file. ShowsGray file.items width height samples.now) }
+    ensures refused { IfErr result (λ e. (e ≡ TiffError.OutOfMemory) ⊎ RefusesGray width height samples.now e) }
 {
     let jobs = [gray_job(alloc, width, height, samples)?];
     let mut replies = Vec::new(alloc);
