@@ -1,7 +1,8 @@
 //! The files of the machine.
 
 use std::fs;
-use std::io::{self, ErrorKind, Input, Read};
+use std::fs::{File, OpenFile};
+use std::io::{self, ErrorKind, Input, Read, Write};
 use std::rt::Files as Machine;
 use tiff::io::IoKind;
 use tiff::{TiffError, TiffResult};
@@ -34,6 +35,47 @@ fn input<R: AllocGlobal + Input>(rt: &R) -> io::Result<Vec<u8>> {
     Ok(bytes)
 }
 
+// Whether a name is that of a device, a link or the like, which is written where it stands.
+fn is_no_plain_file<R: Machine>(rt: &R, name: &str) -> bool {
+    match fs::symlink_metadata(rt, name) {
+        Ok(found) => !found.is_file(),
+        Err(_) => false,
+    }
+}
+
+// Fills a new file that lies beside that of a name, gives it the permissions of that one where it is there, and puts it in its place.
+fn fill_and_rename<R: Machine>(
+    rt: &R,
+    mut file: R::File,
+    beside: &str,
+    name: &str,
+    bytes: &[u8],
+) -> io::Result<()> {
+    file.write_all(bytes)?;
+    if let Ok(found) = fs::metadata(rt, name) {
+        file.set_permissions(found.permissions())?;
+    }
+    file.sync_all()?;
+    fs::rename(rt, beside, name)
+}
+
+// Makes a file of these bytes, whole or not at all: what stood under its name stays where it can't be written. Where no file can lie
+// beside it, it is written where it stands.
+fn write_whole<R: Machine + AllocGlobal>(rt: &R, name: &str, bytes: &[u8]) -> io::Result<()> {
+    let beside = format!(in rt.alloc(); "{name}.tiffpage-part")?;
+    if is_no_plain_file(rt, name) {
+        return fs::write(rt, name, bytes);
+    }
+    let Ok(file) = File::create_new(rt, beside.as_str()) else {
+        return fs::write(rt, name, bytes);
+    };
+    let made = fill_and_rename(rt, file, beside.as_str(), name, bytes);
+    if made.is_err() {
+        let _removed = fs::remove_file(rt, beside.as_str());
+    }
+    made
+}
+
 impl<R: Machine + AllocGlobal + Input> Files for MachineFiles<'_, R> {
     fn read(&mut self, name: &str) -> TiffResult<Vec<u8>> {
         let read = if name == "-" {
@@ -45,6 +87,6 @@ impl<R: Machine + AllocGlobal + Input> Files for MachineFiles<'_, R> {
     }
 
     fn write(&mut self, name: &str, bytes: &[u8]) -> TiffResult<()> {
-        fs::write(self.rt, name, bytes).map_err(|e| fault(e.kind()))
+        write_whole(self.rt, name, bytes).map_err(|e| fault(e.kind()))
     }
 }
