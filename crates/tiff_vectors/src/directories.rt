@@ -2,10 +2,10 @@
 
 use crate::expect::{empty_sink, expect_text};
 use std::alloc::Global;
-use tiff_base::directory::Directory;
+use tiff_base::directory::{Directory, Entry};
 use tiff_base::error::TiffResult;
 use tiff_base::io::{MemorySink, MemorySource, Sink};
-use tiff_base::tags::{IfdPointer, Tag};
+use tiff_base::tags::{IfdPointer, Tag, Type};
 use tiff_decode::decoder::Decoder;
 use tiff_encode::encoder::{DirectoryOffset, TiffEncoder, TiffKind, TiffKindBig, TiffKindStandard};
 use tiff_value::encoder::colortype::Gray8;
@@ -56,14 +56,50 @@ fn parent_lost<K: TiffKind>(alloc: Global) -> TiffResult<String> {
         alloc,
         empty_sink(alloc),
     )?;
-    lose_parent(alloc, &mut encoder)
+    let told = lose_parent(alloc, &mut encoder)?;
+    let file = encoder.into_inner().into_vec();
+    Ok(format!(in alloc; "{told} {file:?}")?)
+}
+
+// The file has its header then, and no directory.
+#[test]
+fn parents_are_written_before(rt: HostRuntime) {
+    let classic = "Err(UsageError(ParentNotWritten)) [73, 73, 42, 0, 0, 0, 0, 0]";
+    let big =
+        "Err(UsageError(ParentNotWritten)) [73, 73, 43, 0, 8, 0, 0, 0, 0, 0, 0, 0, 0, 0, 0, 0]";
+    expect_text(&rt, 0, parent_lost::<TiffKindStandard>(rt.alloc()), classic);
+    expect_text(&rt, 1, parent_lost::<TiffKindBig>(rt.alloc()), big);
+}
+
+// Where a directory of two tags stands.
+fn write_sides<W: Sink>(
+    encoder: &mut TiffEncoder<W, TiffKindStandard>,
+) -> TiffResult<DirectoryOffset<TiffKindStandard>> {
+    let mut sides = encoder.extra_directory()?;
+    let wide = sides.write_tag(Tag::ImageWidth, 100u32);
+    let high = sides.write_tag(Tag::ImageLength, 200u32);
+    let ended = sides.finish_with_offsets();
+    wide?;
+    high?;
+    ended
+}
+
+// The same by its offset and its entries, in a new file; and whether both are equal.
+fn offsets_compared(alloc: Global) -> TiffResult<String> {
+    let mut encoder = TiffEncoder::new(alloc, empty_sink(alloc))?;
+    let written = write_sides(&mut encoder)?;
+    let entries = [
+        (Tag::ImageWidth, Entry::new(Type::LONG, 1, [100, 0, 0, 0])),
+        (Tag::ImageLength, Entry::new(Type::LONG, 1, [200, 0, 0, 0])),
+    ];
+    let made = DirectoryOffset::new(IfdPointer(8), &Directory::from_iter(alloc, entries)?)?;
+    let same = made == written;
+    Ok(format!(in alloc; "{:?} {} {same}", written.pointer, written.offset)?)
 }
 
 #[test]
-fn parents_are_written_before(rt: HostRuntime) {
-    let wanted = "Err(UsageError(ParentNotWritten))";
-    expect_text(&rt, 0, parent_lost::<TiffKindStandard>(rt.alloc()), wanted);
-    expect_text(&rt, 1, parent_lost::<TiffKindBig>(rt.alloc()), wanted);
+fn an_offset_that_is_made_is_the_one_that_was_written(rt: HostRuntime) {
+    expect_text(&rt, 0, offsets_compared(rt.alloc()), "IfdPointer(8) 8 true");
 }
 
 // What the offset of a directory without entries answers.

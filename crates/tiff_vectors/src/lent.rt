@@ -1,16 +1,18 @@
 //! Slices, lists and buffers that a caller lends to a decoder, with contents of its own.
 
-use crate::expect::{expect_bytes, expect_text};
+use crate::expect::{empty_sink, expect_bytes, expect_text};
 use std::alloc::Global;
 use std::boxed::Box;
 use tiff_base::error::TiffResult;
-use tiff_base::io::MemorySource;
+use tiff_base::io::{MemorySource, Sink};
 use tiff_base::tags::{ByteOrder, Tag, Type};
 use tiff_decode::buffer::DecodingBuffer;
 use tiff_decode::decoder::{Decoder, DecodingResult};
+use tiff_encode::encoder::{TiffEncoder, TiffKind};
 use tiff_ifd::limits::Limits;
 use tiff_page::layout::{BufferLayoutPreference, DecodingSampleType, TiffCodingUnit};
 use tiff_value::buffer::ValueBuffer;
+use tiff_value::encoder::colortype::RGB8;
 
 // Two pixels of two gray samples, in planes, one strip each, big-endian; the field of the unnamed tag is cut.
 const PAGE: [u8; 166] = [
@@ -202,6 +204,56 @@ fn a_list_takes_the_type_and_the_length_of_a_chunk(rt: HostRuntime) {
     let mut decoder = opened(rt.alloc()).expect(&rt, "the page");
     let told = listed(rt.alloc(), &mut decoder);
     expect_text(&rt, 0, told, "U8([9, 10, 0, 0])");
+}
+
+// Writes 374 by 499 pixels of three colors, in planes.
+fn write_planes<W: Sink, K: TiffKind>(
+    encoder: &mut TiffEncoder<W, K>,
+    samples: &[u8],
+) -> TiffResult<()> {
+    let mut image = encoder.new_image::<RGB8>(374, 499)?;
+    let apart = image.planar();
+    let ended = image.write_data(samples);
+    apart?;
+    ended
+}
+
+// A decoder of them.
+fn planes_opened(alloc: Global) -> TiffResult<Box<Decoder<MemorySource>>> {
+    let samples = vec![in alloc; 42u8; 559_878]?;
+    let mut encoder = TiffEncoder::new(alloc, empty_sink(alloc))?;
+    write_planes(&mut encoder, &samples)?;
+    let file = encoder.into_inner().into_vec();
+    let decoder = Decoder::new(alloc, MemorySource::new(file))?;
+    Ok(Box::new(alloc, decoder)?)
+}
+
+// How many bytes of the image are read under a limit, and how many planes its layout names.
+fn read_under(
+    alloc: Global,
+    decoder: &mut Decoder<MemorySource>,
+    limit: usize,
+) -> TiffResult<String> {
+    let mut limits = Limits::default();
+    limits.decoding_buffer_size = limit;
+    decoder.set_limits(limits);
+    let mut image = DecodingResult::U8(Vec::new(alloc));
+    let layout = decoder.read_image_to_buffer(&mut image)?;
+    let len = image.as_buffer(0).byte_len();
+    let planes = layout.planes;
+    Ok(format!(in alloc; "{len} bytes, {planes} planes")?)
+}
+
+// All planes are read where the limit lets them, and else the first.
+#[test]
+fn planes_are_read_under_limits(rt: HostRuntime) {
+    let mut decoder = planes_opened(rt.alloc()).expect(&rt, "the planes");
+    let first = "186626 bytes, 3 planes";
+    let all = "559878 bytes, 3 planes";
+    for (times, wanted) in [(1, first), (2, first), (3, all), (4, all)] {
+        let told = read_under(rt.alloc(), &mut decoder, 186_626 * times);
+        expect_text(&rt, times as u64, told, wanted);
+    }
 }
 
 // The layout of the page, with another number type and length.
