@@ -1,6 +1,7 @@
 /* Times tiff_c beside libtiff and memcpy. Its words are three for each file: a name, the file's path, and `both` where libtiff reads it
-   too, else `alone`. A name that begins with `open` times the opening alone, and one that begins with `page`, as `page_9_of_ten`, how long it
-   takes to open the file and answer the sides of that page, or why there are none. Then it times writing, of images that it makes. */
+   too, else `alone`. A name that begins with `open` times the opening alone, one that begins with `page`, as `page_9_of_ten`, how long it
+   takes to open the file and answer the sides of that page, or why there are none, and one that begins with `each` the reading of all chunks, one
+   by one. Then it times writing, of images that it makes. */
 #include <stdio.h>
 #include <stdlib.h>
 #include <string.h>
@@ -25,6 +26,7 @@ struct work {
     const char *name;
     struct tiff_image image;
     struct drawn drawn;
+    int differs;
     uint8_t *samples, *ours, *theirs;
     size_t len, size, our_len, their_len;
 };
@@ -137,6 +139,17 @@ static void print_page(struct load *l) {
     printf("\n");
 }
 
+static void chunks_by_ours(struct load *l) {
+    struct tiff_chunks chunks;
+    if (tiff_page_chunks(l->file, l->len, 0, &chunks)) stop("refused by tiff_c", l->name);
+    for (uint32_t i = 0; i < chunks.count; i++)
+        if (tiff_read_chunk_bytes(l->file, l->len, 0, i, l->ours, l->size)) stop("refused by tiff_c", l->name);
+}
+
+static void chunks_by_theirs(struct load *l) {
+    if (!chunks_by_libtiff(l->file, l->len, l->theirs)) stop("refused by libtiff", l->name);
+}
+
 static void measure(struct load *l) {
     struct tiff_layout layout;
     struct tiff_sides sides;
@@ -148,6 +161,19 @@ static void measure(struct load *l) {
     l->across = sides.width / chunks.width;
     l->height = chunks.height;
     l->row = layout.len / sides.height / l->across;
+}
+
+static void print_chunks(struct load *l) {
+    measure(l);
+    l->ours = room(l->size);
+    l->theirs = room(l->size);
+    double ours = 0, theirs = 0, whole = 0;
+    for (int i = 0; i < ROUNDS; i++) {
+        best(&ours, chunks_by_ours, l);
+        best(&theirs, chunks_by_theirs, l);
+        best(&whole, read_ours, l);
+    }
+    printf("\n%s: %.2f milliseconds, by one call each; libtiff: %.2f; the whole image by one call: %.2f\n", l->name, 1e3 * ours, 1e3 * theirs, 1e3 * whole);
 }
 
 static void print_reading(struct load *l) {
@@ -206,7 +232,8 @@ static void draw(struct work *w) {
     }
 }
 
-/* Has libtiff write strips of as many rows as tiff_c does, and each read what the other wrote. */
+/* Has libtiff write strips of as many rows as tiff_c does, and each read what the other wrote. What libtiff writes without differences is read
+   as the same samples; it reads no differences where samples aren't compressed. */
 static void match(struct work *w) {
     struct tiff_chunks chunks;
     uint8_t *back = room(w->len);
@@ -216,13 +243,15 @@ static void match(struct work *w) {
     write_theirs(w);
     if (tiff_read_image_bytes(w->theirs, w->their_len, 0, back, w->len) || memcmp(back, w->samples, w->len)) stop("other samples in libtiff's file", w->name);
     memset(back, 0, w->len);
-    if (!by_libtiff(w->ours, w->our_len, back) || memcmp(back, w->samples, w->len)) stop("other samples in tiff_c's file", w->name);
+    int read_so = w->differs ? !tiff_read_image_bytes(w->ours, w->our_len, 0, back, w->len) : by_libtiff(w->ours, w->our_len, back);
+    if (!read_so || memcmp(back, w->samples, w->len)) stop("other samples in tiff_c's file", w->name);
     free(back);
 }
 
-static void print_writing(const char *name, uint32_t color, struct drawn drawn) {
-    struct work w = {.name = name, .drawn = drawn};
-    w.image = (struct tiff_image){color, drawn.width, drawn.height, TIFF_CLASSIC, drawn.packed ? TIFF_PACKBITS : TIFF_UNCOMPRESSED, TIFF_NO_PREDICTOR};
+static void print_writing(const char *name, uint32_t color, struct drawn drawn, int differs) {
+    struct work w = {.name = name, .drawn = drawn, .differs = differs};
+    w.image = (struct tiff_image){color, drawn.width, drawn.height, TIFF_CLASSIC, drawn.packed ? TIFF_PACKBITS : TIFF_UNCOMPRESSED,
+                                  differs ? TIFF_HORIZONTAL : TIFF_NO_PREDICTOR};
     w.len = (size_t)drawn.width * drawn.height * drawn.samples * drawn.bits / 8;
     w.size = w.len + w.len / 64 + (1 << 20);
     w.samples = room(w.len);
@@ -236,8 +265,12 @@ static void print_writing(const char *name, uint32_t color, struct drawn drawn) 
         best_work(&theirs, write_theirs, &w);
         best_work(&copied, copy_samples, &w);
     }
-    printf("| %s | %.0f | %.0f | %.0f | %.2f | %.2f | %zu | %zu |\n", name, mega / ours, mega / theirs, mega / copied, theirs / ours, copied / ours,
-           w.our_len, w.their_len);
+    printf("| %s%s%s | %.0f | ", name, drawn.packed ? ", PackBits" : "", differs ? ", differences" : "", mega / ours);
+    if (differs) printf("- | %.0f | - | ", mega / copied);
+    else printf("%.0f | %.0f | %.2f | ", mega / theirs, mega / copied, theirs / ours);
+    printf("%.2f | %zu | ", copied / ours, w.our_len);
+    if (differs) printf("- |\n");
+    else printf("%zu |\n", w.their_len);
     free(w.samples);
     free(w.ours);
     free(w.theirs);
@@ -246,12 +279,13 @@ static void print_writing(const char *name, uint32_t color, struct drawn drawn) 
 static void print_writings(void) {
     printf("\n| Written | tiff_c, MB/s | libtiff, MB/s | memcpy, MB/s | to libtiff | to memcpy | bytes of tiff_c's file | of libtiff's |\n"
            "|---|---|---|---|---|---|---|---|\n");
-    print_writing("gray8", TIFF_GRAY8, (struct drawn){4096, 4096, 1, 8, 0, 0});
-    print_writing("rgb8", TIFF_RGB8, (struct drawn){2048, 2048, 3, 8, 0, 0});
-    print_writing("rgb16", TIFF_RGB16, (struct drawn){2048, 1024, 3, 16, 0, 0});
-    print_writing("gray8, PackBits", TIFF_GRAY8, (struct drawn){4096, 4096, 1, 8, 1, 0});
-    print_writing("rgb8, PackBits", TIFF_RGB8, (struct drawn){2048, 2048, 3, 8, 1, 0});
-    print_writing("rgb16, PackBits", TIFF_RGB16, (struct drawn){2048, 1024, 3, 16, 1, 0});
+    for (uint32_t packed = 0; packed < 2; packed++)
+        for (int differs = 0; differs < 2; differs++) {
+            print_writing("gray8", TIFF_GRAY8, (struct drawn){4096, 4096, 1, 8, packed, 0}, differs);
+            print_writing("rgb8", TIFF_RGB8, (struct drawn){2048, 2048, 3, 8, packed, 0}, differs);
+            print_writing("rgb16", TIFF_RGB16, (struct drawn){2048, 1024, 3, 16, packed, 0}, differs);
+            if (!differs) print_writing("float32", TIFF_GRAY32_FLOAT, (struct drawn){2048, 2048, 1, 32, packed, 0}, differs);
+        }
 }
 
 int main(int argc, char **argv) {
@@ -262,6 +296,7 @@ int main(int argc, char **argv) {
         read_file(&l, argv[i + 1]);
         if (strncmp(l.name, "open", 4) == 0) print_opening(&l);
         else if (strncmp(l.name, "page", 4) == 0) print_page(&l);
+        else if (strncmp(l.name, "each", 4) == 0) print_chunks(&l);
         else print_reading(&l);
         free(l.file);
         free(l.ours);

@@ -83,6 +83,20 @@ int by_libtiff(const uint8_t *file, size_t len, uint8_t *buffer) {
     return well;
 }
 
+int chunks_by_libtiff(const uint8_t *file, size_t len, uint8_t *buffer) {
+    struct memory m = {file, len, 0};
+    TIFF *t = open_it(&m);
+    if (!t) return 0;
+    int tiled = TIFFIsTiled(t), well = 1;
+    uint32_t count = tiled ? TIFFNumberOfTiles(t) : TIFFNumberOfStrips(t);
+    for (uint32_t i = 0; well && i < count; i++) {
+        tmsize_t n = tiled ? TIFFReadEncodedTile(t, i, buffer, -1) : TIFFReadEncodedStrip(t, i, buffer, -1);
+        well = n >= 0;
+    }
+    TIFFClose(t);
+    return well;
+}
+
 uint32_t page_width_by_libtiff(const uint8_t *file, size_t len, uint32_t page) {
     struct memory m = {file, len, 0};
     TIFF *t = open_it(&m);
@@ -130,6 +144,7 @@ static void describe(TIFF *t, const struct drawn *image) {
     TIFFSetField(t, TIFFTAG_IMAGEWIDTH, image->width);
     TIFFSetField(t, TIFFTAG_IMAGELENGTH, image->height);
     TIFFSetField(t, TIFFTAG_BITSPERSAMPLE, image->bits);
+    TIFFSetField(t, TIFFTAG_SAMPLEFORMAT, image->bits == 32 ? SAMPLEFORMAT_IEEEFP : SAMPLEFORMAT_UINT);
     TIFFSetField(t, TIFFTAG_SAMPLESPERPIXEL, image->samples);
     TIFFSetField(t, TIFFTAG_PHOTOMETRIC, image->samples == 3 ? PHOTOMETRIC_RGB : PHOTOMETRIC_MINISBLACK);
     TIFFSetField(t, TIFFTAG_PLANARCONFIG, PLANARCONFIG_CONTIG);

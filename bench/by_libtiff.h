@@ -8,13 +8,16 @@
 /* Reads the image of the first page into BUFFER, which has room for all its planes. Answers 1, or 0 where it fails. */
 int by_libtiff(const uint8_t *file, size_t len, uint8_t *buffer);
 
+/* Reads each chunk of the first page into the front of BUFFER, one after another. Answers 1, or 0 where it fails. */
+int chunks_by_libtiff(const uint8_t *file, size_t len, uint8_t *buffer);
+
 /* The width of the first page, or 0. */
 uint32_t width_by_libtiff(const uint8_t *file, size_t len);
 
 /* The width of a page, by its number from 0, or 0. */
 uint32_t page_width_by_libtiff(const uint8_t *file, size_t len, uint32_t page);
 
-/* An image: its sides, the samples of a pixel, one or three, and the bits of each; whether it is packed by PackBits, and the rows of its
+/* An image: its sides, the samples of a pixel, one or three, and the bits of each, which are floating numbers where there are 32; whether it is packed by PackBits, and the rows of its
    strips. */
 struct drawn {
     uint32_t width, height, samples, bits, packed, rows;
