@@ -7,6 +7,7 @@ use Rattle.tiff_base.specs.declared.io.IoKind.TheVariants.{WriteZero}
 use Rattle.tiff_base.specs.declared.tags.CompressionMethod.{CompressionMethod}
 use Rattle.tiff_base.specs.declared.tags.CompressionMethod.TheVariants as method
 use Rattle.tiff_base.specs.Blocks.{Block, Nothing, Literal, Repeated, AreBlocks, packed_block, plain_block}
+use Rattle.tiff_base.specs.Runs.{Plain, runs}
 
 abbrev pub begins_with_two : List ℕ → Bool
 begins_with_two [] = false
@@ -55,3 +56,9 @@ IsStored method stored bytes = ⊥
 abbrev pub store_fault : CompressionMethod → List ℕ → Option TiffError
 store_fault method.PackBits [] = Some (IoError WriteZero)
 store_fault method bytes = None
+
+-- ---- its law
+
+-- a packed list unpacks to the bytes that it was packed from, and ends at the end of a block
+abbrev pub PackedUnpacks : Type 0
+PackedUnpacks = (bytes list : List ℕ) → IsPacked bytes list → runs false list ≡ record { out = bytes; end = Plain }

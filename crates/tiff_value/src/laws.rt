@@ -7,6 +7,7 @@ ghost use Rattle.tiff_value.specs.ColorType.{IsColorType, sample_number};
 ghost use Rattle.tiff_value.specs.ColorTypes.{color_type, inner_type, AreColorTypes};
 ghost use Rattle.tiff_value.specs.Data.{DataIsWhole, TextIsWhole, data_of};
 ghost use Rattle.tiff_value.specs.Differences.{IsUndone};
+ghost use Rattle.tiff_value.specs.Packed.{PackedUnpacks};
 ghost use Rattle.tiff_value.specs.Values.{IsValue};
 
 use crate::encoder::colortype::{ColorType, NamedColorType};
@@ -60,4 +61,9 @@ pub fn sample_is_spelled<S: Sample>()
 /// A row that was written as differences is given back by undoing them.
 pub fn is_undone()
     ensures { IsUndone }
+{}
+
+/// What was packed by PackBits unpacks to the bytes that were handed in.
+pub fn packed_unpacks()
+    ensures { PackedUnpacks }
 {}
