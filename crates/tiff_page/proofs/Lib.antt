@@ -24,3 +24,4 @@ pub mod Reach
 mod Sums
 pub mod Wants
 mod Complements
+pub mod EarlyLaws

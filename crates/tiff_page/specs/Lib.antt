@@ -22,3 +22,4 @@ pub mod EarlyFaults
 pub mod NumberBytes
 pub mod Samples
 pub mod Reach
+pub mod EarlyLaws

@@ -1,5 +1,6 @@
 //! Laws of the definitions, each the contract of a function with no work.
 
+ghost use Rattle.tiff_page.specs.EarlyLaws.{EarlyIsAnswered};
 ghost use Rattle.tiff_page.specs.Laws.{OneChunk, ChunksWithin, FirstFault, NoFault, PlacedEach, SomeBytes, ImageOfChunks, WholeRows, UnitOfChunks};
 ghost use Rattle.tiff_page.specs.Row.{ComplementsInvert, BytesOfNumbers};
 
@@ -56,4 +57,9 @@ pub fn complements_invert()
 /// A row of little-endian numbers has the bytes of these numbers, the least first.
 pub fn bytes_of_numbers()
     ensures { BytesOfNumbers }
+{}
+
+/// What is found before memory is taken for samples is the answer of the call that hands them out.
+pub fn early_is_answered()
+    ensures { EarlyIsAnswered }
 {}
