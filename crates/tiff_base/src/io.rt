@@ -46,7 +46,7 @@ pub enum SinkFault {
 }
 
 /// Bytes that can be read at any offset.
-pub trait Source {
+pub trait Source: Drop {
     /// The bytes; they never change.
     ghost bytes: { Self → List ℕ };
 
@@ -72,7 +72,7 @@ pub trait Source {
 }
 
 /// Bytes that can be added to, and written over.
-pub trait Sink {
+pub trait Sink: Drop {
     /// The bytes that it was told and took.
     ghost told: { Self → List ℕ };
 
@@ -208,7 +208,7 @@ pub struct BufferedSource<S: Source> {
     ghost holds: { take held buffer.items ≡ bytes_at (S.bytes source) from held },
 }
 
-impl<S: Source + Drop> BufferedSource<S> {
+impl<S: Source> BufferedSource<S> {
     /// The source of the same bytes. It takes memory for its buffer, and reads nothing yet.
     pub fn new(alloc: Global, source: S) -> Result<Self, AllocError>
         ensures { IfOk result (λ s. s.source ≡ source) }

@@ -322,7 +322,7 @@ impl<R: Source> fmt::Debug for Decoder<R> {
     }
 }
 
-impl<R: Source + Drop> Decoder<R> {
+impl<R: Source> Decoder<R> {
     /// Opens a file at its first page, under the limits by default. The first fault of the header, the directory or the
     /// page is answered.
     pub fn new(alloc: Global, source: R) -> TiffResult<Self>

@@ -73,7 +73,7 @@ impl<W: Sink, K: TiffKind> Model for TiffEncoder<W, K> {
     ghost invariant = { λ e. StandsAtEnd K.kind e.writer e.chain };
 }
 
-impl<W: Sink + Drop> TiffEncoder<W, TiffKindStandard> {
+impl<W: Sink> TiffEncoder<W, TiffKindStandard> {
     /// Writes the header of a classic file (TIFF 6.0) at the sink's end, with no directory yet. A fault of the sink:
     /// `IoError(Device)` or `OutOfMemory`.
     pub fn new(alloc: Global, sink: W) -> TiffResult<Self>
@@ -88,7 +88,7 @@ impl<W: Sink + Drop> TiffEncoder<W, TiffKindStandard> {
     }
 }
 
-impl<W: Sink + Drop> TiffEncoder<W, TiffKindBig> {
+impl<W: Sink> TiffEncoder<W, TiffKindBig> {
     /// The same, of a BigTIFF file.
     pub fn new_big(alloc: Global, sink: W) -> TiffResult<Self>
         ensures answer { MatchResult result
@@ -100,7 +100,7 @@ impl<W: Sink + Drop> TiffEncoder<W, TiffKindBig> {
     }
 }
 
-impl<W: Sink + Drop, K: TiffKind> TiffEncoder<W, K> {
+impl<W: Sink, K: TiffKind> TiffEncoder<W, K> {
     /// The same, of a file of either kind.
     pub fn new_generic(alloc: Global, sink: W) -> TiffResult<Self>
         ensures answer { MatchResult result

@@ -103,7 +103,7 @@ pub fn lines_of_calls<R: Source>(
 
 /// Runs jobs over a sink, as `run_jobs` does, and answers the sink with the lines of what the jobs were answered. Its errors are those of
 /// `run_jobs`, and `OutOfMemory` for the lines.
-pub fn run_told<W: Sink + Drop, K: TiffKind>(
+pub fn run_told<W: Sink, K: TiffKind>(
     alloc: Global,
     sink: W,
     jobs: &[Job],

@@ -215,7 +215,7 @@ fn run_all<W: Sink, K: TiffKind>(
 }
 
 // A new encoder, and jobs by it; there is room for their replies.
-fn run_new<W: Sink + Drop, K: TiffKind>(
+fn run_new<W: Sink, K: TiffKind>(
     alloc: Global,
     sink: W,
     jobs: &[Job],
@@ -235,7 +235,7 @@ fn run_new<W: Sink + Drop, K: TiffKind>(
 /// Writes a header of a kind at a sink's end, and runs jobs one after another; the reply of each, a fault too, is put behind those in
 /// `replies`. It answers the sink. Room for all replies is taken first, by steps that don't have the sink: where that is refused,
 /// `OutOfMemory`; a fault of the sink in the header: `IoError(Device)` or `OutOfMemory`. After an error `replies` holds what it held.
-pub fn run_jobs<W: Sink + Drop, K: TiffKind>(
+pub fn run_jobs<W: Sink, K: TiffKind>(
     alloc: Global,
     sink: W,
     jobs: &[Job],

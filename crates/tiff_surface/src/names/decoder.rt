@@ -6,7 +6,7 @@ use tiff::decoder::{Decoder, DecodingBuffer, DecodingResult, Limits};
 use tiff::io::Source;
 
 // Pages and limits.
-fn name_pages<R: Source + Drop>() {
+fn name_pages<R: Source>() {
     let _call = Decoder::<R>::new;
     let _call = Decoder::<R>::with_limits;
     let _call = Decoder::<R>::set_limits;
@@ -101,7 +101,7 @@ fn name_scripts<R: Source>() {
 }
 
 /// Names the calls.
-pub fn name_calls<R: Source + Drop>() {
+pub fn name_calls<R: Source>() {
     name_pages::<R>();
     name_tags::<R>();
     name_numbers::<R>();

@@ -7,7 +7,7 @@ use tiff::encoder::{
 use tiff::io::Sink;
 
 // Encoders of both kinds of files.
-fn name_encoders<W: Sink + Drop, K: TiffKind>() {
+fn name_encoders<W: Sink, K: TiffKind>() {
     let _call = TiffEncoder::<W, TiffKindStandard>::new;
     let _call = TiffEncoder::<W, TiffKindBig>::new_big;
     let _call = TiffEncoder::<W, K>::new_generic;
@@ -47,7 +47,7 @@ fn name_kinds<W: Sink, K: TiffKind>() {
 }
 
 /// Names the calls.
-pub fn name_calls<W: Sink + Drop, K: TiffKind>() {
+pub fn name_calls<W: Sink, K: TiffKind>() {
     name_encoders::<W, K>();
     name_directories::<W, K>();
     name_kinds::<W, K>();

@@ -4,7 +4,7 @@ use tiff::decoder::stream::{EndianReader, PackBitsReader};
 use tiff::io::{BufferedSource, MemorySink, MemorySource, Sink, SliceSource, Source};
 
 // Sources and sinks.
-fn name_devices<R: Source + Drop, W: Sink>() {
+fn name_devices<R: Source, W: Sink>() {
     let _call = R::read_at;
     let _call = MemorySource::new;
     let _call = SliceSource::new;
@@ -36,7 +36,7 @@ fn name_readers<R: Source>() {
 }
 
 /// Names the calls.
-pub fn name_calls<R: Source + Drop, W: Sink>() {
+pub fn name_calls<R: Source, W: Sink>() {
     name_devices::<R, W>();
     name_readers::<R>();
 }
