@@ -6,7 +6,7 @@ use Rattle.std.proofs.lemmas.List.FromFn.{length-map-range_with_len, get_or-map-
 use Rattle.std.specs.List.{range_with_len}
 use Rattle.std.proofs.Math.Nat.{mul-le-mul_right}
 use Rattle.std.specs.Int.{w16, w32, w64}
-use Rattle.std.specs.Prelude.{if◌then◌else◌}
+use Rattle.std.specs.Prelude.{IsOk, if◌then◌else◌, is_ok}
 use Rattle.tiff_base.specs.declared.error.TiffError.{TiffError}
 use Rattle.tiff_base.specs.declared.error.TiffError.TheVariants.{LimitsExceeded}
 use Rattle.tiff_base.specs.declared.tags.FileKind.{FileKind}
@@ -121,3 +121,7 @@ pub each_given : (type : «Type») (order : ByteOrder) (n : ℕ) (bs numbers : L
     → numbers_from type order n bs ≡ Ok numbers
 each_given type order n bs numbers h l m e =
     unsigned_value type order n bs h l ∙ ap Ok (sym (each_read (number order (unsigned_width type)) (type_size type) n bs numbers m e))
+
+-- which are no fault
+pub unsigned_ok : (type : «Type») (order : ByteOrder) (n : ℕ) (bs : List ℕ) → IsUnsigned type → length bs ≡ n * type_size type → IsOk (numbers_from type order n bs)
+unsigned_ok type order n bs h l = ap (λ (r : Result (List ℕ) TiffError). is_ok r) (unsigned_value type order n bs h l)

@@ -1,17 +1,22 @@
 -- Values that no limit refuses, and whose bytes are there.
-use Rattle.std.proofs.Common.{ℕ, List, Bool, true, false, Some, Result, Ok, Err}
+use Rattle.std.proofs.Common.{◌≡◌, ℕ, List, ◌∷◌, Bool, true, false, Option, None, Some, Result, Ok, Err, refl}
 use Rattle.std.specs.Prelude.{IsOk, if◌then◌else◌}
 use Rattle.tiff_base.specs.declared.error.TiffError.{TiffError}
-use Rattle.tiff_base.specs.declared.error.TiffError.TheVariants.{FormatError}
+use Rattle.tiff_base.specs.declared.error.TiffError.TheVariants.{FormatError, LimitsExceeded}
 use Rattle.tiff_base.specs.declared.error.TiffFormatError.TheVariants.{InvalidTag}
 use Rattle.tiff_base.specs.declared.tags.ByteOrder.{ByteOrder}
+use Rattle.tiff_base.specs.declared.tags.FileKind.{FileKind}
 use Rattle.tiff_base.specs.declared.tags.«Type».{«Type»}
 use Rattle.tiff_base.specs.declared.tags.«Type».TheVariants as t
-use Rattle.tiff_base.specs.Answers.{◌>>=◌}
-use Rattle.tiff_base.specs.Sparing.{IsWithinLimits}
-use Rattle.tiff_ifd.specs.Datum.{Datum, ascii}
-use Rattle.tiff_ifd.specs.FieldValue.{value_from, placed_text}
-use Rattle.tiff_ifd.specs.Into.{into_string}
+use Rattle.tiff_base.specs.Answers.{IsCause, ◌>>=◌}
+use Rattle.tiff_base.specs.Field.{Field}
+use Rattle.tiff_base.specs.Sparing.{IsFoundWithin, IsWithinLimits}
+use Rattle.tiff_base.proofs.Causes.{cause_along}
+use Rattle.tiff_ifd.specs.Datum.{Datum, DatumList, none, more, list, byte, ascii}
+use Rattle.tiff_ifd.specs.FieldValue.{WantsFound, WantsValue, placed_text, stands_in_entry, value_from}
+use Rattle.tiff_ifd.specs.Into.{each_item, into_string, into_u64, into_u64_vec}
+use Rattle.tiff_ifd.specs.Look.{if_found}
+use Rattle.tiff_ifd.specs.Unsigned.{numbers_from}
 
 text_within : {Y : Type 0} (b : Bool) (y : Y) → IsWithinLimits (if b then Ok y else Err (FormatError InvalidTag))
 text_within true y = tt
@@ -52,7 +57,74 @@ pub text_read_within : (found : Result (List ℕ) TiffError) → IsOk found → 
 text_read_within (Ok bytes) h = text_string_within _ _
 text_read_within (Err e) h = absurd (cc)
 
+-- ---- where memory is wanted
+
 -- a value that is looked for, and there
-pub found_within : (given : Result Datum TiffError) → IsWithinLimits given → IsWithinLimits (given >>= λ d. Ok (Some d))
-found_within (Ok d) h = tt
-found_within (Err e) h = h
+pub found_wanted : (inline : Bool) (given : Result Datum TiffError) → WantsValue inline given → WantsValue inline (given >>= λ d. Ok (Some d))
+found_wanted true (Ok d) h = h
+found_wanted true (Err e) h = h
+found_wanted false (Ok d) h = tt
+found_wanted false (Err e) h = h
+
+wanted_within : {Y : Type 0} (inline : Bool) (given : Result Y TiffError) → WantsValue inline given → IsWithinLimits given
+wanted_within true (Ok y) h = tt
+wanted_within true (Err e) h = absurd (cc)
+wanted_within false given h = h
+
+unfound : (given : Result Datum TiffError) → IsWithinLimits (given >>= λ d. Ok (Some d)) → IsWithinLimits given
+unfound (Ok d) h = tt
+unfound (Err e) h = h
+
+there_within : (given : Result Datum TiffError) → IsWithinLimits given → IsFoundWithin (given >>= λ d. Ok (Some d))
+there_within (Ok d) h = tt
+there_within (Err e) h = h
+
+-- what is looked for is found within the limits and the source
+pub look_within : (kind : FileKind) (value : Field → Result Datum TiffError) (field : Option Field) → WantsFound kind field (if_found value field)
+    → IsFoundWithin (if_found value field)
+look_within kind value None h = absurd h
+look_within kind value (Some e) h = there_within (value e) (unfound (value e) (wanted_within (stands_in_entry kind e) (if_found value (Some e)) h))
+
+-- ---- numbers
+
+bound_within : {A B : Type 0} (found : Result A TiffError) (next : A → Result B TiffError) → IsWithinLimits found → ((x : A) → IsWithinLimits (next x))
+    → IsWithinLimits (found >>= next)
+bound_within (Ok x) next h n = n x
+bound_within (Err e) next h n = h
+
+number_within : (d : Datum) → IsWithinLimits (into_u64 d)
+number_within (byte n) = tt
+number_within _ = tt
+
+each_within : (ds : DatumList) → IsWithinLimits (each_item into_u64 ds)
+each_within none = tt
+each_within (more d ds) =
+    bound_within (into_u64 d) (λ x. each_item into_u64 ds >>= λ xs. Ok (x ∷ xs)) (number_within d)
+    (λ x. bound_within (each_item into_u64 ds) (λ xs. Ok (x ∷ xs)) (each_within ds) (λ xs. tt))
+
+-- what the numbers of a value are refused as is no limit
+pub numbers_within : (d : Datum) → IsWithinLimits (into_u64_vec d)
+numbers_within (list ds) = each_within ds
+numbers_within _ = tt
+
+-- and so of a value that is read
+pub field_numbers_within : (inline : Bool) (given : Result Datum TiffError) → WantsValue inline given → IsWithinLimits (given >>= into_u64_vec)
+field_numbers_within inline given h = bound_within given into_u64_vec (wanted_within inline given h) numbers_within
+
+-- the numbers of bytes that are there
+pub placed_within : (type : «Type») (order : ByteOrder) (count : ℕ) (found : Result (List ℕ) TiffError) → IsOk found
+    → IsWithinLimits (found >>= λ bytes. numbers_from type order count bytes)
+placed_within type order count (Ok bytes) h = bound_within (value_from false type order count bytes) into_u64_vec (value_within false type order count bytes) numbers_within
+placed_within type order count (Err e) h = absurd (cc)
+
+-- numbers that are looked for, of a value that is found
+pub numbers_found : (given : Result Datum TiffError) → IsWithinLimits (given >>= into_u64_vec) → IsFoundWithin (given >>= λ d. Ok (Some d))
+numbers_found (Ok d) h = tt
+numbers_found (Err e) h = h
+
+pub placed_cause : (failed : Type 0) (allowed : Bool) (type : «Type») (order : ByteOrder) (count : ℕ) (found : Result (List ℕ) TiffError) (e : TiffError)
+    → allowed ≡ true → IsCause (IsOk found) failed e (found ≡ Err e)
+    → IsCause (IsWithinLimits (if allowed then (found >>= λ bytes. numbers_from type order count bytes) else Err LimitsExceeded)) failed e
+    ((if allowed then (found >>= λ bytes. numbers_from type order count bytes) else Err LimitsExceeded) ≡ Err e)
+placed_cause failed false type order count found e a h = absurd (cc)
+placed_cause failed true type order count found e a h = cause_along e (placed_within type order count found) (λ f. f) (λ g. rw g refl) h

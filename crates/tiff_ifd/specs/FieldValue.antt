@@ -1,5 +1,5 @@
 -- The value of a field (TIFF 6.0 section 2; its texts and limits as in the Rust crate).
-use Rattle.std.specs.Prelude.{ℕ, ◌-◌, ◌/◌, ◌^◌, Bool, true, false, not, ◌&&◌, ◌||◌, if◌then◌else◌, ◌==◌, nat_lt, nat_le, List, [], length, take, drop, slice_index, Result, Ok, Err}
+use Rattle.std.specs.Prelude.{ℕ, ◌-◌, ◌/◌, ◌^◌, Bool, true, false, not, ◌&&◌, ◌||◌, if◌then◌else◌, ◌==◌, nat_lt, nat_le, List, [], length, take, drop, slice_index, Option, None, Some, Result, Ok, Err, IsOk}
 use Rattle.std.specs.List.{list_all, before_first, prefix_len, suffix_len}
 use Rattle.std.specs.Str.{is_utf8}
 use Rattle.std.specs.Int.{byte_len}
@@ -14,6 +14,7 @@ use Rattle.tiff_base.specs.Field.{Field}
 use Rattle.tiff_base.specs.SourceAndSink.{exactly_at}
 use Rattle.tiff_base.specs.Types.{type_size}
 use Rattle.tiff_base.specs.Answers.{◌>>=◌}
+use Rattle.tiff_base.specs.Sparing.{IsWithinLimits}
 use Rattle.tiff_base.specs.Directory.{offset_width}
 use Rattle.tiff_base.specs.FieldBytes.{field_len, field_bytes}
 use Rattle.tiff_ifd.specs.declared.limits.Limits.{Limits}
@@ -72,3 +73,20 @@ field_value kind order bytes limits e =
     else if not (nat_lt (field_len e) (2 ^ 64)) then Err LimitsExceeded
     else if nat_le (field_len e) (byte_len (offset_width kind)) then value_from true e.field_type order e.count (take (field_len e) e.value)
     else placed_value kind order bytes limits e
+
+-- ---- memory for a value
+
+-- the value of a field stands in its entry
+abbrev pub stands_in_entry : FileKind → Field → Bool
+stands_in_entry kind e = nat_le (field_len e) (byte_len (offset_width kind))
+
+-- Memory may be wanted for what is given of a value: of one in its entry, where it is no fault; of another, within the limits
+-- and the source, since its bytes are read first.
+abbrev pub WantsValue : {Y : Type 0} → Bool → Result Y TiffError → Type 0
+WantsValue true given = IsOk given
+WantsValue false given = IsWithinLimits given
+
+-- and for the value of a field that is looked for: never where there is none
+abbrev pub WantsFound : {Y : Type 0} → FileKind → Option Field → Result Y TiffError → Type 0
+WantsFound kind None given = ⊥
+WantsFound kind (Some e) given = WantsValue (stands_in_entry kind e) given

@@ -1,5 +1,5 @@
 -- The tags of a directory, looked up by tag.
-use Rattle.std.specs.Prelude.{ℕ, Bool, List, Option, Some, None, Result, Ok, Err, unwrap_or}
+use Rattle.std.specs.Prelude.{ℕ, ◌<◌, Bool, List, Option, Some, None, Result, Ok, Err, unwrap_or}
 use Rattle.std.specs.FinMap.{FinMap, get, contains_key}
 use Rattle.std.specs.Ordering.{nat_cmp}
 use Rattle.tiff_base.specs.declared.error.TiffError.{TiffError}
@@ -8,7 +8,8 @@ use Rattle.tiff_base.specs.declared.error.TiffFormatError.TheVariants.{RequiredT
 use Rattle.tiff_base.specs.declared.tags.ByteOrder.{ByteOrder}
 use Rattle.tiff_base.specs.declared.tags.FileKind.{FileKind}
 use Rattle.tiff_base.specs.declared.tags.Tag.{Tag}
-use Rattle.tiff_base.specs.Answers.{◌>>=◌}
+use Rattle.tiff_base.specs.Answers.{AnswersBut, ◌>>=◌}
+use Rattle.tiff_base.specs.Sparing.{IsFoundWithin}
 use Rattle.tiff_base.specs.Field.{Field, DirectoryRecord}
 use Rattle.tiff_base.specs.Tags.{tag_number}
 use Rattle.tiff_ifd.specs.declared.limits.Limits.{Limits}
@@ -70,3 +71,8 @@ unfoldable pub require : {A : Type 0} → (Datum → Result A TiffError) → Loo
 require into look tag = do
   found ← find into look tag
   ok_or_fault found (FormatError (RequiredTagNotFound tag))
+
+-- The answer of a call that looks a tag up and converts its value, but for a device, and for want of memory where the tag is
+-- found within the limits and the source.
+abbrev pub AnswersFound : {X Y : Type 0} → (X → Y) → Result X TiffError → Result Y TiffError → Look → Tag → ℕ → ℕ → Type 0
+AnswersFound view result given look tag before after = AnswersBut (IsFoundWithin (look.value tag)) (before < after) view result given

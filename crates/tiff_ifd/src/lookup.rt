@@ -1,10 +1,10 @@
 //! The tags of a directory, looked up and converted.
 
 ghost use Rattle.std.specs.Prelude.{◌≡◌, ℕ, ◌≤◌, ◌^◌, option_map};
-ghost use Rattle.tiff_base.specs.Answers.{Answers, AnswersWithoutSource, IsKept};
+ghost use Rattle.tiff_base.specs.Answers.{IsKept};
 ghost use Rattle.tiff_ifd.specs.View.{datum};
 ghost use Rattle.tiff_ifd.specs.Into as into;
-ghost use Rattle.tiff_ifd.specs.Look.{find, require};
+ghost use Rattle.tiff_ifd.specs.Look.{AnswersFound, find, require};
 
 use crate::value::Value;
 use std::alloc::Global;
@@ -25,22 +25,22 @@ pub trait Tags {
     fn contains(&self, tag: Tag) -> bool
         ensures { result ≡ (told self.now).look.has tag };
 
-    /// The value of a tag.
+    /// The value of a tag. Memory is taken where there is the tag, within the limits and the source.
     fn find(&mut self, alloc: Global, tag: Tag) -> TiffResult<Option<Value>>
         ensures kept { IsKept told failures result self.old self.new }
-        ensures answer { Answers (λ v. option_map datum v) result ((told self.old).look.value tag) (failures self.old) (failures self.new) };
+        ensures answer { AnswersFound (λ v. option_map datum v) result ((told self.old).look.value tag) (told self.old).look tag (failures self.old) (failures self.new) };
 
     /// A tag's numbers, as `Value::into_u64_vec` gives them, if there is the tag.
     fn find_u64_vec(&mut self, alloc: Global, tag: Tag) -> TiffResult<Option<Vec<u64>>>
         ensures kept { IsKept told failures result self.old self.new }
-        ensures answer { Answers (λ o. option_map (λ v. v.items) o) result (find into.into_u64_vec (told self.old).look tag) (failures self.old) (failures self.new) };
+        ensures answer { AnswersFound (λ o. option_map (λ v. v.items) o) result (find into.into_u64_vec (told self.old).look tag) (told self.old).look tag (failures self.old) (failures self.new) };
 }
 
 /// A tag's number below 2^16, if there is the tag.
 #[tactic(auto, unfolding(crate::specs::Look::find))]
 pub fn find_u16<T: Tags>(tags: &mut T, alloc: Global, tag: Tag) -> TiffResult<Option<u16>>
     ensures kept { IsKept T.told T.failures result tags.old tags.new }
-    ensures answer { Answers (λ n. n) result (find into.into_u16 (T.told tags.old).look tag) (T.failures tags.old) (T.failures tags.new) }
+    ensures answer { AnswersFound (λ n. n) result (find into.into_u16 (T.told tags.old).look tag) (T.told tags.old).look tag (T.failures tags.old) (T.failures tags.new) }
 {
     match tags.find(alloc, tag)? {
         None => Ok(None),
@@ -52,7 +52,7 @@ pub fn find_u16<T: Tags>(tags: &mut T, alloc: Global, tag: Tag) -> TiffResult<Op
 #[tactic(auto, unfolding(crate::specs::Look::find))]
 pub fn find_u32<T: Tags>(tags: &mut T, alloc: Global, tag: Tag) -> TiffResult<Option<u32>>
     ensures kept { IsKept T.told T.failures result tags.old tags.new }
-    ensures answer { Answers (λ n. n) result (find into.into_u32 (T.told tags.old).look tag) (T.failures tags.old) (T.failures tags.new) }
+    ensures answer { AnswersFound (λ n. n) result (find into.into_u32 (T.told tags.old).look tag) (T.told tags.old).look tag (T.failures tags.old) (T.failures tags.new) }
 {
     match tags.find(alloc, tag)? {
         None => Ok(None),
@@ -64,7 +64,7 @@ pub fn find_u32<T: Tags>(tags: &mut T, alloc: Global, tag: Tag) -> TiffResult<Op
 #[tactic(auto, unfolding(crate::specs::Look::find))]
 pub fn find_u16_vec<T: Tags>(tags: &mut T, alloc: Global, tag: Tag) -> TiffResult<Option<Vec<u16>>>
     ensures kept { IsKept T.told T.failures result tags.old tags.new }
-    ensures answer { Answers (λ o. option_map (λ v. v.items) o) result (find into.into_u16_vec (T.told tags.old).look tag) (T.failures tags.old) (T.failures tags.new) }
+    ensures answer { AnswersFound (λ o. option_map (λ v. v.items) o) result (find into.into_u16_vec (T.told tags.old).look tag) (T.told tags.old).look tag (T.failures tags.old) (T.failures tags.new) }
 {
     match tags.find(alloc, tag)? {
         None => Ok(None),
@@ -76,7 +76,7 @@ pub fn find_u16_vec<T: Tags>(tags: &mut T, alloc: Global, tag: Tag) -> TiffResul
 #[tactic(auto, unfolding(crate::specs::Look::require))]
 pub fn require_u32<T: Tags>(tags: &mut T, alloc: Global, tag: Tag) -> TiffResult<u32>
     ensures kept { IsKept T.told T.failures result tags.old tags.new }
-    ensures answer { Answers (λ n. n) result (require into.into_u32 (T.told tags.old).look tag) (T.failures tags.old) (T.failures tags.new) }
+    ensures answer { AnswersFound (λ n. n) result (require into.into_u32 (T.told tags.old).look tag) (T.told tags.old).look tag (T.failures tags.old) (T.failures tags.new) }
 {
     match find_u32(tags, alloc, tag)? {
         None => Err(TiffFormatError::RequiredTagNotFound(tag).into()),
@@ -88,7 +88,7 @@ pub fn require_u32<T: Tags>(tags: &mut T, alloc: Global, tag: Tag) -> TiffResult
 #[tactic(auto, unfolding(crate::specs::Look::require))]
 pub fn require_u64_vec<T: Tags>(tags: &mut T, alloc: Global, tag: Tag) -> TiffResult<Vec<u64>>
     ensures kept { IsKept T.told T.failures result tags.old tags.new }
-    ensures answer { Answers (λ v. v.items) result (require into.into_u64_vec (T.told tags.old).look tag) (T.failures tags.old) (T.failures tags.new) }
+    ensures answer { AnswersFound (λ v. v.items) result (require into.into_u64_vec (T.told tags.old).look tag) (T.told tags.old).look tag (T.failures tags.old) (T.failures tags.new) }
 {
     match tags.find_u64_vec(alloc, tag)? {
         None => Err(TiffFormatError::RequiredTagNotFound(tag).into()),

@@ -1,15 +1,18 @@
 //! The numbers of a field are read, without a `Value` for each.
 
-ghost use Rattle.std.specs.Prelude.{◌≡◌, ◌*◌, ◌<◌, true, length, slice_index, EachIndex, option_map};
+ghost use Rattle.std.specs.Prelude.{◌≡◌, ◌*◌, ◌<◌, true, None, Ok, length, slice_index, EachIndex, option_map};
+ghost use Rattle.std.specs.FinMap.{get};
 ghost use Rattle.std.specs.Int.{byte_len};
-ghost use Rattle.tiff_base.specs.Answers.{Answers, AnswersWithoutSource, IsKept};
+ghost use Rattle.tiff_base.specs.Answers.{IsKept};
+ghost use Rattle.tiff_base.specs.Sparing.{AnswersWithin, GivesSparingly};
 ghost use Rattle.tiff_base.specs.Directory.{offset_width};
 ghost use Rattle.tiff_base.specs.FieldBytes.{field_len};
 ghost use Rattle.tiff_base.specs.Number.{number};
 ghost use Rattle.tiff_base.specs.SourceAndSink.{bytes_at};
+ghost use Rattle.tiff_base.specs.Tags.{tag_number};
 ghost use Rattle.tiff_base.specs.Types.{type_size};
 ghost use Rattle.tiff_ifd.specs.Into.{into_u64_vec};
-ghost use Rattle.tiff_ifd.specs.Look.{find, look_in};
+ghost use Rattle.tiff_ifd.specs.Look.{AnswersFound, find, look_in};
 ghost use Rattle.tiff_ifd.specs.Unsigned.{IsUnsigned, field_numbers, numbers_from, placed_numbers, unsigned_width};
 
 use crate::limits::Limits;
@@ -83,6 +86,7 @@ fn fill_by_type(field_type: Type, order: ByteOrder, bytes: &[u8], numbers: &mut 
 }
 
 // So many numbers of such a type, one after the other.
+#[tactic(auto, using(crate::proofs::Unsigned::unsigned_ok))]
 fn unsigned_from(
     alloc: Global,
     field_type: Type,
@@ -92,7 +96,7 @@ fn unsigned_from(
 ) -> TiffResult<Vec<u64>>
     requires numbers { IsUnsigned field_type }
     requires whole { length bytes.now ≡ count * type_size field_type }
-    ensures { AnswersWithoutSource (λ v. v.items) result (numbers_from field_type order count bytes.now) }
+    ensures { GivesSparingly (λ v. v.items) result (numbers_from field_type order count bytes.now) }
 {
     let mut all = vec![in alloc; 0u64; count as usize]?;
     fill_by_type(field_type, order, bytes, &mut all);
@@ -100,7 +104,7 @@ fn unsigned_from(
 }
 
 // Reads the numbers of a field of such a type that stand elsewhere.
-#[tactic(auto, unfolding(tiff_base::specs::FieldBytes::field_bytes))]
+#[tactic(auto, using(crate::proofs::Within::placed_within), unfolding(tiff_base::specs::FieldBytes::field_bytes))]
 fn read_placed<R: Source>(
     alloc: Global,
     source: &mut R,
@@ -114,7 +118,7 @@ fn read_placed<R: Source>(
     requires len { len ≡ field_len entry.now }
     requires elsewhere { byte_len (offset_width kind) < len }
     ensures kept { IsKept R.bytes R.failures result source.old source.new }
-    ensures answer { Answers (λ v. v.items) result (placed_numbers kind order (R.bytes source.old) limits.now entry.now) (R.failures source.old) (R.failures source.new) }
+    ensures answer { AnswersWithin (λ v. v.items) result (placed_numbers kind order (R.bytes source.old) limits.now entry.now) (R.failures source.old) (R.failures source.new) }
 {
     let (field_type, count) = (entry.field_type(), entry.count());
     if !is_allowed(limits, field_type, count) {
@@ -126,8 +130,8 @@ fn read_placed<R: Source>(
 }
 
 /// Reads the numbers of a field, as `Value::into_u64_vec` gives them of its value, with the faults of `read_value` and of
-/// that.
-#[tactic(auto, using(crate::proofs::Unsigned::placed_converted), unfolding(crate::specs::FieldValue::field_value))]
+/// that. Memory is taken within the limits and the source alone.
+#[tactic(auto, using(crate::proofs::Unsigned::placed_converted, crate::proofs::Within::field_numbers_within, crate::proofs::Within::numbers_within), unfolding(crate::specs::FieldValue::field_value))]
 pub fn read_numbers<R: Source>(
     alloc: Global,
     source: &mut R,
@@ -137,7 +141,7 @@ pub fn read_numbers<R: Source>(
     entry: &Entry,
 ) -> TiffResult<Vec<u64>>
     ensures kept { IsKept R.bytes R.failures result source.old source.new }
-    ensures answer { Answers (λ v. v.items) result (field_numbers kind order (R.bytes source.old) limits.now entry.now) (R.failures source.old) (R.failures source.new) }
+    ensures answer { AnswersWithin (λ v. v.items) result (field_numbers kind order (R.bytes source.old) limits.now entry.now) (R.failures source.old) (R.failures source.new) }
 {
     let field_type = entry.field_type();
     let Some(len) = entry.count().checked_mul(u64::from(field_type.byte_len())) else {
@@ -150,7 +154,7 @@ pub fn read_numbers<R: Source>(
 }
 
 /// Reads the numbers of a tag, if the directory has it.
-#[tactic(auto, unfolding(crate::specs::Look::look_in, crate::specs::Look::find))]
+#[tactic(auto, using(crate::proofs::Within::numbers_found), unfolding(crate::specs::Look::look_in, crate::specs::Look::find))]
 pub fn find_numbers<R: Source>(
     alloc: Global,
     source: &mut R,
@@ -161,7 +165,9 @@ pub fn find_numbers<R: Source>(
     tag: Tag,
 ) -> TiffResult<Option<Vec<u64>>>
     ensures kept { IsKept R.bytes R.failures result source.old source.new }
-    ensures answer { Answers (λ o. option_map (λ v. v.items) o) result (find into_u64_vec (look_in kind order (R.bytes source.old) limits.now directory.now.entries) tag) (R.failures source.old) (R.failures source.new) }
+    ensures none { get directory.now.entries (tag_number tag) ≡ None → result ≡ Ok None }
+    ensures answer { let look = look_in kind order (R.bytes source.old) limits.now directory.now.entries in
+        AnswersFound (λ o. option_map (λ v. v.items) o) result (find into_u64_vec look tag) look tag (R.failures source.old) (R.failures source.new) }
 {
     match directory.get(tag) {
         None => Ok(None),

@@ -6,7 +6,7 @@ ghost use Rattle.std.specs.List.{list_all, position_or_len, prefix_len, suffix_l
 ghost use Rattle.std.specs.Str.{is_utf8};
 ghost use Rattle.tiff_base.specs.declared.error.TiffError.TheVariants as tiff;
 ghost use Rattle.tiff_base.specs.declared.error.TiffFormatError.TheVariants as format;
-ghost use Rattle.tiff_base.specs.Answers.{AnswersWithoutSource, IsKept};
+ghost use Rattle.tiff_base.specs.Answers.{AnswersBut, AnswersWithoutSource, IsKept};
 ghost use Rattle.tiff_base.specs.Sparing.{AnswersWithin, GivesSparingly};
 ghost use Rattle.std.specs.FinMap.{get};
 ghost use Rattle.tiff_base.specs.Tags.{tag_number};
@@ -300,7 +300,7 @@ pub(crate) fn is_allowed(limits: &Limits, field_type: Type, count: u64) -> bool
 
 /// Reads the value of a field. 2^64 bytes or more, or elsewhere more values than the limits allow: `LimitsExceeded`;
 /// bytes past the end: `IoError(UnexpectedEof)`; a text that doesn't end in its entry, or isn't one: `InvalidTag`. Memory is
-/// taken within the limits and the source alone.
+/// taken within the limits and the source alone, and for a value in its entry only where it is no fault.
 #[tactic(auto, using(crate::proofs::Within::value_within, crate::proofs::Within::read_within), unfolding(crate::specs::FieldValue::field_value, tiff_base::specs::FieldBytes::field_bytes))]
 pub fn read_value<R: Source>(
     alloc: Global,
@@ -311,7 +311,8 @@ pub fn read_value<R: Source>(
     entry: &Entry,
 ) -> TiffResult<Value>
     ensures kept { IsKept R.bytes R.failures result source.old source.new }
-    ensures answer { AnswersWithin datum result (value.field_value kind order (R.bytes source.old) limits.now entry.now) (R.failures source.old) (R.failures source.new) }
+    ensures answer { let given = value.field_value kind order (R.bytes source.old) limits.now entry.now in
+        AnswersBut (value.WantsValue (value.stands_in_entry kind entry.now) given) (R.failures source.old < R.failures source.new) datum result given }
 {
     let count = entry.count();
     if count == 0 {
@@ -341,7 +342,7 @@ pub fn read_value<R: Source>(
 }
 
 /// Reads the value of a tag, if the directory has it.
-#[tactic(auto, using(crate::proofs::Within::found_within), unfolding(crate::specs::Look::look_in))]
+#[tactic(auto, using(crate::proofs::Within::found_wanted), unfolding(crate::specs::Look::look_in))]
 pub fn find_value<R: Source>(
     alloc: Global,
     source: &mut R,
@@ -353,7 +354,9 @@ pub fn find_value<R: Source>(
 ) -> TiffResult<Option<Value>>
     ensures kept { IsKept R.bytes R.failures result source.old source.new }
     ensures none { get directory.now.entries (tag_number tag) ≡ None → result ≡ Ok None }
-    ensures answer { AnswersWithin (λ v. option_map datum v) result ((look_in kind order (R.bytes source.old) limits.now directory.now.entries).value tag) (R.failures source.old) (R.failures source.new) }
+    ensures answer { let given = (look_in kind order (R.bytes source.old) limits.now directory.now.entries).value tag in
+        AnswersBut (value.WantsFound kind (get directory.now.entries (tag_number tag)) given) (R.failures source.old < R.failures source.new)
+        (λ v. option_map datum v) result given }
 {
     match directory.get(tag) {
         None => Ok(None),

@@ -1,7 +1,7 @@
 //! The tags of a file's directory, of all types.
 
 ghost use Rattle.std.specs.Prelude.{◌≡◌, option_map};
-ghost use Rattle.tiff_base.specs.Answers.{Answers, IsKept};
+ghost use Rattle.tiff_base.specs.Answers.{IsKept};
 ghost use Rattle.tiff_ifd.specs.View.{datum};
 ghost use Rattle.tiff_ifd.specs.Look.{look_in};
 
@@ -43,6 +43,7 @@ impl<R: Source> Tags for ValueReader<R> {
         self.directory.contains(tag)
     }
 
+    #[tactic(auto, using(crate::proofs::Within::look_within), unfolding(crate::specs::Look::look_in))]
     fn find(&mut self, alloc: Global, tag: Tag) -> TiffResult<Option<Value>> {
         find_value(
             alloc,
