@@ -36,3 +36,4 @@ pub mod EndLinks
 pub mod Running
 pub mod Samples
 pub mod Stepped
+pub mod Appending

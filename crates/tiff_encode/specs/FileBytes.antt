@@ -1,5 +1,5 @@
 -- What the encoder writes: headers, entries and directories.
-use Rattle.std.specs.Prelude.{ℕ, ◌+◌, ◌-◌, ◌%◌, List, [], ◌∷◌, ◌++◌, length, take, replicate}
+use Rattle.std.specs.Prelude.{ℕ, ◌+◌, ◌-◌, ◌%◌, ◌^◌, List, [], ◌∷◌, ◌++◌, length, take, replicate}
 use Rattle.std.specs.Int.{byte_len, div_ceil}
 use Rattle.std.specs.List.{flat_map}
 use Rattle.std.specs.FinMap.{FinMap, len, entries}
@@ -17,6 +17,10 @@ offset_len kind = byte_len (offset_width kind)
 
 abbrev pub count_len : FileKind → ℕ
 count_len kind = byte_len (count_width kind)
+
+-- the greatest offset that a file has room for
+abbrev pub greatest_offset : FileKind → ℕ
+greatest_offset kind = 256 ^ offset_len kind - 1
 
 -- what stands before the header's link: little-endian, the version, and BigTIFF's width of offsets
 abbrev pub header_mark : FileKind → List ℕ

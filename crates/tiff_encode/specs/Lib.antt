@@ -34,3 +34,4 @@ pub mod Stepping
 pub mod ImageStepping
 pub mod JobEnding
 pub mod Running
+pub mod AppendLaws

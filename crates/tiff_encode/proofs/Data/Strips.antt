@@ -88,6 +88,11 @@ appending_adds cause i stored file =
     (bind_adds (appends stored) (λ offset. gives (with_chunk i offset (length stored))) file (appends_adds stored file)
     (λ offset _. answers_adding (Ok (with_chunk i offset (length stored))) (appends stored file).next))
 
+pub strip_adding : (i : OpenImage) (count : ℕ) (stored : List ℕ) (file : FileState) → IsAdding (write_strip i count stored file) file
+unfolding write_strip
+strip_adding i count stored file =
+    adding (write_strip i count stored file) file (appending_adds (write_strip_cause file i count (length stored)) i stored file)
+
 module _ (call : OpenImage → ℕ → List ℕ → Writing OpenImage) (i : OpenImage) (samples : List ℕ) (old new : FileState) (next : OpenImage) (m : Model)
     (adds : (stored : List ℕ) → IsAdding (call i (length samples) stored old) old)
     (fits : (stored : List ℕ) → CallFits (λ i. call i (length samples) stored))
@@ -137,5 +142,5 @@ module _ {A : Type 0} (i : OpenImage) (samples : List ℕ) (old new : FileState)
   unfolding write_strip
   strip_left h =
       left_by write_strip i samples old new next m
-      (λ stored. adding (write_strip i (length samples) stored old) old (appending_adds (write_strip_cause old i (length samples) (length stored)) i stored old))
+      (λ stored. strip_adding i (length samples) stored old)
       (λ stored. (chunks_fit (length samples) stored).0) entries short s cause r h

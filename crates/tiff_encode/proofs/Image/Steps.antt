@@ -67,26 +67,26 @@ set_adding cause call g file a =
     (caused_adds cause set file (bind_adds call (λ x. gives (g x)) file a (λ x _. answers_adding (Ok (g x)) (call file).next)))
 
 module _ (i : OpenImage) (file : FileState) where
-  extra_adding : (extra : List ExtraSamples) → IsAdding (extra_samples i extra file) file
+  pub extra_adding : (extra : List ExtraSamples) → IsAdding (extra_samples i extra file) file
   unfolding extra_samples
   extra_adding extra =
       set_adding (extra_samples_cause file i extra) (one_tag tag.ExtraSamples (extras extra) i.directory) (λ d. record i { directory = d; extra = extra })
       file (one_adds tag.ExtraSamples (extras extra) i.directory file)
 
-  rows_adding : (rows : ℕ) → IsAdding (set_rows_per_strip i rows file) file
+  pub rows_adding : (rows : ℕ) → IsAdding (set_rows_per_strip i rows file) file
   unfolding set_rows_per_strip
   rows_adding rows =
       set_adding (rows_per_strip_cause file i rows) (one_tag tag.RowsPerStrip (u32s (rows ∷ [])) i.directory)
       (λ d. record i { directory = d; form = strips_of i.width rows i.form.planar }) file (one_adds tag.RowsPerStrip (u32s (rows ∷ [])) i.directory file)
 
-  tiles_adding : (width length : ℕ) → IsAdding (tiles i width length file) file
+  pub tiles_adding : (width length : ℕ) → IsAdding (tiles i width length file) file
   unfolding tiles
   tiles_adding width length =
       set_adding (tiles_cause file i width length) (write_tags i.directory (side_tags width length))
       (λ d. record i { directory = without_field d tag.RowsPerStrip; form = tiles_of width length i.form.planar })
       file (several_adds tag.TileWidth (u32s (width ∷ [])) ((tag.TileLength, u32s (length ∷ [])) ∷ []) i.directory file)
 
-  planar_adding : IsAdding (planar i file) file
+  pub planar_adding : IsAdding (planar i file) file
   unfolding planar
   planar_adding =
       set_adding (planar_cause file i) (one_tag tag.PlanarConfiguration (planars (Planar ∷ [])) i.directory)
@@ -103,15 +103,15 @@ module _ (i : OpenImage) (file : FileState) where
   resolution_adding u value =
       tags_adding (resolution_cause file) tag.ResolutionUnit (units (u ∷ [])) ((tag.XResolution, rationals (value ∷ [])) ∷ (tag.YResolution, rationals (value ∷ [])) ∷ [])
 
-  x_adding : (value : ℕ × ℕ) → IsAdding (x_resolution i value file) file
+  pub x_adding : (value : ℕ × ℕ) → IsAdding (x_resolution i value file) file
   unfolding x_resolution
   x_adding value = tags_adding (one_resolution_cause file) tag.XResolution (rationals (value ∷ [])) []
 
-  y_adding : (value : ℕ × ℕ) → IsAdding (y_resolution i value file) file
+  pub y_adding : (value : ℕ × ℕ) → IsAdding (y_resolution i value file) file
   unfolding y_resolution
   y_adding value = tags_adding (one_resolution_cause file) tag.YResolution (rationals (value ∷ [])) []
 
-  unit_adding : (u : ResolutionUnit) → IsAdding (resolution_unit i u file) file
+  pub unit_adding : (u : ResolutionUnit) → IsAdding (resolution_unit i u file) file
   unfolding resolution_unit
   unit_adding u = tags_adding (resolution_unit_cause file) tag.ResolutionUnit (units (u ∷ [])) []
 

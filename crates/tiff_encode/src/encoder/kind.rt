@@ -1,6 +1,6 @@
 //! The two kinds of file that are written, and where a directory of one stands.
 
-ghost use Rattle.std.specs.Prelude.{◌≡◌, false, ℕ, ◌^◌, if◌then◌else◌, nat_le, None, Some, Ok, Err};
+ghost use Rattle.std.specs.Prelude.{◌≡◌, false, true, ℕ, ◌^◌, if◌then◌else◌, nat_le, None, Some, Ok, Err};
 ghost use Rattle.std.specs.FinMap as map;
 ghost use Rattle.tiff_base.specs.Answers.{Gives};
 ghost use Rattle.tiff_base.specs.Directory.{link_offset};
@@ -9,7 +9,8 @@ ghost use Rattle.tiff_base.specs.declared.tags.FileKind as kinds;
 ghost use Rattle.tiff_base.specs.declared.error.TiffError.TheVariants.{IntSizeError};
 ghost use Rattle.tiff_encode.specs.Calls.{new_offset};
 ghost use Rattle.tiff_encode.specs.Causes.{is_past, is_past_count};
-ghost use Rattle.tiff_encode.specs.FileBytes.{count_len, offset_len};
+ghost use Rattle.tiff_base.specs.Types.{type_size};
+ghost use Rattle.tiff_encode.specs.FileBytes.{count_len, greatest_offset, offset_len};
 ghost use Rattle.tiff_encode.specs.Kind.{WritesHeader, WritesWithin};
 
 use std::alloc::AllocError;
@@ -75,7 +76,8 @@ pub trait TiffKind {
 
     /// An offset as this kind has it, where it isn't past its bytes (this project's); else the greatest that it has.
     fn offset_at(offset: u64) -> Self::OffsetType
-        ensures { is_past kind offset ≡ false → offset_number result ≡ offset };
+        ensures within { is_past kind offset ≡ false → offset_number result ≡ offset }
+        ensures past { is_past kind offset ≡ true → offset_number result ≡ greatest_offset kind };
 
     /// Writes an offset. An offset past its bytes: `IntSizeError`, and nothing is done; else the errors of
     /// `TiffWriter::write_plain`.
@@ -90,6 +92,9 @@ pub trait TiffKind {
     /// Writes a header that links to no directory yet. Errors are those of `TiffWriter::write_plain`.
     fn write_header<W: Sink>(writer: &mut TiffWriter<W>) -> TiffResult<()>
         ensures { WritesHeader kind writer.old writer.new result };
+
+    // It has as many bytes as an offset of this kind has in a file.
+    ghost whole: { type_size Self.OffsetType.value_type ≡ offset_len kind };
 
     // An offset of this kind is the number that it stands for.
     ghost same_number: { (x : Self.OffsetType) → Self.OffsetType.number x ≡ offset_number x };
@@ -147,6 +152,8 @@ impl TiffKind for TiffKindStandard {
         Ok(())
     }
 
+    ghost whole = { refl };
+
     ghost same_number = { λ x. refl };
 }
 
@@ -189,6 +196,8 @@ impl TiffKind for TiffKindBig {
         writer.write_u64(0)?;
         Ok(())
     }
+
+    ghost whole = { refl };
 
     ghost same_number = { λ x. refl };
 }

@@ -1,5 +1,6 @@
 //! The laws by which what stands in a file is kept and grows, each the contract of a function with no work.
 
+ghost use Rattle.tiff_encode.specs.AppendLaws.{DirectoryCallsAppend, ImageCallsAppend, EndsLinkParent};
 ghost use Rattle.tiff_encode.specs.Held.{ChunksShow, ImagesShow, PageTold};
 ghost use Rattle.tiff_encode.specs.Laws.{HeaderStands, KeptByAppending, KeptByPatching, KeptByTearing, GrownByRegion, GrownByInline, GrownByPlaced, GrownByListing, FinishStep, DeedsStand, DeedsGrow, DeedsBegun, DeedsTorn, DeedsJoin, DeedsAppend, FirstTold, ModelsAgree};
 ghost use Rattle.tiff_encode.specs.RunLaws.{OffsetsAgree, OneStep, OneStored};
@@ -128,4 +129,19 @@ pub fn chunks_show()
 /// What stands and holds an image shows it.
 pub fn images_show()
     ensures { ImagesShow }
+{}
+
+/// Each call that opens a directory, and each of an open directory but its end, only appends.
+pub fn directory_calls_append()
+    ensures { DirectoryCallsAppend }
+{}
+
+/// So does each that opens an image, and each of an open image but its end.
+pub fn image_calls_append()
+    ensures { ImageCallsAppend }
+{}
+
+/// An end appends, and points no link but its parent's.
+pub fn ends_link_parent()
+    ensures { EndsLinkParent }
 {}
