@@ -129,8 +129,8 @@ impl DecodingResult {
         Ok(())
     }
 
-    // Its number type.
-    fn sample_type(&self) -> DecodingSampleType
+    /// Its number type (this project's).
+    pub fn sample_type(&self) -> DecodingSampleType
         ensures { result ≡ (decoded_as self.now).sample_type }
     {
         match self {
@@ -156,9 +156,9 @@ impl DecodingResult {
         self.sample_type()
     }
 
-    // The rest of its samples, where they are of that number type.
+    /// The samples of a result of unsigned numbers of 8 bits, as `as_buffer` lends them: a caller's proof knows what is written there (this project's).
     #[tactic(auto, using(crate::proofs::Samples::length_mapped, crate::proofs::Samples::rest_mapped))]
-    fn u8_rest(&mut self, start: usize) -> &mut [u8]
+    pub fn u8_rest(&mut self, start: usize) -> &mut [u8]
         requires sample_type { type.U8 ≡ (decoded_as self.old).sample_type }
         requires within { start ≤ length (decoded_as self.old).numbers }
         ensures* writes_back { sem 𝓛 (Lends the_row (Array u8 0) self.entry result (lending.with_u8 self.old start)) }
@@ -171,9 +171,9 @@ impl DecodingResult {
         }
     }
 
-    // The rest of its samples, where they are of that number type.
+    /// The samples of a result of unsigned numbers of 16 bits, as `as_buffer` lends them: a caller's proof knows what is written there (this project's).
     #[tactic(auto, using(crate::proofs::Samples::length_mapped, crate::proofs::Samples::rest_mapped))]
-    fn u16_rest(&mut self, start: usize) -> &mut [u16]
+    pub fn u16_rest(&mut self, start: usize) -> &mut [u16]
         requires sample_type { type.U16 ≡ (decoded_as self.old).sample_type }
         requires within { start ≤ length (decoded_as self.old).numbers }
         ensures* writes_back { sem 𝓛 (Lends the_row (Array u16 0) self.entry result (lending.with_u16 self.old start)) }
@@ -186,9 +186,9 @@ impl DecodingResult {
         }
     }
 
-    // The rest of its samples, where they are of that number type.
+    /// The samples of a result of unsigned numbers of 32 bits, as `as_buffer` lends them: a caller's proof knows what is written there (this project's).
     #[tactic(auto, using(crate::proofs::Samples::length_mapped, crate::proofs::Samples::rest_mapped))]
-    fn u32_rest(&mut self, start: usize) -> &mut [u32]
+    pub fn u32_rest(&mut self, start: usize) -> &mut [u32]
         requires sample_type { type.U32 ≡ (decoded_as self.old).sample_type }
         requires within { start ≤ length (decoded_as self.old).numbers }
         ensures* writes_back { sem 𝓛 (Lends the_row (Array u32 0) self.entry result (lending.with_u32 self.old start)) }
@@ -201,9 +201,9 @@ impl DecodingResult {
         }
     }
 
-    // The rest of its samples, where they are of that number type.
+    /// The samples of a result of unsigned numbers of 64 bits, as `as_buffer` lends them: a caller's proof knows what is written there (this project's).
     #[tactic(auto, using(crate::proofs::Samples::length_mapped, crate::proofs::Samples::rest_mapped))]
-    fn u64_rest(&mut self, start: usize) -> &mut [u64]
+    pub fn u64_rest(&mut self, start: usize) -> &mut [u64]
         requires sample_type { type.U64 ≡ (decoded_as self.old).sample_type }
         requires within { start ≤ length (decoded_as self.old).numbers }
         ensures* writes_back { sem 𝓛 (Lends the_row (Array u64 0) self.entry result (lending.with_u64 self.old start)) }
@@ -216,9 +216,9 @@ impl DecodingResult {
         }
     }
 
-    // The rest of its samples, where they are of that number type.
+    /// The samples of a result of floating numbers of 16 bits, as `as_buffer` lends them: a caller's proof knows what is written there (this project's).
     #[tactic(auto, using(crate::proofs::Samples::length_mapped, crate::proofs::Samples::rest_mapped))]
-    fn f16_rest(&mut self, start: usize) -> &mut [Bits16]
+    pub fn f16_rest(&mut self, start: usize) -> &mut [Bits16]
         requires sample_type { type.F16 ≡ (decoded_as self.old).sample_type }
         requires within { start ≤ length (decoded_as self.old).numbers }
         ensures* writes_back { sem 𝓛 (Lends the_row (Array lending.F16s 0) self.entry result (lending.with_f16 self.old start)) }
@@ -231,9 +231,9 @@ impl DecodingResult {
         }
     }
 
-    // The rest of its samples, where they are of that number type.
+    /// The samples of a result of floating numbers of 32 bits, as `as_buffer` lends them: a caller's proof knows what is written there (this project's).
     #[tactic(auto, using(crate::proofs::Samples::length_mapped, crate::proofs::Samples::rest_mapped))]
-    fn f32_rest(&mut self, start: usize) -> &mut [Bits32]
+    pub fn f32_rest(&mut self, start: usize) -> &mut [Bits32]
         requires sample_type { type.F32 ≡ (decoded_as self.old).sample_type }
         requires within { start ≤ length (decoded_as self.old).numbers }
         ensures* writes_back { sem 𝓛 (Lends the_row (Array lending.F32s 0) self.entry result (lending.with_f32 self.old start)) }
@@ -246,9 +246,9 @@ impl DecodingResult {
         }
     }
 
-    // The rest of its samples, where they are of that number type.
+    /// The samples of a result of floating numbers of 64 bits, as `as_buffer` lends them: a caller's proof knows what is written there (this project's).
     #[tactic(auto, using(crate::proofs::Samples::length_mapped, crate::proofs::Samples::rest_mapped))]
-    fn f64_rest(&mut self, start: usize) -> &mut [Bits64]
+    pub fn f64_rest(&mut self, start: usize) -> &mut [Bits64]
         requires sample_type { type.F64 ≡ (decoded_as self.old).sample_type }
         requires within { start ≤ length (decoded_as self.old).numbers }
         ensures* writes_back { sem 𝓛 (Lends the_row (Array lending.F64s 0) self.entry result (lending.with_f64 self.old start)) }
@@ -261,9 +261,9 @@ impl DecodingResult {
         }
     }
 
-    // The rest of its samples, where they are of that number type.
+    /// The samples of a result of signed numbers of 8 bits, as `as_buffer` lends them: a caller's proof knows what is written there (this project's).
     #[tactic(auto, using(crate::proofs::Samples::length_mapped, crate::proofs::Samples::rest_mapped))]
-    fn i8_rest(&mut self, start: usize) -> &mut [i8]
+    pub fn i8_rest(&mut self, start: usize) -> &mut [i8]
         requires sample_type { type.I8 ≡ (decoded_as self.old).sample_type }
         requires within { start ≤ length (decoded_as self.old).numbers }
         ensures* writes_back { sem 𝓛 (Lends the_row (Array i8 0) self.entry result (lending.with_i8 self.old start)) }
@@ -276,9 +276,9 @@ impl DecodingResult {
         }
     }
 
-    // The rest of its samples, where they are of that number type.
+    /// The samples of a result of signed numbers of 16 bits, as `as_buffer` lends them: a caller's proof knows what is written there (this project's).
     #[tactic(auto, using(crate::proofs::Samples::length_mapped, crate::proofs::Samples::rest_mapped))]
-    fn i16_rest(&mut self, start: usize) -> &mut [i16]
+    pub fn i16_rest(&mut self, start: usize) -> &mut [i16]
         requires sample_type { type.I16 ≡ (decoded_as self.old).sample_type }
         requires within { start ≤ length (decoded_as self.old).numbers }
         ensures* writes_back { sem 𝓛 (Lends the_row (Array i16 0) self.entry result (lending.with_i16 self.old start)) }
@@ -291,9 +291,9 @@ impl DecodingResult {
         }
     }
 
-    // The rest of its samples, where they are of that number type.
+    /// The samples of a result of signed numbers of 32 bits, as `as_buffer` lends them: a caller's proof knows what is written there (this project's).
     #[tactic(auto, using(crate::proofs::Samples::length_mapped, crate::proofs::Samples::rest_mapped))]
-    fn i32_rest(&mut self, start: usize) -> &mut [i32]
+    pub fn i32_rest(&mut self, start: usize) -> &mut [i32]
         requires sample_type { type.I32 ≡ (decoded_as self.old).sample_type }
         requires within { start ≤ length (decoded_as self.old).numbers }
         ensures* writes_back { sem 𝓛 (Lends the_row (Array i32 0) self.entry result (lending.with_i32 self.old start)) }
@@ -306,9 +306,9 @@ impl DecodingResult {
         }
     }
 
-    // The rest of its samples, where they are of that number type.
+    /// The samples of a result of signed numbers of 64 bits, as `as_buffer` lends them: a caller's proof knows what is written there (this project's).
     #[tactic(auto, using(crate::proofs::Samples::length_mapped, crate::proofs::Samples::rest_mapped))]
-    fn i64_rest(&mut self, start: usize) -> &mut [i64]
+    pub fn i64_rest(&mut self, start: usize) -> &mut [i64]
         requires sample_type { type.I64 ≡ (decoded_as self.old).sample_type }
         requires within { start ≤ length (decoded_as self.old).numbers }
         ensures* writes_back { sem 𝓛 (Lends the_row (Array i64 0) self.entry result (lending.with_i64 self.old start)) }

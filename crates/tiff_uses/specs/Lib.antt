@@ -3,3 +3,4 @@ pub mod Pages
 pub mod GeoKeys
 pub mod ReadBack
 pub mod GrayFile
+pub mod Cleared

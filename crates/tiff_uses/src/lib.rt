@@ -1,4 +1,4 @@
-//! Eight uses of `tiff`, as a caller writes them.
+//! Nine uses of `tiff`, as a caller writes them.
 #![tactic(auto)]
 
 ghost use Rattle.std.specs.Prelude.{◌≡◌, ◌≤◌, length, map, IfOk, Ok, OnOk};
@@ -10,6 +10,7 @@ ghost use Rattle.tiff.specs.Shows.{ShowsGray};
 ghost use Rattle.tiff_base.specs.Types.{type_size};
 ghost use Rattle.tiff_value.specs.ColorType.{sample_number};
 ghost use Rattle.tiff_uses.specs.Chunks.{IsImageOfChunks};
+ghost use Rattle.tiff_uses.specs.Cleared.{cleared_from};
 ghost use Rattle.tiff_decode.specs.NextState.{view_of_result};
 ghost use Rattle.tiff_uses.specs.GrayFile.{AnswersGray};
 ghost use Rattle.tiff_uses.specs.GeoKeys.{geo_key, key_value, value_in};
@@ -19,7 +20,7 @@ ghost use Rattle.tiff_uses.specs.ReadBack.{ComesBack, IsFirstImage};
 
 use std::alloc::Global;
 use tiff::TiffResult;
-use tiff::decoder::{Decoder, DecodingResult, Limits};
+use tiff::decoder::{Decoder, DecodingResult, DecodingSampleType, Limits};
 use tiff::encoder::TiffEncoder;
 use tiff::encoder::colortype::{Gray8, NamedColorType};
 use tiff::encoder::data_laws::first_shown;
@@ -142,6 +143,18 @@ pub fn gray_file(alloc: Global, width: u32, height: u32, samples: &[u8]) -> Tiff
     let file = encoder.into_inner().into_vec();
     written?;
     Ok(file)
+}
+
+/// Makes the samples of an image of unsigned bytes zeros, from one on; an image of other numbers stays as it is.
+pub fn clear_from(image: &mut DecodingResult, start: usize)
+    requires { start ≤ length (decoded_as image.old).numbers }
+    ensures { decoded_as image.new ≡ cleared_from start (decoded_as image.old) }
+{
+    if let DecodingSampleType::U8 = image.sample_type() {
+        for sample in image.u8_rest(start) {
+            *sample = 0;
+        }
+    }
 }
 
 // The image of a file's first page, read without limits.
