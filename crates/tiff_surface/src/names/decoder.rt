@@ -21,6 +21,7 @@ fn name_pages<R: Source>() {
     let _call = Decoder::<R>::next_image;
     let _call = Decoder::<R>::seek_to_image;
     let _call = Decoder::<R>::read_directory;
+    let _call = Decoder::<R>::show_directory;
     let _call = Decoder::<R>::read_directory_tags;
     let _call = Decoder::<R>::image_ifd;
     let _call = Limits::unlimited;
@@ -84,8 +85,24 @@ fn name_samples<R: Source>() {
     let _call = Decoder::<R>::read_chunk_bytes;
     let _call = Decoder::<R>::read_chunk_to_buffer;
     let _call = Decoder::<R>::read_coding_unit_bytes;
+}
+
+// Lists of samples that were read.
+fn name_results() {
     let _call = DecodingResult::resize_to;
+    let _call = DecodingResult::sample_type;
     let _call = DecodingResult::as_buffer;
+    let _call = DecodingResult::u8_rest;
+    let _call = DecodingResult::u16_rest;
+    let _call = DecodingResult::u32_rest;
+    let _call = DecodingResult::u64_rest;
+    let _call = DecodingResult::f16_rest;
+    let _call = DecodingResult::f32_rest;
+    let _call = DecodingResult::f64_rest;
+    let _call = DecodingResult::i8_rest;
+    let _call = DecodingResult::i16_rest;
+    let _call = DecodingResult::i32_rest;
+    let _call = DecodingResult::i64_rest;
     let _call = DecodingBuffer::byte_len;
     let _call = DecodingBuffer::as_bytes;
 }
@@ -106,5 +123,6 @@ pub fn name_calls<R: Source>() {
     name_tags::<R>();
     name_numbers::<R>();
     name_samples::<R>();
+    name_results();
     name_scripts::<R>();
 }

@@ -15,6 +15,9 @@ fn name_files() {
     let _law = laws::finished;
     let _law = laws::placed_fits;
     let _law = laws::finish_fits;
+    let _law = laws::directory_calls_append;
+    let _law = laws::image_calls_append;
+    let _law = laws::ends_link_parent;
 }
 
 // How what calls do is joined.
