@@ -1,42 +1,28 @@
-//! A static library for C: the pages of a TIFF file that lies in memory are read, and files of one image are written into memory.
-//! `include/tiff.h` tells each call to C.
+//! A static library for C: the calls of `tiff_statuses` under their names in C. `include/tiff.h` tells each call.
 #![tactic(auto)]
 
 ghost use Rattle.std.specs.Prelude.{◌≡◌, ◌⊎◌};
-ghost use Rattle.tiff_c.specs.Calls as calls;
-ghost use Rattle.tiff_c.specs.List.{ListTells, list_of};
-ghost use Rattle.tiff_c.specs.Status.{StatusPuts, StatusTells};
-ghost use Rattle.tiff_c.specs.Writer as writer;
-ghost use Rattle.tiff_c.specs.Writer.{IsShown};
+ghost use Rattle.tiff_statuses.specs.Calls as calls;
+ghost use Rattle.tiff_statuses.specs.List.{ListTells, list_of};
+ghost use Rattle.tiff_statuses.specs.Status.{StatusPuts, StatusTells};
+ghost use Rattle.tiff_statuses.specs.Writer as writer;
+ghost use Rattle.tiff_statuses.specs.Writer.{IsShown};
 
 use std::alloc::Global;
-
-mod calls;
-mod list;
-mod samples;
-mod status;
-mod writer;
-
-use crate::calls::{
-    Chunks, Color, FieldSize, Layout, Sides, byte_order, chunk_bytes, image_bytes, page_chunks,
-    page_color, page_count, page_layout, page_sides, tag_bytes, tag_field, tag_number, unit_bytes,
-};
-use crate::list::{ListedPage, list_into};
-use crate::status::{done, given, text_of};
-use crate::writer::{NewImage, deliver, write_new};
+use tiff_statuses::calls::{Chunks, Color, FieldSize, Layout, Sides};
+use tiff_statuses::list::ListedPage;
+use tiff_statuses::writer::NewImage;
 
 /// The width and the height of a page.
 #[unsafe(no_mangle)]
-#[tactic(auto, using(crate::proofs::StatusTells::puts_told))]
 pub extern "C" fn tiff_page_sides(alloc: Global, file: &[u8], page: usize, sides: &mut Sides) -> u32
     ensures { StatusPuts (calls.page_sides file.now page) result sides.old sides.new }
 {
-    given(page_sides(alloc, file, page), sides)
+    tiff_statuses::page_sides(alloc, file, page, sides)
 }
 
 /// Reads the image of a page into a slice.
 #[unsafe(no_mangle)]
-#[tactic(auto, using(crate::proofs::StatusTells::tells_left))]
 pub extern "C" fn tiff_read_image_bytes(
     alloc: Global,
     file: &[u8],
@@ -45,21 +31,19 @@ pub extern "C" fn tiff_read_image_bytes(
 ) -> u32
     ensures { StatusTells (calls.read_image_bytes file.now page buffer.old) result buffer.new }
 {
-    done(image_bytes(alloc, file, page, buffer))
+    tiff_statuses::read_image_bytes(alloc, file, page, buffer)
 }
 
 /// The color of a page.
 #[unsafe(no_mangle)]
-#[tactic(auto, using(crate::proofs::StatusTells::puts_told))]
 pub extern "C" fn tiff_page_color(alloc: Global, file: &[u8], page: usize, color: &mut Color) -> u32
     ensures { StatusPuts (calls.page_color file.now page) result color.old color.new }
 {
-    given(page_color(alloc, file, page), color)
+    tiff_statuses::page_color(alloc, file, page, color)
 }
 
 /// The strips or the tiles of a page.
 #[unsafe(no_mangle)]
-#[tactic(auto, using(crate::proofs::StatusTells::puts_told))]
 pub extern "C" fn tiff_page_chunks(
     alloc: Global,
     file: &[u8],
@@ -68,12 +52,11 @@ pub extern "C" fn tiff_page_chunks(
 ) -> u32
     ensures { StatusPuts (calls.page_chunks file.now page) result chunks.old chunks.new }
 {
-    given(page_chunks(alloc, file, page), chunks)
+    tiff_statuses::page_chunks(alloc, file, page, chunks)
 }
 
 /// The bytes of the image of a page: of one plane, and of all.
 #[unsafe(no_mangle)]
-#[tactic(auto, using(crate::proofs::StatusTells::puts_told))]
 pub extern "C" fn tiff_page_layout(
     alloc: Global,
     file: &[u8],
@@ -82,12 +65,11 @@ pub extern "C" fn tiff_page_layout(
 ) -> u32
     ensures { StatusPuts (calls.page_layout file.now page) result layout.old layout.new }
 {
-    given(page_layout(alloc, file, page), layout)
+    tiff_statuses::page_layout(alloc, file, page, layout)
 }
 
 /// Reads a chunk of a page into a slice.
 #[unsafe(no_mangle)]
-#[tactic(auto, using(crate::proofs::StatusTells::tells_left))]
 pub extern "C" fn tiff_read_chunk_bytes(
     alloc: Global,
     file: &[u8],
@@ -97,12 +79,11 @@ pub extern "C" fn tiff_read_chunk_bytes(
 ) -> u32
     ensures { StatusTells (calls.read_chunk_bytes file.now page chunk buffer.old) result buffer.new }
 {
-    done(chunk_bytes(alloc, file, page, chunk, buffer))
+    tiff_statuses::read_chunk_bytes(alloc, file, page, chunk, buffer)
 }
 
 /// Reads a coding unit of a page into a slice.
 #[unsafe(no_mangle)]
-#[tactic(auto, using(crate::proofs::StatusTells::tells_left))]
 pub extern "C" fn tiff_read_coding_unit_bytes(
     alloc: Global,
     file: &[u8],
@@ -112,12 +93,11 @@ pub extern "C" fn tiff_read_coding_unit_bytes(
 ) -> u32
     ensures { StatusTells (calls.read_unit_bytes file.now page unit buffer.old) result buffer.new }
 {
-    done(unit_bytes(alloc, file, page, unit, buffer))
+    tiff_statuses::read_coding_unit_bytes(alloc, file, page, unit, buffer)
 }
 
 /// The field of a tag of a page, by the tag's number.
 #[unsafe(no_mangle)]
-#[tactic(auto, using(crate::proofs::StatusTells::puts_told))]
 pub extern "C" fn tiff_tag_field(
     alloc: Global,
     file: &[u8],
@@ -127,12 +107,11 @@ pub extern "C" fn tiff_tag_field(
 ) -> u32
     ensures { StatusPuts (calls.tag_field file.now page number) result field.old field.new }
 {
-    given(tag_field(alloc, file, page, number), field)
+    tiff_statuses::tag_field(alloc, file, page, number, field)
 }
 
 /// The number of a tag of a page, by the tag's number.
 #[unsafe(no_mangle)]
-#[tactic(auto, using(crate::proofs::StatusTells::puts_told))]
 pub extern "C" fn tiff_tag_number(
     alloc: Global,
     file: &[u8],
@@ -142,12 +121,11 @@ pub extern "C" fn tiff_tag_number(
 ) -> u32
     ensures { StatusPuts (calls.tag_number_at file.now page number) result value.old value.new }
 {
-    given(tag_number(alloc, file, page, number), value)
+    tiff_statuses::tag_number(alloc, file, page, number, value)
 }
 
 /// Copies the bytes of the values of a tag of a page from a byte on, by the tag's number.
 #[unsafe(no_mangle)]
-#[tactic(auto, using(crate::proofs::StatusTells::tells_both, crate::proofs::StatusTells::kept_told))]
 pub extern "C" fn tiff_tag_bytes(
     alloc: Global,
     file: &[u8],
@@ -160,25 +138,23 @@ pub extern "C" fn tiff_tag_bytes(
     ensures answer { StatusTells (calls.tag_bytes file.now page number at buffer.old) result (written.new, buffer.new) }
     ensures stays { (result ≡ 0) ⊎ (written.new ≡ written.old) }
 {
-    given(tag_bytes(alloc, file, page, number, at, buffer), written)
+    tiff_statuses::tag_bytes(alloc, file, page, number, at, buffer, written)
 }
 
 /// The byte order of a file.
 #[unsafe(no_mangle)]
-#[tactic(auto, using(crate::proofs::StatusTells::puts_told))]
 pub extern "C" fn tiff_byte_order(alloc: Global, file: &[u8], order: &mut u32) -> u32
     ensures { StatusPuts (calls.file_byte_order file.now) result order.old order.new }
 {
-    given(byte_order(alloc, file), order)
+    tiff_statuses::byte_order(alloc, file, order)
 }
 
 /// How many pages a file has.
 #[unsafe(no_mangle)]
-#[tactic(auto, using(crate::proofs::StatusTells::puts_told))]
 pub extern "C" fn tiff_page_count(alloc: Global, file: &[u8], pages: &mut usize) -> u32
     ensures { StatusPuts (calls.page_count file.now) result pages.old pages.new }
 {
-    given(page_count(alloc, file), pages)
+    tiff_statuses::page_count(alloc, file, pages)
 }
 
 /// Lists the pages of a file.
@@ -191,12 +167,11 @@ pub extern "C" fn tiff_list_pages(
 ) -> u32
     ensures { ListTells (list_of file.now) result pages.old pages.new count.new }
 {
-    list_into(alloc, file, pages, count)
+    tiff_statuses::list_pages(alloc, file, pages, count)
 }
 
 /// Writes a file of one image into a slice, and tells how many bytes it has.
 #[unsafe(no_mangle)]
-#[tactic(auto, using(crate::proofs::Delivered::told_new, crate::proofs::Delivered::told_shown, crate::proofs::Delivered::told_kept))]
 pub extern "C" fn tiff_write_image(
     alloc: Global,
     image: &NewImage,
@@ -210,14 +185,11 @@ pub extern "C" fn tiff_write_image(
     ensures shows { result ≡ 0 → IsShown image.now samples.now buffer.old buffer.new len.new }
     ensures stays { (result ≡ 0) ⊎ (buffer.new ≡ buffer.old) }
 {
-    deliver(write_new(alloc, image, samples), buffer, len)
+    tiff_statuses::write_image(alloc, image, samples, buffer, len)
 }
 
 /// Writes the text of a status into a slice, as much of it as fits, and answers how many bytes it has.
 #[unsafe(no_mangle)]
 pub extern "C" fn tiff_fault_text(status: u32, buffer: &mut [u8]) -> usize {
-    let text = text_of(status).as_bytes();
-    let n = text.len().min(buffer.len());
-    buffer[..n].copy_from_slice(&text[..n]);
-    text.len()
+    tiff_statuses::fault_text(status, buffer)
 }

@@ -1,5 +1,0 @@
-use Rattle.tiff_c.proofs.Counting.{at_first_page}
-use Rattle.tiff_c.proofs.calls.open_at.Goals as goal
-
-pub returns-then-page-eq0 : goal.returns-then-page-eq0
-returns-then-page-eq0 c = at_first_page c.walk_opens.ensures c.args.file.now c.args.page c.in_ok-decoder.decoder c.if-page-eq0.true c.in_ok-decoder.ensures

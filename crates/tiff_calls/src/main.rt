@@ -1,0 +1,151 @@
+//! Makes the calls of `tiff_statuses`, which C has by `tiff_c`, on a file of one page that one of them writes; and prints each with its
+//! status and what it put. Page 1 isn't there: its calls are refused, and put nothing.
+#![tactic(auto)]
+
+use std::io;
+use tiff_statuses::calls::{Chunks, Color, FieldSize, Layout, Sides};
+use tiff_statuses::list::ListedPage;
+use tiff_statuses::writer::NewImage;
+
+// RGB of 8 bits, in a classic file, neither packed nor as differences.
+const IMAGE: NewImage = NewImage {
+    color: 10,
+    width: 2,
+    height: 2,
+    version: 42,
+    method: 1,
+    predictor: 1,
+};
+
+const SAMPLES: [u8; 12] = [1, 2, 3, 4, 5, 6, 7, 8, 9, 10, 11, 12];
+
+const IMAGE_WIDTH: u16 = 256;
+
+const BITS_PER_SAMPLE: u16 = 258;
+
+fn print_sides(rt: &HostRuntime, file: &[u8], page: usize) -> io::Result<()> {
+    let mut sides = Sides {
+        width: 0,
+        height: 0,
+    };
+    let status = tiff_statuses::page_sides(rt.alloc(), file, page, &mut sides);
+    println!(rt; "page_sides {page}: {status}, {sides:?}")?;
+    let mut color = Color {
+        kind: 0,
+        bits: 0,
+        samples: 0,
+    };
+    let status = tiff_statuses::page_color(rt.alloc(), file, page, &mut color);
+    println!(rt; "page_color {page}: {status}, {color:?}")
+}
+
+fn print_parts(rt: &HostRuntime, file: &[u8], page: usize) -> io::Result<()> {
+    let mut chunks = Chunks {
+        kind: 0,
+        count: 0,
+        width: 0,
+        height: 0,
+    };
+    let status = tiff_statuses::page_chunks(rt.alloc(), file, page, &mut chunks);
+    println!(rt; "page_chunks {page}: {status}, {chunks:?}")?;
+    let mut layout = Layout {
+        len: 0,
+        complete_len: 0,
+    };
+    let status = tiff_statuses::page_layout(rt.alloc(), file, page, &mut layout);
+    println!(rt; "page_layout {page}: {status}, {layout:?}")
+}
+
+fn print_pixels(rt: &HostRuntime, file: &[u8], page: usize) -> io::Result<()> {
+    let mut image = [0u8; 14];
+    let status = tiff_statuses::read_image_bytes(rt.alloc(), file, page, &mut image);
+    println!(rt; "read_image_bytes {page}: {status}, {image:?}")?;
+    let mut chunk = [0u8; 13];
+    let status = tiff_statuses::read_chunk_bytes(rt.alloc(), file, page, 0, &mut chunk);
+    println!(rt; "read_chunk_bytes {page}: {status}, {chunk:?}")?;
+    let mut unit = [0u8; 12];
+    let status = tiff_statuses::read_coding_unit_bytes(rt.alloc(), file, page, 0, &mut unit);
+    println!(rt; "read_coding_unit_bytes {page}: {status}, {unit:?}")
+}
+
+fn print_tags(rt: &HostRuntime, file: &[u8], page: usize) -> io::Result<()> {
+    let mut field = FieldSize { kind: 0, count: 0 };
+    let status = tiff_statuses::tag_field(rt.alloc(), file, page, BITS_PER_SAMPLE, &mut field);
+    println!(rt; "tag_field {page}: {status}, {field:?}")?;
+    let mut number = 0;
+    let status = tiff_statuses::tag_number(rt.alloc(), file, page, IMAGE_WIDTH, &mut number);
+    println!(rt; "tag_number {page}: {status}, {number}")?;
+    let mut bytes = [0u8; 6];
+    let mut count = 0;
+    let (buf, written) = (&mut bytes, &mut count);
+    let status = tiff_statuses::tag_bytes(rt.alloc(), file, page, BITS_PER_SAMPLE, 2, buf, written);
+    println!(rt; "tag_bytes {page}: {status}, {count}, {bytes:?}")
+}
+
+fn print_page(rt: &HostRuntime, file: &[u8], page: usize) -> io::Result<()> {
+    print_sides(rt, file, page)?;
+    print_parts(rt, file, page)?;
+    print_pixels(rt, file, page)?;
+    print_tags(rt, file, page)
+}
+
+fn print_file(rt: &HostRuntime, file: &[u8]) -> io::Result<()> {
+    let mut order = 7;
+    let status = tiff_statuses::byte_order(rt.alloc(), file, &mut order);
+    println!(rt; "byte_order: {status}, {order}")?;
+    let mut pages = 7;
+    let status = tiff_statuses::page_count(rt.alloc(), file, &mut pages);
+    println!(rt; "page_count: {status}, {pages}")
+}
+
+fn print_list(rt: &HostRuntime, file: &[u8]) -> io::Result<()> {
+    let mut pages = [ListedPage {
+        offset: 0,
+        status: 0,
+        width: 0,
+        height: 0,
+        method: 0,
+        color_status: 0,
+        color: Color {
+            kind: 0,
+            bits: 0,
+            samples: 0,
+        },
+        chunk_kind: 0,
+        count_status: 0,
+        count: 0,
+    }];
+    let mut count = 0;
+    let status = tiff_statuses::list_pages(rt.alloc(), file, &mut pages, &mut count);
+    println!(rt; "list_pages: {status}, {count}, {:?}", pages[0])
+}
+
+fn print_text(rt: &HostRuntime, status: u32) -> io::Result<()> {
+    let mut text = [0u8; 8];
+    let len = tiff_statuses::fault_text(status, &mut text);
+    println!(rt; "fault_text {status}: {len}, {text:?}")
+}
+
+fn main(rt: HostRuntime) -> io::Result<()> {
+    let mut buffer = [0u8; 300];
+    let mut len = 0;
+    let status = tiff_statuses::write_image(
+        rt.alloc(),
+        &IMAGE,
+        &SAMPLES,
+        &mut buffer[..100],
+        &mut len,
+    );
+    println!(rt; "write_image into 100 bytes: {status}, {len}")?;
+    let status = tiff_statuses::write_image(rt.alloc(), &IMAGE, &SAMPLES, &mut buffer, &mut len);
+    println!(rt; "write_image: {status}, {len}")?;
+    let file = &buffer[..len.min(300)];
+    print_page(&rt, file, 0)?;
+    print_page(&rt, file, 1)?;
+    print_file(&rt, file)?;
+    print_file(&rt, &file[..4])?;
+    print_list(&rt, file)?;
+    print_list(&rt, &file[..4])?;
+    print_text(&rt, 0)?;
+    print_text(&rt, 22)
+}

@@ -1,0 +1,149 @@
+-- A file that an encoder wrote into memory shows its image.
+use Rattle.std.proofs.Common.{◌≡◌, ℕ, zero, suc, ◌+◌, ◌%◌, ◌<◌, ◌⊎◌, inl, inr, true, false, List, [], length, map, get_or, Fits, w8, arith, None, Some, Result, Ok, Err, refl, sym, ap, subst, ◌∙◌, lit<}
+use Rattle.tiff_base.specs.declared.error.TiffError.{TiffError}
+use Rattle.std.proofs.lemmas.Bool.Decides.{nat_tests}
+use Rattle.std.specs.Prelude.{◌==◌, if◌then◌else◌}
+use Rattle.tiff_base.specs.declared.error.TiffError.TheVariants.{UsageError}
+use Rattle.tiff_base.specs.declared.error.UsageError.TheVariants.{MismatchedEntryLength}
+use Rattle.tiff_base.specs.declared.tags.«Type».{«Type»}
+use Rattle.tiff_base.specs.declared.io.SinkFault.TheVariants as sink
+use Rattle.tiff_base.specs.declared.tags.FileKind.{FileKind}
+use Rattle.tiff_base.specs.declared.tags.FileKind.TheVariants.{Classic, Big}
+use Rattle.tiff_value.specs.ColorType.{ColorTypeRecord, sample_number}
+use Rattle.tiff_value.specs.ColorTypes.{color_type, inner_size, inner_type}
+use Rattle.tiff_page.specs.Pixels.{numbers_in}
+use Rattle.tiff_encode.specs.FileBytes.{header_bytes, header_mark}
+use Rattle.tiff_encode.specs.Model.{Model, IsLink, Stands, header_link, header_model}
+use Rattle.tiff_encode.specs.Machine.{FileState, begun_file}
+use Rattle.tiff_encode.specs.Calls.{with_compression, with_predictor}
+use Rattle.tiff_encode.specs.Shows.{ShowsFirst}
+use Rattle.tiff_encode.specs.ImageData.{WritesImage, LeavesImage, LeavesNewImage, image_of_samples}
+use Rattle.tiff_encode.proofs.Data.Begun.{new_is}
+use Rattle.tiff_encode.proofs.Shown.Gray.{first_shown}
+use Rattle.tiff_encode.proofs.Header.{header_stands}
+use Rattle.tiff_statuses.specs.declared.writer.Settings.{Settings}
+use Rattle.tiff_statuses.specs.Writer.{IsWritten, WritesImageFile, WritesBytes, file_by, image_by, samples_from_bytes}
+use Rattle.tiff_statuses.proofs.Octets.{octets_are}
+
+-- an encoder that begins on nothing, by its settings
+pub begun_by : (s : Settings) (failures : ℕ) (told : List ℕ) (b p c : FileState) → told ≡ [] → b ≡ begun_file s.kind told failures
+    → p ≡ with_predictor s.predictor b → c ≡ with_compression s.compression p → c ≡ file_by s failures
+begun_by s failures told b p c empty b_is p_is c_is =
+    c_is ∙ ap (with_compression s.compression) (p_is ∙ ap (with_predictor s.predictor) (b_is ∙ ap (λ t. begun_file s.kind t failures) empty))
+
+-- a header has bytes
+some_header : (kind : FileKind) → 0 < length (header_bytes kind)
+some_header Classic = lit< tt
+some_header Big = lit< tt
+
+chain_of : (kind : FileKind) → length {A = ℕ} [] + length (header_mark kind) ≡ header_link kind
+chain_of Classic = refl
+chain_of Big = refl
+
+module _ (s : Settings) (width height failures : ℕ) (samples : List ℕ) (last : FileState) where
+  abbrev old : FileState
+  old = file_by s failures
+
+  -- an image that such an encoder left is shown
+  shown : LeavesImage (color_type s.color) (inner_size s.color) width height samples old last (header_model s.kind)
+      → ShowsFirst s.kind last.bytes (image_by s width height samples)
+  shown l =
+      let n = new_is (color_type s.color) (inner_size s.color) width height old l.image l.begun.answer in
+      subst (λ i. ShowsFirst s.kind last.bytes (image_of_samples i samples)) (sym n.1.0)
+      (first_shown (color_type s.color) (inner_size s.color) width height samples old last (header_model s.kind) (chain_of s.kind) (some_header s.kind) l s.color refl refl)
+
+  -- what it answers, and leaves on a header
+  abbrev Answered : Result (Unit {0}) TiffError → Type 0
+  Answered r = WritesImage (color_type s.color) (inner_size s.color) width height samples r old last
+
+  abbrev Left : Result (Unit {0}) TiffError → Type 0
+  Left r = (m : Model) → Stands old.kind old.bytes m → IsLink old.kind m old.chain → LeavesNewImage (color_type s.color) (inner_size s.color) width height samples r old last m
+
+  left_shown : Left (Ok tt) → ShowsFirst s.kind last.bytes (image_by s width height samples)
+  left_shown l = shown (l (header_model s.kind) (header_stands s.kind) (inl (chain_of s.kind)))
+
+-- what an encoder by these settings answers is written
+module _ (s : Settings) (width height failures : ℕ) (samples : List ℕ) (old last : FileState) (color : ColorTypeRecord) (size : ℕ)
+    (is : old ≡ file_by s failures) (colored : color ≡ color_type s.color) (sized : size ≡ inner_size s.color)
+    (fault : (last.fault ≡ None) ⊎ (last.fault ≡ Some sink.OutOfMemory)) where
+  abbrev Answers : Result (Unit {0}) TiffError → Type 0
+  Answers r = WritesImage color size width height samples r old last
+
+  answered : (r : Result (Unit {0}) TiffError) → Answers r → WritesImage (color_type s.color) (inner_size s.color) width height samples r (file_by s failures) last
+  answered r w =
+      subst (λ c. WritesImage c (inner_size s.color) width height samples r (file_by s failures) last) colored
+      (subst (λ n. WritesImage color n width height samples r (file_by s failures) last) sized
+      (subst (λ f. WritesImage color size width height samples r f last) is w))
+
+  abbrev Leaves : Result (Unit {0}) TiffError → Type 0
+  Leaves r = (m : Model) → Stands old.kind old.bytes m → IsLink old.kind m old.chain → LeavesNewImage color size width height samples r old last m
+
+  left : (r : Result (Unit {0}) TiffError) → Leaves r → Left s width height failures samples last r
+  left r l =
+      subst (λ c. (m : Model) → Stands s.kind (file_by s failures).bytes m → IsLink s.kind m (file_by s failures).chain → LeavesNewImage c (inner_size s.color) width height samples r (file_by s failures) last m) colored
+      (subst (λ n. (m : Model) → Stands s.kind (file_by s failures).bytes m → IsLink s.kind m (file_by s failures).chain → LeavesNewImage color n width height samples r (file_by s failures) last m) sized
+      (subst (λ (f : FileState). (m : Model) → Stands f.kind f.bytes m → IsLink f.kind m f.chain → LeavesNewImage color size width height samples r f last m) is l))
+
+  pub file_written : (file : List ℕ) → Answers (Ok tt) → Leaves (Ok tt) → file ≡ last.bytes → WritesImageFile s width height samples (Ok file)
+  file_written file w l bytes =
+      let written : IsWritten s width height samples (Ok file) = record {
+        failures = failures;
+        last = last;
+        written = answered (Ok tt) w;
+        fault = fault;
+        file = bytes;
+        shows = subst (λ (bs : List ℕ). ShowsFirst s.kind bs (image_by s width height samples)) (sym bytes) (left_shown s width height failures samples last (left (Ok tt) l));
+      } in
+      inr written
+
+  pub fault_written : (e : TiffError) → Answers (Err e) → WritesImageFile s width height samples (Err e)
+  fault_written e w =
+      let written : IsWritten s width height samples (Err e) = record {
+        failures = failures;
+        last = last;
+        written = answered (Err e) w;
+        fault = fault;
+        file = tt;
+        shows = tt;
+      } in
+      inr written
+
+-- ---- samples that bytes are
+
+-- none is left over
+tested : (n : ℕ) → n ≡ 0 → (n == 0) ≡ true
+tested n h = rw h refl
+
+untested : (n : ℕ) → (n ≡ 0 → ⊥) → (n == 0) ≡ false
+untested zero h = absurd (h refl)
+untested (suc n) h = grind (arith, nat_tests)
+
+module _ (s : Settings) (width height : ℕ) (bytes : List ℕ) where
+  whole_by : (answer : Result (List ℕ) TiffError) → length bytes % inner_size s.color ≡ 0
+      → WritesImageFile s width height (numbers_in (inner_size s.color) bytes) answer → WritesBytes s width height (samples_from_bytes s.color bytes) answer
+  whole_by answer none w =
+      subst (λ b. WritesBytes s width height (if b then Ok (numbers_in (inner_size s.color) bytes) else Err (UsageError (MismatchedEntryLength (inner_type s.color) (length bytes)))) answer)
+      (sym (tested (length bytes % inner_size s.color) none)) w
+
+  -- samples that were made of bytes are written
+  pub whole_written : (size : ℕ) (samples : List ℕ) (answer : Result (List ℕ) TiffError) → size ≡ inner_size s.color → length bytes % size ≡ 0
+      → samples ≡ numbers_in size bytes → WritesImageFile s width height samples answer → WritesBytes s width height (samples_from_bytes s.color bytes) answer
+  whole_written size samples answer is none are w =
+      whole_by answer (subst (λ n. length bytes % n ≡ 0) is none)
+      (subst (λ (xs : List ℕ). WritesImageFile s width height xs answer) (are ∙ ap (λ n. numbers_in n bytes) is) w)
+
+  -- bytes that are no whole number of samples are refused
+  pub part_refused : (size : ℕ) (type : «Type») → size ≡ inner_size s.color → type ≡ inner_type s.color → (length bytes % size ≡ 0 → ⊥)
+      → WritesBytes s width height (samples_from_bytes s.color bytes) (Err (UsageError (MismatchedEntryLength type (length bytes))))
+  part_refused size type is typed some =
+      subst (λ b. WritesBytes s width height (if b then Ok (numbers_in (inner_size s.color) bytes) else Err (UsageError (MismatchedEntryLength (inner_type s.color) (length bytes))))
+      (Err (UsageError (MismatchedEntryLength type (length bytes)))))
+      (sym (untested (length bytes % inner_size s.color) (subst (λ n. length bytes % n ≡ 0 → ⊥) is some)))
+      (ap (λ t. Err (UsageError (MismatchedEntryLength t (length bytes)))) typed)
+
+  -- bytes are samples of one byte
+  pub octets_written : (answer : Result (List ℕ) TiffError) → ((i : ℕ) → Fits w8 (get_or bytes i 0)) → inner_size s.color ≡ 1
+      → WritesImageFile s width height (map (sample_number 1 (λ n. n)) bytes) answer → WritesBytes s width height (samples_from_bytes s.color bytes) answer
+  octets_written answer octets one w =
+      let none : length bytes % 1 ≡ 0 = omega arith in
+      whole_written 1 (map (sample_number 1 (λ n. n)) bytes) answer (sym one) none (octets_are bytes octets) w

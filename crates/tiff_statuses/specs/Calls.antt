@@ -1,0 +1,169 @@
+-- What the pages of a file answer, by the outcomes of a decoder's calls.
+use Rattle.std.specs.Prelude.{ℕ, List, length, Option, None, Some, Result, Ok, Err}
+use Rattle.tiff_base.specs.declared.color.ChunkType.{ChunkType}
+use Rattle.tiff_base.specs.declared.color.ChunkType.TheVariants.{Strip, Tile}
+use Rattle.tiff_base.specs.declared.color.ColorType.{ColorType}
+use Rattle.tiff_base.specs.declared.color.ColorType.TheVariants.{Gray, RGB, Palette, GrayA, RGBA, CMYK, CMYKA, YCbCr, Lab, Multiband}
+use Rattle.tiff_base.specs.declared.error.TiffError.{TiffError}
+use Rattle.tiff_base.specs.Answers.{◌>>=◌}
+use Rattle.tiff_base.specs.Color.{bit_depth, num_samples}
+use Rattle.tiff_decode.specs.Machine.{Decoding}
+use Rattle.tiff_decode.specs.Outcome as outcome
+use Rattle.tiff_base.specs.declared.error.TiffError.TheVariants.{FormatError}
+use Rattle.tiff_base.specs.declared.error.TiffFormatError.TheVariants.{RequiredTagNotFound}
+use Rattle.tiff_base.specs.declared.tags.ByteOrder.{ByteOrder}
+use Rattle.tiff_base.specs.declared.tags.ByteOrder.TheVariants.{LittleEndian, BigEndian}
+use Rattle.tiff_base.specs.declared.tags.Tag.{Tag}
+use Rattle.tiff_base.specs.Tags.{tag_of, type_number}
+use Rattle.tiff_ifd.specs.Look.{ok_or_fault}
+use Rattle.tiff_page.specs.PixelFault.{each_below}
+use Rattle.tiff_statuses.specs.declared.calls.FieldSize.{FieldSize}
+use Rattle.tiff_statuses.specs.declared.calls.Sides.{Sides}
+use Rattle.tiff_statuses.specs.declared.calls.Layout.{Layout}
+use Rattle.tiff_statuses.specs.declared.calls.Color.{Color}
+use Rattle.tiff_statuses.specs.declared.calls.Chunks.{Chunks}
+
+-- the decoder at the page of this number
+abbrev pub decoder_at_page : List ℕ → ℕ → Result Decoding TiffError
+decoder_at_page file page = do
+  d ← outcome.decoder_of file 0
+  _ ← (outcome.seek_to_image d page).answer
+  Ok (record d { state = (outcome.seek_to_image d page).next })
+
+-- the sides of a page
+abbrev pub page_sides : List ℕ → ℕ → Result Sides TiffError
+page_sides file page = do
+  d ← decoder_at_page file page
+  sides ← (outcome.dimensions d).answer
+  Ok (record { width = sides.0; height = sides.1 })
+
+-- the bytes of an image in a slice
+abbrev pub read_image_bytes : List ℕ → ℕ → List ℕ → Result (List ℕ) TiffError
+read_image_bytes file page slice = do
+  d ← decoder_at_page file page
+  (outcome.read_image_bytes d slice).answer
+
+-- the bytes of an image: of one plane, and of all
+abbrev pub image_layout : Decoding → Result Layout TiffError
+image_layout d = do
+  layout ← (outcome.image_buffer_layout d).answer
+  Ok (record { len = layout.len; complete_len = layout.complete_len })
+
+abbrev pub page_layout : List ℕ → ℕ → Result Layout TiffError
+page_layout file page = decoder_at_page file page >>= image_layout
+
+-- the bytes of a chunk in a slice
+abbrev pub read_chunk_bytes : List ℕ → ℕ → ℕ → List ℕ → Result (List ℕ) TiffError
+read_chunk_bytes file page chunk slice = do
+  d ← decoder_at_page file page
+  (outcome.read_chunk_bytes d chunk slice).answer
+
+-- the bytes of a coding unit in a slice
+abbrev pub read_unit_bytes : List ℕ → ℕ → ℕ → List ℕ → Result (List ℕ) TiffError
+read_unit_bytes file page unit slice = do
+  d ← decoder_at_page file page
+  (outcome.read_coding_unit_bytes d unit slice).answer
+
+-- the kind of a color, as a number
+abbrev pub color_number : ColorType → ℕ
+color_number (Gray b) = 0
+color_number (RGB b) = 1
+color_number (Palette b) = 2
+color_number (GrayA b) = 3
+color_number (RGBA b) = 4
+color_number (CMYK b) = 5
+color_number (CMYKA b) = 6
+color_number (YCbCr b) = 7
+color_number (Lab b) = 8
+color_number (Multiband b n) = 9
+
+-- a color by its numbers
+abbrev pub color_by : ColorType → Color
+color_by color = record { kind = color_number color; bits = bit_depth color; samples = num_samples color }
+
+-- the color of a page
+abbrev pub color_of_page : Decoding → Result Color TiffError
+color_of_page d = do
+  color ← (outcome.colortype d).answer
+  Ok (color_by color)
+
+abbrev pub page_color : List ℕ → ℕ → Result Color TiffError
+page_color file page = decoder_at_page file page >>= color_of_page
+
+-- strips are 0, tiles 1
+abbrev pub chunk_number : ChunkType → ℕ
+chunk_number Strip = 0
+chunk_number Tile = 1
+
+-- how many chunks of its kind a page has
+abbrev pub page_chunk_count : Decoding → ChunkType → Result ℕ TiffError
+page_chunk_count d Strip = (outcome.strip_count d).answer
+page_chunk_count d Tile = (outcome.tile_count d).answer
+
+-- the chunks of a page, with their sides before they are cut at the edges of the image
+abbrev pub chunks_of_page : Decoding → Result Chunks TiffError
+chunks_of_page d = do
+  count ← page_chunk_count d (outcome.get_chunk_type d)
+  Ok (record {
+    kind = chunk_number (outcome.get_chunk_type d);
+    count = count;
+    width = (outcome.chunk_dimensions d).0;
+    height = (outcome.chunk_dimensions d).1;
+  })
+
+abbrev pub page_chunks : List ℕ → ℕ → Result Chunks TiffError
+page_chunks file page = decoder_at_page file page >>= chunks_of_page
+
+-- the field of a tag of a page: the number of its type, and how many values there are
+abbrev pub field_size : Decoding → Tag → Result FieldSize TiffError
+field_size d tag = do
+  field ← ok_or_fault (outcome.find_entry d tag) (FormatError (RequiredTagNotFound tag))
+  Ok (record { kind = type_number field.field_type; count = field.count })
+
+abbrev pub tag_field : List ℕ → ℕ → ℕ → Result FieldSize TiffError
+tag_field file page number = do
+  d ← decoder_at_page file page
+  field_size d (tag_of number)
+
+-- the fault by which a chain ends, if it ends by one
+abbrev pub plain_end : Option TiffError → Result (Unit {0}) TiffError
+plain_end None = Ok tt
+plain_end (Some e) = Err e
+
+-- how many pages a file has: one for each offset of its chain; or the first fault: of its pages in their order, and then of
+-- the chain's end
+abbrev pub page_count : List ℕ → Result ℕ TiffError
+page_count file = do
+  d ← outcome.decoder_of file 0
+  _ ← each_below (λ page. (outcome.seek_to_image d page).answer) (length (outcome.chain_of d).offsets)
+  _ ← plain_end (outcome.chain_of d).end
+  Ok (length (outcome.chain_of d).offsets)
+
+-- the number of a tag of a page
+abbrev pub tag_number_at : List ℕ → ℕ → ℕ → Result ℕ TiffError
+tag_number_at file page number = do
+  d ← decoder_at_page file page
+  (outcome.get_tag_u64 d (tag_of number)).answer
+
+-- bytes of the values of a tag of a page, from one on, in a slice, and how many of them were copied
+abbrev pub bytes_of_tag : Decoding → Tag → ℕ → List ℕ → Result (ℕ × List ℕ) TiffError
+bytes_of_tag d tag at slice = do
+  found ← (outcome.find_tag_bytes d tag slice at).answer
+  count ← ok_or_fault found.0 (FormatError (RequiredTagNotFound tag))
+  Ok (count, found.1)
+
+abbrev pub tag_bytes : List ℕ → ℕ → ℕ → ℕ → List ℕ → Result (ℕ × List ℕ) TiffError
+tag_bytes file page number at slice = do
+  d ← decoder_at_page file page
+  bytes_of_tag d (tag_of number) at slice
+
+-- little-endian is 0, big-endian 1
+abbrev pub order_number : ByteOrder → ℕ
+order_number LittleEndian = 0
+order_number BigEndian = 1
+
+-- the byte order of a file
+abbrev pub file_byte_order : List ℕ → Result ℕ TiffError
+file_byte_order file = do
+  d ← outcome.decoder_of file 0
+  Ok (order_number d.order)

@@ -1,0 +1,87 @@
+-- The pages of a file, as C is told of them.
+use Rattle.std.specs.Prelude.{◌≡◌, ◌⊎◌, ℕ, ◌++◌, List, drop, length, map, take, Option, None, Some, Result, Ok, Err}
+use Rattle.tiff_base.specs.declared.color.ColorType.{ColorType}
+use Rattle.tiff_base.specs.declared.error.TiffError.{TiffError}
+use Rattle.tiff_base.specs.declared.error.TiffError.TheVariants.{OutOfMemory}
+use Rattle.tiff_base.specs.Answers.{◌>>=◌}
+use Rattle.tiff_base.specs.Tags.{method_number}
+use Rattle.tiff_decode.specs.Outcome.{decoder_of}
+use Rattle.tiff_pages.specs.declared.pages.PageFacts.{PageFacts}
+use Rattle.tiff_pages.specs.declared.pages.PageItem.{PageItem}
+use Rattle.tiff_pages.specs.Pages.{Pages, pages_of}
+use Rattle.tiff_statuses.specs.declared.calls.Color.{Color}
+use Rattle.tiff_statuses.specs.declared.list.ListedPage.{ListedPage}
+use Rattle.tiff_statuses.specs.Calls.{chunk_number, color_by}
+use Rattle.tiff_statuses.specs.Status.{fault_number, status}
+
+-- a color by its numbers; zeros where there is none
+abbrev pub color_told : Result ColorType TiffError → Color
+color_told (Ok color) = color_by color
+color_told (Err e) = record { kind = 0; bits = 0; samples = 0 }
+
+-- a count; 0 where there is none
+abbrev pub count_told : Result ℕ TiffError → ℕ
+count_told (Ok count) = count
+count_told (Err e) = 0
+
+-- a page by its numbers: its facts, or the number of its fault and zeros
+abbrev pub page_told : ℕ → Result PageFacts TiffError → ListedPage
+page_told offset (Ok facts) = record {
+  offset = offset;
+  status = 0;
+  width = facts.width;
+  height = facts.height;
+  method = method_number facts.method;
+  color_status = status facts.colour;
+  color = color_told facts.colour;
+  chunk_kind = chunk_number facts.kind;
+  count_status = status facts.chunks;
+  count = count_told facts.chunks;
+}
+page_told offset (Err e) = record {
+  offset = offset;
+  status = fault_number e;
+  width = 0;
+  height = 0;
+  method = 0;
+  color_status = 0;
+  color = record { kind = 0; bits = 0; samples = 0 };
+  chunk_kind = 0;
+  count_status = 0;
+  count = 0;
+}
+
+abbrev pub item_told : PageItem → ListedPage
+item_told item = page_told item.place.0 item.page
+
+-- a slice with these items in front, as many as it has room for; what is behind them stays
+abbrev pub filled : {A : Type 0} → List A → List A → List A
+filled items old = take (length old) items ++ drop (length items) old
+
+-- the pages of a file, and how their chain ends; or the fault of its header or its first page
+abbrev pub list_of : List ℕ → Result Pages TiffError
+list_of file = do
+  d ← decoder_of file 0
+  Ok (pages_of d)
+
+-- the number of the fault by which a chain ends; 0 for none
+abbrev pub end_status : Option TiffError → ℕ
+end_status None = 0
+end_status (Some e) = fault_number e
+
+-- No page is listed, for this fault, or for want of memory.
+pub record ListsNone (e : TiffError) (result : ℕ) (old new : List ListedPage) (count : ℕ) : Type 0 where
+  pub status : (result ≡ fault_number e) ⊎ (result ≡ fault_number OutOfMemory)
+  pub none : count ≡ 0
+  pub stays : new ≡ old
+
+-- These pages are listed, as many as there is room for, with how many they are; the status is that of the chain's end.
+pub record ListsAll (pages : Pages) (result : ℕ) (old new : List ListedPage) (count : ℕ) : Type 0 where
+  pub status : result ≡ end_status pages.end
+  pub all : count ≡ length pages.items
+  pub listed : new ≡ filled (map item_told pages.items) old
+
+-- what the call tells: all pages, or none for want of memory; or none for the fault of the file
+abbrev pub ListTells : Result Pages TiffError → ℕ → List ListedPage → List ListedPage → ℕ → Type 0
+ListTells (Ok pages) result old new count = ListsAll pages result old new count ⊎ ListsNone OutOfMemory result old new count
+ListTells (Err e) result old new count = ListsNone e result old new count

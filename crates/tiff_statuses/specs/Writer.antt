@@ -1,0 +1,135 @@
+-- What is written of an image that C hands in: a file, or the first fault.
+use Rattle.std.specs.Prelude.{◌≡◌, ◌⊎◌, ℕ, ◌<◌, ◌≤◌, ◌%◌, ◌==◌, ◌++◌, List, [], ◌∷◌, length, take, drop, slice_get, if◌then◌else◌, false, Option, None, Some, Result, Ok, Err, IfOk}
+use Rattle.tiff_base.specs.declared.error.TiffError.{TiffError}
+use Rattle.tiff_base.specs.declared.error.TiffError.TheVariants.{FormatError, UnsupportedError, IoError, UsageError, OutOfMemory}
+use Rattle.tiff_base.specs.declared.error.TiffFormatError.TheVariants.{TiffSignatureInvalid, UnknownPredictor}
+use Rattle.tiff_base.specs.declared.error.TiffUnsupportedError.TheVariants.{UnsupportedCompressionMethod}
+use Rattle.tiff_base.specs.declared.error.UsageError.TheVariants.{InsufficientOutputBufferSize, MismatchedEntryLength}
+use Rattle.tiff_base.specs.declared.io.IoKind.TheVariants.{InvalidInput}
+use Rattle.tiff_base.specs.declared.io.SinkFault.TheVariants as sink
+use Rattle.tiff_base.specs.declared.tags.FileKind.{FileKind}
+use Rattle.tiff_base.specs.declared.tags.FileKind.TheVariants.{Classic, Big}
+use Rattle.tiff_base.specs.Answers.{◌>>=◌}
+use Rattle.tiff_base.specs.Tags.{method_of, predictor_of}
+use Rattle.tiff_value.specs.declared.encoder.colortype.ColorTypeName.{ColorTypeName}
+use Rattle.tiff_value.specs.declared.encoder.colortype.ColorTypeName.TheVariants.{Gray8, Gray16, Gray32, Gray64, GrayI8, GrayI16, GrayI32, GrayI64, Gray32Float, Gray64Float, RGB8, RGB16, RGB32, RGB64, RGB32Float, RGB64Float, RGBA8, RGBA16, RGBA32, RGBA64, RGBA32Float, RGBA64Float, CMYK8, CMYK16, CMYK32, CMYK64, CMYK32Float, CMYK64Float, YCbCr8, CMYKA8}
+use Rattle.tiff_value.specs.ColorTypes.{color_type, inner_size, inner_type}
+use Rattle.tiff_ifd.specs.Look.{ok_or_fault}
+use Rattle.tiff_page.specs.Pixels.{numbers_in}
+use Rattle.tiff_encode.specs.declared.encoder.settings.Compression.{Compression}
+use Rattle.tiff_encode.specs.declared.encoder.settings.Compression.TheVariants.{Uncompressed, Packbits}
+use Rattle.tiff_encode.specs.Machine as machine
+use Rattle.tiff_encode.specs.Machine.{FileState, begun_file}
+use Rattle.tiff_encode.specs.Calls.{image_in, new_directory}
+use Rattle.tiff_encode.specs.Shows.{Image, ShowsFirst}
+use Rattle.tiff_encode.specs.ImageData.{WritesImage, image_of_samples}
+use Rattle.tiff_statuses.specs.declared.writer.NewImage.{NewImage}
+use Rattle.tiff_statuses.specs.declared.writer.Settings.{Settings}
+use Rattle.tiff_decode.specs.NextState.{view_of_result}
+use Rattle.tiff_statuses.specs.Status.{fault_number}
+
+-- ---- what is asked for
+
+-- a kind of file by the version in its header
+abbrev pub kind_of : ℕ → Option FileKind
+kind_of n = if n == 42 then Some Classic else if n == 43 then Some Big else None
+
+-- the color types, by their numbers from 0 on
+abbrev pub color_types : List ColorTypeName
+color_types =
+    Gray8 ∷ Gray16 ∷ Gray32 ∷ Gray64 ∷ GrayI8 ∷ GrayI16 ∷ GrayI32 ∷ GrayI64 ∷ Gray32Float ∷ Gray64Float
+    ∷ RGB8 ∷ RGB16 ∷ RGB32 ∷ RGB64 ∷ RGB32Float ∷ RGB64Float
+    ∷ RGBA8 ∷ RGBA16 ∷ RGBA32 ∷ RGBA64 ∷ RGBA32Float ∷ RGBA64Float
+    ∷ CMYK8 ∷ CMYK16 ∷ CMYK32 ∷ CMYK64 ∷ CMYK32Float ∷ CMYK64Float ∷ YCbCr8 ∷ CMYKA8 ∷ []
+
+-- a packing by the number of its method
+abbrev pub packing_of : ℕ → Option Compression
+packing_of n = if n == 1 then Some Uncompressed else if n == 32773 then Some Packbits else None
+
+-- what an image is written by; the first number that names nothing is the fault
+abbrev pub settings_of : NewImage → Result Settings TiffError
+settings_of image = do
+  kind ← ok_or_fault (kind_of image.version) (FormatError TiffSignatureInvalid)
+  color ← ok_or_fault (slice_get color_types image.color) (IoError InvalidInput)
+  compression ← ok_or_fault (packing_of image.method) (UnsupportedError (UnsupportedCompressionMethod (method_of image.method)))
+  predictor ← ok_or_fault (predictor_of image.predictor) (FormatError (UnknownPredictor image.predictor))
+  Ok (record { kind = kind; color = color; compression = compression; predictor = predictor })
+
+-- the samples that bytes are, each number's lowest byte first; a part of one is left over
+abbrev pub samples_from_bytes : ColorTypeName → List ℕ → Result (List ℕ) TiffError
+samples_from_bytes color bytes =
+    if length bytes % inner_size color == 0 then Ok (numbers_in (inner_size color) bytes)
+    else Err (UsageError (MismatchedEntryLength (inner_type color) (length bytes)))
+
+-- ---- what is written
+
+-- the file of an encoder that begins on nothing, with these settings; so many writes of its sink failed
+abbrev pub file_by : Settings → ℕ → FileState
+file_by s failures = record (begun_file s.kind [] failures) { predictor = s.predictor; method = machine.compression_method s.compression }
+
+-- an encoder that begins on nothing has it
+abbrev pub IsBegun : Settings → FileState → Type 0
+IsBegun s file = (failures : ℕ) × (file ≡ file_by s failures)
+
+-- the image of these samples, row by row and pixel by pixel, in strips
+abbrev pub image_by : Settings → ℕ → ℕ → List ℕ → Image
+image_by s width height samples =
+    image_of_samples (image_in (file_by s 0) (new_directory None false) (color_type s.color) (inner_size s.color) width height) samples
+
+-- The answer is what an encoder's `write_image` gives over a sink that fails for want of memory alone: the file, whose first
+-- page shows the image; or the fault.
+pub record IsWritten (s : Settings) (width height : ℕ) (samples : List ℕ) (answer : Result (List ℕ) TiffError) : Type 0 where
+  pub failures : ℕ
+  pub last : FileState
+  pub written : WritesImage (color_type s.color) (inner_size s.color) width height samples (view_of_result {Y = Unit {0}} (λ _. tt) answer) (file_by s failures) last
+  pub fault : (last.fault ≡ None) ⊎ (last.fault ≡ Some sink.OutOfMemory)
+  pub file : IfOk answer (λ file. file ≡ last.bytes)
+  pub shows : IfOk answer (λ file. ShowsFirst s.kind file (image_by s width height samples))
+
+-- so it is, or there is no memory
+abbrev pub WritesImageFile : Settings → ℕ → ℕ → List ℕ → Result (List ℕ) TiffError → Type 0
+WritesImageFile s width height samples answer = (answer ≡ Err OutOfMemory) ⊎ IsWritten s width height samples answer
+
+-- the same of samples that bytes are, unless they are none
+abbrev pub WritesBytes : Settings → ℕ → ℕ → Result (List ℕ) TiffError → Result (List ℕ) TiffError → Type 0
+WritesBytes s width height (Ok samples) answer = WritesImageFile s width height samples answer
+WritesBytes s width height (Err e) answer = answer ≡ Err e
+
+abbrev pub WritesBy : Result Settings TiffError → ℕ → ℕ → List ℕ → Result (List ℕ) TiffError → Type 0
+WritesBy (Ok s) width height bytes answer = WritesBytes s width height (samples_from_bytes s.color bytes) answer
+WritesBy (Err e) width height bytes answer = answer ≡ Err e
+
+-- the answer for an image that C hands in
+abbrev pub WritesNew : NewImage → List ℕ → Result (List ℕ) TiffError → Type 0
+WritesNew image bytes answer = WritesBy (settings_of image) image.width image.height bytes answer
+
+-- ---- what C is told
+
+-- A file is put at the front of a buffer that has room for it, and the rest of the buffer stays; else all of it does.
+abbrev pub Puts : List ℕ → ℕ → List ℕ → List ℕ → Type 0
+Puts file status old new =
+    ((length file ≤ length old) × ((status ≡ 0) × (new ≡ file ++ drop (length file) old)))
+    ⊎ ((length old < length file) × ((status ≡ fault_number (UsageError (InsufficientOutputBufferSize (length file) (length old)))) × (new ≡ old)))
+
+-- The length of a file is told, whether there is room for it or not. Of a fault nothing is told but its number.
+abbrev pub Delivers : Result (List ℕ) TiffError → ℕ → List ℕ → List ℕ → ℕ → ℕ → Type 0
+Delivers (Ok file) status old new len_old len_new = (len_new ≡ length file) × Puts file status old new
+Delivers (Err e) status old new len_old len_new = (status ≡ fault_number e) × ((new ≡ old) × (len_new ≡ len_old))
+
+-- what C is told of an image that it hands in, and the buffer and the length before and after
+abbrev pub WriterTells : NewImage → List ℕ → ℕ → List ℕ → List ℕ → ℕ → ℕ → Type 0
+WriterTells image bytes status old new len_old len_new =
+    (answer : Result (List ℕ) TiffError) × (WritesNew image bytes answer × Delivers answer status old new len_old len_new)
+
+-- ---- what follows of it
+
+-- The image is in the buffer: the front of that, as long as is told, is a file whose first page shows the samples that were handed
+-- in; and the rest of the buffer stayed.
+pub record IsShown (image : NewImage) (bytes old new : List ℕ) (len : ℕ) : Type 0 where
+  pub settings : Settings
+  pub by : settings_of image ≡ Ok settings
+  pub samples : List ℕ
+  pub are : samples_from_bytes settings.color bytes ≡ Ok samples
+  pub room : len ≤ length old
+  pub shows : ShowsFirst settings.kind (take len new) (image_by settings image.width image.height samples)
+  pub rest : drop len new ≡ drop len old

@@ -1,0 +1,451 @@
+//! The calls of a decoder on a page of a file that lies in a slice. No read of it fails, so a fault is the file's, the
+//! caller's, or want of memory.
+
+ghost use Rattle.std.specs.Prelude.{◌≡◌, ◌^◌, ◌<◌, length, IfOk, Ok, OnOk};
+ghost use Rattle.tiff_base.specs.Answers.{AnswersWithoutMemory, AnswersWithoutSource, Gives};
+ghost use Rattle.tiff_base.specs.declared.error.TiffError.TheVariants.{FormatError};
+ghost use Rattle.tiff_base.specs.declared.error.TiffFormatError.TheVariants.{RequiredTagNotFound};
+ghost use Rattle.tiff_ifd.specs.Look.{ok_or_fault};
+ghost use Rattle.tiff_decode.specs.Outcome as outcome;
+ghost use Rattle.tiff_statuses.specs.Calls as calls;
+
+use std::alloc::Global;
+use tiff_base::color::{ChunkType, ColorType};
+use tiff_base::error::{TiffFormatError, TiffResult};
+use tiff_base::io::{SliceSource, Source};
+use tiff_base::tags::{ByteOrder, Tag};
+use tiff_decode::decoder::Decoder;
+use tiff_laws::pages::{walk_ends, walk_goes_on, walk_opens};
+use tiff_page::layout::TiffCodingUnit;
+
+/// The width and the height of a page.
+#[derive(Clone, Copy, Debug, PartialEq, Eq)]
+#[repr(C)]
+pub struct Sides {
+    pub width: u32,
+    pub height: u32,
+}
+
+/// The bytes of an image: of one plane, and of all.
+#[derive(Clone, Copy, Debug, PartialEq, Eq)]
+#[repr(C)]
+pub struct Layout {
+    pub len: usize,
+    pub complete_len: usize,
+}
+
+/// The color of a page: the number of its kind, the bits of a sample, and how many samples a pixel shows.
+#[derive(Clone, Copy, Debug, PartialEq, Eq)]
+#[repr(C)]
+pub struct Color {
+    pub kind: u32,
+    pub bits: u32,
+    pub samples: u32,
+}
+
+/// The chunks of a page: the number of their kind, how many there are, and their sides.
+#[derive(Clone, Copy, Debug, PartialEq, Eq)]
+#[repr(C)]
+pub struct Chunks {
+    pub kind: u32,
+    pub count: u32,
+    pub width: u32,
+    pub height: u32,
+}
+
+/// The field of a tag: the number of its type, and how many values there are.
+#[derive(Clone, Copy, Debug, PartialEq, Eq)]
+#[repr(C)]
+pub struct FieldSize {
+    pub kind: u32,
+    pub count: u64,
+}
+
+// No read of a slice failed.
+pub(crate) fn never_failed(decoder: &Decoder<SliceSource<'_>>)
+    ensures { decoder.now.failures ≡ 0 }
+{
+    let _source = decoder.inner();
+}
+
+// A decoder at the first page of a file.
+pub(crate) fn open_first(alloc: Global, file: &[u8]) -> TiffResult<Decoder<SliceSource<'_>>>
+    ensures { AnswersWithoutSource (λ d. d) result (outcome.decoder_of file.now 0) }
+{
+    let decoder = Decoder::new(alloc, SliceSource::new(file))?;
+    never_failed(&decoder);
+    Ok(decoder)
+}
+
+// Goes to a page.
+#[tactic(auto, using(crate::proofs::Slices::here, crate::proofs::Slices::gone))]
+fn seek(decoder: &mut Decoder<SliceSource<'_>>, page: usize) -> TiffResult<()>
+    ensures answer { AnswersWithoutSource (λ x. x) result (outcome.seek_to_image decoder.old page).answer }
+    ensures gone { OnOk result (decoder.new ≡ record decoder.old { state = (outcome.seek_to_image decoder.old page).next }) }
+{
+    never_failed(decoder);
+    let answer = decoder.seek_to_image(page);
+    never_failed(decoder);
+    answer
+}
+
+// A decoder at a page of a file. It is opened at the first one, whose directory isn't read again.
+fn open_at(alloc: Global, file: &[u8], page: usize) -> TiffResult<Decoder<SliceSource<'_>>>
+    ensures { AnswersWithoutSource (λ d. d) result (calls.decoder_at_page file.now page) }
+{
+    walk_opens();
+    let mut decoder = open_first(alloc, file)?;
+    if page == 0 {
+        return Ok(decoder);
+    }
+    seek(&mut decoder, page)?;
+    Ok(decoder)
+}
+
+/// The width and the height of a page.
+#[tactic(auto, unfolding(tiff_decode::specs::Outcome::dimensions))]
+pub fn page_sides(alloc: Global, file: &[u8], page: usize) -> TiffResult<Sides>
+    ensures { AnswersWithoutSource (λ s. s) result (calls.page_sides file.now page) }
+{
+    let (width, height) = open_at(alloc, file, page)?.dimensions()?;
+    Ok(Sides { width, height })
+}
+
+// Reads the image of a decoder's page into a slice.
+#[tactic(auto, using(crate::proofs::Slices::here))]
+fn image_here(decoder: &mut Decoder<SliceSource<'_>>, buffer: &mut [u8]) -> TiffResult<()>
+    ensures { AnswersWithoutSource (λ _. buffer.new) result (outcome.read_image_bytes decoder.old buffer.old).answer }
+{
+    never_failed(decoder);
+    let answer = decoder.read_image_bytes(buffer);
+    never_failed(decoder);
+    answer
+}
+
+/// Reads the image of a page into a slice.
+pub fn image_bytes(alloc: Global, file: &[u8], page: usize, buffer: &mut [u8]) -> TiffResult<()>
+    ensures { AnswersWithoutSource (λ _. buffer.new) result (calls.read_image_bytes file.now page buffer.old) }
+{
+    image_here(&mut open_at(alloc, file, page)?, buffer)
+}
+
+// The layout of a decoder's page.
+#[tactic(auto, unfolding(tiff_decode::specs::Outcome::image_buffer_layout))]
+fn layout_here(decoder: &mut Decoder<SliceSource<'_>>) -> TiffResult<Layout>
+    ensures { AnswersWithoutSource (λ l. l) result (calls.image_layout decoder.old) }
+{
+    let layout = decoder.image_buffer_layout()?;
+    Ok(Layout {
+        len: layout.len,
+        complete_len: layout.complete_len,
+    })
+}
+
+/// The bytes of the image of a page.
+pub fn page_layout(alloc: Global, file: &[u8], page: usize) -> TiffResult<Layout>
+    ensures { AnswersWithoutSource (λ l. l) result (calls.page_layout file.now page) }
+{
+    layout_here(&mut open_at(alloc, file, page)?)
+}
+
+// Reads a chunk of a decoder's page into a slice.
+#[tactic(auto, using(crate::proofs::Slices::here))]
+fn chunk_here(
+    decoder: &mut Decoder<SliceSource<'_>>,
+    chunk: u32,
+    buffer: &mut [u8],
+) -> TiffResult<()>
+    ensures { AnswersWithoutSource (λ _. buffer.new) result (outcome.read_chunk_bytes decoder.old chunk buffer.old).answer }
+{
+    never_failed(decoder);
+    let answer = decoder.read_chunk_bytes(chunk, buffer);
+    never_failed(decoder);
+    answer
+}
+
+/// Reads a chunk of a page into a slice.
+pub fn chunk_bytes(
+    alloc: Global,
+    file: &[u8],
+    page: usize,
+    chunk: u32,
+    buffer: &mut [u8],
+) -> TiffResult<()>
+    ensures { AnswersWithoutSource (λ _. buffer.new) result (calls.read_chunk_bytes file.now page chunk buffer.old) }
+{
+    chunk_here(&mut open_at(alloc, file, page)?, chunk, buffer)
+}
+
+// Reads a coding unit of a decoder's page into a slice.
+#[tactic(auto, using(crate::proofs::Slices::here))]
+fn unit_here(decoder: &mut Decoder<SliceSource<'_>>, unit: u32, buffer: &mut [u8]) -> TiffResult<()>
+    ensures { AnswersWithoutSource (λ _. buffer.new) result (outcome.read_coding_unit_bytes decoder.old unit buffer.old).answer }
+{
+    never_failed(decoder);
+    let answer = decoder.read_coding_unit_bytes(TiffCodingUnit(unit), buffer);
+    never_failed(decoder);
+    answer
+}
+
+/// Reads a coding unit of a page into a slice.
+pub fn unit_bytes(
+    alloc: Global,
+    file: &[u8],
+    page: usize,
+    unit: u32,
+    buffer: &mut [u8],
+) -> TiffResult<()>
+    ensures { AnswersWithoutSource (λ _. buffer.new) result (calls.read_unit_bytes file.now page unit buffer.old) }
+{
+    unit_here(&mut open_at(alloc, file, page)?, unit, buffer)
+}
+
+// The kind of a color, as C is told of it.
+fn color_number(color: ColorType) -> u32
+    ensures { result ≡ calls.color_number color }
+{
+    match color {
+        ColorType::Gray(_) => 0,
+        ColorType::RGB(_) => 1,
+        ColorType::Palette(_) => 2,
+        ColorType::GrayA(_) => 3,
+        ColorType::RGBA(_) => 4,
+        ColorType::CMYK(_) => 5,
+        ColorType::CMYKA(_) => 6,
+        ColorType::YCbCr(_) => 7,
+        ColorType::Lab(_) => 8,
+        ColorType::Multiband { .. } => 9,
+        _ => 10,
+    }
+}
+
+// A color, as C is told of it.
+pub(crate) fn color_by(color: ColorType) -> Color
+    ensures { result ≡ calls.color_by color }
+{
+    Color {
+        kind: color_number(color),
+        bits: u32::from(color.bit_depth()),
+        samples: u32::from(color.num_samples()),
+    }
+}
+
+// The color of a decoder's page.
+#[tactic(auto, unfolding(tiff_decode::specs::Outcome::colortype))]
+fn color_here(decoder: &mut Decoder<SliceSource<'_>>) -> TiffResult<Color>
+    ensures { AnswersWithoutSource (λ c. c) result (calls.color_of_page decoder.old) }
+{
+    Ok(color_by(decoder.colortype()?))
+}
+
+/// The color of a page.
+pub fn page_color(alloc: Global, file: &[u8], page: usize) -> TiffResult<Color>
+    ensures { AnswersWithoutSource (λ c. c) result (calls.page_color file.now page) }
+{
+    color_here(&mut open_at(alloc, file, page)?)
+}
+
+// The chunks of a decoder's page.
+#[tactic(auto, unfolding(tiff_decode::specs::Outcome::strip_count, tiff_decode::specs::Outcome::tile_count))]
+fn chunks_here(decoder: &mut Decoder<SliceSource<'_>>) -> TiffResult<Chunks>
+    ensures { AnswersWithoutSource (λ c. c) result (calls.chunks_of_page decoder.old) }
+{
+    let (width, height) = decoder.chunk_dimensions();
+    let (kind, count) = match decoder.get_chunk_type() {
+        ChunkType::Strip => (0, decoder.strip_count()?),
+        ChunkType::Tile => (1, decoder.tile_count()?),
+    };
+    Ok(Chunks {
+        kind,
+        count,
+        width,
+        height,
+    })
+}
+
+/// The chunks of a page.
+pub fn page_chunks(alloc: Global, file: &[u8], page: usize) -> TiffResult<Chunks>
+    ensures { AnswersWithoutSource (λ c. c) result (calls.page_chunks file.now page) }
+{
+    chunks_here(&mut open_at(alloc, file, page)?)
+}
+
+// The field of a tag of a decoder's page.
+fn field_here(decoder: &mut Decoder<SliceSource<'_>>, tag: Tag) -> TiffResult<FieldSize>
+    ensures { AnswersWithoutSource (λ f. f) result (calls.field_size decoder.old tag) }
+{
+    match decoder.image_ifd().find_entry(tag) {
+        None => Err(TiffFormatError::RequiredTagNotFound(tag).into()),
+        Some(entry) => Ok(FieldSize {
+            kind: u32::from(entry.field_type().to_u16()),
+            count: entry.count(),
+        }),
+    }
+}
+
+/// The field of a tag of a page, by the tag's number.
+pub fn tag_field(alloc: Global, file: &[u8], page: usize, number: u16) -> TiffResult<FieldSize>
+    ensures { AnswersWithoutSource (λ f. f) result (calls.tag_field file.now page number) }
+{
+    field_here(
+        &mut open_at(alloc, file, page)?,
+        Tag::from_u16_exhaustive(number),
+    )
+}
+
+// A file has fewer than 2^64 bytes.
+fn bytes_fit<R: Source>(decoder: &Decoder<R>)
+    ensures { length decoder.now.bytes < 2 ^ 64 }
+{
+    let _source = decoder.inner();
+}
+
+// Goes to the next page.
+#[tactic(auto, using(crate::proofs::Slices::next_here, crate::proofs::Slices::next_gone))]
+fn advance(decoder: &mut Decoder<SliceSource<'_>>) -> TiffResult<()>
+    ensures answer { AnswersWithoutSource (λ x. x) result (outcome.next_image decoder.old).answer }
+    ensures gone { OnOk result (decoder.new ≡ record decoder.old { state = (outcome.next_image decoder.old).next }) }
+{
+    never_failed(decoder);
+    let answer = decoder.next_image();
+    never_failed(decoder);
+    answer
+}
+
+// How many pages the file of a decoder at its first page has.
+fn count_pages(decoder: &mut Decoder<SliceSource<'_>>) -> TiffResult<usize>
+    // It was opened on its file, and no call moved it since.
+    requires { outcome.decoder_of decoder.old.bytes 0 ≡ Ok decoder.old }
+    ensures { AnswersWithoutSource (λ n. n) result (calls.page_count decoder.old.bytes) }
+{
+    walk_opens();
+    walk_goes_on();
+    walk_ends();
+    bytes_fit(decoder);
+    let mut count = 1;
+    'pages: while decoder.more_images() {
+        advance(decoder)?;
+        count += 1;
+    }
+    Ok(count)
+}
+
+/// How many pages a file has. It ends since the file's chain does.
+pub fn page_count(alloc: Global, file: &[u8]) -> TiffResult<usize>
+    ensures { AnswersWithoutSource (λ n. n) result (calls.page_count file.now) }
+{
+    walk_opens();
+    let mut decoder = open_first(alloc, file)?;
+    count_pages(&mut decoder)
+}
+
+// The number of a tag of a decoder's page.
+#[tactic(auto, using(crate::proofs::Slices::read_here))]
+fn number_here(decoder: &mut Decoder<SliceSource<'_>>, tag: Tag) -> TiffResult<u64>
+    ensures { AnswersWithoutSource (λ n. n) result (outcome.get_tag_u64 decoder.old tag).answer }
+{
+    never_failed(decoder);
+    let answer = decoder.get_tag_u64(tag);
+    never_failed(decoder);
+    answer
+}
+
+/// The number of a tag of a page, by the tag's number.
+pub fn tag_number(alloc: Global, file: &[u8], page: usize, number: u16) -> TiffResult<u64>
+    ensures { AnswersWithoutSource (λ n. n) result (calls.tag_number_at file.now page number) }
+{
+    number_here(
+        &mut open_at(alloc, file, page)?,
+        Tag::from_u16_exhaustive(number),
+    )
+}
+
+// A field's bytes that were copied: how many, where there is the field.
+fn copied(tag: Tag, found: Option<usize>) -> TiffResult<usize>
+    ensures { Gives (λ n. n) result (ok_or_fault found (FormatError (RequiredTagNotFound tag))) }
+{
+    match found {
+        Some(count) => Ok(count),
+        None => Err(TiffFormatError::RequiredTagNotFound(tag).into()),
+    }
+}
+
+// Copies bytes of the values of a tag of a decoder's page, where there is the tag.
+#[tactic(auto, using(crate::proofs::Slices::part_read))]
+fn part_of_tag<R: Source>(
+    decoder: &mut Decoder<R>,
+    tag: Tag,
+    at: u64,
+    buffer: &mut [u8],
+) -> TiffResult<Option<usize>>
+    ensures { AnswersWithoutMemory (λ n. (n, buffer.new)) result (outcome.find_tag_bytes decoder.old tag buffer.old at).answer
+        decoder.old.failures decoder.new.failures }
+{
+    decoder.image_ifd().find_tag_bytes(tag, buffer, at)
+}
+
+// The same of a decoder whose reads never fail.
+#[tactic(auto, using(crate::proofs::Slices::exactly_here))]
+fn part_here(
+    decoder: &mut Decoder<SliceSource<'_>>,
+    tag: Tag,
+    at: u64,
+    buffer: &mut [u8],
+) -> TiffResult<Option<usize>>
+    ensures { AnswersWithoutSource (λ n. (n, buffer.new)) result (outcome.find_tag_bytes decoder.old tag buffer.old at).answer }
+{
+    never_failed(decoder);
+    let answer = part_of_tag(decoder, tag, at, buffer);
+    never_failed(decoder);
+    answer
+}
+
+// The same, and how many bytes they are.
+fn bytes_here(
+    decoder: &mut Decoder<SliceSource<'_>>,
+    tag: Tag,
+    at: u64,
+    buffer: &mut [u8],
+) -> TiffResult<usize>
+    ensures { AnswersWithoutSource (λ n. (n, buffer.new)) result (calls.bytes_of_tag decoder.old tag at buffer.old) }
+{
+    let found = part_here(decoder, tag, at, buffer)?;
+    copied(tag, found)
+}
+
+/// Copies the bytes of the values of a tag of a page from a byte on, by the tag's number, in the file's order, as many as fit,
+/// and answers how many.
+pub fn tag_bytes(
+    alloc: Global,
+    file: &[u8],
+    page: usize,
+    number: u16,
+    at: u64,
+    buffer: &mut [u8],
+) -> TiffResult<usize>
+    ensures { AnswersWithoutSource (λ n. (n, buffer.new)) result (calls.tag_bytes file.now page number at buffer.old) }
+{
+    bytes_here(
+        &mut open_at(alloc, file, page)?,
+        Tag::from_u16_exhaustive(number),
+        at,
+        buffer,
+    )
+}
+
+// A byte order, as C is told of it.
+fn order_number(order: ByteOrder) -> u32
+    ensures { result ≡ calls.order_number order }
+{
+    match order {
+        ByteOrder::LittleEndian => 0,
+        ByteOrder::BigEndian => 1,
+    }
+}
+
+/// The byte order of a file.
+pub fn byte_order(alloc: Global, file: &[u8]) -> TiffResult<u32>
+    ensures { AnswersWithoutSource (λ n. n) result (calls.file_byte_order file.now) }
+{
+    Ok(order_number(open_first(alloc, file)?.byte_order()))
+}

@@ -1,0 +1,160 @@
+//! All pages of a file, by one opening and one walk along its chain.
+
+ghost use Rattle.std.specs.Prelude.{◌≡◌, map};
+ghost use Rattle.tiff_base.specs.Answers.{AnswersWithoutSource};
+ghost use Rattle.tiff_pages.specs.Pages.{pages_in};
+ghost use Rattle.tiff_statuses.specs.List as list;
+ghost use Rattle.tiff_statuses.specs.Status as status;
+
+use crate::calls::{Color, color_by, never_failed, open_first};
+use crate::status::{Status, fault_number};
+use std::alloc::Global;
+use tiff_base::color::{ChunkType, ColorType};
+use tiff_base::error::{TiffError, TiffResult};
+use tiff_pages::pages::{PageFacts, PageItem, PageList, pages};
+
+/// A page of a file: the offset of its directory; 0, or the number of its first fault, and then zeros behind it; its sides; the number of
+/// its method; 0 and its color, or the number of the fault by which it has none, and zeros; the number of its chunks' kind; and 0
+/// and how many they are, or the number of the fault by which they aren't counted, and 0.
+#[derive(Clone, Copy, Debug, PartialEq, Eq)]
+#[repr(C)]
+pub struct ListedPage {
+    pub offset: u64,
+    pub status: u32,
+    pub width: u32,
+    pub height: u32,
+    pub method: u32,
+    pub color_status: u32,
+    pub color: Color,
+    pub chunk_kind: u32,
+    pub count_status: u32,
+    pub count: u32,
+}
+
+const NO_COLOR: Color = Color {
+    kind: 0,
+    bits: 0,
+    samples: 0,
+};
+
+// The number of an answer.
+fn status_of<T: Drop>(answer: &TiffResult<T>) -> u32
+    ensures { result ≡ status.status answer.now }
+{
+    match answer {
+        Ok(_) => Status::Done as u32,
+        Err(fault) => fault_number(fault),
+    }
+}
+
+// A color, as C is told of it.
+fn color_told(color: &TiffResult<ColorType>) -> Color
+    ensures { result ≡ list.color_told color.now }
+{
+    match color {
+        Ok(color) => color_by(*color),
+        Err(_) => NO_COLOR,
+    }
+}
+
+// A count, as C is told of it.
+fn count_told(count: &TiffResult<u32>) -> u32
+    ensures { result ≡ list.count_told count.now }
+{
+    match count {
+        Ok(count) => *count,
+        Err(_) => 0,
+    }
+}
+
+// The facts of a page, as C is told of them.
+fn facts_told(offset: u64, facts: &PageFacts) -> ListedPage
+    ensures { result ≡ list.page_told offset (Ok facts.now) }
+{
+    ListedPage {
+        offset,
+        status: Status::Done as u32,
+        width: facts.width,
+        height: facts.height,
+        method: u32::from(facts.method.to_u16()),
+        color_status: status_of(&facts.colour),
+        color: color_told(&facts.colour),
+        chunk_kind: match facts.kind {
+            ChunkType::Strip => 0,
+            ChunkType::Tile => 1,
+        },
+        count_status: status_of(&facts.chunks),
+        count: count_told(&facts.chunks),
+    }
+}
+
+// A page, as C is told of it.
+fn item_told(item: &PageItem) -> ListedPage
+    ensures { result ≡ list.item_told item.now }
+{
+    let offset = item.place.0;
+    match &item.page {
+        Ok(facts) => facts_told(offset, facts),
+        Err(fault) => ListedPage {
+            offset,
+            status: fault_number(fault),
+            width: 0,
+            height: 0,
+            method: 0,
+            color_status: 0,
+            color: NO_COLOR,
+            chunk_kind: 0,
+            count_status: 0,
+            count: 0,
+        },
+    }
+}
+
+// Puts as many pages into a slice as it has room for.
+fn fill(out: &mut [ListedPage], items: &[PageItem])
+    ensures { out.new ≡ list.filled (map list.item_told items.now) out.old }
+{
+    let count = out.len().min(items.len());
+    for i in 0..count {
+        out[i] = item_told(&items[i]);
+    }
+}
+
+// The pages of a file.
+#[tactic(auto, using(crate::proofs::Listed::pages_here))]
+fn list_pages(alloc: Global, file: &[u8]) -> TiffResult<PageList>
+    ensures { AnswersWithoutSource pages_in result (list.list_of file.now) }
+{
+    let mut decoder = open_first(alloc, file)?;
+    never_failed(&decoder);
+    let listed = pages(&mut decoder);
+    never_failed(&decoder);
+    listed
+}
+
+// The number of the fault by which a chain ends.
+fn end_status(end: &Option<TiffError>) -> u32
+    ensures { result ≡ list.end_status end.now }
+{
+    match end {
+        None => Status::Done as u32,
+        Some(fault) => fault_number(fault),
+    }
+}
+
+/// Puts the pages of a file into a slice, as many as it has room for, and tells how many there are: none where the file isn't opened.
+pub fn list_into(alloc: Global, file: &[u8], out: &mut [ListedPage], count: &mut usize) -> u32
+    ensures { list.ListTells (list.list_of file.now) result out.old out.new count.new }
+{
+    match list_pages(alloc, file) {
+        Ok(listed) => {
+            fill(out, &listed.pages);
+            *count = listed.pages.len();
+            end_status(&listed.end)
+        }
+        Err(fault) => {
+            *count = 0;
+            fault_number(&fault)
+        }
+    }
+}

@@ -1,0 +1,366 @@
+//! Each fault has a number, and a text.
+
+ghost use Rattle.std.specs.Prelude.{◌≡◌, IfOk, OnErr};
+ghost use Rattle.tiff_statuses.specs.Status as spec;
+
+use tiff_base::error::{TiffError, TiffFormatError, TiffResult, TiffUnsupportedError, UsageError};
+use tiff_base::io::IoKind;
+
+/// What a call answers C: that it is done, or why not. The numbers are those of `tiff_status` in `include/tiff.h`.
+#[derive(Clone, Copy, Debug, PartialEq, Eq)]
+pub enum Status {
+    Done = 0,
+    LimitsExceeded = 1,
+    IntSizeError = 2,
+    OutOfMemory = 3,
+    /// A fault that has no number yet; never answered.
+    LaterFault = 4,
+    UnexpectedEof = 10,
+    InvalidData = 11,
+    InvalidInput = 12,
+    WriteZero = 13,
+    Device = 14,
+    TiffSignatureNotFound = 20,
+    TiffSignatureInvalid = 21,
+    ImageFileDirectoryNotFound = 22,
+    InconsistentSizesEncountered = 23,
+    InvalidDimensions = 24,
+    InvalidTag = 25,
+    InvalidTagValueType = 26,
+    RequiredTagNotFound = 27,
+    UnknownPredictor = 28,
+    UnknownPlanarConfiguration = 29,
+    InvalidTypeForTag = 30,
+    InvalidCountForTag = 31,
+    StripTileTagConflict = 32,
+    CycleInOffsets = 33,
+    SamplesPerPixelIsZero = 34,
+    CompressedDataCorrupt = 35,
+    FloatingPointPredictor = 40,
+    HorizontalPredictor = 41,
+    InconsistentBitsPerSample = 42,
+    InterpretationWithBits = 43,
+    UnknownInterpretation = 44,
+    UnknownCompressionMethod = 45,
+    UnsupportedCompressionMethod = 46,
+    UnsupportedSampleDepth = 47,
+    UnsupportedSampleFormat = 48,
+    UnsupportedColorType = 49,
+    UnsupportedBitsPerChannel = 50,
+    UnsupportedPlanarConfig = 51,
+    UnsupportedDataType = 52,
+    UnsupportedInterpretation = 53,
+    ChromaSubsampling = 54,
+    MisalignedTileBoundaries = 55,
+    InvalidChunkType = 60,
+    InvalidChunkIndex = 61,
+    InvalidPlaneIndex = 62,
+    InvalidCodingUnit = 63,
+    PredictorCompressionMismatch = 64,
+    PredictorIncompatible = 65,
+    PredictorUnavailable = 66,
+    InsufficientOutputBufferSize = 67,
+    InsufficientOutputRowStride = 68,
+    ZeroIfdPointer = 69,
+    ReconfiguredAfterImageWrite = 70,
+    ByteOrderMismatch = 71,
+    MismatchedEntryLength = 72,
+    ParentNotWritten = 73,
+    WriterFailed = 74,
+}
+
+// The number of a file that does not have TIFF's form.
+fn format_number(fault: &TiffFormatError) -> u32
+    ensures { result ≡ spec.format_fault_number fault.now }
+{
+    let status = match fault {
+        TiffFormatError::TiffSignatureNotFound => Status::TiffSignatureNotFound,
+        TiffFormatError::TiffSignatureInvalid => Status::TiffSignatureInvalid,
+        TiffFormatError::ImageFileDirectoryNotFound => Status::ImageFileDirectoryNotFound,
+        TiffFormatError::InconsistentSizesEncountered => Status::InconsistentSizesEncountered,
+        TiffFormatError::InvalidDimensions(_, _) => Status::InvalidDimensions,
+        TiffFormatError::InvalidTag => Status::InvalidTag,
+        TiffFormatError::InvalidTagValueType(_) => Status::InvalidTagValueType,
+        TiffFormatError::RequiredTagNotFound(_) => Status::RequiredTagNotFound,
+        TiffFormatError::UnknownPredictor(_) => Status::UnknownPredictor,
+        TiffFormatError::UnknownPlanarConfiguration(_) => Status::UnknownPlanarConfiguration,
+        TiffFormatError::InvalidTypeForTag => Status::InvalidTypeForTag,
+        TiffFormatError::InvalidCountForTag(_, _) => Status::InvalidCountForTag,
+        TiffFormatError::StripTileTagConflict => Status::StripTileTagConflict,
+        TiffFormatError::CycleInOffsets => Status::CycleInOffsets,
+        TiffFormatError::SamplesPerPixelIsZero => Status::SamplesPerPixelIsZero,
+        TiffFormatError::CompressedDataCorrupt(_) => Status::CompressedDataCorrupt,
+        _ => Status::LaterFault,
+    };
+    status as u32
+}
+
+// The number of what is not supported.
+fn unsupported_number(fault: &TiffUnsupportedError) -> u32
+    ensures { result ≡ spec.unsupported_fault_number fault.now }
+{
+    let status = match fault {
+        TiffUnsupportedError::FloatingPointPredictor(_) => Status::FloatingPointPredictor,
+        TiffUnsupportedError::HorizontalPredictor(_) => Status::HorizontalPredictor,
+        TiffUnsupportedError::InconsistentBitsPerSample(_) => Status::InconsistentBitsPerSample,
+        TiffUnsupportedError::InterpretationWithBits(_, _) => Status::InterpretationWithBits,
+        TiffUnsupportedError::UnknownInterpretation => Status::UnknownInterpretation,
+        TiffUnsupportedError::UnknownCompressionMethod => Status::UnknownCompressionMethod,
+        TiffUnsupportedError::UnsupportedCompressionMethod(_) =>
+            Status::UnsupportedCompressionMethod,
+        TiffUnsupportedError::UnsupportedSampleDepth(_) => Status::UnsupportedSampleDepth,
+        TiffUnsupportedError::UnsupportedSampleFormat(_) => Status::UnsupportedSampleFormat,
+        TiffUnsupportedError::UnsupportedColorType(_) => Status::UnsupportedColorType,
+        TiffUnsupportedError::UnsupportedBitsPerChannel(_) => Status::UnsupportedBitsPerChannel,
+        TiffUnsupportedError::UnsupportedPlanarConfig(_) => Status::UnsupportedPlanarConfig,
+        TiffUnsupportedError::UnsupportedDataType => Status::UnsupportedDataType,
+        TiffUnsupportedError::UnsupportedInterpretation(_) => Status::UnsupportedInterpretation,
+        TiffUnsupportedError::ChromaSubsampling => Status::ChromaSubsampling,
+        TiffUnsupportedError::MisalignedTileBoundaries => Status::MisalignedTileBoundaries,
+        _ => Status::LaterFault,
+    };
+    status as u32
+}
+
+// The number of a call that doesn't fit.
+fn usage_number(fault: &UsageError) -> u32
+    ensures { result ≡ spec.usage_fault_number fault.now }
+{
+    let status = match fault {
+        UsageError::InvalidChunkType(_, _) => Status::InvalidChunkType,
+        UsageError::InvalidChunkIndex(_) => Status::InvalidChunkIndex,
+        UsageError::InvalidPlaneIndex(_) => Status::InvalidPlaneIndex,
+        UsageError::InvalidCodingUnit(_, _) => Status::InvalidCodingUnit,
+        UsageError::PredictorCompressionMismatch => Status::PredictorCompressionMismatch,
+        UsageError::PredictorIncompatible => Status::PredictorIncompatible,
+        UsageError::PredictorUnavailable => Status::PredictorUnavailable,
+        UsageError::InsufficientOutputBufferSize { .. } => Status::InsufficientOutputBufferSize,
+        UsageError::InsufficientOutputRowStride { .. } => Status::InsufficientOutputRowStride,
+        UsageError::ZeroIfdPointer => Status::ZeroIfdPointer,
+        UsageError::ReconfiguredAfterImageWrite => Status::ReconfiguredAfterImageWrite,
+        UsageError::ByteOrderMismatch => Status::ByteOrderMismatch,
+        UsageError::MismatchedEntryLength { .. } => Status::MismatchedEntryLength,
+        UsageError::ParentNotWritten => Status::ParentNotWritten,
+        UsageError::WriterFailed => Status::WriterFailed,
+        _ => Status::LaterFault,
+    };
+    status as u32
+}
+
+// The number of a fault of the bytes.
+fn io_number(fault: &IoKind) -> u32
+    ensures { result ≡ spec.io_fault_number fault.now }
+{
+    let status = match fault {
+        IoKind::UnexpectedEof => Status::UnexpectedEof,
+        IoKind::InvalidData => Status::InvalidData,
+        IoKind::InvalidInput => Status::InvalidInput,
+        IoKind::WriteZero => Status::WriteZero,
+        IoKind::Device => Status::Device,
+    };
+    status as u32
+}
+
+/// The number of a fault.
+pub fn fault_number(fault: &TiffError) -> u32
+    ensures { result ≡ spec.fault_number fault.now }
+{
+    match fault {
+        TiffError::FormatError(fault) => format_number(fault),
+        TiffError::UnsupportedError(fault) => unsupported_number(fault),
+        TiffError::IoError(kind) => io_number(kind),
+        TiffError::UsageError(fault) => usage_number(fault),
+        TiffError::LimitsExceeded => Status::LimitsExceeded as u32,
+        TiffError::IntSizeError => Status::IntSizeError as u32,
+        TiffError::OutOfMemory => Status::OutOfMemory as u32,
+    }
+}
+
+/// The status of a call that leaves what it answers in a variable of the caller's.
+pub fn done(answer: TiffResult<()>) -> u32
+    ensures { result ≡ spec.status answer }
+{
+    match answer {
+        Ok(()) => Status::Done as u32,
+        Err(fault) => fault_number(&fault),
+    }
+}
+
+/// Puts what is answered in its place, and gives the status. A fault leaves `out` as it was.
+pub fn given<T: Copy + Drop>(answer: TiffResult<T>, out: &mut T) -> u32
+    ensures status { result ≡ spec.status answer }
+    ensures put { IfOk answer (λ x. out.new ≡ x) }
+    ensures kept { OnErr answer (out.new ≡ out.old) }
+{
+    match answer {
+        Ok(x) => {
+            *out = x;
+            Status::Done as u32
+        }
+        Err(fault) => fault_number(&fault),
+    }
+}
+
+// The text of each status.
+const TEXTS: [(Status, &str); 57] = [
+    (Status::Done, "done"),
+    (Status::LimitsExceeded, "decoder limits exceeded"),
+    (
+        Status::IntSizeError,
+        "platform or format size limits exceeded",
+    ),
+    (Status::OutOfMemory, "out of memory"),
+    (Status::LaterFault, "a fault that has no number yet"),
+    (Status::UnexpectedEof, "unexpected end of file"),
+    (Status::InvalidData, "invalid data"),
+    (Status::InvalidInput, "invalid input"),
+    (Status::WriteZero, "write zero"),
+    (Status::Device, "device fault"),
+    (Status::TiffSignatureNotFound, "TIFF signature not found"),
+    (Status::TiffSignatureInvalid, "TIFF signature invalid"),
+    (
+        Status::ImageFileDirectoryNotFound,
+        "image file directory not found",
+    ),
+    (
+        Status::InconsistentSizesEncountered,
+        "inconsistent sizes encountered",
+    ),
+    (Status::InvalidDimensions, "invalid dimensions"),
+    (Status::InvalidTag, "image contains invalid tag"),
+    (
+        Status::InvalidTagValueType,
+        "a tag did not have the expected value type",
+    ),
+    (Status::RequiredTagNotFound, "a required tag was not found"),
+    (Status::UnknownPredictor, "unknown predictor"),
+    (
+        Status::UnknownPlanarConfiguration,
+        "unknown planar configuration",
+    ),
+    (Status::InvalidTypeForTag, "tag has invalid type"),
+    (
+        Status::InvalidCountForTag,
+        "a tag with an incorrect number of elements",
+    ),
+    (
+        Status::StripTileTagConflict,
+        "strips and tiles are mixed, or neither is told",
+    ),
+    (
+        Status::CycleInOffsets,
+        "file contained a cycle in the list of IFDs",
+    ),
+    (Status::SamplesPerPixelIsZero, "samples per pixel is zero"),
+    (Status::CompressedDataCorrupt, "compressed data is corrupt"),
+    (
+        Status::FloatingPointPredictor,
+        "floating point predictor is unsupported",
+    ),
+    (
+        Status::HorizontalPredictor,
+        "horizontal predictor is unsupported for this color",
+    ),
+    (
+        Status::InconsistentBitsPerSample,
+        "inconsistent bits per sample",
+    ),
+    (
+        Status::InterpretationWithBits,
+        "photometric interpretation with these bits per sample is unsupported",
+    ),
+    (
+        Status::UnknownInterpretation,
+        "unknown photometric interpretation",
+    ),
+    (
+        Status::UnknownCompressionMethod,
+        "unknown compression method",
+    ),
+    (
+        Status::UnsupportedCompressionMethod,
+        "compression method is unsupported",
+    ),
+    (
+        Status::UnsupportedSampleDepth,
+        "samples per pixel is unsupported",
+    ),
+    (
+        Status::UnsupportedSampleFormat,
+        "sample format is unsupported",
+    ),
+    (Status::UnsupportedColorType, "color type is unsupported"),
+    (
+        Status::UnsupportedBitsPerChannel,
+        "bits per channel not supported",
+    ),
+    (
+        Status::UnsupportedPlanarConfig,
+        "unsupported planar configuration",
+    ),
+    (Status::UnsupportedDataType, "unsupported data type"),
+    (
+        Status::UnsupportedInterpretation,
+        "unsupported photometric interpretation",
+    ),
+    (
+        Status::ChromaSubsampling,
+        "chroma subsampling of YCbCr color is unsupported",
+    ),
+    (
+        Status::MisalignedTileBoundaries,
+        "tile rows are not aligned to byte boundaries",
+    ),
+    (
+        Status::InvalidChunkType,
+        "operation is only valid for the other kind of chunk",
+    ),
+    (Status::InvalidChunkIndex, "invalid chunk index"),
+    (Status::InvalidPlaneIndex, "invalid plane index"),
+    (Status::InvalidCodingUnit, "out of bounds coding unit"),
+    (
+        Status::PredictorCompressionMismatch,
+        "predictor is not compatible with the compression",
+    ),
+    (
+        Status::PredictorIncompatible,
+        "predictor is not compatible with the image's format",
+    ),
+    (Status::PredictorUnavailable, "predictor is not available"),
+    (
+        Status::InsufficientOutputBufferSize,
+        "the output buffer is not large enough",
+    ),
+    (
+        Status::InsufficientOutputRowStride,
+        "the output row stride would alias rows",
+    ),
+    (
+        Status::ZeroIfdPointer,
+        "the offset 0 can not point to a valid IFD",
+    ),
+    (
+        Status::ReconfiguredAfterImageWrite,
+        "encoder reconfigured after image writing has started",
+    ),
+    (Status::ByteOrderMismatch, "data of another byte order"),
+    (
+        Status::MismatchedEntryLength,
+        "the length of data is not a multiple of the size of its type",
+    ),
+    (
+        Status::ParentNotWritten,
+        "the parent's link lies outside what was written",
+    ),
+    (Status::WriterFailed, "an earlier write failed"),
+];
+
+/// The text of a status, by its number; of another number, that there is none.
+pub fn text_of(number: u32) -> &'static str {
+    for (status, text) in &TEXTS {
+        if *status as u32 == number {
+            return text;
+        }
+    }
+    "no such status"
+}

@@ -1,0 +1,322 @@
+//! A file of one image, as C asks for it.
+
+ghost use Rattle.std.specs.Prelude.{◌≡◌, ◌<◌, map, slice_get, MatchResult, MatchOption, IfOk};
+ghost use Rattle.tiff_base.specs.Types.{type_size};
+ghost use Rattle.tiff_value.specs.ColorType.{sample_number};
+ghost use Rattle.tiff_page.specs.Pixels.{numbers_in};
+ghost use Rattle.tiff_decode.specs.NextState.{view_of_result};
+ghost use Rattle.tiff_statuses.specs.Writer as writer;
+ghost use Rattle.tiff_statuses.specs.Writer.{Delivers, IsBegun, Puts, WritesImageFile, WritesBytes, WritesNew};
+
+use crate::samples::{Number, samples_of};
+use crate::status::{Status, fault_number};
+use std::alloc::Global;
+use tiff_base::error::{TiffError, TiffFormatError, TiffResult, TiffUnsupportedError, UsageError};
+use tiff_base::io::{IoKind, MemorySink};
+use tiff_base::tags::{CompressionMethod, FileKind, Predictor};
+use tiff_encode::encoder::{Compression, TiffEncoder, TiffKind, TiffKindBig, TiffKindStandard};
+use tiff_value::encoder::colortype::{
+    CMYK8, CMYK16, CMYK32, CMYK32Float, CMYK64, CMYK64Float, CMYKA8, ColorTypeName, Gray8, Gray16,
+    Gray32, Gray32Float, Gray64, Gray64Float, GrayI8, GrayI16, GrayI32, GrayI64, NamedColorType,
+    RGB8, RGB16, RGB32, RGB32Float, RGB64, RGB64Float, RGBA8, RGBA16, RGBA32, RGBA32Float, RGBA64,
+    RGBA64Float, YCbCr8,
+};
+use tiff_value::encoder::tiff_value::TiffValue;
+
+/// An image that is written, by the numbers of TIFF: the color type by its number in `COLOR_TYPES`, the sides in pixels, the
+/// version of the header, and the values of the tags Compression and Predictor.
+#[derive(Clone, Copy, Debug, PartialEq, Eq)]
+#[repr(C)]
+pub struct NewImage {
+    pub color: u32,
+    pub width: u32,
+    pub height: u32,
+    pub version: u16,
+    pub method: u16,
+    pub predictor: u16,
+}
+
+/// What an image is written by.
+#[derive(Clone, Copy, Drop)]
+pub struct Settings {
+    pub kind: FileKind,
+    pub color: ColorTypeName,
+    pub compression: Compression,
+    pub predictor: Predictor,
+}
+
+// The color types, in the order of their numbers.
+const COLOR_TYPES: [ColorTypeName; 30] = [
+    ColorTypeName::Gray8,
+    ColorTypeName::Gray16,
+    ColorTypeName::Gray32,
+    ColorTypeName::Gray64,
+    ColorTypeName::GrayI8,
+    ColorTypeName::GrayI16,
+    ColorTypeName::GrayI32,
+    ColorTypeName::GrayI64,
+    ColorTypeName::Gray32Float,
+    ColorTypeName::Gray64Float,
+    ColorTypeName::RGB8,
+    ColorTypeName::RGB16,
+    ColorTypeName::RGB32,
+    ColorTypeName::RGB64,
+    ColorTypeName::RGB32Float,
+    ColorTypeName::RGB64Float,
+    ColorTypeName::RGBA8,
+    ColorTypeName::RGBA16,
+    ColorTypeName::RGBA32,
+    ColorTypeName::RGBA64,
+    ColorTypeName::RGBA32Float,
+    ColorTypeName::RGBA64Float,
+    ColorTypeName::CMYK8,
+    ColorTypeName::CMYK16,
+    ColorTypeName::CMYK32,
+    ColorTypeName::CMYK64,
+    ColorTypeName::CMYK32Float,
+    ColorTypeName::CMYK64Float,
+    ColorTypeName::YCbCr8,
+    ColorTypeName::CMYKA8,
+];
+
+// Room for what a file of few strips has beside its samples; one of more strips takes more room as it grows.
+const FRAME: usize = 4096;
+
+// A kind of file, by the version in its header.
+fn kind_of(version: u16) -> Option<FileKind>
+    ensures { result ≡ writer.kind_of version }
+{
+    match version {
+        42 => Some(FileKind::Classic),
+        43 => Some(FileKind::Big),
+        _ => None,
+    }
+}
+
+// A color type, by its number.
+fn color_of(number: u32) -> Option<ColorTypeName>
+    ensures { result ≡ slice_get writer.color_types number }
+{
+    let number = number as usize;
+    if number < COLOR_TYPES.len() {
+        Some(COLOR_TYPES[number])
+    } else {
+        None
+    }
+}
+
+// A packing, by the number of its method.
+fn packing_of(method: u16) -> Option<Compression>
+    ensures { result ≡ writer.packing_of method }
+{
+    match method {
+        1 => Some(Compression::Uncompressed),
+        32773 => Some(Compression::Packbits),
+        _ => None,
+    }
+}
+
+// What an image is written by; or the fault of the first number that names nothing.
+fn settings_of(image: &NewImage) -> TiffResult<Settings>
+    ensures { MatchResult result (λ s. writer.settings_of image.now ≡ Ok s) (λ e. writer.settings_of image.now ≡ Err e) }
+{
+    let Some(kind) = kind_of(image.version) else {
+        return Err(TiffFormatError::TiffSignatureInvalid.into());
+    };
+    let Some(color) = color_of(image.color) else {
+        return Err(TiffError::IoError(IoKind::InvalidInput));
+    };
+    let Some(compression) = packing_of(image.method) else {
+        let method = CompressionMethod::from_u16_exhaustive(image.method);
+        return Err(TiffUnsupportedError::UnsupportedCompressionMethod(method).into());
+    };
+    let Some(predictor) = Predictor::from_u16(image.predictor) else {
+        return Err(TiffFormatError::UnknownPredictor(image.predictor).into());
+    };
+    Ok(Settings {
+        kind,
+        color,
+        compression,
+        predictor,
+    })
+}
+
+// An encoder that begins in memory, with room for so many bytes.
+#[tactic(auto, using(crate::proofs::Writing::begun_by, tiff_base::proofs::MemoryFaults::header_refused))]
+fn begin<K: TiffKind>(
+    alloc: Global,
+    settings: &Settings,
+    room: usize,
+) -> TiffResult<TiffEncoder<MemorySink, K>>
+    requires { settings.now.kind ≡ K.kind }
+    ensures { MatchResult result (λ file. IsBegun settings.now file) (λ e. e ≡ TiffError.OutOfMemory) }
+{
+    let Ok(bytes) = Vec::with_capacity(alloc, room) else {
+        return Err(TiffError::OutOfMemory);
+    };
+    let encoder = TiffEncoder::<MemorySink, K>::new_generic(alloc, MemorySink::new(bytes))?;
+    let predicted = encoder.with_predictor(settings.predictor);
+    Ok(predicted.with_compression(settings.compression))
+}
+
+// A file of one image of a color type.
+#[tactic(auto, using(crate::proofs::Writing::file_written, crate::proofs::Writing::fault_written, tiff_base::proofs::MemoryFaults::only_memory))]
+fn write_samples<K: TiffKind, C: NamedColorType>(
+    alloc: Global,
+    settings: &Settings,
+    width: u32,
+    height: u32,
+    samples: &[C::Inner],
+) -> TiffResult<Vec<u8>>
+    requires kind { settings.now.kind ≡ K.kind }
+    requires named { settings.now.color ≡ C.name }
+    ensures { WritesImageFile settings.now width height (map (sample_number (type_size C.Inner.value_type) C.Inner.bits)
+        samples.now) (view_of_result (λ v. v.items) result) }
+{
+    let size = usize::from(C::Inner::BYTE_LEN);
+    let room = samples.len().saturating_mul(size).saturating_add(FRAME);
+    let mut encoder = begin::<K>(alloc, settings, room)?;
+    let answer = encoder.write_image::<C>(width, height, samples);
+    let file = encoder.into_inner().into_vec();
+    answer?;
+    Ok(file)
+}
+
+// The same of little-endian samples of so many bytes each.
+#[tactic(auto, using(crate::proofs::Writing::whole_written, crate::proofs::Writing::part_refused))]
+fn write_pieces<K: TiffKind, C: NamedColorType, U: Number<N>, const N: usize>(
+    alloc: Global,
+    settings: &Settings,
+    width: u32,
+    height: u32,
+    bytes: &[u8],
+) -> TiffResult<Vec<u8>>
+    requires kind { settings.now.kind ≡ K.kind }
+    requires named { settings.now.color ≡ C.name }
+    requires some { 0 < N }
+    requires size { type_size C.Inner.value_type ≡ N }
+    ensures { WritesBytes settings.now width height (writer.samples_from_bytes settings.now.color bytes.now)
+        (view_of_result (λ v. v.items) result) }
+{
+    let (ty, _len) = C::Inner::type_and_len();
+    if bytes.len() % N != 0 {
+        return Err(TiffError::UsageError(UsageError::MismatchedEntryLength {
+            ty,
+            found: bytes.len(),
+        }));
+    }
+    let samples = match samples_of::<C::Inner, U, N>(alloc, bytes) {
+        Ok(samples) => samples,
+        Err(_) => return Err(TiffError::OutOfMemory),
+    };
+    write_samples::<K, C>(alloc, settings, width, height, &samples)
+}
+
+// The same, by the name of a color type.
+#[tactic(auto, using(crate::proofs::Writing::octets_written), unfolding(tiff_value::specs::ColorTypes::inner_type))]
+fn write_named<K: TiffKind>(
+    alloc: Global,
+    s: &Settings,
+    width: u32,
+    height: u32,
+    bytes: &[u8],
+) -> TiffResult<Vec<u8>>
+    requires { s.now.kind ≡ K.kind }
+    ensures { WritesBytes s.now width height (writer.samples_from_bytes s.now.color bytes.now) (view_of_result (λ v. v.items) result) }
+{
+    match s.color {
+        ColorTypeName::Gray8 => write_samples::<K, Gray8>(alloc, s, width, height, bytes),
+        ColorTypeName::Gray16 => write_pieces::<K, Gray16, u16, 2>(alloc, s, width, height, bytes),
+        ColorTypeName::Gray32 => write_pieces::<K, Gray32, u32, 4>(alloc, s, width, height, bytes),
+        ColorTypeName::Gray64 => write_pieces::<K, Gray64, u64, 8>(alloc, s, width, height, bytes),
+        ColorTypeName::GrayI8 => write_pieces::<K, GrayI8, u8, 1>(alloc, s, width, height, bytes),
+        ColorTypeName::GrayI16 => write_pieces::<K, GrayI16, u16, 2>(
+            alloc, s, width, height, bytes,
+        ),
+        ColorTypeName::GrayI32 => write_pieces::<K, GrayI32, u32, 4>(
+            alloc, s, width, height, bytes,
+        ),
+        ColorTypeName::GrayI64 => write_pieces::<K, GrayI64, u64, 8>(
+            alloc, s, width, height, bytes,
+        ),
+        ColorTypeName::Gray32Float => write_pieces::<K, Gray32Float, u32, 4>(
+            alloc, s, width, height, bytes,
+        ),
+        ColorTypeName::Gray64Float => write_pieces::<K, Gray64Float, u64, 8>(
+            alloc, s, width, height, bytes,
+        ),
+        ColorTypeName::RGB8 => write_samples::<K, RGB8>(alloc, s, width, height, bytes),
+        ColorTypeName::RGB16 => write_pieces::<K, RGB16, u16, 2>(alloc, s, width, height, bytes),
+        ColorTypeName::RGB32 => write_pieces::<K, RGB32, u32, 4>(alloc, s, width, height, bytes),
+        ColorTypeName::RGB64 => write_pieces::<K, RGB64, u64, 8>(alloc, s, width, height, bytes),
+        ColorTypeName::RGB32Float => write_pieces::<K, RGB32Float, u32, 4>(
+            alloc, s, width, height, bytes,
+        ),
+        ColorTypeName::RGB64Float => write_pieces::<K, RGB64Float, u64, 8>(
+            alloc, s, width, height, bytes,
+        ),
+        ColorTypeName::RGBA8 => write_samples::<K, RGBA8>(alloc, s, width, height, bytes),
+        ColorTypeName::RGBA16 => write_pieces::<K, RGBA16, u16, 2>(alloc, s, width, height, bytes),
+        ColorTypeName::RGBA32 => write_pieces::<K, RGBA32, u32, 4>(alloc, s, width, height, bytes),
+        ColorTypeName::RGBA64 => write_pieces::<K, RGBA64, u64, 8>(alloc, s, width, height, bytes),
+        ColorTypeName::RGBA32Float => write_pieces::<K, RGBA32Float, u32, 4>(
+            alloc, s, width, height, bytes,
+        ),
+        ColorTypeName::RGBA64Float => write_pieces::<K, RGBA64Float, u64, 8>(
+            alloc, s, width, height, bytes,
+        ),
+        ColorTypeName::CMYK8 => write_samples::<K, CMYK8>(alloc, s, width, height, bytes),
+        ColorTypeName::CMYK16 => write_pieces::<K, CMYK16, u16, 2>(alloc, s, width, height, bytes),
+        ColorTypeName::CMYK32 => write_pieces::<K, CMYK32, u32, 4>(alloc, s, width, height, bytes),
+        ColorTypeName::CMYK64 => write_pieces::<K, CMYK64, u64, 8>(alloc, s, width, height, bytes),
+        ColorTypeName::CMYK32Float => write_pieces::<K, CMYK32Float, u32, 4>(
+            alloc, s, width, height, bytes,
+        ),
+        ColorTypeName::CMYK64Float => write_pieces::<K, CMYK64Float, u64, 8>(
+            alloc, s, width, height, bytes,
+        ),
+        ColorTypeName::YCbCr8 => write_samples::<K, YCbCr8>(alloc, s, width, height, bytes),
+        ColorTypeName::CMYKA8 => write_samples::<K, CMYKA8>(alloc, s, width, height, bytes),
+    }
+}
+
+/// The file of an image of these samples, which are little-endian bytes, row by row and pixel by pixel; or the fault.
+pub fn write_new(alloc: Global, image: &NewImage, bytes: &[u8]) -> TiffResult<Vec<u8>>
+    ensures { WritesNew image.now bytes.now (view_of_result (λ v. v.items) result) }
+{
+    let settings = settings_of(image)?;
+    let (width, height) = (image.width, image.height);
+    match settings.kind {
+        FileKind::Classic => write_named::<TiffKindStandard>(
+            alloc, &settings, width, height, bytes,
+        ),
+        FileKind::Big => write_named::<TiffKindBig>(alloc, &settings, width, height, bytes),
+    }
+}
+
+// Puts a file at the front of a buffer, where that has room for it.
+fn put(file: &[u8], buffer: &mut [u8]) -> u32
+    ensures { Puts file.now result buffer.old buffer.new }
+{
+    if buffer.len() < file.len() {
+        return fault_number(&TiffError::UsageError(UsageError::InsufficientOutputBufferSize {
+            needed: file.len(),
+            provided: buffer.len(),
+        }));
+    }
+    buffer[..file.len()].copy_from_slice(file);
+    Status::Done as u32
+}
+
+/// Puts a file at the front of a buffer that has room for it, tells its length in any case, and gives the status.
+pub fn deliver(answer: TiffResult<Vec<u8>>, buffer: &mut [u8], len: &mut usize) -> u32
+    ensures { Delivers (view_of_result (λ v. v.items) answer) result buffer.old buffer.new len.old len.new }
+{
+    match answer {
+        Ok(file) => {
+            *len = file.len();
+            put(&file, buffer)
+        }
+        Err(fault) => fault_number(&fault),
+    }
+}
