@@ -131,30 +131,18 @@ into_u16_vec _ = wrong_type
 -- a rational gives two numbers, a text those of its characters
 abbrev pub into_u32_vec : Datum → Result (List ℕ) TiffError
 into_u32_vec (list items) = each_item into_u32 items
-into_u32_vec (byte n) = Ok (n ∷ [])
-into_u32_vec (short n) = Ok (n ∷ [])
-into_u32_vec (unsigned n) = Ok (n ∷ [])
-into_u32_vec (unsigned_big n) = single_number (below_limit (2 ^ 32) n)
-into_u32_vec (ifd n) = Ok (n ∷ [])
-into_u32_vec (ifd_big n) = single_number (below_limit (2 ^ 32) n)
 into_u32_vec (rational n d) = Ok (n ∷ d ∷ [])
 into_u32_vec (rational_big n d) = both_numbers (below_limit (2 ^ 32) n) (below_limit (2 ^ 32) d)
 into_u32_vec (ascii text) = Ok (chars text)
-into_u32_vec _ = wrong_type
+into_u32_vec f = single_number (into_u32 f)
 
 -- the same of larger numbers
 abbrev pub into_u64_vec : Datum → Result (List ℕ) TiffError
 into_u64_vec (list items) = each_item into_u64 items
-into_u64_vec (byte n) = Ok (n ∷ [])
-into_u64_vec (short n) = Ok (n ∷ [])
-into_u64_vec (unsigned n) = Ok (n ∷ [])
-into_u64_vec (unsigned_big n) = Ok (n ∷ [])
-into_u64_vec (ifd n) = Ok (n ∷ [])
-into_u64_vec (ifd_big n) = Ok (n ∷ [])
 into_u64_vec (rational n d) = Ok (n ∷ d ∷ [])
 into_u64_vec (rational_big n d) = Ok (n ∷ d ∷ [])
 into_u64_vec (ascii text) = Ok (chars text)
-into_u64_vec _ = wrong_type
+into_u64_vec f = single_number (into_u64 f)
 
 -- a signed rational gives two numbers
 abbrev pub i32s_of : Datum → Result (List ℤ) TiffError

@@ -1,6 +1,5 @@
 pub mod Datum
 pub mod View
-pub mod Falls
 pub mod Item
 pub mod FieldValue
 pub mod Into

@@ -13,14 +13,14 @@ ghost use Rattle.tiff_base.specs.Tags.{tag_number};
 ghost use Rattle.tiff_base.specs.Number.{number};
 ghost use Rattle.tiff_base.specs.Types.{type_size};
 ghost use Rattle.tiff_ifd.specs.Datum as f;
-ghost use Rattle.tiff_ifd.specs.View.{datum};
+ghost use Rattle.tiff_ifd.specs.View.{datum, datum_list};
 ghost use Rattle.tiff_ifd.specs.Item as spec;
 ghost use Rattle.tiff_ifd.specs.FieldValue as value;
 ghost use Rattle.tiff_ifd.specs.Look.{look_in};
 
 use crate::limits::Limits;
 use crate::read_bytes::{offset_in, offset_len};
-use crate::value::{AsciiText, Value, ValueList};
+use crate::value::Value;
 use std::alloc::Global;
 use std::str;
 use tiff_base::directory::{Directory, Entry};
@@ -129,9 +129,9 @@ fn list_from(
     order: ByteOrder,
     count: u64,
     bytes: &[u8],
-) -> TiffResult<ValueList>
+) -> TiffResult<Vec<Value>>
     requires { length bytes.now ≡ count * type_size field_type }
-    ensures { AnswersWithoutSource (λ l. l) result (Ok (spec.items (spec.list_item inline field_type order) (type_size field_type) count bytes.now)) }
+    ensures { AnswersWithoutSource (λ l. datum_list l.items) result (Ok (spec.items (spec.list_item inline field_type order) (type_size field_type) count bytes.now)) }
 {
     let width = usize::from(field_type.byte_len());
     let mut all = Vec::new(alloc);
@@ -143,7 +143,7 @@ fn list_from(
         rest = after;
         left -= 1;
     }
-    Ok(ValueList::from_vec(all))
+    Ok(all)
 }
 
 // Numbers: one stands alone, several are a list.
@@ -171,7 +171,7 @@ fn text_from(alloc: Global, bytes: &[u8]) -> TiffResult<Value>
     ensures { GivesSparingly datum result (if is_utf8 bytes.now then Ok (f.ascii bytes.now) else Err (tiff.FormatError format.InvalidTag)) }
 {
     match str::from_utf8(bytes) {
-        Ok(text) => Ok(Value::Ascii(AsciiText::from_string(String::from_str(alloc, text)?))),
+        Ok(text) => Ok(Value::Ascii(String::from_str(alloc, text)?)),
         Err(_) => Err(TiffError::FormatError(TiffFormatError::InvalidTag)),
     }
 }
@@ -316,7 +316,7 @@ pub fn read_value<R: Source>(
 {
     let count = entry.count();
     if count == 0 {
-        return Ok(Value::List(ValueList::from_vec(Vec::new(alloc))));
+        return Ok(Value::List(Vec::new(alloc)));
     }
     let field_type = entry.field_type();
     let Some(len) = count.checked_mul(u64::from(field_type.byte_len())) else {

@@ -9,13 +9,11 @@ ghost use Rattle.tiff_base.specs.Answers.{AnswersWithoutSource, Gives};
 ghost use Rattle.tiff_ifd.specs.View.{datum, datum_list};
 
 use std::alloc::{AllocError, Global};
-use std::marker::Model;
 use tiff_base::error::{TiffError, TiffFormatError, TiffResult};
 use tiff_base::tags::{Bits32, Bits64, IfdPointer};
 
 /// The value of a field.
 #[derive(Debug, Drop)]
-#[cycle(value)]
 #[non_exhaustive]
 pub enum Value {
     Byte(u8),
@@ -28,103 +26,14 @@ pub enum Value {
     UnsignedBig(u64),
     Float(Bits32),
     Double(Bits64),
-    List(ValueList),
+    List(Vec<Value>),
     Rational(u32, u32),
     RationalBig(u64, u64),
     SRational(i32, i32),
     SRationalBig(i64, i64),
-    Ascii(AsciiText),
+    Ascii(String),
     Ifd(u32),
     IfdBig(u64),
-}
-
-/// Some text.
-#[derive(Debug, Drop)]
-pub struct AsciiText {
-    text: String,
-}
-
-impl Model for AsciiText {
-    ghost use Rattle.std.specs.Prelude.{List, ℕ, string_bytes};
-
-    ghost Value = { List ℕ };
-
-    ghost view = { λ a. string_bytes a.text };
-}
-
-/// Some values.
-#[derive(Debug, Drop)]
-#[cycle(value)]
-pub struct ValueList {
-    items: Vec<Value>,
-}
-
-impl Model for ValueList {
-    ghost use Rattle.std.specs.Prelude.{List};
-    ghost use Rattle.tiff_ifd.specs.Datum.{Datum, list_code, list_depth};
-
-    ghost Value = { List Datum };
-
-    ghost coded = { list_code };
-
-    ghost use Rattle.tiff_ifd.specs.View.{datum_list};
-
-    ghost view = { λ a. datum_list a.items.items };
-
-    ghost size = { list_depth };
-
-    ghost use Rattle.tiff_ifd.specs.Falls.{most_le-depth};
-
-    ghost size_decreases = { λ a h. most_le-depth a.items.items };
-}
-
-impl AsciiText {
-    pub fn from_string(text: String) -> AsciiText
-        ensures { result ≡ string_bytes text }
-    {
-        AsciiText { text }
-    }
-
-    pub fn into_string(self) -> String
-        ensures { string_bytes result ≡ self }
-    {
-        let AsciiText { text } = self;
-        text
-    }
-
-    pub fn as_str(&self) -> &str
-        ensures { result.now ≡ self.now }
-    {
-        self.text.as_str()
-    }
-}
-
-impl ValueList {
-    pub fn from_vec(items: Vec<Value>) -> ValueList
-        ensures { result ≡ datum_list items.items }
-    {
-        ValueList { items }
-    }
-
-    pub fn into_vec(self) -> Vec<Value>
-        ensures { datum_list result.items ≡ self }
-    {
-        let ValueList { items } = self;
-        items
-    }
-
-    pub fn len(&self) -> usize
-        ensures { result ≡ length self.now }
-    {
-        self.items.len()
-    }
-
-    /// The values, in their order.
-    pub fn as_slice(&self) -> &[Value]
-        ensures { datum_list result.now ≡ self.now }
-    {
-        &self.items
-    }
 }
 
 impl Value {
@@ -224,7 +133,7 @@ impl Value {
         ensures { Gives string_bytes result (spec.into_string (datum self)) }
     {
         match self {
-            Value::Ascii(text) => Ok(text.into_string()),
+            Value::Ascii(text) => Ok(text),
             _ => Err(TiffError::FormatError(TiffFormatError::InvalidTypeForTag)),
         }
     }
@@ -292,16 +201,10 @@ impl Value {
     {
         match self {
             Value::List(list) => each::<u32>(alloc, list),
-            Value::Byte(n) => one(alloc, u32::from(n)),
-            Value::Short(n) => one(alloc, u32::from(n)),
-            Value::Unsigned(n) => one(alloc, n),
-            Value::UnsignedBig(n) => one(alloc, narrow(n)?),
-            Value::Ifd(n) => one(alloc, n),
-            Value::IfdBig(n) => one(alloc, narrow(n)?),
             Value::Rational(n, d) => two(alloc, n, d),
             Value::RationalBig(n, d) => two(alloc, narrow(n)?, narrow(d)?),
             Value::Ascii(text) => narrow_chars(alloc, text.as_str()),
-            _ => Err(TiffError::FormatError(TiffFormatError::InvalidTypeForTag)),
+            value => one(alloc, value.into_u32()?),
         }
     }
 
@@ -377,16 +280,10 @@ impl Value {
     {
         match self {
             Value::List(list) => each::<u64>(alloc, list),
-            Value::Byte(n) => one(alloc, n as u64),
-            Value::Short(n) => one(alloc, n as u64),
-            Value::Unsigned(n) => one(alloc, n as u64),
-            Value::UnsignedBig(n) => one(alloc, n),
-            Value::Ifd(n) => one(alloc, n as u64),
-            Value::IfdBig(n) => one(alloc, n),
             Value::Rational(n, d) => two(alloc, n as u64, d as u64),
             Value::RationalBig(n, d) => two(alloc, n, d),
             Value::Ascii(text) => chars(alloc, text.as_str()),
-            _ => Err(TiffError::FormatError(TiffFormatError::InvalidTypeForTag)),
+            value => one(alloc, value.into_u64()?),
         }
     }
 }
@@ -398,52 +295,6 @@ fn two<T: Drop>(alloc: Global, x: T, y: T) -> TiffResult<Vec<T>>
     all.push(x)?;
     all.push(y)?;
     Ok(all)
-}
-
-impl PartialEq for AsciiText {
-    ghost use Rattle.std.specs.Prelude.{◌==◌};
-    ghost use Rattle.std.specs.Cmp.{partial_equiv_from_equiv};
-    ghost use Rattle.std.specs.Cmp.Lexicographic.{nat_list_eq_equiv, pointwise};
-
-    ghost eq = { pointwise ◌==◌ };
-
-    ghost laws = { partial_equiv_from_equiv nat_list_eq_equiv };
-
-    fn eq(&self, other: &AsciiText) -> bool {
-        self.text == other.text
-    }
-}
-
-impl Clone for AsciiText {
-    ghost is_clone = { λ s t. t ≡ s };
-
-    fn clone(&self) -> Result<AsciiText, AllocError> {
-        Ok(AsciiText {
-            text: self.text.clone()?,
-        })
-    }
-}
-
-impl PartialEq for ValueList {
-    ghost use Rattle.std.specs.Cmp.{on_per};
-    ghost use Rattle.tiff_ifd.specs.Datum.{datum_list_of};
-    ghost use Rattle.tiff_ifd.specs.Same.{all_same, all_same_per};
-
-    ghost eq = { λ l m. all_same (datum_list_of l) (datum_list_of m) };
-
-    ghost laws = { on_per datum_list_of all_same_per };
-
-    fn eq(&self, other: &ValueList) -> bool {
-        all_same(self.items.as_slice(), other.items.as_slice())
-    }
-}
-
-impl Clone for ValueList {
-    ghost is_clone = { λ l m. m ≡ l };
-
-    fn clone(&self) -> Result<ValueList, AllocError> {
-        copy_list(self)
-    }
 }
 
 impl PartialEq for Value {
@@ -461,7 +312,9 @@ impl PartialEq for Value {
 }
 
 impl Clone for Value {
-    ghost is_clone = { λ v w. w ≡ v };
+    ghost use Rattle.tiff_ifd.specs.View.{datum};
+
+    ghost is_clone = { λ v w. datum w ≡ datum v };
 
     fn clone(&self) -> Result<Value, AllocError> {
         copy(self)
@@ -485,7 +338,7 @@ fn same(a: &Value, b: &Value) -> bool
         Value::Double(m) => matches!(b, Value::Double(n) if m == n),
         Value::List(m) => {
             if let Value::List(n) = b {
-                all_same(m.items.as_slice(), n.items.as_slice())
+                all_same(m, n)
             } else {
                 false
             }
@@ -517,7 +370,7 @@ fn all_same(a: &[Value], b: &[Value]) -> bool
 
 #[cycle(copy)]
 fn copy(value: &Value) -> Result<Value, AllocError>
-    ensures { IfOk result (λ v. v ≡ value.now) }
+    ensures { IfOk result (λ v. datum v ≡ datum value.now) }
 {
     match value {
         Value::Byte(n) => Ok(Value::Byte(*n)),
@@ -542,14 +395,14 @@ fn copy(value: &Value) -> Result<Value, AllocError>
 }
 
 #[cycle(copy)]
-fn copy_list(list: &ValueList) -> Result<ValueList, AllocError>
-    ensures { IfOk result (λ l. l ≡ list.now) }
+fn copy_list(list: &Vec<Value>) -> Result<Vec<Value>, AllocError>
+    ensures { IfOk result (λ l. datum_list l.items ≡ datum_list list.now.items) }
 {
-    let mut items = Vec::with_capacity(*list.items.allocator(), list.items.len())?;
-    for item in &list.items {
+    let mut items = Vec::with_capacity(*list.allocator(), list.len())?;
+    for item in list {
         items.push(copy(item)?)?;
     }
-    Ok(ValueList { items })
+    Ok(items)
 }
 
 /// A number that a single value gives.
@@ -739,12 +592,11 @@ fn all_of<T: AppendValue + Drop>(alloc: Global, value: Value) -> TiffResult<Vec<
     Ok(all)
 }
 
-fn each_joined<T: AppendValue + Drop>(alloc: Global, list: ValueList) -> TiffResult<Vec<T>>
-    ensures { AnswersWithoutSource (λ v. v.items) result (spec.each_joined T.numbers (datum_list_of list)) }
+fn each_joined<T: AppendValue + Drop>(alloc: Global, list: Vec<Value>) -> TiffResult<Vec<T>>
+    ensures { AnswersWithoutSource (λ v. v.items) result (spec.each_joined T.numbers (datum_list_of (datum_list list.items))) }
 {
-    let ValueList { items } = list;
     let mut all = Vec::new(alloc);
-    for item in items {
+    for item in list {
         T::append_value(item, &mut all)?;
     }
     Ok(all)
@@ -759,12 +611,11 @@ fn one<T: Drop>(alloc: Global, x: T) -> TiffResult<Vec<T>>
 }
 
 #[tactic(auto, using(crate::proofs::Joined::one_seen))]
-fn each<T: FromValue + Drop>(alloc: Global, list: ValueList) -> TiffResult<Vec<T>>
-    ensures { AnswersWithoutSource (λ v. map T.number v.items) result (spec.each_item T.into (datum_list_of list)) }
+fn each<T: FromValue + Drop>(alloc: Global, list: Vec<Value>) -> TiffResult<Vec<T>>
+    ensures { AnswersWithoutSource (λ v. map T.number v.items) result (spec.each_item T.into (datum_list_of (datum_list list.items))) }
 {
-    let ValueList { items } = list;
     let mut all = Vec::new(alloc);
-    for item in items {
+    for item in list {
         all.push(T::from_value(item)?)?;
     }
     Ok(all)

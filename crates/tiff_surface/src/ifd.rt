@@ -2,7 +2,7 @@
 
 use crate::report::Report;
 use tiff::TiffResult;
-use tiff::decoder::ifd::{AsciiText, Value, ValueList};
+use tiff::decoder::ifd::Value;
 use tiff::tags::{Bits32, Bits64};
 
 fn add_small(report: &mut Report) {
@@ -46,15 +46,13 @@ fn add_other_lists(report: &mut Report) {
     report.line("Value::into_f64_vec", double.into_f64_vec(alloc));
 }
 
-fn add_text(report: &mut Report, text: AsciiText) {
-    report.line("AsciiText::as_str", text.as_str());
-    report.line("Value::into_string", Value::Ascii(text).into_string());
+fn add_text(report: &mut Report, text: Value) {
+    report.line("Value::Ascii", &text);
+    report.line("Value::into_string", text.into_string());
 }
 
-fn add_list(report: &mut Report, list: ValueList) {
-    report.line("ValueList::len", list.len());
-    report.line("ValueList::as_slice", list.as_slice());
-    report.line("ValueList::into_vec", list.into_vec().len());
+fn add_list(report: &mut Report, items: Vec<Value>) {
+    report.line("Value::List", Value::List(items));
 }
 
 /// Adds the lines of values.
@@ -63,8 +61,8 @@ pub fn add_lines(report: &mut Report) -> TiffResult<()> {
     add_large(report);
     add_unsigned_lists(report);
     add_other_lists(report);
-    add_list(report, ValueList::from_vec(Vec::new(report.alloc())));
+    add_list(report, vec![in report.alloc(); Value::Short(1), Value::Rational(1, 2)]?);
     let text = String::from_str(report.alloc(), "ab")?;
-    add_text(report, AsciiText::from_string(text));
+    add_text(report, Value::Ascii(text));
     Ok(())
 }

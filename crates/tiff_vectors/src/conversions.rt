@@ -3,14 +3,14 @@
 use crate::expect::expect_text;
 use std::alloc::Global;
 use tiff_base::error::TiffResult;
-use tiff_ifd::value::{Value, ValueList};
+use tiff_ifd::value::Value;
 
 // A list of two values.
 fn pair(alloc: Global, first: Value, second: Value) -> TiffResult<Value> {
     let mut items = Vec::new(alloc);
     items.push(first)?;
     items.push(second)?;
-    Ok(Value::List(ValueList::from_vec(items)))
+    Ok(Value::List(items))
 }
 
 fn small_numbers(alloc: Global) -> TiffResult<String> {
@@ -53,6 +53,6 @@ fn values_are_converted(rt: HostRuntime) {
         &rt,
         3,
         copied(alloc),
-        "List(ValueList { items: [Short(1), Rational(1, 2)] }) true",
+        "List([Short(1), Rational(1, 2)]) true",
     );
 }

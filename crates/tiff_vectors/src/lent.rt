@@ -159,7 +159,7 @@ fn found_under(alloc: Global, limit: usize) -> TiffResult<String> {
 
 #[test]
 fn a_decoder_is_made_with_limits(rt: HostRuntime) {
-    let text = "Ok(Some(List(ValueList { items: [Unsigned(8), Unsigned(10)] })))";
+    let text = "Ok(Some(List([Unsigned(8), Unsigned(10)])))";
     expect_text(&rt, 64, found_under(rt.alloc(), 64), text);
     expect_text(&rt, 63, found_under(rt.alloc(), 63), "Err(LimitsExceeded)");
 }

@@ -2,7 +2,7 @@
 
 use tiff::decoder::IfdDecoder;
 use tiff::decoder::cycles::IfdCycles;
-use tiff::decoder::ifd::{AsciiText, Value, ValueList};
+use tiff::decoder::ifd::Value;
 use tiff::io::Source;
 
 // A value as one number or text.
@@ -32,13 +32,6 @@ fn name_lists() {
     let _call = Value::into_f32_vec;
     let _call = Value::into_f64_vec;
     let _call = Value::into_ifd_vec;
-    let _call = AsciiText::from_string;
-    let _call = AsciiText::into_string;
-    let _call = AsciiText::as_str;
-    let _call = ValueList::from_vec;
-    let _call = ValueList::into_vec;
-    let _call = ValueList::len;
-    let _call = ValueList::as_slice;
     let _call = IfdCycles::new;
     let _call = IfdCycles::insert_next;
 }

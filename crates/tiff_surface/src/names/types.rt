@@ -29,7 +29,7 @@ pub mod tags {
 /// Of `tiff::decoder`.
 pub mod decoder {
     pub use tiff::decoder::cycles::IfdCycles;
-    pub use tiff::decoder::ifd::{AsciiText, Entry, Value, ValueList};
+    pub use tiff::decoder::ifd::{Entry, Value};
     pub use tiff::decoder::script::{Call, Reply};
     pub use tiff::decoder::stream::{EndianReader, PackBitsReader};
     pub use tiff::decoder::{

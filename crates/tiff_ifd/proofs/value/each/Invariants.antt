@@ -10,6 +10,6 @@ abbrev pub invariant-loop-item : goal.invariant-loop-item
 invariant-loop-item g l = record {
   can : (goal.iterator-loop-item g).can_next l.item-iterator;
   finite : (goal.iterator-loop-item g).is_finite l.item-iterator;
-  rest : spec.each_item g.T.FromValue.into (datum_list_of l.fn.list)
+  rest : spec.each_item g.T.FromValue.into (datum_list_of (datum_list l.fn.list.items))
       ≡ (spec.each_item g.T.FromValue.into (datum_list_of (datum_list (into_iter_items l.item-iterator))) >>= (λ xs. Ok (map g.T.FromValue.number l.all.items ++ xs)));
 }
