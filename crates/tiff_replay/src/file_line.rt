@@ -149,7 +149,7 @@ impl File {
         reads: &CallCount,
     ) -> Result<ScriptedSource, AllocError> {
         let bytes = self.bytes.clone()?;
-        Ok(ScriptedSource::new(bytes, bytewise, failure, reads.shared()?))
+        ScriptedSource::new(bytes, bytewise, failure, reads.shared()?)
     }
 
     /// Whether its source gives one byte a read.

@@ -1,6 +1,7 @@
 //! Makes the calls of decoders and runs the jobs of writers that standard input lists, and prints each line with its reply.
 #![tactic(auto)]
 
+mod asked;
 mod call_count;
 mod chain;
 mod cuts;

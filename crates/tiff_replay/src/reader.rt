@@ -109,8 +109,19 @@ impl Reader {
         }
     }
 
-    /// Makes the call that the words tell of.
+    // Which bytes of the file were asked for since it was opened.
+    fn asked(&self) -> Result<String, AllocError> {
+        match &self.decoder {
+            Some(decoder) => decoder.inner().asked_text(self.alloc),
+            None => String::from_str(self.alloc, "no file"),
+        }
+    }
+
+    /// Makes the call that the words tell of, or tells which bytes of the file were asked for.
     pub fn answer(&mut self, words: &str) -> Result<String, AllocError> {
+        if words == "asked" {
+            return self.asked();
+        }
         if tells_of_pages(words) {
             return self.pages(words == "check");
         }

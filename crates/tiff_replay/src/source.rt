@@ -1,29 +1,44 @@
-//! A source in memory that may give one byte at a time, and may fail once.
+//! A source in memory that may give one byte at a time, may fail once, and knows which bytes it was asked for.
 
 ghost use Rattle.tiff_replay.specs.Failed.{failed};
 
+use crate::asked::Asked;
 use crate::call_count::CallCount;
 use crate::failure::Failure;
+use std::alloc::{AllocError, Global};
 use tiff_base::io::{DeviceFault, MemorySource, Source};
 
-/// A source in memory that may give one byte at a time, and may fail once. Its reads are counted.
+/// A source in memory that may give one byte at a time, and may fail once. Its reads are counted, and the bytes that they ask for known.
 #[derive(Drop)]
 pub struct ScriptedSource {
     inner: MemorySource,
     bytewise: bool,
     failure: Failure,
     reads: CallCount,
+    asked: Asked,
 }
 
 impl ScriptedSource {
     /// The source of these bytes.
-    pub fn new(bytes: Vec<u8>, bytewise: bool, failure: Failure, reads: CallCount) -> Self {
-        ScriptedSource {
+    pub fn new(
+        bytes: Vec<u8>,
+        bytewise: bool,
+        failure: Failure,
+        reads: CallCount,
+    ) -> Result<Self, AllocError> {
+        let asked = Asked::none(*bytes.allocator(), bytes.len())?;
+        Ok(ScriptedSource {
             inner: MemorySource::new(bytes),
             bytewise,
             failure,
             reads,
-        }
+            asked,
+        })
+    }
+
+    /// Which bytes it was asked for so far.
+    pub fn asked_text(&self, alloc: Global) -> Result<String, AllocError> {
+        self.asked.text(alloc)
     }
 }
 
@@ -40,6 +55,7 @@ impl Source for ScriptedSource {
 
     fn read_at(&mut self, at: u64, buf: &mut [u8]) -> Result<usize, DeviceFault> {
         self.reads.add();
+        self.asked.add(at, buf.len());
         if self.failure.next() {
             return Err(DeviceFault);
         }
