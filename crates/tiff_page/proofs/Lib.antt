@@ -23,4 +23,5 @@ pub mod Portions
 pub mod Reach
 mod Sums
 pub mod Wants
+pub mod Found
 mod Complements
