@@ -24,10 +24,11 @@ use Rattle.tiff_ifd.proofs.Unpacking.{byte_there}
 use Rattle.tiff_ifd.specs.declared.limits.Limits.{Limits}
 use Rattle.tiff_page.specs.declared.layout.DecodingSampleType.{DecodingSampleType}
 use Rattle.tiff_page.specs.Page.{PageRecord}
-use Rattle.tiff_page.specs.Rect.{chunks_of_plane}
-use Rattle.tiff_page.specs.Layout.{sample_type_of, size_of}
+use Rattle.tiff_page.specs.Rect.{chunks_of_plane, rect}
+use Rattle.tiff_page.specs.Buffers.{planes_layout, unit_fault}
+use Rattle.tiff_page.specs.Layout.{LayoutRecord, sample_type_of, size_of}
 use Rattle.tiff_page.specs.PixelFault.{unless, form_fault, chunk_fault, samples_fault, each_below}
-use Rattle.tiff_page.specs.PixelCalls.{Part, part_fault, fill_buffer, samples, image_part, chunk_part}
+use Rattle.tiff_page.specs.PixelCalls.{Part, part_fault, fill_buffer, samples, image_part, chunk_part, planes_used, read_chunk_bytes, read_coding_unit_bytes, read_image_bytes, room_fault}
 use Rattle.tiff_page.specs.Pixels.{data_by_method, chunk_data, needed_bytes, is_short}
 use Rattle.tiff_page.specs.EarlyFaults.{least_stored, bytes_held, is_cut, early_fault}
 use Rattle.tiff_page.proofs.Sizes.{plane_some}
@@ -161,6 +162,41 @@ module _ (file : List ℕ) (order : ByteOrder) (p : PageRecord) (limits : Limits
       rw (typed, few, f) refl)
       (λ er. let g : Err er.0 ≡ Err e = rw (er.1) at h in let q : er.0 ≡ e = cc in rw (typed, er.1) (ap Err q))
       (cases_fault (samples_fault limits (size_of type) len))
+
+  -- a fault of the form of the first chunk is what a buffer's filling gives
+  form_early : (part : Part) (buf : List ℕ) (e : TiffError) → 0 < part.count → 0 < part.planes → form_fault p limits color part.first ≡ Err e
+      → fill_buffer file order p limits color part buf ≡ Err e
+  unfolding fill_buffer
+  form_early part buf e some planes h =
+      let f : fault_of part.first ≡ Err e = rw h refl in
+      let g : part_fault file order p limits color part ≡ Err e = part_early part e some planes f in
+      rw g refl
+
+-- ---- the form of the first chunk, of what is read into a slice
+
+module _ (wanting failed : Type 0) (file : List ℕ) (order : ByteOrder) (p : PageRecord) (limits : Limits) (buf : List ℕ) (l : LayoutRecord) (e : TiffError) where
+  pub image_form : 0 < p.width → 0 < p.height → 0 < p.chunk_width → 0 < p.chunk_height → planes_layout p p.width p.height ≡ Ok l → room_fault (length buf) l.plane_stride ≡ Ok tt
+      → 0 < planes_used p l (length buf) → IsCause ⊥ ⊥ e (form_fault p limits l.color 0 ≡ Err e) → IsCause wanting failed e (read_image_bytes file order p limits buf ≡ Err e)
+  unfolding read_image_bytes
+  image_form w h cw ch laid room some c =
+      cause_along e (λ n. absurd n) (λ n. absurd n)
+      (λ f. rw (laid, room)
+      (form_early file order p limits l.color (image_part p (planes_used p l (length buf)) l.row_bytes) buf e (plane_some p.width p.height p.chunk_width p.chunk_height w h cw ch) some f)) c
+
+  pub chunk_form : (i : ℕ) → planes_layout p (rect p i).width (rect p i).height ≡ Ok l → room_fault (length buf) l.plane_stride ≡ Ok tt
+      → IsCause ⊥ ⊥ e (form_fault p limits l.color i ≡ Err e) → IsCause wanting failed e (read_chunk_bytes file order p limits i buf ≡ Err e)
+  unfolding read_chunk_bytes
+  chunk_form i laid room c =
+      cause_along e (λ n. absurd n) (λ n. absurd n)
+      (λ f. rw (laid, room) (form_early file order p limits l.color (chunk_part p i 1 l.row_bytes) buf e (omega arith) (omega arith) f)) c
+
+  pub unit_form : (unit : ℕ) → planes_layout p (rect p unit).width (rect p unit).height ≡ Ok l → unit_fault p unit ≡ Ok tt → room_fault (length buf) l.plane_stride ≡ Ok tt
+      → 0 < planes_used p l (length buf) → IsCause ⊥ ⊥ e (form_fault p limits l.color unit ≡ Err e)
+      → IsCause wanting failed e (read_coding_unit_bytes file order p limits unit buf ≡ Err e)
+  unfolding read_coding_unit_bytes
+  unit_form unit laid below room some c =
+      cause_along e (λ n. absurd n) (λ n. absurd n)
+      (λ f. rw (laid, below, room) (form_early file order p limits l.color (chunk_part p unit (planes_used p l (length buf)) l.row_bytes) buf e (omega arith) some f)) c
 
 -- ---- the samples of an image and of a chunk
 

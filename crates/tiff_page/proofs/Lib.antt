@@ -23,5 +23,6 @@ pub mod Portions
 pub mod Reach
 mod Sums
 pub mod Wants
+pub mod Found
 mod Complements
 pub mod EarlyLaws

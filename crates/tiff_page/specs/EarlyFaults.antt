@@ -7,14 +7,14 @@ use Rattle.tiff_base.specs.declared.error.TiffError.TheVariants.{OutOfMemory}
 use Rattle.tiff_base.specs.declared.tags.CompressionMethod.{CompressionMethod}
 use Rattle.tiff_base.specs.declared.tags.CompressionMethod.TheVariants as method
 use Rattle.tiff_base.specs.Answers.{◌>>=◌}
-use Rattle.tiff_base.specs.Sparing.{IsOfRead, IsWithinLimits}
+use Rattle.tiff_base.specs.Sparing.{IsOkOrList}
 use Rattle.tiff_ifd.specs.declared.limits.Limits.{Limits}
 use Rattle.tiff_page.specs.declared.layout.DecodingSampleType.{DecodingSampleType}
 use Rattle.tiff_page.specs.Page.{PageRecord}
-use Rattle.tiff_page.specs.Buffers.{planes_layout}
+use Rattle.tiff_page.specs.Buffers.{planes_layout, unit_fault}
 use Rattle.tiff_page.specs.Layout.{sample_type_of, size_of, wide}
-use Rattle.tiff_page.specs.PixelCalls.{planes_within, stride_fault}
-use Rattle.tiff_page.specs.PixelFault.{samples_fault, chunk_fault}
+use Rattle.tiff_page.specs.PixelCalls.{planes_within, room_fault, stride_fault}
+use Rattle.tiff_page.specs.PixelFault.{samples_fault, chunk_fault, form_fault}
 use Rattle.tiff_page.specs.Pixels.{needed_bytes}
 use Rattle.tiff_page.specs.Rect.{rect}
 
@@ -44,20 +44,16 @@ early_fault file p limits color type first len = do
 
 -- ---- where memory is wanted
 
--- a fault that may carry a list
-abbrev pub IsListFault : {Y : Type 0} → Result Y TiffError → Type 0
-IsListFault (Ok y) = ⊥
-IsListFault (Err e) = IsOfRead e
-
 -- Memory is wanted only where this holds.
 abbrev pub WantsWhere : {X : Type 0} → Type 0 → Result X TiffError → Type 0
 WantsWhere holds (Ok x) = Unit {0}
 WantsWhere holds (Err e) = e ≡ OutOfMemory → holds
 
--- Memory is wanted only where no limit refuses what is asked for, and the source doesn't end before the last byte that its
--- first chunk needs at least: where what is found early is none of these two faults.
+-- Memory is wanted only where no fault is found early, or one that carries a list: neither where a limit refuses what is
+-- asked for, nor where the source ends before the last byte that its first chunk needs at least, nor where the page's form or
+-- the call's own arguments do.
 abbrev pub WantsAfter : {X : Type 0} → Result (Unit {0}) TiffError → Result X TiffError → Type 0
-WantsAfter early result = WantsWhere (IsWithinLimits early) result
+WantsAfter early result = WantsWhere (IsOkOrList early) result
 
 -- what is found before memory is taken for samples in so many bytes, of a color and from a first chunk on
 abbrev pub samples_early : List ℕ → PageRecord → Limits → ColorType → ℕ → ℕ → Result (Unit {0}) TiffError
@@ -91,3 +87,28 @@ strided_early file p limits i stride = do
   _ ← stride_fault stride layout.row_bytes
   _ ← wide (stride * p.chunk_height)
   samples_early file p limits layout.color i (stride * (rect p i).height)
+
+-- ---- of slices, before memory is taken for their chunks: the faults of the layout, of the call's own arguments, and of the
+-- form of the first chunk
+
+-- of an image in a slice of so many bytes
+abbrev pub image_bytes_early : PageRecord → Limits → ℕ → Result (Unit {0}) TiffError
+image_bytes_early p limits len = do
+  layout ← planes_layout p p.width p.height
+  _ ← room_fault len layout.plane_stride
+  form_fault p limits layout.color 0
+
+-- of a chunk
+abbrev pub chunk_bytes_early : PageRecord → Limits → ℕ → ℕ → Result (Unit {0}) TiffError
+chunk_bytes_early p limits i len = do
+  layout ← planes_layout p (rect p i).width (rect p i).height
+  _ ← room_fault len layout.plane_stride
+  form_fault p limits layout.color i
+
+-- of a coding unit
+abbrev pub unit_bytes_early : PageRecord → Limits → ℕ → ℕ → Result (Unit {0}) TiffError
+unit_bytes_early p limits unit len = do
+  layout ← planes_layout p (rect p unit).width (rect p unit).height
+  _ ← unit_fault p unit
+  _ ← room_fault len layout.plane_stride
+  form_fault p limits layout.color unit

@@ -3,7 +3,8 @@
 ghost use Rattle.std.specs.Prelude.{◌≡◌, ◌<◌, ◌*◌, ◌^◌, IfOk, IfSome, Ok};
 ghost use Rattle.tiff_base.specs.Answers.{AnswersWithoutSource, Gives};
 ghost use Rattle.tiff_page.specs.Buffers as spec;
-ghost use Rattle.tiff_page.specs.EarlyFaults.{IsListFault, WantsWhere};
+ghost use Rattle.tiff_base.specs.Sparing.{IsListFault};
+ghost use Rattle.tiff_page.specs.EarlyFaults.{WantsWhere};
 ghost use Rattle.tiff_page.specs.Layout as layouts;
 ghost use Rattle.tiff_page.specs.Rect as rects;
 ghost use Rattle.tiff_page.specs.PageView as view;
@@ -62,9 +63,10 @@ pub(crate) fn all_planes(page: &Page, layout: PlaneLayout) -> BufferLayoutPrefer
 /// plane, or its rows up to the stored height of a chunk, of 2^64 bytes or more: `LimitsExceeded`; chunks beside each other
 /// whose rows aren't of whole bytes: `MisalignedTileBoundaries`; YCbCr with fewer chroma samples: `ChromaSubsampling`; all
 /// planes of 2^64 bytes or more: `LimitsExceeded`. A page whose samples are of no number type has no `sample_type`.
-#[tactic(auto, unfolding(crate::specs::Buffers::image_buffer_layout))]
+#[tactic(auto, using(crate::proofs::Wants::laid_fault, crate::proofs::Wants::layout_of_fault), unfolding(crate::specs::Buffers::image_buffer_layout))]
 pub fn image_buffer_layout(page: &Page, alloc: Global) -> TiffResult<BufferLayoutPreference>
     ensures answer { AnswersWithoutSource (λ l. l) result (spec.image_buffer_layout (view.page page.now)) }
+    ensures memory { WantsWhere (IsListFault (spec.image_buffer_layout (view.page page.now))) result }
     ensures rows { IfOk result (λ l. IfSome l.row_stride (λ n. 0 < n)) }
     ensures plane { IfOk result (λ l. IfSome l.plane_stride (λ n. 0 < n)) }
 {
@@ -89,13 +91,14 @@ fn rounded(bytes: usize, size: usize) -> TiffResult<usize>
 /// A buffer for a chunk in one plane, in whole samples; an index past the planes is reduced. The first fault: of the layout,
 /// as for the image; of the samples, `UnsupportedSampleDepth` or `UnsupportedSampleFormat`; 2^63 bytes or more:
 /// `LimitsExceeded`.
-#[tactic(auto, unfolding(crate::specs::Buffers::image_chunk_buffer_layout))]
+#[tactic(auto, using(crate::proofs::Wants::laid_fault, crate::proofs::Wants::layout_of_fault), unfolding(crate::specs::Buffers::image_chunk_buffer_layout))]
 pub fn image_chunk_buffer_layout(
     page: &Page,
     alloc: Global,
     index: u32,
 ) -> TiffResult<BufferLayoutPreference>
     ensures answer { AnswersWithoutSource (λ l. l) result (spec.image_chunk_buffer_layout (view.page page.now) index) }
+    ensures memory { WantsWhere (IsListFault (spec.image_chunk_buffer_layout (view.page page.now) index)) result }
     ensures rows { IfOk result (λ l. IfSome l.row_stride (λ n. 0 < n)) }
     ensures plane { IfOk result (λ l. IfSome l.plane_stride (λ n. 0 < n)) }
 {
@@ -128,13 +131,14 @@ pub(crate) fn unit_fault(page: &Page, unit: u32) -> TiffResult<()>
 
 /// A buffer for a coding unit: of a chunky page as for the chunk, of a planar one for all planes, whose first fault is that
 /// of the layout, as for the image; then a unit that isn't below the chunks of a plane: `InvalidCodingUnit(unit, chunks)`.
-#[tactic(auto, unfolding(crate::specs::Buffers::image_coding_unit_layout))]
+#[tactic(auto, using(crate::proofs::Wants::laid_fault, crate::proofs::Wants::layout_of_fault), unfolding(crate::specs::Buffers::image_coding_unit_layout))]
 pub fn image_coding_unit_layout(
     page: &Page,
     alloc: Global,
     unit: TiffCodingUnit,
 ) -> TiffResult<BufferLayoutPreference>
     ensures answer { AnswersWithoutSource (λ l. l) result (spec.image_coding_unit_layout (view.page page.now) unit.0) }
+    ensures memory { WantsWhere (IsListFault (spec.image_coding_unit_layout (view.page page.now) unit.0)) result }
     ensures rows { IfOk result (λ l. IfSome l.row_stride (λ n. 0 < n)) }
     ensures plane { IfOk result (λ l. IfSome l.plane_stride (λ n. 0 < n)) }
 {

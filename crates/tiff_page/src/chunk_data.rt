@@ -91,8 +91,8 @@ impl Stored {
         }
     }
 
-    /// Makes a list the next `len` bytes; it grows as they come. Fewer are left: `IoError(UnexpectedEof)`, and the list holds
-    /// some of them.
+    /// Makes a list the next `len` bytes; it grows as they come, by a piece at most ahead of them. Fewer are left:
+    /// `IoError(UnexpectedEof)`, and the list holds some of them.
     pub fn read_grown<R: Source>(
         self,
         source: &mut R,
@@ -102,6 +102,7 @@ impl Stored {
         ensures kept { IsKept R.bytes R.failures result source.old source.new }
         ensures taken { Takes (R.bytes source.old) self (Unit {0}) (R.failures source.old < R.failures source.new) len
             row.new.items result }
+        ensures grown { length row.new.items ≤ length (bytes_left (R.bytes source.old) self) + PIECE }
         ensures asked { ReachesTo (stored_end self len) (R.reach source.old) (R.reach source.new) }
         ensures moves { IfOk result (λ rest. Moves self len rest) }
     {

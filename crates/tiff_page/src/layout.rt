@@ -9,7 +9,8 @@ ghost use Rattle.tiff_base.specs.declared.color.ColorType.{ColorType};
 ghost use Rattle.tiff_page.specs.Rect as rects;
 ghost use Rattle.tiff_page.specs.Layout as spec;
 ghost use Rattle.tiff_page.specs.Buffers.{type_known};
-ghost use Rattle.tiff_page.specs.EarlyFaults.{IsListFault, WantsWhere};
+ghost use Rattle.tiff_base.specs.Sparing.{IsListFault};
+ghost use Rattle.tiff_page.specs.EarlyFaults.{WantsWhere};
 
 use crate::page::Page;
 use std::alloc::Global;

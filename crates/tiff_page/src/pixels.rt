@@ -12,9 +12,9 @@ ghost use Rattle.std.specs.Int.{div_ceil};
 ghost use Rattle.std.specs.Prelude.{◌≡◌, ◌*◌, ◌<◌, ◌≤◌, ◌^◌, Ok, IfOk, length, map, replicate, if◌then◌else◌, nat_le};
 ghost use Rattle.tiff_base.specs.Answers.{Answers, AnswersWithoutSource, Gives, IsKept};
 ghost use Rattle.tiff_base.specs.SourceAndSink.{ReachesTo};
-ghost use Rattle.tiff_base.specs.Sparing.{AnswersSparingly};
+ghost use Rattle.tiff_base.specs.Sparing.{AnswersSparingly, IsListFault};
 ghost use Rattle.tiff_page.specs.Buffers as buffers;
-ghost use Rattle.tiff_page.specs.EarlyFaults.{IsListFault, WantsAfter, WantsWhere, chunk_early, early_fault, image_early, planes_early, samples_early, strided_early};
+ghost use Rattle.tiff_page.specs.EarlyFaults.{WantsAfter, WantsWhere, chunk_bytes_early, chunk_early, early_fault, image_bytes_early, image_early, planes_early, samples_early, strided_early, unit_bytes_early};
 ghost use Rattle.tiff_page.specs.PixelCalls.{image_of};
 ghost use Rattle.tiff_page.specs.Layout as layouts;
 ghost use Rattle.tiff_page.specs.PixelCalls as calls;
@@ -27,7 +27,7 @@ ghost use Rattle.tiff_page.specs.PageView as view;
 ghost use Rattle.tiff_page.specs.declared.layout.DecodingSampleType.TheVariants as type;
 
 use crate::buffers::{all_planes, planes_layout, unit_fault};
-use crate::faults::samples_fault;
+use crate::faults::{form_fault, samples_fault};
 use crate::layout::{
     BufferLayoutPreference, DecodingSampleType, PlaneLayout, chunk_data_dimensions, planes,
     sample_type_of, size_of, wide_product,
@@ -392,7 +392,7 @@ pub fn read_image_to_buffer<R: Source>(
 
 /// Reads an image into a slice, as many planes as it takes whole, one behind the other; bytes behind them stay. Less room
 /// than a plane's bytes: `InsufficientOutputBufferSize`.
-#[tactic(auto, unfolding(crate::specs::PixelCalls::read_image_bytes))]
+#[tactic(auto, using(crate::proofs::Wants::may_want), unfolding(crate::specs::PixelCalls::read_image_bytes))]
 pub fn read_image_bytes<R: Source>(
     alloc: Global,
     source: &mut R,
@@ -402,6 +402,7 @@ pub fn read_image_bytes<R: Source>(
     buf: &mut [u8],
 ) -> TiffResult<()>
     ensures kept { IsKept R.bytes R.failures result source.old source.new }
+    ensures memory { WantsAfter (image_bytes_early (view.page page.now) limits.now (length buf.old)) result }
     ensures answer { Answers (λ _. buf.new) result (calls.read_image_bytes (R.bytes source.old) order (view.page page.now)
         limits.now buf.old) (R.failures source.old) (R.failures source.new) }
     ensures asked { ReachesLaid (view.page page.now) (buffers.planes_layout (view.page page.now) page.now.width
@@ -417,6 +418,7 @@ pub fn read_image_bytes<R: Source>(
     let layout = planes_layout(page, alloc, page.width, page.height)?;
     room_fault(buf.len(), layout.plane_stride)?;
     let planes = planes_used(page, layout, buf.len());
+    form_fault(page, limits, layout.color, 0)?;
     let part = ImagePart { layout, planes };
     reader.fill_image(source, part, &mut InPlace::new(alloc), buf)
 }
@@ -453,7 +455,7 @@ pub fn read_chunk<R: Source>(
 
 /// Reads a chunk into a slice, in rows of its own width in the image; bytes behind them stay. Less room than its bytes:
 /// `InsufficientOutputBufferSize`; an index past the list of chunks: `InconsistentSizesEncountered`.
-#[tactic(auto, unfolding(crate::specs::PixelCalls::read_chunk_bytes))]
+#[tactic(auto, using(crate::proofs::Wants::may_want), unfolding(crate::specs::PixelCalls::read_chunk_bytes))]
 pub fn read_chunk_bytes<R: Source>(
     alloc: Global,
     source: &mut R,
@@ -464,6 +466,7 @@ pub fn read_chunk_bytes<R: Source>(
     buf: &mut [u8],
 ) -> TiffResult<()>
     ensures kept { IsKept R.bytes R.failures result source.old source.new }
+    ensures memory { WantsAfter (chunk_bytes_early (view.page page.now) limits.now index (length buf.old)) result }
     ensures answer { Answers (λ _. buf.new) result (calls.read_chunk_bytes (R.bytes source.old) order (view.page page.now)
         limits.now index buf.old) (R.failures source.old) (R.failures source.new) }
     ensures asked { ReachesLaid (view.page page.now) (buffers.planes_layout (view.page page.now)
@@ -478,6 +481,7 @@ pub fn read_chunk_bytes<R: Source>(
     };
     let layout = chunk_layout(page, alloc, index)?;
     room_fault(buf.len(), layout.plane_stride)?;
+    form_fault(page, limits, layout.color, index as usize)?;
     let unit = UnitPart {
         color: layout.color,
         index,
@@ -525,7 +529,7 @@ pub fn read_chunk_to_buffer<R: Source>(
 /// Reads the chunk of each plane of a coding unit into a slice, as many as it takes whole, one behind the other; bytes behind
 /// them stay. A unit that isn't below the chunks of a plane: `InvalidCodingUnit(unit, chunks)`; less room than a chunk's
 /// bytes: `InsufficientOutputBufferSize`.
-#[tactic(auto, unfolding(crate::specs::PixelCalls::read_coding_unit_bytes))]
+#[tactic(auto, using(crate::proofs::Wants::may_want), unfolding(crate::specs::PixelCalls::read_coding_unit_bytes))]
 pub fn read_coding_unit_bytes<R: Source>(
     alloc: Global,
     source: &mut R,
@@ -536,6 +540,7 @@ pub fn read_coding_unit_bytes<R: Source>(
     buf: &mut [u8],
 ) -> TiffResult<()>
     ensures kept { IsKept R.bytes R.failures result source.old source.new }
+    ensures memory { WantsAfter (unit_bytes_early (view.page page.now) limits.now unit (length buf.old)) result }
     ensures answer { Answers (λ _. buf.new) result (calls.read_coding_unit_bytes (R.bytes source.old) order (view.page page.now)
         limits.now unit buf.old) (R.failures source.old) (R.failures source.new) }
     ensures asked { ReachesLaid (view.page page.now) (buffers.planes_layout (view.page page.now)
@@ -553,6 +558,7 @@ pub fn read_coding_unit_bytes<R: Source>(
     unit_fault(page, unit)?;
     room_fault(buf.len(), layout.plane_stride)?;
     let planes = planes_used(page, layout, buf.len());
+    form_fault(page, limits, layout.color, unit as usize)?;
     let unit = UnitPart {
         color: layout.color,
         index: unit,

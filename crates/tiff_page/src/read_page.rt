@@ -7,7 +7,12 @@ ghost use Rattle.tiff_base.specs.declared.tags.ExtraSamples.TheVariants as extra
 ghost use Rattle.tiff_ifd.specs.Fitted.{fitted_numbers};
 ghost use Rattle.tiff_page.specs.Counts.{chunk_count, planes_of};
 ghost use Rattle.tiff_page.specs.PageView as view;
-ghost use Rattle.tiff_base.specs.Answers.{Answers, AnswersWithoutSource, Gives, IsKept};
+ghost use Rattle.tiff_base.specs.Answers.{AnswersBut, AnswersWithoutSource, Gives, IsKept};
+ghost use Rattle.tiff_base.specs.Sparing.{IsListFault};
+ghost use Rattle.tiff_base.specs.declared.error.TiffError.TheVariants as tiff;
+ghost use Rattle.tiff_base.specs.declared.error.TiffFormatError.TheVariants as format;
+ghost use Rattle.tiff_base.specs.declared.tags.Tag.TheVariants as named;
+ghost use Rattle.tiff_ifd.specs.Look.{AnswersFound};
 ghost use Rattle.tiff_page.specs.Checks as checks;
 
 use crate::lists::{ExtraSampleList, NumberList};
@@ -22,19 +27,38 @@ use tiff_base::tags::{
 };
 use tiff_ifd::lookup::{Tags, find_u16, find_u16_vec, find_u32, require_u32, require_u64_vec};
 
-/// The width and the height.
-#[tactic(auto, unfolding(crate::specs::Checks::size_in))]
-pub fn read_size<T: Tags>(tags: &mut T, alloc: Global) -> TiffResult<(u32, u32)>
-    ensures kept { IsKept T.told T.failures result tags.old tags.new }
-    ensures answer { Answers (λ s. s) result (checks.size_in (T.told tags.old).look) (T.failures tags.old) (T.failures tags.new) }
+// A page has a width and a height.
+fn sides(width: u32, height: u32) -> TiffResult<(u32, u32)>
+    ensures answer { Gives (λ s. s) result (checks.sides width height) }
     ensures some { IfOk result (λ s. (0 < s.0) × (0 < s.1)) }
 {
-    let width = require_u32(tags, alloc, Tag::ImageWidth)?;
-    let height = require_u32(tags, alloc, Tag::ImageLength)?;
     if width == 0 || height == 0 {
         return Err(TiffFormatError::InvalidDimensions(width, height).into());
     }
     Ok((width, height))
+}
+
+/// The width and the height.
+#[tactic(auto, using(crate::proofs::Found::required_found), unfolding(crate::specs::Checks::size_in))]
+pub fn read_size<T: Tags>(tags: &mut T, alloc: Global) -> TiffResult<(u32, u32)>
+    ensures kept { IsKept T.told T.failures result tags.old tags.new }
+    ensures answer { AnswersFound (λ s. s) result (checks.size_in (T.told tags.old).look)
+        (T.told tags.old).look named.ImageWidth (T.failures tags.old) (T.failures tags.new) }
+    ensures some { IfOk result (λ s. (0 < s.0) × (0 < s.1)) }
+{
+    let width = require_u32(tags, alloc, Tag::ImageWidth)?;
+    let height = require_u32(tags, alloc, Tag::ImageLength)?;
+    sides(width, height)
+}
+
+// An interpretation has a name.
+fn interpretation_named(number: Option<u16>) -> TiffResult<PhotometricInterpretation>
+    ensures { Gives (λ s. s) result (checks.interpretation_named number) }
+{
+    match number.and_then(PhotometricInterpretation::from_u16) {
+        None => Err(TiffUnsupportedError::UnknownInterpretation.into()),
+        Some(interpretation) => Ok(interpretation),
+    }
 }
 
 /// What the samples mean.
@@ -44,39 +68,43 @@ pub fn read_interpretation<T: Tags>(
     alloc: Global,
 ) -> TiffResult<PhotometricInterpretation>
     ensures kept { IsKept T.told T.failures result tags.old tags.new }
-    ensures answer { Answers (λ s. s) result (checks.interpretation_in (T.told tags.old).look) (T.failures tags.old) (T.failures tags.new) }
+    ensures answer { AnswersFound (λ s. s) result (checks.interpretation_in (T.told tags.old).look)
+        (T.told tags.old).look named.PhotometricInterpretation (T.failures tags.old) (T.failures tags.new) }
 {
-    let Some(number) = find_u16(tags, alloc, Tag::PhotometricInterpretation)? else {
-        return Err(TiffUnsupportedError::UnknownInterpretation.into());
-    };
-    match PhotometricInterpretation::from_u16(number) {
-        None => Err(TiffUnsupportedError::UnknownInterpretation.into()),
-        Some(interpretation) => Ok(interpretation),
-    }
+    interpretation_named(find_u16(tags, alloc, Tag::PhotometricInterpretation)?)
 }
 
 /// How chunks are packed.
 #[tactic(auto, unfolding(crate::specs::Checks::method_in))]
 pub fn read_method<T: Tags>(tags: &mut T, alloc: Global) -> TiffResult<CompressionMethod>
     ensures kept { IsKept T.told T.failures result tags.old tags.new }
-    ensures answer { Answers (λ s. s) result (checks.method_in (T.told tags.old).look) (T.failures tags.old) (T.failures tags.new) }
+    ensures answer { AnswersFound (λ s. s) result (checks.method_in (T.told tags.old).look)
+        (T.told tags.old).look named.Compression (T.failures tags.old) (T.failures tags.new) }
 {
     let number = find_u16(tags, alloc, Tag::Compression)?.unwrap_or(1);
     Ok(CompressionMethod::from_u16_exhaustive(number))
+}
+
+// A pixel has samples.
+fn some_samples(samples: u16) -> TiffResult<u16>
+    ensures answer { Gives (λ s. s) result (checks.some_samples samples) }
+    ensures some { IfOk result (λ n. 0 < n) }
+{
+    if samples == 0 {
+        return Err(TiffFormatError::SamplesPerPixelIsZero.into());
+    }
+    Ok(samples)
 }
 
 /// How many samples a pixel has.
 #[tactic(auto, unfolding(crate::specs::Checks::samples_in))]
 pub fn read_samples<T: Tags>(tags: &mut T, alloc: Global) -> TiffResult<u16>
     ensures kept { IsKept T.told T.failures result tags.old tags.new }
-    ensures answer { Answers (λ s. s) result (checks.samples_in (T.told tags.old).look) (T.failures tags.old) (T.failures tags.new) }
+    ensures answer { AnswersFound (λ s. s) result (checks.samples_in (T.told tags.old).look)
+        (T.told tags.old).look named.SamplesPerPixel (T.failures tags.old) (T.failures tags.new) }
     ensures some { IfOk result (λ n. 0 < n) }
 {
-    let samples = find_u16(tags, alloc, Tag::SamplesPerPixel)?.unwrap_or(1);
-    if samples == 0 {
-        return Err(TiffFormatError::SamplesPerPixelIsZero.into());
-    }
-    Ok(samples)
+    some_samples(find_u16(tags, alloc, Tag::SamplesPerPixel)?.unwrap_or(1))
 }
 
 fn extras(alloc: Global, numbers: &[u16]) -> Result<Vec<ExtraSamples>, AllocError>
@@ -88,21 +116,29 @@ fn extras(alloc: Global, numbers: &[u16]) -> Result<Vec<ExtraSamples>, AllocErro
         .collect(alloc)
 }
 
-/// What the extra samples are.
-#[tactic(auto, unfolding(crate::specs::Checks::extra_in))]
-pub fn read_extra<T: Tags>(tags: &mut T, alloc: Global, samples: u16) -> TiffResult<ExtraSampleList>
-    ensures kept { IsKept T.told T.failures result tags.old tags.new }
-    ensures answer { Answers (λ s. s) result (checks.extra_in (T.told tags.old).look samples) (T.failures tags.old) (T.failures tags.new) }
+// Extra samples are no more than the samples.
+fn within_samples(samples: u16, extra: Vec<ExtraSamples>) -> TiffResult<ExtraSampleList>
+    ensures answer { Gives (λ s. s) result (checks.within_samples samples extra.items) }
     ensures few { IfOk result (λ e. length e ≤ samples) }
 {
-    let extra = match find_u16_vec(tags, alloc, Tag::ExtraSamples)? {
-        None => Vec::new(alloc),
-        Some(numbers) => extras(alloc, &numbers)?,
-    };
     if extra.len() > usize::from(samples) {
         return Err(TiffFormatError::InconsistentSizesEncountered.into());
     }
     Ok(ExtraSampleList::from_vec(extra))
+}
+
+/// What the extra samples are.
+#[tactic(auto, using(crate::proofs::Found::number_found), unfolding(crate::specs::Checks::extra_in))]
+pub fn read_extra<T: Tags>(tags: &mut T, alloc: Global, samples: u16) -> TiffResult<ExtraSampleList>
+    ensures kept { IsKept T.told T.failures result tags.old tags.new }
+    ensures answer { AnswersFound (λ s. s) result (checks.extra_in (T.told tags.old).look samples)
+        (T.told tags.old).look named.ExtraSamples (T.failures tags.old) (T.failures tags.new) }
+    ensures few { IfOk result (λ e. length e ≤ samples) }
+{
+    match find_u16_vec(tags, alloc, Tag::ExtraSamples)? {
+        None => within_samples(samples, Vec::new(alloc)),
+        Some(numbers) => Ok(within_samples(samples, extras(alloc, &numbers)?)?),
+    }
 }
 
 // Whether all numbers are this one.
@@ -155,8 +191,9 @@ fn fit_u8s(alloc: Global, tag: Tag, numbers: Vec<u64>) -> TiffResult<Vec<u8>>
     Ok(all)
 }
 
+// One format for all samples. Memory is taken for the fault that carries a list alone.
 fn one_format(alloc: Global, numbers: &[u16]) -> TiffResult<SampleFormat>
-    ensures { AnswersWithoutSource (λ f. f) result (checks.one_format numbers.now) }
+    ensures { let given = checks.one_format numbers.now in AnswersBut (IsListFault given) ⊥ (λ f. f) result given }
 {
     let [first, ..] = numbers else {
         return Err(TiffFormatError::InvalidTagValueType(Tag::SampleFormat).into());
@@ -170,10 +207,11 @@ fn one_format(alloc: Global, numbers: &[u16]) -> TiffResult<SampleFormat>
 }
 
 /// What the numbers of samples are.
-#[tactic(auto, unfolding(crate::specs::Checks::format_in))]
+#[tactic(auto, using(crate::proofs::Found::number_found), unfolding(crate::specs::Checks::format_in))]
 pub fn read_format<T: Tags>(tags: &mut T, alloc: Global) -> TiffResult<SampleFormat>
     ensures kept { IsKept T.told T.failures result tags.old tags.new }
-    ensures answer { Answers (λ s. s) result (checks.format_in (T.told tags.old).look) (T.failures tags.old) (T.failures tags.new) }
+    ensures answer { AnswersFound (λ s. s) result (checks.format_in (T.told tags.old).look)
+        (T.told tags.old).look named.SampleFormat (T.failures tags.old) (T.failures tags.new) }
 {
     match tags.find_u64_vec(alloc, Tag::SampleFormat)? {
         None => Ok(SampleFormat::Uint),
@@ -203,10 +241,11 @@ fn one_depth(samples: u16, bits: Vec<u8>) -> TiffResult<u8>
 }
 
 /// How many bits a sample has.
-#[tactic(auto, unfolding(crate::specs::Checks::depth_in))]
+#[tactic(auto, using(crate::proofs::Found::number_found), unfolding(crate::specs::Checks::depth_in))]
 pub fn read_depth<T: Tags>(tags: &mut T, alloc: Global, samples: u16) -> TiffResult<u8>
     ensures kept { IsKept T.told T.failures result tags.old tags.new }
-    ensures answer { Answers (λ s. s) result (checks.depth_in (T.told tags.old).look samples) (T.failures tags.old) (T.failures tags.new) }
+    ensures answer { AnswersFound (λ s. s) result (checks.depth_in (T.told tags.old).look samples)
+        (T.told tags.old).look named.BitsPerSample (T.failures tags.old) (T.failures tags.new) }
     ensures some { IfOk result (λ d. 0 < d) }
 {
     match tags.find_u64_vec(alloc, Tag::BitsPerSample)? {
@@ -215,13 +254,11 @@ pub fn read_depth<T: Tags>(tags: &mut T, alloc: Global, samples: u16) -> TiffRes
     }
 }
 
-/// How stored samples differ from those before them.
-#[tactic(auto, unfolding(crate::specs::Checks::predictor_in))]
-pub fn read_predictor<T: Tags>(tags: &mut T, alloc: Global) -> TiffResult<Predictor>
-    ensures kept { IsKept T.told T.failures result tags.old tags.new }
-    ensures answer { Answers (λ s. s) result (checks.predictor_in (T.told tags.old).look) (T.failures tags.old) (T.failures tags.new) }
+// A predictor that is known, or none.
+fn predictor_from(number: Option<u16>) -> TiffResult<Predictor>
+    ensures { Gives (λ s. s) result (checks.predictor_from number) }
 {
-    let Some(number) = find_u16(tags, alloc, Tag::Predictor)? else {
+    let Some(number) = number else {
         return Ok(Predictor::None);
     };
     match Predictor::from_u16(number) {
@@ -230,19 +267,37 @@ pub fn read_predictor<T: Tags>(tags: &mut T, alloc: Global) -> TiffResult<Predic
     }
 }
 
-/// Whether each plane of samples has its chunks.
-#[tactic(auto, unfolding(crate::specs::Checks::planar_in))]
-pub fn read_planar<T: Tags>(tags: &mut T, alloc: Global) -> TiffResult<PlanarConfiguration>
+/// How stored samples differ from those before them.
+#[tactic(auto, unfolding(crate::specs::Checks::predictor_in))]
+pub fn read_predictor<T: Tags>(tags: &mut T, alloc: Global) -> TiffResult<Predictor>
     ensures kept { IsKept T.told T.failures result tags.old tags.new }
-    ensures answer { Answers (λ s. s) result (checks.planar_in (T.told tags.old).look) (T.failures tags.old) (T.failures tags.new) }
+    ensures answer { AnswersFound (λ s. s) result (checks.predictor_in (T.told tags.old).look)
+        (T.told tags.old).look named.Predictor (T.failures tags.old) (T.failures tags.new) }
 {
-    let Some(number) = find_u16(tags, alloc, Tag::PlanarConfiguration)? else {
+    predictor_from(find_u16(tags, alloc, Tag::Predictor)?)
+}
+
+// A configuration of planes that is known, or chunky.
+fn planar_from(number: Option<u16>) -> TiffResult<PlanarConfiguration>
+    ensures { Gives (λ s. s) result (checks.planar_from number) }
+{
+    let Some(number) = number else {
         return Ok(PlanarConfiguration::Chunky);
     };
     match PlanarConfiguration::from_u16(number) {
         None => Err(TiffFormatError::UnknownPlanarConfiguration(number).into()),
         Some(planar) => Ok(planar),
     }
+}
+
+/// Whether each plane of samples has its chunks.
+#[tactic(auto, unfolding(crate::specs::Checks::planar_in))]
+pub fn read_planar<T: Tags>(tags: &mut T, alloc: Global) -> TiffResult<PlanarConfiguration>
+    ensures kept { IsKept T.told T.failures result tags.old tags.new }
+    ensures answer { AnswersFound (λ s. s) result (checks.planar_in (T.told tags.old).look)
+        (T.told tags.old).look named.PlanarConfiguration (T.failures tags.old) (T.failures tags.new) }
+{
+    planar_from(find_u16(tags, alloc, Tag::PlanarConfiguration)?)
 }
 
 fn two(sizes: &[u16]) -> TiffResult<(u16, u16)>
@@ -255,10 +310,11 @@ fn two(sizes: &[u16]) -> TiffResult<(u16, u16)>
 }
 
 /// How many pixels share a chroma sample.
-#[tactic(auto, unfolding(crate::specs::Checks::subsampling_in))]
+#[tactic(auto, using(crate::proofs::Found::number_found), unfolding(crate::specs::Checks::subsampling_in))]
 pub fn read_subsampling<T: Tags>(tags: &mut T, alloc: Global) -> TiffResult<(u16, u16)>
     ensures kept { IsKept T.told T.failures result tags.old tags.new }
-    ensures answer { Answers (λ s. s) result (checks.subsampling_in (T.told tags.old).look) (T.failures tags.old) (T.failures tags.new) }
+    ensures answer { AnswersFound (λ s. s) result (checks.subsampling_in (T.told tags.old).look)
+        (T.told tags.old).look named.ChromaSubsampling (T.failures tags.old) (T.failures tags.new) }
 {
     match tags.find_u64_vec(alloc, Tag::ChromaSubsampling)? {
         None => Ok((2, 2)),
@@ -332,8 +388,19 @@ fn counted(width: u32, height: u32, planes: u16, chunks: ChunkTable) -> TiffResu
     Ok(chunks)
 }
 
+// A strip has rows.
+fn some_rows(rows: u32) -> TiffResult<u32>
+    ensures answer { Gives (λ n. n) result (checks.some_rows rows) }
+    ensures some { IfOk result (λ n. 0 < n) }
+{
+    if rows == 0 {
+        return Err(TiffFormatError::InconsistentSizesEncountered.into());
+    }
+    Ok(rows)
+}
+
 /// The strips of a page.
-#[tactic(auto, unfolding(crate::specs::Checks::strips_in))]
+#[tactic(auto, using(crate::proofs::Found::required_found), unfolding(crate::specs::Checks::strips_in))]
 pub fn read_strips<T: Tags>(
     tags: &mut T,
     alloc: Global,
@@ -343,8 +410,8 @@ pub fn read_strips<T: Tags>(
 ) -> TiffResult<ChunkTable>
     requires wide { 0 < width }
     ensures kept { IsKept T.told T.failures result tags.old tags.new }
-    ensures answer { Answers view.chunks result (checks.strips_in (T.told tags.old).look width height planes)
-        (T.failures tags.old) (T.failures tags.new) }
+    ensures answer { AnswersFound view.chunks result (checks.strips_in (T.told tags.old).look width height planes)
+        (T.told tags.old).look named.StripOffsets (T.failures tags.old) (T.failures tags.new) }
     ensures wide { IfOk result (λ c. 0 < c.chunk_width) }
     ensures high { IfOk result (λ c. 0 < c.chunk_height) }
     ensures same { IfOk result (λ c. length c.byte_counts ≡ length c.offsets) }
@@ -353,10 +420,7 @@ pub fn read_strips<T: Tags>(
 {
     let offsets = NumberList::from_vec(require_u64_vec(tags, alloc, Tag::StripOffsets)?);
     let byte_counts = NumberList::from_vec(require_u64_vec(tags, alloc, Tag::StripByteCounts)?);
-    let rows = find_u32(tags, alloc, Tag::RowsPerStrip)?.unwrap_or(height);
-    if rows == 0 {
-        return Err(TiffFormatError::InconsistentSizesEncountered.into());
-    }
+    let rows = some_rows(find_u32(tags, alloc, Tag::RowsPerStrip)?.unwrap_or(height))?;
     counted(
         width,
         height,
@@ -370,8 +434,19 @@ pub fn read_strips<T: Tags>(
     )
 }
 
+// A tile has columns and rows.
+fn some_side(size: u32, tag: Tag) -> TiffResult<u32>
+    ensures answer { Gives (λ n. n) result (checks.some_side size (tiff.FormatError (format.InvalidTagValueType tag))) }
+    ensures some { IfOk result (λ n. 0 < n) }
+{
+    if size == 0 {
+        return Err(TiffFormatError::InvalidTagValueType(tag).into());
+    }
+    Ok(size)
+}
+
 /// The tiles of a page.
-#[tactic(auto, unfolding(crate::specs::Checks::tiles_in))]
+#[tactic(auto, using(crate::proofs::Found::required_found), unfolding(crate::specs::Checks::tiles_in))]
 pub fn read_tiles<T: Tags>(
     tags: &mut T,
     alloc: Global,
@@ -380,8 +455,8 @@ pub fn read_tiles<T: Tags>(
     planes: u16,
 ) -> TiffResult<ChunkTable>
     ensures kept { IsKept T.told T.failures result tags.old tags.new }
-    ensures answer { Answers view.chunks result (checks.tiles_in (T.told tags.old).look width height planes)
-        (T.failures tags.old) (T.failures tags.new) }
+    ensures answer { AnswersFound view.chunks result (checks.tiles_in (T.told tags.old).look width height planes)
+        (T.told tags.old).look named.TileWidth (T.failures tags.old) (T.failures tags.new) }
     ensures wide { IfOk result (λ c. 0 < c.chunk_width) }
     ensures high { IfOk result (λ c. 0 < c.chunk_height) }
     ensures same { IfOk result (λ c. length c.byte_counts ≡ length c.offsets) }
@@ -390,12 +465,8 @@ pub fn read_tiles<T: Tags>(
 {
     let chunk_width = require_u32(tags, alloc, Tag::TileWidth)?;
     let chunk_height = require_u32(tags, alloc, Tag::TileLength)?;
-    if chunk_width == 0 {
-        return Err(TiffFormatError::InvalidTagValueType(Tag::TileWidth).into());
-    }
-    if chunk_height == 0 {
-        return Err(TiffFormatError::InvalidTagValueType(Tag::TileLength).into());
-    }
+    let chunk_width = some_side(chunk_width, Tag::TileWidth)?;
+    let chunk_height = some_side(chunk_height, Tag::TileLength)?;
     let offsets = NumberList::from_vec(require_u64_vec(tags, alloc, Tag::TileOffsets)?);
     let byte_counts = NumberList::from_vec(require_u64_vec(tags, alloc, Tag::TileByteCounts)?);
     counted(
@@ -420,11 +491,12 @@ fn planes_of(planar: PlanarConfiguration, samples: u16) -> u16
     }
 }
 
-/// The page that the tags tell.
-#[tactic(auto, unfolding(crate::specs::Checks::page_of))]
+/// The page that the tags tell. Memory is wanted only where there is a width, within the limits and the source.
+#[tactic(auto, using(crate::proofs::Found::size_found), unfolding(crate::specs::Checks::page_of))]
 pub fn read_page<T: Tags>(tags: &mut T, alloc: Global) -> TiffResult<Page>
     ensures kept { IsKept T.told T.failures result tags.old tags.new }
-    ensures answer { Answers view.page result (checks.page_of (T.told tags.old).look) (T.failures tags.old) (T.failures tags.new) }
+    ensures answer { AnswersFound view.page result (checks.page_of (T.told tags.old).look)
+        (T.told tags.old).look named.ImageWidth (T.failures tags.old) (T.failures tags.new) }
 {
     let (width, height) = read_size(tags, alloc)?;
     let interpretation = read_interpretation(tags, alloc)?;
