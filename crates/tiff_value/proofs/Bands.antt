@@ -1,5 +1,5 @@
 -- Rows of samples go to a sink, some of their bytes at a time.
-use Rattle.std.proofs.Common.{◌≡◌, ℕ, ◌+◌, ◌-◌, ◌*◌, ◌/◌, ◌%◌, ◌^◌, ◌<◌, ◌≤◌, List, [], ◌∷◌, ◌++◌, map, get_or, length, take, drop, Option, Some, None, Result, Ok, Err, MatchResult, inl, inr, refl, subst, ap, sym, ◌∙◌, arith, lit<, append_assoc, length-append, replicate}
+use Rattle.std.proofs.Common.{◌≡◌, ℕ, ◌+◌, ◌-◌, ◌/◌, ◌%◌, ◌<◌, ◌≤◌, List, ◌++◌, map, length, take, drop, Option, Some, None, Result, Ok, Err, MatchResult, inl, inr, refl, subst, ap, sym, ◌∙◌, arith, lit<, append_assoc, length-append, replicate}
 use Rattle.std.specs.List.{range_with_len, flat_map}
 use Rattle.std.specs.Prelude.{◌⊎◌, IsSome}
 use Rattle.std.proofs.lemmas.List.{length-map, take_all, take-append-le, length-take-le, length-drop, length-replicate}

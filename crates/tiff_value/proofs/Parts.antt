@@ -1,6 +1,6 @@
 -- A part of a row goes into bytes, one number after another.
-use Rattle.std.proofs.Common.{zero, suc, ◌≡◌, ℕ, ◌+◌, ◌-◌, ◌*◌, ◌%◌, ◌^◌, ◌<◌, ◌≤◌, List, [], ◌∷◌, ◌++◌, map, get_or, length, take, drop, ap, sym, refl, ◌∙◌, subst, arith, append-nil, length-append}
-use Rattle.std.specs.Int.{bytes_low_first, byte_at}
+use Rattle.std.proofs.Common.{zero, suc, ◌≡◌, ℕ, ◌+◌, ◌-◌, ◌*◌, ◌%◌, ◌^◌, ◌<◌, ◌≤◌, List, [], ◌∷◌, ◌++◌, map, get_or, length, take, drop, ap, sym, refl, ◌∙◌, arith, append-nil}
+use Rattle.std.specs.Int.{bytes_low_first}
 use Rattle.std.specs.List.{range_with_len, flat_map}
 use Rattle.std.proofs.Math.Nat.{mod-eq_of_lt, mul-le-mul_right}
 use Rattle.std.proofs.lemmas.List.{get_or-map, length-map, take_all, length-take-le, length-drop}
