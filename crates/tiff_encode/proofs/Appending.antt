@@ -109,7 +109,7 @@ data_links i samples stored file =
     caused_links i.directory.parent (write_image_data_cause file i (length samples)) (call >>= finish_image) file
     (bind_links i.directory.parent call finish_image file (chunks_adding i (parts_left i samples) stored file)
     (λ last h. subst (λ p. LinksParent p (finish_image last mid) mid)
-        (ap (λ d. d.parent) (directory_kept i (parts_left i samples) stored last file h)) (image_links last mid)))
+    (ap (λ d. d.parent) (directory_kept i (parts_left i samples) stored last file h)) (image_links last mid)))
 
 whole_links : (color : ColorTypeRecord) (size width height : ℕ) (samples : List ℕ) (stored : List (List ℕ)) (file : FileState)
     → LinksParent (Some file.chain) (write_image color size width height samples stored file) file

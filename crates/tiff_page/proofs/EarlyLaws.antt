@@ -101,7 +101,7 @@ module _ (file : List ℕ) (order : ByteOrder) (p : PageRecord) (limits : Limits
       follows (planes_layout p p.width p.height)
       (λ l. samples_early file p limits l.color 0 (l.plane_stride * planes_within p limits l))
       (λ l. samples file order p limits l.color (image_part p (planes_within p limits l) l.row_bytes) (l.plane_stride * planes_within p limits l)
-          >>= (λ numbers. Ok (all_planes p l, numbers))) e
+      >>= (λ numbers. Ok (all_planes p l, numbers))) e
       (λ l q k.
       let used = planes_within p limits l in
       goes_on _ (λ numbers. Ok (all_planes p l, numbers)) e
