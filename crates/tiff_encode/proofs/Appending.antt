@@ -1,5 +1,5 @@
 -- Which calls only append, and that an end points no link but its parent's.
-use Rattle.std.proofs.Common.{◌≡◌, ℕ, Bool, true, false, List, [], ◌∷◌, ◌++◌, Option, Some, None, Result, Ok, Err, refl, ap, sym, ◌∙◌, subst, append-nil}
+use Rattle.std.proofs.Common.{◌≡◌, ℕ, Bool, true, false, List, ◌∷◌, ◌++◌, length, Option, Some, None, Result, Ok, Err, refl, ap, sym, ◌∙◌, subst, append-nil}
 use Rattle.std.specs.FinMap.{FinMap, len}
 use Rattle.std.specs.Ordering.{nat_cmp}
 use Rattle.tiff_base.specs.declared.error.TiffError.{TiffError}
@@ -14,8 +14,8 @@ use Rattle.tiff_encode.specs.Machine.{FileState, OpenDirectory, OpenImage, Write
 use Rattle.tiff_encode.specs.Causes.{finish_cause, write_image_data_cause}
 use Rattle.tiff_encode.specs.Calls.{Offsets, offsets_of, links_to, chains, finish, write_tags, last_tags, finish_image, write_chunks, write_image_data, new_image, write_image}
 use Rattle.tiff_encode.specs.Chunks.{parts_left}
-use Rattle.tiff_encode.specs.AppendLaws.{OnlyAppends, DirectoryCallsAppend, ImageCallsAppend, linked_by, LinksParent, EndsLinkParent}
-use Rattle.tiff_encode.proofs.Joining.{IsAdding, adding, appended_both, begin_adds, extra_adds, entry_adds, entry_bytes_adds, tag_adds}
+use Rattle.tiff_encode.specs.AppendLaws.{DirectoryCallsAppend, ImageCallsAppend, linked_by, LinksParent, EndsLinkParent}
+use Rattle.tiff_encode.proofs.Joining.{IsAdding, appended_both, begin_adds, extra_adds, entry_adds, entry_bytes_adds, tag_adds}
 use Rattle.tiff_encode.proofs.DirectoryMoves.{entry_buf_adds, tag_buf_adds, data_adds, data_buf_adds}
 use Rattle.tiff_encode.proofs.Open.Tags.{tags_adding}
 use Rattle.tiff_encode.proofs.Image.Steps.{extra_adding, rows_adding, tiles_adding, planar_adding, resolution_adding, x_adding, y_adding, unit_adding}

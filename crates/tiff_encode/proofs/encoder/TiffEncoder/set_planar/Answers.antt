@@ -1,4 +1,5 @@
 use Rattle.std.proofs.Common.{rules, [], ◌∷◌, ap}
+use Rattle.std.proofs.lemmas.Result.{err_from_is_err_and}
 use Rattle.tiff_base.specs.declared.tags.PlanarConfiguration.TheVariants.{Planar}
 use Rattle.tiff_base.specs.declared.tags.Tag.TheVariants as tag
 use Rattle.tiff_value.specs.Data.{Scalars, planars}
@@ -28,12 +29,11 @@ returns-in_err-check_planar-clause-answer g c =
 pub returns-in_err-set_tag-clause-answer : goal.returns-in_err-set_tag-clause-answer
 unfolding planar
 returns-in_err-set_tag-clause-answer g c =
-    let told =
+    let p = err_from_is_err_and c.from_residual-in_err-set_tag.result c.from_residual-in_err-set_tag.ensures.1 in
     let i = c.args.image.now in
     let old = c.args.self.now in
-    set_fails (planar_cause old i) (one_tag tag.PlanarConfiguration value) (set i) i.directory old c.in_err-set_tag.field-0.0 c.image.inside.directory c.set_tag.new.self
-    c.in_ok-check_planar.ensures (ap (λ x. x.directory) c.image.view_is) (one_adds tag.PlanarConfiguration value i.directory old) c.in_err-set_tag.ensures.answer in
-    search rules
+    rw (p.1, p.2) (set_fails (planar_cause old i) (one_tag tag.PlanarConfiguration value) (set i) i.directory old c.in_err-set_tag.field-0.0 c.image.inside.directory c.set_tag.new.self
+    c.in_ok-check_planar.ensures (ap (λ x. x.directory) c.image.view_is) (one_adds tag.PlanarConfiguration value i.directory old) c.in_err-set_tag.ensures.answer)
 
 pub returns-clause-answer : goal.returns-clause-answer
 unfolding planar
