@@ -140,12 +140,13 @@ fn main(rt: HostRuntime) -> io::Result<()> {
     let status = tiff_statuses::write_image(rt.alloc(), &IMAGE, &SAMPLES, &mut buffer, &mut len);
     println!(rt; "write_image: {status}, {len}")?;
     let file = &buffer[..len.min(300)];
+    let cut = &file[..file.len().min(4)];
     print_page(&rt, file, 0)?;
     print_page(&rt, file, 1)?;
     print_file(&rt, file)?;
-    print_file(&rt, &file[..4])?;
+    print_file(&rt, cut)?;
     print_list(&rt, file)?;
-    print_list(&rt, &file[..4])?;
+    print_list(&rt, cut)?;
     print_text(&rt, 0)?;
     print_text(&rt, 22)
 }
