@@ -65,12 +65,12 @@ pub tag_bytes : (old new : Decoding) (tag : Tag) (len at : ℕ) (xs : List ℕ) 
     → xs ≡ replicate len 0
     → AnswersWithoutMemory (λ n. (n, items_of b)) r (outcome.find_tag_bytes old tag xs at).answer old.failures new.failures
     → new ≡ record old { failures = new.failures } → old.failures ≤ new.failures → NoneSwallowed r old.failures new.failures
-    → TagsRead (λ n. (n, items_of b)) (outcome.find_tag_bytes old tag (replicate len 0) at) r old new
+    → TagsRead (Unit {0}) (λ n. (n, items_of b)) (outcome.find_tag_bytes old tag (replicate len 0) at) r old new
 tag_bytes old new tag len at xs r b zeros h state l swallowed =
     let P : List ℕ → Type 0 = λ xs. Answers (λ n. (n, items_of b)) r (outcome.find_tag_bytes old tag xs at).answer old.failures new.failures in
     record { answer = subst P zeros (may_want _ r _ old.failures new.failures h); state = state; failures = l; swallowed = swallowed }
 
-pub nothing_read : {Y : Type 0} (view : Option ℕ → Y) (given : Outcome Y) (d : Decoding) → TagsRead view given (Err OutOfMemory) d d
+pub nothing_read : {Y : Type 0} (view : Option ℕ → Y) (given : Outcome Y) (d : Decoding) → TagsRead (Unit {0}) view given (Err OutOfMemory) d d
 nothing_read view given d = record { answer = tt; state = refl; failures = omega arith; swallowed = refl }
 
 -- ---- lists of calls

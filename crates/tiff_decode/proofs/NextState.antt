@@ -94,12 +94,12 @@ told_here wanting view o r old new s h = told_so _ o.next old new (sym h.0) h.1
 none_failed : (old new : Decoding) → new ≡ record old { failures = new.failures } → new.failures ≡ old.failures → new ≡ record old { state = old.state }
 none_failed old new p q = p ∙ ap (λ (n : ℕ). record old { failures = n }) q
 
-told_of_tags : {X Y : Type 0} (view : X → Y) (o : Outcome Y) (r : Result X TiffError) (old new : Decoding) → TagsRead view o r old new
+told_of_tags : {X Y : Type 0} (wanting : Type 0) (view : X → Y) (o : Outcome Y) (r : Result X TiffError) (old new : Decoding) → TagsRead wanting view o r old new
     → IsTold view (stays old o.answer) r old new
-told_of_tags view o (Err (IoError Device)) old new h =
+told_of_tags wanting view o (Err (IoError Device)) old new h =
     told_failed _ old.state old new (omega (arith, h.answer)) (record { stands = h.state; failures = h.failures })
-told_of_tags view o (Err OutOfMemory) old new h = told_wanting _ old.state old new (none_failed old new h.state h.swallowed)
-told_of_tags view o r old new h = told_so _ old.state old new (sym h.answer) (none_failed old new h.state h.swallowed)
+told_of_tags wanting view o (Err OutOfMemory) old new h = told_wanting _ old.state old new (none_failed old new h.state h.swallowed)
+told_of_tags wanting view o r old new h = told_so _ old.state old new (sym h.answer) (none_failed old new h.state h.swallowed)
 
 -- ---- promises
 
@@ -108,7 +108,7 @@ abbrev pub answer_of : (p : Promise) → Result (AnswerOf p) TiffError
 answer_of (reads wanting o) = o.answer
 answer_of (knows o) = o.answer
 answer_of (describes wanting answer) = answer
-answer_of (reads_tags o) = o.answer
+answer_of (reads_tags wanting o) = o.answer
 answer_of (tells y) = Ok y
 answer_of (sets s) = Ok tt
 
@@ -131,7 +131,7 @@ told_by : (p : Promise) (s : Sight (AnswerOf p)) (count : ℕ) (named : Type 0) 
 told_by (reads wanting o) (sees view r) count named old new h = told wanting view o r old new h
 told_by (knows o) (sees view r) count named old new h = told_here ⊥ view o r old new (inr (λ no. no)) h
 told_by (describes wanting answer) (sees view r) count named old new h = told_here wanting view (stays old answer) r old new (inl refl) h
-told_by (reads_tags o) (sees view r) count named old new h = told_of_tags view o r old new h
+told_by (reads_tags wanting o) (sees view r) count named old new h = told_of_tags wanting view o r old new h
 told_by (tells y) (sees view (Ok x)) count named old new h = told_so _ old.state old new (ap (λ z. Ok z) h.0) h.1
 told_by (sets s) (sees view (Ok x)) count named old new h = told_so _ s old new refl h
 told_by p s count named old new h = absurd h

@@ -122,14 +122,14 @@ unfolding decoder_of page_then
 begun_unread failed failed' bytes failures e f c = cause_along e (λ u. u) f (λ h. ap (page_then bytes failures) h) c
 
 -- a first directory that is no page, where its tags were read with these bytes and limits
-pub begun_unpaged : (failed failed' : Type 0) (bytes told : List ℕ) (limits : Limits) (failures : ℕ) (header : Header) (offset : ℕ) (directory : DirectoryRecord) (e : TiffError)
+pub begun_unpaged : (wanting failed failed' : Type 0) (bytes told : List ℕ) (limits : Limits) (failures : ℕ) (header : Header) (offset : ℕ) (directory : DirectoryRecord) (e : TiffError)
     → (failed → failed')
     → told ≡ bytes → limits ≡ default_limits → first_directory bytes ≡ Ok (header, offset, directory)
-    → IsCause (Unit {0}) failed e (page_in header.kind header.order told limits directory ≡ Err e)
+    → IsCause wanting failed e (page_in header.kind header.order told limits directory ≡ Err e)
     → IsCause (Unit {0}) failed' e (decoder_of bytes failures ≡ Err e)
 unfolding decoder_of page_then
-begun_unpaged failed failed' bytes told limits failures header offset directory e f same given found c =
-    cause_along e (λ u. u) f
+begun_unpaged wanting failed failed' bytes told limits failures header offset directory e f same given found c =
+    cause_along e (λ _. tt) f
     (λ h. ap (page_then bytes failures) found
     ∙ ap (λ (r : Result PageRecord TiffError). r >>= λ page. Ok (record {
       bytes = bytes;

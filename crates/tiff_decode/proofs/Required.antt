@@ -1,13 +1,18 @@
 -- A required tag's value, and what is made of it.
-use Rattle.std.specs.Prelude.{◌≡◌, Option, None, Some, Result, Ok, Err}
+use Rattle.std.specs.Prelude.{◌≡◌, ℕ, List, Option, None, Some, Result, Ok, Err}
 use Rattle.std.proofs.Common.{refl, ap, ◌∙◌}
 use Rattle.tiff_base.specs.declared.error.TiffError.{TiffError}
 use Rattle.tiff_base.specs.declared.error.TiffError.TheVariants.{FormatError}
 use Rattle.tiff_base.specs.declared.error.TiffFormatError.TheVariants.{RequiredTagNotFound}
 use Rattle.tiff_base.specs.declared.tags.Tag.{Tag}
 use Rattle.tiff_base.specs.Answers.{IsCause, ◌>>=◌}
+use Rattle.tiff_base.specs.Sparing.{IsFoundWithin}
 use Rattle.tiff_base.proofs.Causes.{cause_along}
 use Rattle.tiff_ifd.specs.Datum.{Datum}
+use Rattle.tiff_ifd.specs.Fitted.{fitted_numbers}
+use Rattle.tiff_ifd.specs.Into.{into_u64_vec}
+use Rattle.tiff_ifd.specs.TagQueries.{find_unsigned_vec}
+use Rattle.tiff_page.proofs.Found.{number_found, required_found}
 use Rattle.tiff_ifd.specs.Look.{Look, if_found, find, ok_or_fault, require}
 
 -- a number that is there is the number
@@ -34,3 +39,21 @@ pub unconverted : {A : Type 0} (wanting failed : Type 0) (into : Datum → Resul
     → IsCause wanting failed e (require into look tag ≡ Err e)
 unconverted wanting failed into look tag e c =
     cause_along e (λ w. w) (λ f. f) (λ h. required_by into look tag ∙ ap (λ r. r >>= into) h) c
+
+-- ---- where memory is wanted
+
+-- a required value that was read is found
+pub value_found : (look : Look) (tag : Tag) (d : Datum) → require (λ d. Ok d) look tag ≡ Ok d → IsFoundWithin (look.value tag)
+value_found look tag d h = required_found (λ d. Ok d) look tag d h
+
+found_before : {A B : Type 0} (r : Result (Option A) TiffError) (read : A → Result B TiffError) (y : B) → (r >>= if_found read) ≡ Ok (Some y) → (x : A) × (r ≡ Ok (Some x))
+found_before (Ok (Some x)) read y h = (x, refl)
+found_before (Ok None) read y h = absurd (cc)
+found_before (Err e) read y h = absurd (cc)
+
+-- numbers that were found are of a tag that was
+pub numbers_found : (limit : ℕ) (look : Look) (tag : Tag) (ns : List ℕ) → find_unsigned_vec limit look tag ≡ Ok (Some ns) → IsFoundWithin (look.value tag)
+unfolding find_unsigned_vec
+numbers_found limit look tag ns h =
+    let numbers = found_before (find into_u64_vec look tag) (fitted_numbers tag limit) ns h in
+    number_found into_u64_vec look tag numbers.0 numbers.1

@@ -7,6 +7,7 @@ use Rattle.tiff_base.specs.declared.tags.ByteOrder.{ByteOrder}
 use Rattle.tiff_base.specs.declared.tags.FileKind.{FileKind}
 use Rattle.tiff_base.specs.declared.tags.IfdPointer.{IfdPointer}
 use Rattle.tiff_base.specs.Answers.{AnswersBut}
+use Rattle.tiff_base.specs.Sparing.{IsListFault}
 use Rattle.tiff_base.specs.Field.{DirectoryRecord}
 use Rattle.tiff_ifd.specs.declared.limits.Limits.{Limits}
 use Rattle.tiff_page.specs.Page.{PageRecord}
@@ -97,22 +98,13 @@ abbrev pub FollowsWithoutSourceBut : {X Y : Type 0} → Type 0 → (X → Y) →
 FollowsWithoutSourceBut wanting view outcome result old new =
     AnswersBut wanting ⊥ view result outcome.answer × (new ≡ record old { state = outcome.next })
 
--- of one that takes memory
-abbrev pub FollowsWithoutSource : {X Y : Type 0} → (X → Y) → Outcome Y → Result X TiffError → Decoding → Decoding → Type 0
-FollowsWithoutSource view outcome result old new = FollowsWithoutSourceBut (Unit {0}) view outcome result old new
-
 -- of one that takes none
 abbrev pub FollowsWithoutEither : {X Y : Type 0} → (X → Y) → Outcome Y → Result X TiffError → Decoding → Decoding → Type 0
 FollowsWithoutEither view outcome result old new = FollowsWithoutSourceBut ⊥ view outcome result old new
 
--- it is a fault that is given
-abbrev pub IsFault : {Y : Type 0} → Result Y TiffError → Type 0
-IsFault (Ok y) = ⊥
-IsFault (Err e) = Unit {0}
-
--- of one that takes memory for a fault alone, which may carry a list
+-- of one that takes memory for a fault alone that carries a list
 abbrev pub FollowsOrFaults : {X Y : Type 0} → (X → Y) → Outcome Y → Result X TiffError → Decoding → Decoding → Type 0
-FollowsOrFaults view outcome result old new = FollowsWithoutSourceBut (IsFault outcome.answer) view outcome result old new
+FollowsOrFaults view outcome result old new = FollowsWithoutSourceBut (IsListFault outcome.answer) view outcome result old new
 
 -- a call that is never refused and moves nothing
 abbrev pub Tells : {Y : Type 0} → Y → Y → Decoding → Decoding → Type 0

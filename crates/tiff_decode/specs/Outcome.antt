@@ -1,5 +1,5 @@
 -- What each call of a decoder gives, and where it leaves the decoder (TIFF 6.0 section 2; as in the Rust crate).
-use Rattle.std.specs.Prelude.{ℕ, ℤ, ◌+◌, ◌^◌, List, [], ◌∷◌, ◌++◌, Option, None, Some, Bool, false, Result, Ok, Err, if◌then◌else◌, ◌==◌, length, drop, is_some, option_map}
+use Rattle.std.specs.Prelude.{ℕ, ℤ, ◌+◌, ◌^◌, List, [], ◌∷◌, ◌++◌, Option, None, Some, IsSome, Bool, false, Result, Ok, Err, IsOk, if◌then◌else◌, ◌==◌, length, drop, is_some, option_map}
 use Rattle.std.specs.Int.{Width, w8, w16, w32, w64, byte_len, cast_signed}
 use Rattle.std.specs.List.{slice_get, last_or}
 use Rattle.std.specs.FinMap.{FinMap, get}
@@ -15,6 +15,7 @@ use Rattle.tiff_base.specs.declared.tags.FileKind.TheVariants.{Classic, Big}
 use Rattle.tiff_base.specs.declared.tags.IfdPointer.{IfdPointer}
 use Rattle.tiff_base.specs.declared.tags.Tag.{Tag}
 use Rattle.tiff_base.specs.Answers.{◌>>=◌}
+use Rattle.tiff_base.specs.Sparing.{IsFoundWithin}
 use Rattle.tiff_base.specs.Directory.{directory_at, offset_width}
 use Rattle.tiff_base.specs.Field.{Field, DirectoryRecord}
 use Rattle.tiff_base.specs.Header.{Header, header_at}
@@ -319,6 +320,11 @@ page_tags d = look_in d.kind d.order d.bytes d.state.limits (page_fields d)
 unfoldable pub find_tag : Decoding → Tag → Outcome (Option Datum)
 find_tag d tag = stays d ((page_tags d).value tag)
 
+-- Memory may be wanted for a tag's value, and for what it is converted to: where the tag is found within the limits and the
+-- source.
+abbrev pub WantsTag : Decoding → Tag → Type 0
+WantsTag d tag = IsFoundWithin ((page_tags d).value tag)
+
 -- numbers of 64 bits
 unfoldable pub find_tag_unsigned : Decoding → Tag → Outcome (Option ℕ)
 find_tag_unsigned d tag = stays d (find_unsigned (2 ^ 64) (page_tags d) tag)
@@ -388,6 +394,10 @@ field_in_buffer d buf (Some f) = do
 -- a tag's field, and the buffer after the call
 unfoldable pub find_tag_buf : Decoding → Tag → BufferRecord → Outcome (Option Field × BufferRecord)
 find_tag_buf d tag buf = stays d (field_in_buffer d buf (find_entry d tag))
+
+-- memory may be wanted for a field's bytes where there is the field, and they are given
+abbrev pub WantsBytes : Decoding → Tag → BufferRecord → Type 0
+WantsBytes d tag buf = IsSome (find_entry d tag) × IsOk (find_tag_buf d tag buf).answer
 
 -- the bytes of a field from one on, as many as fit
 abbrev pub bytes_in_slice : Decoding → List ℕ → ℕ → Option Field → Result (Option ℕ × List ℕ) TiffError

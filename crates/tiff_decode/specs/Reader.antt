@@ -1,12 +1,12 @@
 -- A decoder that reads the tags of a directory (as in the Rust crate).
-use Rattle.std.specs.Prelude.{◌≡◌, ◌⊎◌, ℕ, ◌≤◌, List, [], ◌∷◌, ◌++◌, Option, None, Some, option_map, Result, Ok, Err, Vec}
+use Rattle.std.specs.Prelude.{◌≡◌, ◌⊎◌, ℕ, ◌<◌, ◌≤◌, List, [], ◌∷◌, ◌++◌, Option, None, Some, option_map, Result, Ok, Err, Vec}
 use Rattle.std.specs.declared.alloc.Global.{Global}
 use Rattle.std.specs.Borrow.{MutBor}
 use Rattle.tiff_base.specs.declared.error.TiffError.{TiffError}
 use Rattle.tiff_base.specs.declared.error.TiffError.TheVariants.{FormatError}
 use Rattle.tiff_base.specs.declared.error.TiffFormatError.TheVariants.{InvalidTagValueType}
 use Rattle.tiff_base.specs.declared.tags.Tag.{Tag}
-use Rattle.tiff_base.specs.Answers.{Answers, IsCause, NoneSwallowed}
+use Rattle.tiff_base.specs.Answers.{AnswersBut, IsCause, NoneSwallowed}
 use Rattle.tiff_base.specs.Field.{DirectoryRecord}
 use Rattle.tiff_decode.specs.declared.ifd_decoder.IfdDecoder.{IfdDecoder}
 use Rattle.tiff_decode.specs.Machine.{Decoding, Outcome}
@@ -20,10 +20,10 @@ directory_or own (Some other) = other
 abbrev pub reader_of : Decoding → Option DirectoryRecord → Decoding
 reader_of d other = record d { state = record d.state { directory = directory_or d.state.directory other } }
 
--- A read of tags moves nothing: its answer, seen by view, is the one that is given, but for want of memory and a fault of the
--- device, and of the decoder only the count of failed reads may grow, with a fault of the device alone.
-pub record TagsRead {X Y : Type 0} (view : X → Y) (given : Outcome Y) (result : Result X TiffError) (old new : Decoding) : Type 0 where
-  pub answer : Answers view result given.answer old.failures new.failures
+-- A read of tags moves nothing: its answer, seen by view, is the one that is given, but for want of memory where that may be,
+-- and a fault of the device, and of the decoder only the count of failed reads may grow, with a fault of the device alone.
+pub record TagsRead {X Y : Type 0} (wanting : Type 0) (view : X → Y) (given : Outcome Y) (result : Result X TiffError) (old new : Decoding) : Type 0 where
+  pub answer : AnswersBut wanting (old.failures < new.failures) view result given.answer
   pub state : new ≡ record old { failures = new.failures }
   pub failures : old.failures ≤ new.failures
   pub swallowed : NoneSwallowed result old.failures new.failures
@@ -47,9 +47,10 @@ pub record KeepsReading {R X : Type 0} (result : Result X TiffError) (old new : 
   pub other : new.other ≡ old.other
   pub swallowed : NoneSwallowed result old.decoder.now.failures new.decoder.now.failures
 
--- It answers what is given, seen by view, but for want of memory and a fault of the device, and goes on reading.
-pub record ReadsTags {R X Y : Type 0} (view : X → Y) (given : Outcome Y) (result : Result X TiffError) (old new : IfdDecoder R) : Type 0 where
-  pub answer : Answers view result given.answer old.decoder.now.failures new.decoder.now.failures
+-- It answers what is given, seen by view, but for want of memory where that may be, and a fault of the device, and goes on
+-- reading.
+pub record ReadsTags {R X Y : Type 0} (wanting : Type 0) (view : X → Y) (given : Outcome Y) (result : Result X TiffError) (old new : IfdDecoder R) : Type 0 where
+  pub answer : AnswersBut wanting (old.decoder.now.failures < new.decoder.now.failures) view result given.answer
   pub kept : KeepsReading result old new
 
 -- ---- numbers of any type
@@ -59,18 +60,18 @@ abbrev pub IsNumber : {X E : Type 0} → (ℕ → Result X E → Type 0) → Tag
 IsNumber gives tag n (Ok x) = gives n (Ok x)
 IsNumber {E = E} gives tag n (Err e) = (f : E) × gives n (Err f) × (e ≡ FormatError (InvalidTagValueType tag))
 
--- the number that is given, as another type, but for want of memory and a fault of the device
-abbrev pub NumberAs : {X E : Type 0} → (ℕ → Result X E → Type 0) → Type 0 → Tag → Result ℕ TiffError → Result X TiffError → Type 0
-NumberAs gives failed tag given (Ok x) = (n : ℕ) × (given ≡ Ok n) × IsNumber gives tag n (Ok x)
-NumberAs gives failed tag given (Err e) =
-    IsCause (Unit {0}) failed e ((given ≡ Err e) ⊎ ((n : ℕ) × (given ≡ Ok n) × IsNumber gives tag n (Err e)))
+-- the number that is given, as another type, but for want of memory where that may be, and a fault of the device
+abbrev pub NumberAs : {X E : Type 0} → (ℕ → Result X E → Type 0) → Type 0 → Type 0 → Tag → Result ℕ TiffError → Result X TiffError → Type 0
+NumberAs gives wanting failed tag given (Ok x) = (n : ℕ) × (given ≡ Ok n) × IsNumber gives tag n (Ok x)
+NumberAs gives wanting failed tag given (Err e) =
+    IsCause wanting failed e ((given ≡ Err e) ⊎ ((n : ℕ) × (given ≡ Ok n) × IsNumber gives tag n (Err e)))
 
 -- the same, where there may be no such tag
-abbrev pub NumberIfAs : {X E : Type 0} → (ℕ → Result X E → Type 0) → Type 0 → Tag → Result (Option ℕ) TiffError → Result (Option X) TiffError → Type 0
-NumberIfAs gives failed tag given (Ok None) = given ≡ Ok None
-NumberIfAs gives failed tag given (Ok (Some x)) = (n : ℕ) × (given ≡ Ok (Some n)) × IsNumber gives tag n (Ok x)
-NumberIfAs gives failed tag given (Err e) =
-    IsCause (Unit {0}) failed e ((given ≡ Err e) ⊎ ((n : ℕ) × (given ≡ Ok (Some n)) × IsNumber gives tag n (Err e)))
+abbrev pub NumberIfAs : {X E : Type 0} → (ℕ → Result X E → Type 0) → Type 0 → Type 0 → Tag → Result (Option ℕ) TiffError → Result (Option X) TiffError → Type 0
+NumberIfAs gives wanting failed tag given (Ok None) = given ≡ Ok None
+NumberIfAs gives wanting failed tag given (Ok (Some x)) = (n : ℕ) × (given ≡ Ok (Some n)) × IsNumber gives tag n (Ok x)
+NumberIfAs gives wanting failed tag given (Err e) =
+    IsCause wanting failed e ((given ≡ Err e) ⊎ ((n : ℕ) × (given ≡ Ok (Some n)) × IsNumber gives tag n (Err e)))
 
 -- ---- lists of numbers of any type
 
@@ -97,8 +98,8 @@ NumbersAs gives tag ns (Ok v) = EachGives gives ns v.items
 NumbersAs gives tag ns (Err e) = IsCause (Unit {0}) ⊥ e (FirstUnfit gives tag ns e)
 
 -- the numbers that are given, where there is the tag, as the other type
-abbrev pub NumbersIfAs : {X E : Type 0} → (ℕ → Result X E → Type 0) → Type 0 → Tag → Result (Option (List ℕ)) TiffError → Result (Option (Vec X Global)) TiffError → Type 0
-NumbersIfAs gives failed tag given (Ok None) = given ≡ Ok None
-NumbersIfAs gives failed tag given (Ok (Some v)) = (ns : List ℕ) × (given ≡ Ok (Some ns)) × EachGives gives ns v.items
-NumbersIfAs gives failed tag given (Err e) =
-    IsCause (Unit {0}) failed e ((given ≡ Err e) ⊎ ((ns : List ℕ) × (given ≡ Ok (Some ns)) × FirstUnfit gives tag ns e))
+abbrev pub NumbersIfAs : {X E : Type 0} → (ℕ → Result X E → Type 0) → Type 0 → Type 0 → Tag → Result (Option (List ℕ)) TiffError → Result (Option (Vec X Global)) TiffError → Type 0
+NumbersIfAs gives wanting failed tag given (Ok None) = given ≡ Ok None
+NumbersIfAs gives wanting failed tag given (Ok (Some v)) = (ns : List ℕ) × (given ≡ Ok (Some ns)) × EachGives gives ns v.items
+NumbersIfAs gives wanting failed tag given (Err e) =
+    IsCause wanting failed e ((given ≡ Err e) ⊎ ((ns : List ℕ) × (given ≡ Ok (Some ns)) × FirstUnfit gives tag ns e))

@@ -57,7 +57,7 @@ abbrev pub Fulfils : (p : Promise) → Sight (AnswerOf p) → Decoding → Decod
 Fulfils (reads wanting o) (sees view r) old new = FollowsBut wanting view o r old new
 Fulfils (knows o) (sees view r) old new = FollowsWithoutEither view o r old new
 Fulfils (describes wanting answer) (sees view r) old new = FollowsWithoutSourceBut wanting view (stays old answer) r old new
-Fulfils (reads_tags o) (sees view r) old new = TagsRead view o r old new
+Fulfils (reads_tags wanting o) (sees view r) old new = TagsRead wanting view o r old new
 Fulfils (tells y) (sees view (Ok x)) old new = Tells y (view x) old new
 Fulfils (sets s) (sees view (Ok x)) old new = new ≡ record old { state = s }
 Fulfils p s old new = ⊥
@@ -67,6 +67,6 @@ Fulfils p s old new = ⊥
 abbrev pub Step : Decoding → Call → Reply → Decoding → Type 0
 Step old call.TagIter (reply.TagIter r) new = Items (outcome.tag_iter old) r old new
 Step old (call.FindTagBuf tag) (reply.FindTagBuf r b) new =
-    TagsRead (λ x. (x, b)) (outcome.find_tag_buf old tag (empty_buffer BYTE)) r old new
+    TagsRead (outcome.WantsBytes old tag (empty_buffer BYTE)) (λ x. (x, b)) (outcome.find_tag_buf old tag (empty_buffer BYTE)) r old new
     × BufferLeft old.order (outcome.find_entry old tag) (empty_buffer BYTE) r b
 Step old which reply new = Fulfils (promise old which) (sight old which reply) old new

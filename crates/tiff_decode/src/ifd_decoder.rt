@@ -1,7 +1,7 @@
 //! The tags of a decoder's page, and of other directories.
 
 ghost use Rattle.std.specs.Prelude.{◌≡◌, ◌<◌, ◌≤◌, ◌^◌, None, Some, Ok, map, option_map, string_bytes};
-ghost use Rattle.tiff_base.specs.Answers.{Answers, AnswersWithoutMemory, NoneSwallowed};
+ghost use Rattle.tiff_base.specs.Answers.{AnswersWithoutMemory, NoneSwallowed};
 ghost use Rattle.tiff_ifd.specs.Fitted.{fitted_numbers};
 ghost use Rattle.tiff_ifd.specs.View.{datum};
 ghost use Rattle.tiff_decode.specs.Outcome as outcome;
@@ -111,10 +111,10 @@ impl<R: Source> Decoder<R> {
     }
 
     // The value of a tag of the page's directory, or of another one.
-    #[tactic(auto, unfolding(crate::specs::Outcome::find_tag, tiff_ifd::specs::Look::look_in))]
+    #[tactic(auto, using(tiff_ifd::proofs::Within::look_within), unfolding(crate::specs::Outcome::find_tag, tiff_ifd::specs::Look::look_in))]
     fn value_in(&mut self, other: Option<&Directory>, tag: Tag) -> TiffResult<Option<Value>>
-        ensures read { TagsRead (option_map datum) (outcome.find_tag (reader_of self.old (option_map (λ d. d.now) other.entry))
-            tag) result self.old self.new }
+        ensures read { TagsRead (outcome.WantsTag (reader_of self.old (option_map (λ d. d.now) other.entry)) tag) (option_map datum)
+            (outcome.find_tag (reader_of self.old (option_map (λ d. d.now) other.entry)) tag) result self.old self.new }
         ensures none { outcome.find_entry (reader_of self.old (option_map (λ d. d.now) other.entry)) tag ≡ None → result ≡ Ok None }
     {
         let tags = &mut self.tags;
@@ -156,8 +156,8 @@ impl<R: Source> Decoder<R> {
         tag: Tag,
         buf: &mut ValueBuffer,
     ) -> TiffResult<Option<Entry>>
-        ensures read { TagsRead (λ e. (e, buf.new)) (outcome.find_tag_buf
-            (reader_of self.old (option_map (λ d. d.now) other.entry)) tag buf.old) result self.old self.new }
+        ensures read { TagsRead (outcome.WantsBytes (reader_of self.old (option_map (λ d. d.now) other.entry)) tag buf.old)
+            (λ e. (e, buf.new)) (outcome.find_tag_buf (reader_of self.old (option_map (λ d. d.now) other.entry)) tag buf.old) result self.old self.new }
         ensures left { BufferLeft self.old.order (outcome.find_entry (reader_of self.old (option_map (λ d. d.now) other.entry))
             tag) buf.old result buf.new }
     {
@@ -214,7 +214,7 @@ impl<R: Source> Decoder<R> {
     /// more bytes than `decoding_buffer_size`, and values of 2^64 bytes or more: `LimitsExceeded`; values past the end of the
     /// source: `IoError(UnexpectedEof)`; a text that isn't one: `InvalidTag`. No memory is taken where there is no such tag.
     pub fn find_tag(&mut self, tag: Tag) -> TiffResult<Option<Value>>
-        ensures read { TagsRead (option_map datum) (outcome.find_tag self.old tag) result self.old self.new }
+        ensures read { TagsRead (outcome.WantsTag self.old tag) (option_map datum) (outcome.find_tag self.old tag) result self.old self.new }
         ensures none { outcome.find_entry self.old tag ≡ None → result ≡ Ok None }
     {
         self.value_in(None, tag)
@@ -227,7 +227,8 @@ impl<R: Source> Decoder<R> {
         other: Option<&Directory>,
         tag: Tag,
     ) -> TiffResult<Option<u64>>
-        ensures { TagsRead (λ n. n) (outcome.find_tag_unsigned (reader_of self.old (option_map (λ d. d.now) other.entry)) tag)
+        ensures { TagsRead (outcome.WantsTag (reader_of self.old (option_map (λ d. d.now) other.entry)) tag)
+            (λ n. n) (outcome.find_tag_unsigned (reader_of self.old (option_map (λ d. d.now) other.entry)) tag)
             result self.old self.new }
     {
         match self.value_in(other, tag)? {
@@ -243,7 +244,7 @@ impl<R: Source> Decoder<R> {
         other: Option<&Directory>,
         tag: Tag,
     ) -> TiffResult<Option<Vec<u64>>>
-        ensures { TagsRead (λ o. option_map (λ v. v.items) o)
+        ensures { TagsRead (outcome.WantsTag (reader_of self.old (option_map (λ d. d.now) other.entry)) tag) (λ o. option_map (λ v. v.items) o)
             (outcome.find_tag_unsigned_vec (reader_of self.old (option_map (λ d. d.now) other.entry)) tag) result self.old
             self.new }
     {
@@ -261,7 +262,8 @@ impl<R: Source> Decoder<R> {
     // The number of a required tag of the page's directory, or of another one.
     #[tactic(auto, unfolding(crate::specs::Outcome::find_tag_unsigned, crate::specs::Outcome::get_tag_unsigned, tiff_ifd::specs::TagQueries::get_unsigned))]
     pub(crate) fn required_in(&mut self, other: Option<&Directory>, tag: Tag) -> TiffResult<u64>
-        ensures { TagsRead (λ n. n) (outcome.get_tag_unsigned (reader_of self.old (option_map (λ d. d.now) other.entry)) tag)
+        ensures { TagsRead (outcome.WantsTag (reader_of self.old (option_map (λ d. d.now) other.entry)) tag)
+            (λ n. n) (outcome.get_tag_unsigned (reader_of self.old (option_map (λ d. d.now) other.entry)) tag)
             result self.old self.new }
     {
         match self.number_in(other, tag)? {
@@ -275,7 +277,7 @@ impl<R: Source> Decoder<R> {
     pub fn find_tag_unsigned<T: TryFrom<u64>>(&mut self, tag: Tag) -> TiffResult<Option<T>>
     where
         T::Error: Drop,
-        ensures answer { NumberIfAs T.try_from_gives (self.old.failures < self.new.failures) tag
+        ensures answer { NumberIfAs T.try_from_gives (outcome.WantsTag self.old tag) (self.old.failures < self.new.failures) tag
             (outcome.find_tag_unsigned self.old tag).answer result }
         ensures state { self.new ≡ record self.old { failures = self.new.failures } }
         ensures count { self.old.failures ≤ self.new.failures }
@@ -289,13 +291,14 @@ impl<R: Source> Decoder<R> {
 
     /// The numbers of a tag of the page as a list of `T`, if there is the tag. The faults are those of `find_tag` and of
     /// `Value::into_u64_vec`; a number that is no `T`: `InvalidTagValueType`.
+    #[tactic(auto, using(crate::proofs::Required::numbers_found), unfolding(crate::specs::Outcome::find_tag_unsigned_vec))]
     pub fn find_tag_unsigned_vec<T: TryFrom<u64> + Drop>(
         &mut self,
         tag: Tag,
     ) -> TiffResult<Option<Vec<T>>>
     where
         T::Error: Drop,
-        ensures answer { NumbersIfAs T.try_from_gives (self.old.failures < self.new.failures) tag
+        ensures answer { NumbersIfAs T.try_from_gives (outcome.WantsTag self.old tag) (self.old.failures < self.new.failures) tag
             (outcome.find_tag_unsigned_vec self.old tag).answer result }
         ensures state { self.new ≡ record self.old { failures = self.new.failures } }
         ensures count { self.old.failures ≤ self.new.failures }
@@ -313,7 +316,7 @@ impl<R: Source> Decoder<R> {
     pub fn get_tag_unsigned<T: TryFrom<u64>>(&mut self, tag: Tag) -> TiffResult<T>
     where
         T::Error: Drop,
-        ensures answer { NumberAs T.try_from_gives (self.old.failures < self.new.failures) tag
+        ensures answer { NumberAs T.try_from_gives (outcome.WantsTag self.old tag) (self.old.failures < self.new.failures) tag
             (outcome.get_tag_unsigned self.old tag).answer result }
         ensures state { self.new ≡ record self.old { failures = self.new.failures } }
         ensures count { self.old.failures ≤ self.new.failures }
@@ -325,7 +328,7 @@ impl<R: Source> Decoder<R> {
     /// The value of a required tag of the page. No such tag: `RequiredTagNotFound`; then the faults of `find_tag`.
     #[tactic(auto, unfolding(crate::specs::Outcome::get_tag, crate::specs::Outcome::find_tag, tiff_ifd::specs::Look::require, tiff_ifd::specs::Look::find))]
     pub fn get_tag(&mut self, tag: Tag) -> TiffResult<Value>
-        ensures { TagsRead datum (outcome.get_tag self.old tag) result self.old self.new }
+        ensures { TagsRead (outcome.WantsTag self.old tag) datum (outcome.get_tag self.old tag) result self.old self.new }
     {
         match self.find_tag(tag)? {
             None => Err(TiffFormatError::RequiredTagNotFound(tag).into()),
@@ -334,95 +337,95 @@ impl<R: Source> Decoder<R> {
     }
 
     /// A required tag's number, below 2^32. No such tag: `RequiredTagNotFound`; then the faults of `find_tag` and of `Value::into_u32`.
-    #[tactic(auto, using(crate::proofs::Required::unconverted, crate::proofs::Required::required_by), unfolding(crate::specs::Outcome::get_tag_u32, crate::specs::Outcome::get_tag))]
+    #[tactic(auto, using(crate::proofs::Required::unconverted, crate::proofs::Required::required_by, crate::proofs::Required::value_found), unfolding(crate::specs::Outcome::get_tag_u32, crate::specs::Outcome::get_tag))]
     pub fn get_tag_u32(&mut self, tag: Tag) -> TiffResult<u32>
-        ensures { TagsRead (λ n. n) (outcome.get_tag_u32 self.old tag) result self.old self.new }
+        ensures { TagsRead (outcome.WantsTag self.old tag) (λ n. n) (outcome.get_tag_u32 self.old tag) result self.old self.new }
     {
         self.get_tag(tag)?.into_u32()
     }
 
     /// A required tag's number, below 2^64. No such tag: `RequiredTagNotFound`; then the faults of `find_tag` and of `Value::into_u64`.
-    #[tactic(auto, using(crate::proofs::Required::unconverted, crate::proofs::Required::required_by), unfolding(crate::specs::Outcome::get_tag_u64, crate::specs::Outcome::get_tag))]
+    #[tactic(auto, using(crate::proofs::Required::unconverted, crate::proofs::Required::required_by, crate::proofs::Required::value_found), unfolding(crate::specs::Outcome::get_tag_u64, crate::specs::Outcome::get_tag))]
     pub fn get_tag_u64(&mut self, tag: Tag) -> TiffResult<u64>
-        ensures { TagsRead (λ n. n) (outcome.get_tag_u64 self.old tag) result self.old self.new }
+        ensures { TagsRead (outcome.WantsTag self.old tag) (λ n. n) (outcome.get_tag_u64 self.old tag) result self.old self.new }
     {
         self.get_tag(tag)?.into_u64()
     }
 
     /// The bits of a required tag's floating number of 4 bytes. No such tag: `RequiredTagNotFound`; then the faults of `find_tag` and of `Value::into_f32`.
-    #[tactic(auto, using(crate::proofs::Required::unconverted, crate::proofs::Required::required_by), unfolding(crate::specs::Outcome::get_tag_f32, crate::specs::Outcome::get_tag))]
+    #[tactic(auto, using(crate::proofs::Required::unconverted, crate::proofs::Required::required_by, crate::proofs::Required::value_found), unfolding(crate::specs::Outcome::get_tag_f32, crate::specs::Outcome::get_tag))]
     pub fn get_tag_f32(&mut self, tag: Tag) -> TiffResult<Bits32>
-        ensures { TagsRead (bits_32) (outcome.get_tag_f32 self.old tag) result self.old self.new }
+        ensures { TagsRead (outcome.WantsTag self.old tag) (bits_32) (outcome.get_tag_f32 self.old tag) result self.old self.new }
     {
         self.get_tag(tag)?.into_f32()
     }
 
     /// The bits of a required tag's floating number of 8 bytes. No such tag: `RequiredTagNotFound`; then the faults of `find_tag` and of `Value::into_f64`.
-    #[tactic(auto, using(crate::proofs::Required::unconverted, crate::proofs::Required::required_by), unfolding(crate::specs::Outcome::get_tag_f64, crate::specs::Outcome::get_tag))]
+    #[tactic(auto, using(crate::proofs::Required::unconverted, crate::proofs::Required::required_by, crate::proofs::Required::value_found), unfolding(crate::specs::Outcome::get_tag_f64, crate::specs::Outcome::get_tag))]
     pub fn get_tag_f64(&mut self, tag: Tag) -> TiffResult<Bits64>
-        ensures { TagsRead (bits_64) (outcome.get_tag_f64 self.old tag) result self.old self.new }
+        ensures { TagsRead (outcome.WantsTag self.old tag) (bits_64) (outcome.get_tag_f64 self.old tag) result self.old self.new }
     {
         self.get_tag(tag)?.into_f64()
     }
 
     /// A required tag's numbers, below 2^32. No such tag: `RequiredTagNotFound`; then the faults of `find_tag` and of `Value::into_u32_vec`.
-    #[tactic(auto, using(crate::proofs::Required::unconverted, crate::proofs::Required::required_by), unfolding(crate::specs::Outcome::get_tag_u32_vec, crate::specs::Outcome::get_tag))]
+    #[tactic(auto, using(crate::proofs::Required::unconverted, crate::proofs::Required::required_by, crate::proofs::Required::value_found), unfolding(crate::specs::Outcome::get_tag_u32_vec, crate::specs::Outcome::get_tag))]
     pub fn get_tag_u32_vec(&mut self, tag: Tag) -> TiffResult<Vec<u32>>
-        ensures { TagsRead (λ v. v.items) (outcome.get_tag_u32_vec self.old tag) result self.old self.new }
+        ensures { TagsRead (outcome.WantsTag self.old tag) (λ v. v.items) (outcome.get_tag_u32_vec self.old tag) result self.old self.new }
     {
         let alloc = self.alloc;
         self.get_tag(tag)?.into_u32_vec(alloc)
     }
 
     /// A required tag's numbers, below 2^16. No such tag: `RequiredTagNotFound`; then the faults of `find_tag` and of `Value::into_u16_vec`.
-    #[tactic(auto, using(crate::proofs::Required::unconverted, crate::proofs::Required::required_by), unfolding(crate::specs::Outcome::get_tag_u16_vec, crate::specs::Outcome::get_tag))]
+    #[tactic(auto, using(crate::proofs::Required::unconverted, crate::proofs::Required::required_by, crate::proofs::Required::value_found), unfolding(crate::specs::Outcome::get_tag_u16_vec, crate::specs::Outcome::get_tag))]
     pub fn get_tag_u16_vec(&mut self, tag: Tag) -> TiffResult<Vec<u16>>
-        ensures { TagsRead (λ v. v.items) (outcome.get_tag_u16_vec self.old tag) result self.old self.new }
+        ensures { TagsRead (outcome.WantsTag self.old tag) (λ v. v.items) (outcome.get_tag_u16_vec self.old tag) result self.old self.new }
     {
         let alloc = self.alloc;
         self.get_tag(tag)?.into_u16_vec(alloc)
     }
 
     /// A required tag's numbers, below 2^64. No such tag: `RequiredTagNotFound`; then the faults of `find_tag` and of `Value::into_u64_vec`.
-    #[tactic(auto, using(crate::proofs::Required::unconverted, crate::proofs::Required::required_by), unfolding(crate::specs::Outcome::get_tag_u64_vec, crate::specs::Outcome::get_tag))]
+    #[tactic(auto, using(crate::proofs::Required::unconverted, crate::proofs::Required::required_by, crate::proofs::Required::value_found), unfolding(crate::specs::Outcome::get_tag_u64_vec, crate::specs::Outcome::get_tag))]
     pub fn get_tag_u64_vec(&mut self, tag: Tag) -> TiffResult<Vec<u64>>
-        ensures { TagsRead (λ v. v.items) (outcome.get_tag_u64_vec self.old tag) result self.old self.new }
+        ensures { TagsRead (outcome.WantsTag self.old tag) (λ v. v.items) (outcome.get_tag_u64_vec self.old tag) result self.old self.new }
     {
         let alloc = self.alloc;
         self.get_tag(tag)?.into_u64_vec(alloc)
     }
 
     /// The bits of a required tag's floating numbers of 4 bytes. No such tag: `RequiredTagNotFound`; then the faults of `find_tag` and of `Value::into_f32_vec`.
-    #[tactic(auto, using(crate::proofs::Required::unconverted, crate::proofs::Required::required_by), unfolding(crate::specs::Outcome::get_tag_f32_vec, crate::specs::Outcome::get_tag))]
+    #[tactic(auto, using(crate::proofs::Required::unconverted, crate::proofs::Required::required_by, crate::proofs::Required::value_found), unfolding(crate::specs::Outcome::get_tag_f32_vec, crate::specs::Outcome::get_tag))]
     pub fn get_tag_f32_vec(&mut self, tag: Tag) -> TiffResult<Vec<Bits32>>
-        ensures { TagsRead (λ v. map bits_32 v.items) (outcome.get_tag_f32_vec self.old tag) result self.old self.new }
+        ensures { TagsRead (outcome.WantsTag self.old tag) (λ v. map bits_32 v.items) (outcome.get_tag_f32_vec self.old tag) result self.old self.new }
     {
         let alloc = self.alloc;
         self.get_tag(tag)?.into_f32_vec(alloc)
     }
 
     /// The bits of a required tag's floating numbers of 8 bytes. No such tag: `RequiredTagNotFound`; then the faults of `find_tag` and of `Value::into_f64_vec`.
-    #[tactic(auto, using(crate::proofs::Required::unconverted, crate::proofs::Required::required_by), unfolding(crate::specs::Outcome::get_tag_f64_vec, crate::specs::Outcome::get_tag))]
+    #[tactic(auto, using(crate::proofs::Required::unconverted, crate::proofs::Required::required_by, crate::proofs::Required::value_found), unfolding(crate::specs::Outcome::get_tag_f64_vec, crate::specs::Outcome::get_tag))]
     pub fn get_tag_f64_vec(&mut self, tag: Tag) -> TiffResult<Vec<Bits64>>
-        ensures { TagsRead (λ v. map bits_64 v.items) (outcome.get_tag_f64_vec self.old tag) result self.old self.new }
+        ensures { TagsRead (outcome.WantsTag self.old tag) (λ v. map bits_64 v.items) (outcome.get_tag_f64_vec self.old tag) result self.old self.new }
     {
         let alloc = self.alloc;
         self.get_tag(tag)?.into_f64_vec(alloc)
     }
 
     /// A required tag's bytes. No such tag: `RequiredTagNotFound`; then the faults of `find_tag` and of `Value::into_u8_vec`.
-    #[tactic(auto, using(crate::proofs::Required::unconverted, crate::proofs::Required::required_by), unfolding(crate::specs::Outcome::get_tag_u8_vec, crate::specs::Outcome::get_tag))]
+    #[tactic(auto, using(crate::proofs::Required::unconverted, crate::proofs::Required::required_by, crate::proofs::Required::value_found), unfolding(crate::specs::Outcome::get_tag_u8_vec, crate::specs::Outcome::get_tag))]
     pub fn get_tag_u8_vec(&mut self, tag: Tag) -> TiffResult<Vec<u8>>
-        ensures { TagsRead (λ v. v.items) (outcome.get_tag_u8_vec self.old tag) result self.old self.new }
+        ensures { TagsRead (outcome.WantsTag self.old tag) (λ v. v.items) (outcome.get_tag_u8_vec self.old tag) result self.old self.new }
     {
         let alloc = self.alloc;
         self.get_tag(tag)?.into_u8_vec(alloc)
     }
 
     /// A required tag's text. No such tag: `RequiredTagNotFound`; then the faults of `find_tag` and of `Value::into_string`.
-    #[tactic(auto, using(crate::proofs::Required::unconverted, crate::proofs::Required::required_by), unfolding(crate::specs::Outcome::get_tag_ascii_string, crate::specs::Outcome::get_tag))]
+    #[tactic(auto, using(crate::proofs::Required::unconverted, crate::proofs::Required::required_by, crate::proofs::Required::value_found), unfolding(crate::specs::Outcome::get_tag_ascii_string, crate::specs::Outcome::get_tag))]
     pub fn get_tag_ascii_string(&mut self, tag: Tag) -> TiffResult<String>
-        ensures { TagsRead (string_bytes) (outcome.get_tag_ascii_string self.old tag) result self.old self.new }
+        ensures { TagsRead (outcome.WantsTag self.old tag) (string_bytes) (outcome.get_tag_ascii_string self.old tag) result self.old self.new }
     {
         self.get_tag(tag)?.into_string()
     }
@@ -447,7 +450,7 @@ impl<'a, R: Source> IfdDecoder<'a, R> {
     /// Values of 2^64 bytes or more, and more bytes than `decoding_buffer_size`: `LimitsExceeded`, and the buffer stays; values
     /// past the end of the source: `IoError(UnexpectedEof)`. After any other fault the buffer has the field's type and no values.
     pub fn find_tag_buf(&mut self, tag: Tag, buf: &mut ValueBuffer) -> TiffResult<Option<Entry>>
-        ensures read { ReadsTags (λ e. (e, buf.new)) (outcome.find_tag_buf (reading self.old) tag buf.old) result self.old self.new }
+        ensures read { ReadsTags (outcome.WantsBytes (reading self.old) tag buf.old) (λ e. (e, buf.new)) (outcome.find_tag_buf (reading self.old) tag buf.old) result self.old self.new }
         ensures left { BufferLeft self.old.decoder.now.order (outcome.find_entry (reading self.old) tag) buf.old result buf.new }
     {
         self.decoder.buf_in(self.other, tag, buf)
@@ -472,7 +475,7 @@ impl<'a, R: Source> IfdDecoder<'a, R> {
 
     /// The value of a tag, if there is the tag. The faults are those of `Decoder::find_tag`.
     pub fn find_tag(&mut self, tag: Tag) -> TiffResult<Option<Value>>
-        ensures read { ReadsTags (option_map datum) (outcome.find_tag (reading self.old) tag) result self.old self.new }
+        ensures read { ReadsTags (outcome.WantsTag (reading self.old) tag) (option_map datum) (outcome.find_tag (reading self.old) tag) result self.old self.new }
         ensures none { outcome.find_entry (reading self.old) tag ≡ None → result ≡ Ok None }
     {
         self.decoder.value_in(self.other, tag)
@@ -483,7 +486,8 @@ impl<'a, R: Source> IfdDecoder<'a, R> {
     pub fn find_tag_unsigned<T: TryFrom<u64>>(&mut self, tag: Tag) -> TiffResult<Option<T>>
     where
         T::Error: Drop,
-        ensures answer { NumberIfAs T.try_from_gives (self.old.decoder.now.failures < self.new.decoder.now.failures) tag
+        ensures answer { NumberIfAs T.try_from_gives (outcome.WantsTag (reading self.old) tag)
+            (self.old.decoder.now.failures < self.new.decoder.now.failures) tag
             (outcome.find_tag_unsigned (reading self.old) tag).answer result }
         ensures kept { KeepsReading result self.old self.new }
     {
@@ -495,13 +499,15 @@ impl<'a, R: Source> IfdDecoder<'a, R> {
 
     /// The numbers of a tag as a list of `T`, if there is the tag. The faults are those of `find_tag` and of
     /// `Value::into_u64_vec`; a number that is no `T`: `InvalidTagValueType`.
+    #[tactic(auto, using(crate::proofs::Required::numbers_found), unfolding(crate::specs::Outcome::find_tag_unsigned_vec))]
     pub fn find_tag_unsigned_vec<T: TryFrom<u64> + Drop>(
         &mut self,
         tag: Tag,
     ) -> TiffResult<Option<Vec<T>>>
     where
         T::Error: Drop,
-        ensures answer { NumbersIfAs T.try_from_gives (self.old.decoder.now.failures < self.new.decoder.now.failures) tag
+        ensures answer { NumbersIfAs T.try_from_gives (outcome.WantsTag (reading self.old) tag)
+            (self.old.decoder.now.failures < self.new.decoder.now.failures) tag
             (outcome.find_tag_unsigned_vec (reading self.old) tag).answer result }
         ensures kept { KeepsReading result self.old self.new }
     {
@@ -517,7 +523,8 @@ impl<'a, R: Source> IfdDecoder<'a, R> {
     pub fn get_tag_unsigned<T: TryFrom<u64>>(&mut self, tag: Tag) -> TiffResult<T>
     where
         T::Error: Drop,
-        ensures answer { NumberAs T.try_from_gives (self.old.decoder.now.failures < self.new.decoder.now.failures) tag
+        ensures answer { NumberAs T.try_from_gives (outcome.WantsTag (reading self.old) tag)
+            (self.old.decoder.now.failures < self.new.decoder.now.failures) tag
             (outcome.get_tag_unsigned (reading self.old) tag).answer result }
         ensures kept { KeepsReading result self.old self.new }
     {
@@ -527,7 +534,7 @@ impl<'a, R: Source> IfdDecoder<'a, R> {
     /// The value of a required tag. No such tag: `RequiredTagNotFound`; then the faults of `find_tag`.
     #[tactic(auto, unfolding(crate::specs::Outcome::get_tag, crate::specs::Outcome::find_tag, tiff_ifd::specs::Look::require, tiff_ifd::specs::Look::find))]
     pub fn get_tag(&mut self, tag: Tag) -> TiffResult<Value>
-        ensures { ReadsTags datum (outcome.get_tag (reading self.old) tag) result self.old self.new }
+        ensures { ReadsTags (outcome.WantsTag (reading self.old) tag) datum (outcome.get_tag (reading self.old) tag) result self.old self.new }
     {
         match self.find_tag(tag)? {
             None => Err(TiffFormatError::RequiredTagNotFound(tag).into()),
@@ -536,95 +543,95 @@ impl<'a, R: Source> IfdDecoder<'a, R> {
     }
 
     /// A required tag's number, below 2^32. No such tag: `RequiredTagNotFound`; then the faults of `find_tag` and of `Value::into_u32`.
-    #[tactic(auto, using(crate::proofs::Required::unconverted, crate::proofs::Required::required_by), unfolding(crate::specs::Outcome::get_tag_u32, crate::specs::Outcome::get_tag))]
+    #[tactic(auto, using(crate::proofs::Required::unconverted, crate::proofs::Required::required_by, crate::proofs::Required::value_found), unfolding(crate::specs::Outcome::get_tag_u32, crate::specs::Outcome::get_tag))]
     pub fn get_tag_u32(&mut self, tag: Tag) -> TiffResult<u32>
-        ensures { ReadsTags (λ n. n) (outcome.get_tag_u32 (reading self.old) tag) result self.old self.new }
+        ensures { ReadsTags (outcome.WantsTag (reading self.old) tag) (λ n. n) (outcome.get_tag_u32 (reading self.old) tag) result self.old self.new }
     {
         self.get_tag(tag)?.into_u32()
     }
 
     /// A required tag's number, below 2^64. No such tag: `RequiredTagNotFound`; then the faults of `find_tag` and of `Value::into_u64`.
-    #[tactic(auto, using(crate::proofs::Required::unconverted, crate::proofs::Required::required_by), unfolding(crate::specs::Outcome::get_tag_u64, crate::specs::Outcome::get_tag))]
+    #[tactic(auto, using(crate::proofs::Required::unconverted, crate::proofs::Required::required_by, crate::proofs::Required::value_found), unfolding(crate::specs::Outcome::get_tag_u64, crate::specs::Outcome::get_tag))]
     pub fn get_tag_u64(&mut self, tag: Tag) -> TiffResult<u64>
-        ensures { ReadsTags (λ n. n) (outcome.get_tag_u64 (reading self.old) tag) result self.old self.new }
+        ensures { ReadsTags (outcome.WantsTag (reading self.old) tag) (λ n. n) (outcome.get_tag_u64 (reading self.old) tag) result self.old self.new }
     {
         self.get_tag(tag)?.into_u64()
     }
 
     /// The bits of a required tag's floating number of 4 bytes. No such tag: `RequiredTagNotFound`; then the faults of `find_tag` and of `Value::into_f32`.
-    #[tactic(auto, using(crate::proofs::Required::unconverted, crate::proofs::Required::required_by), unfolding(crate::specs::Outcome::get_tag_f32, crate::specs::Outcome::get_tag))]
+    #[tactic(auto, using(crate::proofs::Required::unconverted, crate::proofs::Required::required_by, crate::proofs::Required::value_found), unfolding(crate::specs::Outcome::get_tag_f32, crate::specs::Outcome::get_tag))]
     pub fn get_tag_f32(&mut self, tag: Tag) -> TiffResult<Bits32>
-        ensures { ReadsTags bits_32 (outcome.get_tag_f32 (reading self.old) tag) result self.old self.new }
+        ensures { ReadsTags (outcome.WantsTag (reading self.old) tag) bits_32 (outcome.get_tag_f32 (reading self.old) tag) result self.old self.new }
     {
         self.get_tag(tag)?.into_f32()
     }
 
     /// The bits of a required tag's floating number of 8 bytes. No such tag: `RequiredTagNotFound`; then the faults of `find_tag` and of `Value::into_f64`.
-    #[tactic(auto, using(crate::proofs::Required::unconverted, crate::proofs::Required::required_by), unfolding(crate::specs::Outcome::get_tag_f64, crate::specs::Outcome::get_tag))]
+    #[tactic(auto, using(crate::proofs::Required::unconverted, crate::proofs::Required::required_by, crate::proofs::Required::value_found), unfolding(crate::specs::Outcome::get_tag_f64, crate::specs::Outcome::get_tag))]
     pub fn get_tag_f64(&mut self, tag: Tag) -> TiffResult<Bits64>
-        ensures { ReadsTags bits_64 (outcome.get_tag_f64 (reading self.old) tag) result self.old self.new }
+        ensures { ReadsTags (outcome.WantsTag (reading self.old) tag) bits_64 (outcome.get_tag_f64 (reading self.old) tag) result self.old self.new }
     {
         self.get_tag(tag)?.into_f64()
     }
 
     /// A required tag's numbers, below 2^32. No such tag: `RequiredTagNotFound`; then the faults of `find_tag` and of `Value::into_u32_vec`.
-    #[tactic(auto, using(crate::proofs::Required::unconverted, crate::proofs::Required::required_by), unfolding(crate::specs::Outcome::get_tag_u32_vec, crate::specs::Outcome::get_tag))]
+    #[tactic(auto, using(crate::proofs::Required::unconverted, crate::proofs::Required::required_by, crate::proofs::Required::value_found), unfolding(crate::specs::Outcome::get_tag_u32_vec, crate::specs::Outcome::get_tag))]
     pub fn get_tag_u32_vec(&mut self, tag: Tag) -> TiffResult<Vec<u32>>
-        ensures { ReadsTags (λ v. v.items) (outcome.get_tag_u32_vec (reading self.old) tag) result self.old self.new }
+        ensures { ReadsTags (outcome.WantsTag (reading self.old) tag) (λ v. v.items) (outcome.get_tag_u32_vec (reading self.old) tag) result self.old self.new }
     {
         let alloc = self.alloc;
         self.get_tag(tag)?.into_u32_vec(alloc)
     }
 
     /// A required tag's numbers, below 2^16. No such tag: `RequiredTagNotFound`; then the faults of `find_tag` and of `Value::into_u16_vec`.
-    #[tactic(auto, using(crate::proofs::Required::unconverted, crate::proofs::Required::required_by), unfolding(crate::specs::Outcome::get_tag_u16_vec, crate::specs::Outcome::get_tag))]
+    #[tactic(auto, using(crate::proofs::Required::unconverted, crate::proofs::Required::required_by, crate::proofs::Required::value_found), unfolding(crate::specs::Outcome::get_tag_u16_vec, crate::specs::Outcome::get_tag))]
     pub fn get_tag_u16_vec(&mut self, tag: Tag) -> TiffResult<Vec<u16>>
-        ensures { ReadsTags (λ v. v.items) (outcome.get_tag_u16_vec (reading self.old) tag) result self.old self.new }
+        ensures { ReadsTags (outcome.WantsTag (reading self.old) tag) (λ v. v.items) (outcome.get_tag_u16_vec (reading self.old) tag) result self.old self.new }
     {
         let alloc = self.alloc;
         self.get_tag(tag)?.into_u16_vec(alloc)
     }
 
     /// A required tag's numbers, below 2^64. No such tag: `RequiredTagNotFound`; then the faults of `find_tag` and of `Value::into_u64_vec`.
-    #[tactic(auto, using(crate::proofs::Required::unconverted, crate::proofs::Required::required_by), unfolding(crate::specs::Outcome::get_tag_u64_vec, crate::specs::Outcome::get_tag))]
+    #[tactic(auto, using(crate::proofs::Required::unconverted, crate::proofs::Required::required_by, crate::proofs::Required::value_found), unfolding(crate::specs::Outcome::get_tag_u64_vec, crate::specs::Outcome::get_tag))]
     pub fn get_tag_u64_vec(&mut self, tag: Tag) -> TiffResult<Vec<u64>>
-        ensures { ReadsTags (λ v. v.items) (outcome.get_tag_u64_vec (reading self.old) tag) result self.old self.new }
+        ensures { ReadsTags (outcome.WantsTag (reading self.old) tag) (λ v. v.items) (outcome.get_tag_u64_vec (reading self.old) tag) result self.old self.new }
     {
         let alloc = self.alloc;
         self.get_tag(tag)?.into_u64_vec(alloc)
     }
 
     /// The bits of a required tag's floating numbers of 4 bytes. No such tag: `RequiredTagNotFound`; then the faults of `find_tag` and of `Value::into_f32_vec`.
-    #[tactic(auto, using(crate::proofs::Required::unconverted, crate::proofs::Required::required_by), unfolding(crate::specs::Outcome::get_tag_f32_vec, crate::specs::Outcome::get_tag))]
+    #[tactic(auto, using(crate::proofs::Required::unconverted, crate::proofs::Required::required_by, crate::proofs::Required::value_found), unfolding(crate::specs::Outcome::get_tag_f32_vec, crate::specs::Outcome::get_tag))]
     pub fn get_tag_f32_vec(&mut self, tag: Tag) -> TiffResult<Vec<Bits32>>
-        ensures { ReadsTags (λ v. map bits_32 v.items) (outcome.get_tag_f32_vec (reading self.old) tag) result self.old self.new }
+        ensures { ReadsTags (outcome.WantsTag (reading self.old) tag) (λ v. map bits_32 v.items) (outcome.get_tag_f32_vec (reading self.old) tag) result self.old self.new }
     {
         let alloc = self.alloc;
         self.get_tag(tag)?.into_f32_vec(alloc)
     }
 
     /// The bits of a required tag's floating numbers of 8 bytes. No such tag: `RequiredTagNotFound`; then the faults of `find_tag` and of `Value::into_f64_vec`.
-    #[tactic(auto, using(crate::proofs::Required::unconverted, crate::proofs::Required::required_by), unfolding(crate::specs::Outcome::get_tag_f64_vec, crate::specs::Outcome::get_tag))]
+    #[tactic(auto, using(crate::proofs::Required::unconverted, crate::proofs::Required::required_by, crate::proofs::Required::value_found), unfolding(crate::specs::Outcome::get_tag_f64_vec, crate::specs::Outcome::get_tag))]
     pub fn get_tag_f64_vec(&mut self, tag: Tag) -> TiffResult<Vec<Bits64>>
-        ensures { ReadsTags (λ v. map bits_64 v.items) (outcome.get_tag_f64_vec (reading self.old) tag) result self.old self.new }
+        ensures { ReadsTags (outcome.WantsTag (reading self.old) tag) (λ v. map bits_64 v.items) (outcome.get_tag_f64_vec (reading self.old) tag) result self.old self.new }
     {
         let alloc = self.alloc;
         self.get_tag(tag)?.into_f64_vec(alloc)
     }
 
     /// A required tag's bytes. No such tag: `RequiredTagNotFound`; then the faults of `find_tag` and of `Value::into_u8_vec`.
-    #[tactic(auto, using(crate::proofs::Required::unconverted, crate::proofs::Required::required_by), unfolding(crate::specs::Outcome::get_tag_u8_vec, crate::specs::Outcome::get_tag))]
+    #[tactic(auto, using(crate::proofs::Required::unconverted, crate::proofs::Required::required_by, crate::proofs::Required::value_found), unfolding(crate::specs::Outcome::get_tag_u8_vec, crate::specs::Outcome::get_tag))]
     pub fn get_tag_u8_vec(&mut self, tag: Tag) -> TiffResult<Vec<u8>>
-        ensures { ReadsTags (λ v. v.items) (outcome.get_tag_u8_vec (reading self.old) tag) result self.old self.new }
+        ensures { ReadsTags (outcome.WantsTag (reading self.old) tag) (λ v. v.items) (outcome.get_tag_u8_vec (reading self.old) tag) result self.old self.new }
     {
         let alloc = self.alloc;
         self.get_tag(tag)?.into_u8_vec(alloc)
     }
 
     /// A required tag's text. No such tag: `RequiredTagNotFound`; then the faults of `find_tag` and of `Value::into_string`.
-    #[tactic(auto, using(crate::proofs::Required::unconverted, crate::proofs::Required::required_by), unfolding(crate::specs::Outcome::get_tag_ascii_string, crate::specs::Outcome::get_tag))]
+    #[tactic(auto, using(crate::proofs::Required::unconverted, crate::proofs::Required::required_by, crate::proofs::Required::value_found), unfolding(crate::specs::Outcome::get_tag_ascii_string, crate::specs::Outcome::get_tag))]
     pub fn get_tag_ascii_string(&mut self, tag: Tag) -> TiffResult<String>
-        ensures { ReadsTags string_bytes (outcome.get_tag_ascii_string (reading self.old) tag) result self.old self.new }
+        ensures { ReadsTags (outcome.WantsTag (reading self.old) tag) string_bytes (outcome.get_tag_ascii_string (reading self.old) tag) result self.old self.new }
     {
         self.get_tag(tag)?.into_string()
     }

@@ -1,7 +1,7 @@
 //! How many chunks the page has, how large they are, and how buffers for its samples are laid out.
 
 ghost use Rattle.std.specs.Prelude.{◌≡◌, ◌<◌, IfOk, IfSome};
-ghost use Rattle.tiff_decode.specs.Machine.{FollowsWithoutSource, FollowsWithoutEither};
+ghost use Rattle.tiff_decode.specs.Machine.{FollowsOrFaults, FollowsWithoutEither};
 ghost use Rattle.tiff_decode.specs.Outcome as outcome;
 ghost use Rattle.tiff_page.specs.Laws.{HasSides};
 
@@ -69,7 +69,7 @@ impl<R: Source> Decoder<R> {
     /// has no `sample_type`.
     #[tactic(auto, unfolding(crate::specs::Outcome::image_buffer_layout))]
     pub fn image_buffer_layout(&mut self) -> TiffResult<BufferLayoutPreference>
-        ensures follows { FollowsWithoutSource (λ l. l) (outcome.image_buffer_layout self.old) result self.old self.new }
+        ensures follows { FollowsOrFaults (λ l. l) (outcome.image_buffer_layout self.old) result self.old self.new }
         ensures rows { IfOk result (λ l. IfSome l.row_stride (λ n. 0 < n)) }
         ensures plane { IfOk result (λ l. IfSome l.plane_stride (λ n. 0 < n)) }
     {
@@ -84,7 +84,7 @@ impl<R: Source> Decoder<R> {
         &mut self,
         chunk_index: u32,
     ) -> TiffResult<BufferLayoutPreference>
-        ensures follows { FollowsWithoutSource (λ l. l) (outcome.image_chunk_buffer_layout self.old chunk_index) result self.old self.new }
+        ensures follows { FollowsOrFaults (λ l. l) (outcome.image_chunk_buffer_layout self.old chunk_index) result self.old self.new }
         ensures rows { IfOk result (λ l. IfSome l.row_stride (λ n. 0 < n)) }
         ensures plane { IfOk result (λ l. IfSome l.plane_stride (λ n. 0 < n)) }
     {
@@ -99,7 +99,7 @@ impl<R: Source> Decoder<R> {
         &mut self,
         unit: TiffCodingUnit,
     ) -> TiffResult<BufferLayoutPreference>
-        ensures follows { FollowsWithoutSource (λ l. l) (outcome.image_coding_unit_layout self.old unit.0) result self.old self.new }
+        ensures follows { FollowsOrFaults (λ l. l) (outcome.image_coding_unit_layout self.old unit.0) result self.old self.new }
         ensures rows { IfOk result (λ l. IfSome l.row_stride (λ n. 0 < n)) }
         ensures plane { IfOk result (λ l. IfSome l.plane_stride (λ n. 0 < n)) }
     {

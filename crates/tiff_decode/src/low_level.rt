@@ -4,7 +4,8 @@ ghost use Rattle.std.specs.Prelude.{string_bytes};
 ghost use Rattle.std.specs.Int.{w8};
 ghost use Rattle.tiff_base.specs.Answers.{AnswersWithoutMemory, IsKept};
 ghost use Rattle.tiff_base.specs.Number.{number_at};
-ghost use Rattle.tiff_decode.specs.Machine.{Follows, FollowsWithoutMemory, FollowsWithoutEither};
+ghost use Rattle.tiff_base.specs.Sparing.{IsWithinLimits};
+ghost use Rattle.tiff_decode.specs.Machine.{FollowsBut, FollowsWithoutMemory, FollowsWithoutEither};
 ghost use Rattle.tiff_decode.specs.Outcome as outcome;
 ghost use Rattle.tiff_decode.specs.Sight.{bits_32, bits_64};
 
@@ -144,10 +145,12 @@ impl<R: Source> Decoder<R> {
         Ok(Bits64(self.read_long8()?))
     }
 
-    /// The next `length` bytes as a text, which ends before its first zero. Not UTF-8: `InvalidTag`.
+    /// The next `length` bytes as a text, which ends before its first zero. Not UTF-8: `InvalidTag`. Memory is taken where the
+    /// bytes are in the source.
     #[tactic(auto, unfolding(crate::specs::Outcome::read_string))]
     pub fn read_string(&mut self, length: usize) -> TiffResult<String>
-        ensures { Follows string_bytes (outcome.read_string self.old length) result self.old self.new }
+        ensures { let given = outcome.read_string self.old length in
+            FollowsBut (IsWithinLimits given.answer) string_bytes given result self.old self.new }
     {
         let text = read_text_at(self.alloc, &mut self.tags.source, self.offset, length)?;
         self.offset += length as u64;

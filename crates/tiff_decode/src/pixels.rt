@@ -1,7 +1,8 @@
 //! Pixels of the page are read: whole images, chunks, and coding units.
 
+ghost use Rattle.std.specs.Prelude.{length};
 ghost use Rattle.tiff_decode.specs.Machine.{Follows};
-ghost use Rattle.tiff_page.specs.EarlyFaults.{WantsAfter, chunk_early, image_early, planes_early, strided_early};
+ghost use Rattle.tiff_page.specs.EarlyFaults.{WantsAfter, chunk_bytes_early, chunk_early, image_bytes_early, image_early, planes_early, strided_early, unit_bytes_early};
 ghost use Rattle.tiff_decode.specs.Outcome as outcome;
 ghost use Rattle.tiff_decode.specs.Result.{decoded_as};
 
@@ -17,8 +18,9 @@ use tiff_page::pixels;
 /// that it reads, of the first chunk, and in it of the first plane, that has one. A chunk's: no data are listed for it,
 /// `InconsistentSizesEncountered`; a depth, predictor, method or inversion that isn't read, its `UnsupportedError`; more bytes
 /// in the file than `intermediate_buffer_size`, `LimitsExceeded`; too few data, `IoError(UnexpectedEof)`. Bytes of samples
-/// are little-endian, in rows of whole bytes. Where a call hands out a list, memory for it is wanted only after its limit was
-/// looked at, and the last byte that its first chunk needs at least was found in the source.
+/// are little-endian, in rows of whole bytes. Memory is wanted for a fault that carries a list, or after the faults of the
+/// layout, of what the call names and of the first chunk's form; where a call hands out a list, after its limit was looked at,
+/// and the last byte that its first chunk needs at least was found in the source.
 impl<R: Source> Decoder<R> {
     /// The samples of the page's image, row by row; of a planar page those of the first plane. Samples of no number type:
     /// `UnsupportedSampleDepth` or `UnsupportedSampleFormat`; more than `decoding_buffer_size` bytes hold: `LimitsExceeded`.
@@ -62,7 +64,8 @@ impl<R: Source> Decoder<R> {
     /// than one plane: `InsufficientOutputBufferSize { needed, provided }`. What a refusal leaves in the slice isn't told.
     #[tactic(auto, unfolding(crate::specs::Outcome::read_image_bytes))]
     pub fn read_image_bytes(&mut self, buffer: &mut [u8]) -> TiffResult<()>
-        ensures { Follows (λ _. buffer.new) (outcome.read_image_bytes self.old buffer.old) result self.old self.new }
+        ensures follows { Follows (λ _. buffer.new) (outcome.read_image_bytes self.old buffer.old) result self.old self.new }
+        ensures memory { WantsAfter (image_bytes_early self.old.state.page self.old.state.limits (length buffer.old)) result }
     {
         let (alloc, order) = (self.alloc, self.tags.order);
         let source = &mut self.tags.source;
@@ -86,7 +89,9 @@ impl<R: Source> Decoder<R> {
     /// `InsufficientOutputBufferSize { needed, provided }`. What a refusal leaves in the slice isn't told.
     #[tactic(auto, unfolding(crate::specs::Outcome::read_chunk_bytes))]
     pub fn read_chunk_bytes(&mut self, chunk_index: u32, buffer: &mut [u8]) -> TiffResult<()>
-        ensures { Follows (λ _. buffer.new) (outcome.read_chunk_bytes self.old chunk_index buffer.old) result self.old self.new }
+        ensures follows { Follows (λ _. buffer.new) (outcome.read_chunk_bytes self.old chunk_index buffer.old) result self.old self.new }
+        ensures memory { WantsAfter (chunk_bytes_early self.old.state.page self.old.state.limits chunk_index
+            (length buffer.old)) result }
     {
         let (alloc, order) = (self.alloc, self.tags.order);
         let (source, limits) = (&mut self.tags.source, &self.tags.limits);
@@ -142,7 +147,9 @@ impl<R: Source> Decoder<R> {
         slice: TiffCodingUnit,
         buffer: &mut [u8],
     ) -> TiffResult<()>
-        ensures { Follows (λ _. buffer.new) (outcome.read_coding_unit_bytes self.old slice.0 buffer.old) result self.old self.new }
+        ensures follows { Follows (λ _. buffer.new) (outcome.read_coding_unit_bytes self.old slice.0 buffer.old) result self.old self.new }
+        ensures memory { WantsAfter (unit_bytes_early self.old.state.page self.old.state.limits slice.0 (length buffer.old))
+            result }
     {
         let (alloc, order) = (self.alloc, self.tags.order);
         let (source, limits) = (&mut self.tags.source, &self.tags.limits);

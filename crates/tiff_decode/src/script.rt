@@ -251,7 +251,7 @@ fn tag_buffer<R: Source>(
     decoder: &mut Decoder<R>,
     tag: Tag,
 ) -> (TiffResult<Option<Entry>>, ValueBuffer)
-    ensures read { TagsRead (λ x. (x, result.1)) (outcome.find_tag_buf decoder.old tag (empty_buffer BYTE)) result.0 decoder.old
+    ensures read { TagsRead (outcome.WantsBytes decoder.old tag (empty_buffer BYTE)) (λ x. (x, result.1)) (outcome.find_tag_buf decoder.old tag (empty_buffer BYTE)) result.0 decoder.old
         decoder.new }
     ensures left { BufferLeft decoder.old.order (outcome.find_entry decoder.old tag) (empty_buffer BYTE) result.0 result.1 }
 {
@@ -268,7 +268,7 @@ fn tag_bytes<R: Source>(
     len: usize,
     at: u64,
 ) -> (TiffResult<Option<usize>>, Vec<u8>)
-    ensures { TagsRead (λ x. (x, items_of result.1)) (outcome.find_tag_bytes decoder.old tag (replicate len 0) at) result.0
+    ensures { TagsRead (Unit {0}) (λ x. (x, items_of result.1)) (outcome.find_tag_bytes decoder.old tag (replicate len 0) at) result.0
         decoder.old decoder.new }
 {
     let alloc = decoder.alloc;

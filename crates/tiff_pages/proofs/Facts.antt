@@ -14,7 +14,7 @@ use Rattle.tiff_ifd.specs.Look.{find, if_found}
 use Rattle.tiff_ifd.specs.View.{datum}
 use Rattle.tiff_page.specs.Checks.{method_in}
 use Rattle.tiff_decode.specs.Machine.{Decoding}
-use Rattle.tiff_decode.specs.Outcome.{find_tag, page_tags}
+use Rattle.tiff_decode.specs.Outcome.{WantsTag, find_tag, page_tags}
 use Rattle.tiff_decode.specs.Reader.{TagsRead}
 use Rattle.tiff_laws.specs.Sides.{PageHasMethod}
 use Rattle.tiff_pages.specs.Pages.{HasItsPage, OnlyReads}
@@ -49,21 +49,21 @@ module _ (law : PageHasMethod) (d new : Decoding) (h : HasItsPage d) where
   is = method_told d law h
 
   -- The tag's value is not refused but by the device or for want of memory.
-  pub value_refused : {X : Type 0} (e : TiffError) → TagsRead {X = Option Value} (option_map datum) (find_tag d Compression) (Err e) d new → OnlyReads {X = X} (Err e) d new
-  value_refused e t = only_reads d new e t.state t.failures (cause_along e (λ w. w) (λ f. f) (no_fault told d.state.page.method e is) t.answer)
+  pub value_refused : {X : Type 0} (e : TiffError) → TagsRead {X = Option Value} (WantsTag d Compression) (option_map datum) (find_tag d Compression) (Err e) d new → OnlyReads {X = X} (Err e) d new
+  value_refused e t = only_reads d new e t.state t.failures (cause_along e (λ w. tt) (λ f. f) (no_fault told d.state.page.method e is) t.answer)
 
   -- Its number is not refused.
-  pub number_refused : {X : Type 0} (v : Value) (e : TiffError) → TagsRead {X = Option Value} (option_map datum) (find_tag d Compression) (Ok (Some v)) d new
+  pub number_refused : {X : Type 0} (v : Value) (e : TiffError) → TagsRead {X = Option Value} (WantsTag d Compression) (option_map datum) (find_tag d Compression) (Ok (Some v)) d new
       → Gives {X = ℕ} (λ n. n) (Err e) (into_u16 (datum v)) → OnlyReads {X = X} (Err e) d new
   number_refused v e t g =
       only_reads d new e t.state t.failures (cause_along e (λ w. absurd w) (λ f. absurd f) (no_wrong told d.state.page.method (datum v) e is t.answer) g)
 
   -- It is the method's.
-  pub method_found : (v : Value) (n : ℕ) → TagsRead {X = Option Value} (option_map datum) (find_tag d Compression) (Ok (Some v)) d new
+  pub method_found : (v : Value) (n : ℕ) → TagsRead {X = Option Value} (WantsTag d Compression) (option_map datum) (find_tag d Compression) (Ok (Some v)) d new
       → Gives {X = ℕ} (λ n. n) (Ok n) (into_u16 (datum v)) → method_of n ≡ d.state.page.method
   method_found v n t g =
       let a : method_by (Ok (Some (datum v))) ≡ Ok d.state.page.method = sym (ap method_by t.answer) ∙ is in
       let b : method_by (Ok (Some (datum v))) ≡ Ok (method_of n) = rw g refl in cc
 
-  pub method_default : TagsRead {X = Option Value} (option_map datum) (find_tag d Compression) (Ok None) d new → method_of 1 ≡ d.state.page.method
+  pub method_default : TagsRead {X = Option Value} (WantsTag d Compression) (option_map datum) (find_tag d Compression) (Ok None) d new → method_of 1 ≡ d.state.page.method
   method_default t = (let a : method_by (Ok None) ≡ Ok d.state.page.method = sym (ap method_by t.answer) ∙ is in cc)

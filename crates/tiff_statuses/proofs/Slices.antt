@@ -3,7 +3,7 @@ use Rattle.std.proofs.Common.{◌≡◌, ℕ, ◌<◌, List, Option, None, true,
 use Rattle.tiff_base.specs.declared.error.TiffError.{TiffError}
 use Rattle.tiff_base.specs.declared.error.TiffError.TheVariants.{FormatError, UnsupportedError, IoError, UsageError, LimitsExceeded, IntSizeError, OutOfMemory}
 use Rattle.tiff_base.specs.declared.io.IoKind.TheVariants.{UnexpectedEof, InvalidData, InvalidInput, WriteZero, Device}
-use Rattle.tiff_base.specs.Answers.{Answers, AnswersWithoutMemory, AnswersWithoutSource}
+use Rattle.tiff_base.specs.Answers.{Answers, AnswersBut, AnswersWithoutMemory, AnswersWithoutSource}
 use Rattle.tiff_base.specs.declared.tags.Tag.{Tag}
 use Rattle.tiff_base.specs.Field.{DirectoryRecord}
 use Rattle.tiff_decode.specs.Outcome.{find_tag_bytes, next_image}
@@ -48,28 +48,30 @@ pub next_gone : (result : Result (Unit {0}) TiffError) → (old new : Decoding) 
 next_gone (Ok x) old new f a b = f.at
 next_gone (Err e) old new f a b = tt
 
-tag_refused : {X Y : Type 0} → (view : X → Y) → (given : Result Y TiffError) → (e : TiffError) → (m n : ℕ) → Answers view (Err e) given m n
+tag_refused : {X Y : Type 0} → (wanting : Type 0) (view : X → Y) → (given : Result Y TiffError) → (e : TiffError) → (m n : ℕ) → AnswersBut wanting (m < n) view (Err e) given
     → m ≡ 0 → n ≡ 0 → AnswersWithoutSource view (Err e) given
-tag_refused view given OutOfMemory m n r a b = tt
-tag_refused view given (IoError Device) m n r a b = not_more m n a b r
-tag_refused view given (IoError UnexpectedEof) m n r a b = r
-tag_refused view given (IoError InvalidData) m n r a b = r
-tag_refused view given (IoError InvalidInput) m n r a b = r
-tag_refused view given (IoError WriteZero) m n r a b = r
-tag_refused view given (FormatError x) m n r a b = r
-tag_refused view given (UnsupportedError x) m n r a b = r
-tag_refused view given (UsageError x) m n r a b = r
-tag_refused view given LimitsExceeded m n r a b = r
-tag_refused view given IntSizeError m n r a b = r
+tag_refused wanting view given OutOfMemory m n r a b = tt
+tag_refused wanting view given (IoError Device) m n r a b = not_more m n a b r
+tag_refused wanting view given (IoError UnexpectedEof) m n r a b = r
+tag_refused wanting view given (IoError InvalidData) m n r a b = r
+tag_refused wanting view given (IoError InvalidInput) m n r a b = r
+tag_refused wanting view given (IoError WriteZero) m n r a b = r
+tag_refused wanting view given (FormatError x) m n r a b = r
+tag_refused wanting view given (UnsupportedError x) m n r a b = r
+tag_refused wanting view given (UsageError x) m n r a b = r
+tag_refused wanting view given LimitsExceeded m n r a b = r
+tag_refused wanting view given IntSizeError m n r a b = r
 
 pub answer_here : {X Y : Type 0} → (view : X → Y) → (given : Result Y TiffError) → (result : Result X TiffError) → (m n : ℕ) → Answers view result given m n
     → m ≡ 0 → n ≡ 0 → AnswersWithoutSource view result given
 answer_here view given (Ok x) m n r a b = r
-answer_here view given (Err e) m n r a b = tag_refused view given e m n r a b
+answer_here view given (Err e) m n r a b = tag_refused (Unit {0}) view given e m n r a b
 
-pub read_here : {X Y : Type 0} → (view : X → Y) → (o : Outcome Y) → (result : Result X TiffError) → (old new : Decoding) → TagsRead view o result old new
+pub read_here : {X Y : Type 0} → (wanting : Type 0) (view : X → Y) → (o : Outcome Y) → (result : Result X TiffError) → (old new : Decoding)
+    → TagsRead wanting view o result old new
     → old.failures ≡ 0 → new.failures ≡ 0 → AnswersWithoutSource view result o.answer
-read_here view o result old new r a b = answer_here view o.answer result old.failures new.failures r.answer a b
+read_here wanting view o (Ok x) old new r a b = r.answer
+read_here wanting view o (Err e) old new r a b = tag_refused wanting view o.answer e old.failures new.failures r.answer a b
 
 -- an answer that takes no memory
 exact : {X Y : Type 0} → (view : X → Y) → (given : Result Y TiffError) → (e : TiffError) → (m n : ℕ) → AnswersWithoutMemory view (Err e) given m n

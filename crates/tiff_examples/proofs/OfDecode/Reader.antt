@@ -168,6 +168,9 @@ number_missing_given = λ n h. omega (arith, ap fault_kind h.1)
 pub number_wanting : s.number_wanting
 number_wanting = tt
 
+pub missing_wanting : s.missing_wanting
+missing_wanting h = h
+
 pub number_failed : s.number_failed
 number_failed = lit< tt
 

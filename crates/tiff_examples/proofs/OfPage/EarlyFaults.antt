@@ -68,5 +68,39 @@ end_has_no_list h = h
 pub answer_has_no_list : s.answer_has_no_list
 answer_has_no_list h = h
 
+pub method_has_no_list : s.method_has_no_list
+method_has_no_list h = h
+
+pub format_has_list : s.format_has_list
+format_has_list = tt
+
+pub method_wants_none : s.method_wants_none
+unfolding planes_layout layout_of color_of row_bits sample_type_of rect form_fault depth_fault predictor_fault white_fault
+method_wants_none h = h refl
+
+pub format_may_want : s.format_may_want
+unfolding planes_layout layout_of color_of row_bits sample_type_of rect form_fault depth_fault predictor_fault white_fault
+format_may_want wanted = tt
+
+pub room_first : s.room_first
+unfolding planes_layout layout_of color_of row_bits sample_type_of rect form_fault depth_fault predictor_fault white_fault
+room_first = refl
+
+pub form_next : s.form_next
+unfolding planes_layout layout_of color_of row_bits sample_type_of rect form_fault depth_fault predictor_fault white_fault
+form_next = refl
+
+pub chunk_without_room : s.chunk_without_room
+unfolding planes_layout layout_of color_of row_bits sample_type_of rect form_fault depth_fault predictor_fault white_fault
+chunk_without_room = refl
+
+pub unit_first : s.unit_first
+unfolding planes_layout layout_of color_of row_bits sample_type_of rect form_fault depth_fault predictor_fault white_fault
+unit_first = refl
+
+pub unit_held : s.unit_held
+unfolding planes_layout layout_of color_of row_bits sample_type_of rect form_fault depth_fault predictor_fault white_fault
+unit_held = refl
+
 pub answer_wants_none : s.answer_wants_none
 answer_wants_none = tt

@@ -42,7 +42,7 @@ failed n = record gray_decoder { failures = n }
 
 -- a read of tags that gives 7 answered this, and left this decoder
 abbrev pub Reads7 : Result ℕ TiffError → Decoding → Decoding → Type 0
-Reads7 result old new = TagsRead (λ (n : ℕ). n) (stays old (Ok 7)) result old new
+Reads7 result old new = TagsRead (Unit {0}) (λ (n : ℕ). n) (stays old (Ok 7)) result old new
 
 -- it answered, after a read that failed before it; two reads that failed meanwhile aren't passed over
 abbrev pub seven_read : Type 0
@@ -99,7 +99,7 @@ reading_counted = (r s : TagReader) → KeepsReading {X = ℕ} (Ok 7) r s → s.
 
 -- it doesn't answer 8 where 7 is given
 abbrev pub tags_eight : Type 0
-tags_eight = (r s : TagReader) → ReadsTags (λ (n : ℕ). n) (stays gray_decoder (Ok 7)) (Ok 8) r s → ⊥
+tags_eight = (r s : TagReader) → ReadsTags (Unit {0}) (λ (n : ℕ). n) (stays gray_decoder (Ok 7)) (Ok 8) r s → ⊥
 
 -- ---- one number
 
@@ -141,7 +141,7 @@ fitting_refused = (e : TiffError) → IsNumber byte tag.ImageWidth 255 (Err e) �
 
 -- a tag's number as a byte, where two reads failed before, and so many after
 abbrev pub AsByte : ℕ → Result ℕ TiffError → Result ℕ TiffError → Type 0
-AsByte after given result = NumberAs byte (2 < after) tag.ImageWidth given result
+AsByte after given result = NumberAs byte (Unit {0}) (2 < after) tag.ImageWidth given result
 
 abbrev pub number_fits : Type 0
 number_fits = AsByte 2 (Ok 255) (Ok 255)
@@ -166,6 +166,10 @@ number_missing_given = (n : ℕ) → AsByte 2 (Err missing) (Ok n) → ⊥
 abbrev pub number_wanting : Type 0
 number_wanting = AsByte 2 (Ok 255) (Err OutOfMemory)
 
+-- which none is where it may not be
+abbrev pub missing_wanting : Type 0
+missing_wanting = NumberAs byte ⊥ (2 < 2) tag.ImageWidth (Err missing) (Err OutOfMemory) → ⊥
+
 abbrev pub number_failed : Type 0
 number_failed = AsByte 3 (Ok 255) (Err (IoError Device))
 
@@ -174,7 +178,7 @@ number_not_failed = AsByte 2 (Ok 255) (Err (IoError Device)) → ⊥
 
 -- the same, where there may be no such tag
 abbrev pub IfByte : ℕ → Result (Option ℕ) TiffError → Result (Option ℕ) TiffError → Type 0
-IfByte after given result = NumberIfAs byte (2 < after) tag.ImageWidth given result
+IfByte after given result = NumberIfAs byte (Unit {0}) (2 < after) tag.ImageWidth given result
 
 abbrev pub none_none : Type 0
 none_none = IfByte 2 (Ok None) (Ok None)
@@ -276,7 +280,7 @@ numbers_not_failed = AsBytes (7 ∷ 255 ∷ []) (Err (IoError Device)) → ⊥
 
 -- the numbers of a tag as bytes, where there is the tag
 abbrev pub IfBytes : ℕ → Result (Option (List ℕ)) TiffError → Result (Option (Vec ℕ Global)) TiffError → Type 0
-IfBytes after given result = NumbersIfAs byte (2 < after) tag.ImageWidth given result
+IfBytes after given result = NumbersIfAs byte (Unit {0}) (2 < after) tag.ImageWidth given result
 
 abbrev pub lists_none : Type 0
 lists_none = IfBytes 2 (Ok None) (Ok None)

@@ -2,13 +2,14 @@
 use Rattle.std.specs.Prelude.{◌≡◌, ℕ, [], ◌∷◌, Ok, Err}
 use Rattle.tiff_base.specs.declared.error.TiffError.TheVariants.{UnsupportedError, UsageError, IoError, LimitsExceeded, OutOfMemory}
 use Rattle.tiff_base.specs.declared.error.TiffUnsupportedError.TheVariants.{UnsupportedCompressionMethod, UnsupportedSampleFormat}
-use Rattle.tiff_base.specs.declared.error.UsageError.TheVariants.{InsufficientOutputRowStride}
+use Rattle.tiff_base.specs.declared.error.UsageError.TheVariants.{InsufficientOutputBufferSize, InsufficientOutputRowStride, InvalidCodingUnit}
 use Rattle.tiff_base.specs.declared.io.IoKind.TheVariants.{UnexpectedEof}
 use Rattle.tiff_base.specs.declared.tags.CompressionMethod.TheVariants as method
 use Rattle.tiff_base.specs.declared.tags.SampleFormat.TheVariants as format
+use Rattle.tiff_base.specs.Sparing.{IsListFault}
 use Rattle.tiff_ifd.specs.Limits.{unlimited}
 use Rattle.tiff_page.specs.Page.{PageRecord}
-use Rattle.tiff_page.specs.EarlyFaults.{IsListFault, WantsWhere, WantsAfter, image_early, planes_early, chunk_early, strided_early}
+use Rattle.tiff_page.specs.EarlyFaults.{WantsWhere, WantsAfter, chunk_bytes_early, image_bytes_early, unit_bytes_early, image_early, planes_early, chunk_early, strided_early}
 use Rattle.tiff_examples.specs.Files.{gray_file}
 use Rattle.tiff_examples.specs.Page.Pixels.{pixel_page, limits}
 use Rattle.tiff_examples.specs.Page.PixelCalls.{two_planes, two_faults, tiles}
@@ -82,6 +83,36 @@ end_has_no_list = IsListFault {Y = ℕ} (Err (IoError UnexpectedEof)) → ⊥
 
 abbrev pub answer_has_no_list : Type 0
 answer_has_no_list = IsListFault {Y = ℕ} (Ok 7) → ⊥
+
+abbrev pub method_has_no_list : Type 0
+method_has_no_list = IsListFault {Y = ℕ} (Err (UnsupportedError (UnsupportedCompressionMethod method.LZW))) → ⊥
+
+abbrev pub format_has_list : Type 0
+format_has_list = IsListFault {Y = ℕ} (Err (UnsupportedError (UnsupportedSampleFormat (format.Void ∷ []))))
+
+-- want of memory isn't what a call answers of a method that isn't unpacked; for the list of a fault there may be none
+abbrev pub method_wants_none : Type 0
+method_wants_none = WantsAfter {X = ℕ} (image_early gray_file (record pixel_page { method = method.LZW }) unlimited) (Err OutOfMemory) → ⊥
+
+abbrev pub format_may_want : Type 0
+format_may_want = WantsAfter {X = ℕ} (image_early gray_file (record pixel_page { format = format.Void }) unlimited) (Err OutOfMemory)
+
+-- of a slice the room is looked at before the form of the first chunk, and the unit before the room
+abbrev pub room_first : Type 0
+room_first = image_bytes_early (record pixel_page { method = method.LZW }) unlimited 0 ≡ Err (UsageError (InsufficientOutputBufferSize 1 0))
+
+abbrev pub form_next : Type 0
+form_next =
+    image_bytes_early (record pixel_page { method = method.LZW }) unlimited 1 ≡ Err (UnsupportedError (UnsupportedCompressionMethod method.LZW))
+
+abbrev pub chunk_without_room : Type 0
+chunk_without_room = chunk_bytes_early pixel_page unlimited 0 0 ≡ Err (UsageError (InsufficientOutputBufferSize 1 0))
+
+abbrev pub unit_first : Type 0
+unit_first = unit_bytes_early pixel_page unlimited 1 0 ≡ Err (UsageError (InvalidCodingUnit 1 1))
+
+abbrev pub unit_held : Type 0
+unit_held = unit_bytes_early pixel_page unlimited 0 1 ≡ Ok tt
 
 -- an answer wants nothing
 abbrev pub answer_wants_none : Type 0

@@ -13,7 +13,7 @@ pub fn directories()
 pub fn numbers()
     ensures { s.fits × s.too_great × s.cut_off × s.other_tag × s.other_fault × s.fitting_refused × s.number_fits ×
         s.number_other × s.number_great × s.number_missing × s.number_missing_unfit ×
-        s.number_missing_given × s.number_wanting × s.number_failed × s.number_not_failed }
+        s.number_missing_given × s.number_wanting × s.missing_wanting × s.number_failed × s.number_not_failed }
 {}
 
 /// The number of a tag that may be missing.

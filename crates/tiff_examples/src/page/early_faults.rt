@@ -12,5 +12,10 @@ pub fn found()
 /// Where memory may be wanted.
 pub fn wanted()
     ensures { s.claim_wants_none × s.pixel_may_want × s.end_has_no_list × s.answer_has_no_list ×
-        s.answer_wants_none }
+        s.method_has_no_list × s.format_has_list × s.method_wants_none × s.format_may_want × s.answer_wants_none }
+{}
+
+/// What is found of slices before memory is taken.
+pub fn sliced()
+    ensures { s.room_first × s.form_next × s.chunk_without_room × s.unit_first × s.unit_held }
 {}

@@ -14,7 +14,7 @@ returns-in_err-header-clause-answer g c =
 pub returns-in_err-page-clause-answer : goal.returns-in_err-page-clause-answer
 returns-in_err-page-clause-answer g c =
     let header : Header = record { order = c.in_ok-header.header.order; kind = c.in_ok-header.header.kind; first = c.in_ok-header.header.first } in
-    let told = begun_unpaged _ (FailsFrom g.R.Source.bytes g.R.Source.failures c.args.source) (g.R.Source.bytes c.args.source) _ _ (g.R.Source.failures c.args.source) header header.first c.in_ok-header.directory c.in_err-page.field-0.0
+    let told = begun_unpaged _ _ (FailsFrom g.R.Source.bytes g.R.Source.failures c.args.source) (g.R.Source.bytes c.args.source) _ _ (g.R.Source.failures c.args.source) header header.first c.in_ok-header.directory c.in_err-page.field-0.0
     (λ grew. record {
       last = c.read_page.new.tags.source;
       told = ap (λ t. t.bytes) c.in_err-page.ensures.kept.told ∙ c.in_ok-header.ensures.kept.told;

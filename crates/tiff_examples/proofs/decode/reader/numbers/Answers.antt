@@ -17,6 +17,7 @@ returns c = (
   p.number_missing_unfit,
   p.number_missing_given,
   p.number_wanting,
+  p.missing_wanting,
   p.number_failed,
   p.number_not_failed,
 )

@@ -8,5 +8,9 @@ returns c = (
   p.pixel_may_want,
   p.end_has_no_list,
   p.answer_has_no_list,
+  p.method_has_no_list,
+  p.format_has_list,
+  p.method_wants_none,
+  p.format_may_want,
   p.answer_wants_none,
 )
