@@ -14,7 +14,7 @@ use Rattle.tiff_base.specs.declared.tags.Predictor.TheVariants.{Horizontal}
 use Rattle.tiff_base.specs.declared.tags.Predictor.TheVariants as predictor
 use Rattle.tiff_value.specs.ColorType.{sample_number}
 use Rattle.tiff_value.specs.Differences.{stored_difference, differences, predicted_row}
-use Rattle.tiff_value.specs.Predicted.{IsAppended, AppendsRow}
+use Rattle.tiff_value.specs.Predicted.{AppendsRow}
 use Rattle.tiff_value.proofs.Differences.{predicted}
 use Rattle.tiff_value.proofs.Lowest.{spelled_by}
 
@@ -23,7 +23,7 @@ in_turn : (ns : List ℕ) → map (λ k. get_or ns k 0) (range_with_len 0 (lengt
 in_turn ns = sym (fill_by_all (λ k. get_or ns k 0) ns (length ns) 0 refl (λ k h. refl))
 
 -- without the horizontal predictor numbers are left as they are
-left_plain : (predictor : Predictor) (m l s : ℕ) (ns : List ℕ) → (predictor ≡ Horizontal → ⊥) → differences predictor m l s ns ≡ ns
+pub left_plain : (predictor : Predictor) (m l s : ℕ) (ns : List ℕ) → (predictor ≡ Horizontal → ⊥) → differences predictor m l s ns ≡ ns
 unfolding differences
 left_plain predictor.None m l s ns other = in_turn ns
 left_plain predictor.Horizontal m l s ns other = absurd (other refl)
@@ -64,18 +64,6 @@ module _ {A : Type 0} (size : ℕ) (b : A → ℕ) (spelled : A → List ℕ) (b
     plain_all [] h = refl
     plain_all (x ∷ xs) h = λ i. plain x (h 0 (omega arith)) i ∷ plain_all xs (λ k lt. h (suc k) (omega (arith, lt))) i
 
-    -- differences that are made in a list of their own, as bytes
-    pub made_pushed : {B : Type 0} (r : Result B TiffError) (none made seen sent : List A) (old new : List ℕ) → none ≡ [] → seen ≡ made → sent ≡ made
-        → ((k : ℕ) → k < length row → get_or (map b row) k 0 < m) → ((k : ℕ) → k < length seen → get_or (map b seen) k 0 < m)
-        → IsAppended b (predicted_row m s (map b row)) none made
-        → MatchResult r (λ _. new ≡ old ++ flat_map spelled sent) (λ e. e ≡ OutOfMemory)
-        → MatchResult r (λ _. new ≡ old ++ flat_map (le size) (predicted_row m s (map num row))) (λ e. e ≡ OutOfMemory)
-    made_pushed (Ok x) none made seen sent old new empty here there low held is h =
-        h ∙ ap (λ (ys : List ℕ). old ++ ys) (spelled_all sent)
-        ∙ ap (λ (ns : List ℕ). old ++ flat_map (le size) ns)
-        (ap (map num) (there ∙ sym here) ∙ plain_all seen held ∙ ap (map b) (here ∙ is.whole ∙ ap (λ (ys : List A). ys ++ is.added) empty) ∙ is.same ∙ ap (predicted_row m s) (sym (plain_all row low)))
-    made_pushed (Err e) none made seen sent old new empty here there low held is h = h
-
 -- bytes are written as they are
 alone : (xs : List ℕ) → ((i : ℕ) → i < length xs → get_or xs i 0 < 256) → flat_map (le 1) xs ≡ xs
 alone [] h = refl
@@ -100,7 +88,7 @@ bytes_pushed (Ok x) s row old new low held is =
 bytes_pushed (Err e) s row old new low held is = is.0
 
 -- what some numbers give, and what those behind them give
-joined : {X : Type 0} (F : ℕ → X) (n k : ℕ) → map F (range_with_len 0 n) ++ map (λ j. F (n + j)) (range_with_len 0 k) ≡ map F (range_with_len 0 (n + k))
+pub joined : {X : Type 0} (F : ℕ → X) (n k : ℕ) → map F (range_with_len 0 n) ++ map (λ j. F (n + j)) (range_with_len 0 k) ≡ map F (range_with_len 0 (n + k))
 joined F n zero =
     let z : n + zero ≡ n = omega arith in
     append-nil (map F (range_with_len 0 n)) ∙ ap (λ j. map F (range_with_len 0 j)) (sym z)
@@ -159,7 +147,7 @@ module _ (m l s : ℕ) (numbers : List ℕ) where
       ]
 
   -- a row's differences
-  row_made : (at : ℕ) → 0 < s → s ≤ l → at + l ≤ length numbers → at % l ≡ 0
+  pub row_made : (at : ℕ) → 0 < s → s ≤ l → at + l ≤ length numbers → at % l ≡ 0
       → predicted_row m s (take l (drop at numbers)) ≡ map (λ j. stored_difference Horizontal m l s numbers (at + j)) (range_with_len 0 l)
   unfolding differences
   row_made at some whole fits e =

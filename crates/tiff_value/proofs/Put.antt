@@ -5,6 +5,8 @@ use Rattle.std.proofs.lemmas.List.Edits.{paste_all, paste-paste}
 use lib.Seq.{paste}
 use Rattle.tiff_base.specs.SourceAndSink.{put}
 use Rattle.tiff_base.specs.declared.error.TiffError.{TiffError}
+use Rattle.std.proofs.Math.Seq.{take-append-add}
+use Rattle.std.proofs.lemmas.List.{take-append-le}
 use Rattle.tiff_value.specs.Written.{Written, writer_after, SinkFails, IsCut}
 
 -- a second piece right behind the first
@@ -53,3 +55,30 @@ cut_from w v new xs d e a h s f = record {
 
 pub zeros : (n : ℕ) → n ≤ 3 → let z : List ℕ = 0 ∷ 0 ∷ 0 ∷ [] in take n z ≡ replicate n 0
 zeros n h = take-replicate n 3 0 h
+
+-- a fault of the sink while a later piece of the bytes was written
+pub cut_behind : (w v new : Written) (xs ys zs whole : List ℕ) (e : TiffError) → w.at ≤ length w.bytes → w.fault ≡ None → v ≡ writer_after w xs
+    → whole ≡ xs ++ (ys ++ zs) → IsCut ys e v new → IsCut whole e w new
+cut_behind w v new xs ys zs whole e h a s all c =
+    let n : ℕ = c.count in
+    let front : xs ++ take n ys ≡ take (length xs + n) whole =
+    ap (λ p. xs ++ p) (sym (take-append-le n ys zs (omega (arith, c.within)))) ∙ sym (take-append-add xs (ys ++ zs) n) ∙ ap (take (length xs + n)) (sym all) in
+    let put_is : put (put w.bytes w.at xs) (w.at + length xs) (take n ys) ≡ put w.bytes w.at (take (length xs + n) whole) =
+    put-put w.bytes w.at xs (take n ys) h ∙ ap (put w.bytes w.at) front in
+    let at_is : w.at + length xs + n ≡ w.at + (length xs + n) = omega arith in
+    record {
+      fresh = a;
+      fault = c.fault;
+      answer = c.answer;
+      count = length xs + n;
+      within = omega (arith, c.within, ap length all, length-append xs (ys ++ zs), length-append ys zs);
+      state = c.state ∙ (λ i. record (s i) { bytes = put (s i).bytes (s i).at (take n ys); at = (s i).at + n; fault = Some c.fault; failures = (s i).failures + 1 })
+          ∙ (λ i. record w { bytes = put_is i; at = at_is i; fault = Some c.fault; failures = w.failures + 1 });
+    }
+
+-- nothing is written
+pub writer_none : (w : Written) → w ≡ writer_after w []
+writer_none w =
+    let same : w.at + 0 ≡ w.at = omega arith in
+    let bytes_is : w.bytes ≡ put w.bytes w.at [] = sym (ap (λ n. take w.at w.bytes ++ drop n w.bytes) same ∙ take-append-drop w.at w.bytes) in
+    λ i. record w { bytes = bytes_is i; at = sym same i }

@@ -23,6 +23,10 @@ abbrev pub predicted_row : ℕ → ℕ → List ℕ → List ℕ
 predicted_row m stride row =
     if stride == 0 then [] else if nat_lt (length row) stride then [] else differences Horizontal m (length row) stride row
 
+-- the numbers from `at` up to `end` of a row as differences
+abbrev pub predicted_part : ℕ → ℕ → ℕ → ℕ → List ℕ → List ℕ
+predicted_part m stride at end row = map (λ k. stored_difference Horizontal m (length row) stride row (at + k)) (range_with_len 0 (end - at))
+
 abbrev pub is_floating : «Type» → Bool
 is_floating FLOAT = true
 is_floating DOUBLE = true

@@ -1,12 +1,12 @@
 //! Rows of samples as differences: each sample less the one a stride before it.
 
 ghost use Rattle.std.specs.Int.{w8, w16, w32, w64, cast_unsigned};
-ghost use Rattle.std.specs.Prelude.{◌≡◌, ◌+◌, ◌-◌, ◌^◌, ◌%◌, ◌<◌, ◌≤◌, ◌++◌, ℕ, get_or, length, map, Ok, IfSome, MatchResult, refl};
+ghost use Rattle.std.specs.Prelude.{◌≡◌, ◌+◌, ◌-◌, ◌*◌, ◌^◌, ◌%◌, ◌<◌, ◌≤◌, ◌++◌, ℕ, get_or, length, map, Ok, IfSome, MatchResult, refl};
 ghost use Rattle.std.specs.List.{flat_map};
 ghost use Rattle.tiff_base.specs.Number.{le};
 ghost use Rattle.tiff_base.specs.Types.{type_size};
 ghost use Rattle.tiff_value.specs.ColorType.{sample_number};
-ghost use Rattle.tiff_value.specs.Differences.{predicted_row};
+ghost use Rattle.tiff_value.specs.Differences.{predicted_part, predicted_row};
 ghost use Rattle.tiff_value.specs.Predicted.{AppendsRow};
 
 use super::tiff_value::TiffScalar;
@@ -16,12 +16,12 @@ use tiff_base::tags::{Bits32, Bits64};
 
 /// A number that a sample is in memory (this project's).
 pub trait Sample: TiffScalar + Copy {
-    ghost use Rattle.std.specs.Prelude.{◌≡◌, ◌++◌, ◌^◌, ◌%◌, ℕ, map, MatchResult};
+    ghost use Rattle.std.specs.Prelude.{◌≡◌, ◌≤◌, ◌++◌, ◌-◌, ◌*◌, ◌^◌, ◌%◌, ℕ, length, map, MatchResult};
     ghost use Rattle.std.specs.List.{flat_map};
     ghost use Rattle.tiff_base.specs.Number.{le};
     ghost use Rattle.tiff_base.specs.Types.{type_size};
     ghost use Rattle.tiff_value.specs.ColorType.{sample_number};
-    ghost use Rattle.tiff_value.specs.Differences.{predicted_row};
+    ghost use Rattle.tiff_value.specs.Differences.{predicted_part, predicted_row};
     ghost use Rattle.tiff_value.specs.Predicted.{row_of_type};
 
     // Its bits, as a number from 0 on.
@@ -47,6 +47,13 @@ pub trait Sample: TiffScalar + Copy {
         ensures { MatchResult result
             (λ _. out.new.items ≡ out.old.items ++ flat_map (le (type_size Self.value_type)) (predicted_row (256 ^ type_size Self.value_type) stride (map (sample_number (type_size Self.value_type) bits) row.now)))
             (λ e. e ≡ TiffError.OutOfMemory) };
+
+    /// Makes bytes those of the differences of a row from sample `at` up to `end`, of the bits of floating numbers too: of each
+    /// number the lowest first. Samples before `stride` are left as they are, so that a row no longer than it stands plain.
+    fn put_part(row: &[Self], at: usize, end: usize, stride: usize, out: &mut [u8])
+        requires order { (at ≤ end) × (end ≤ length row.now) }
+        requires room { length out.old ≡ (end - at) * type_size Self.value_type }
+        ensures { out.new ≡ flat_map (le (type_size Self.value_type)) (predicted_part (256 ^ type_size Self.value_type) stride at end (map (sample_number (type_size Self.value_type) bits) row.now)) };
 
     /// The bytes that samples are written as, without a copy, where each is one byte from 0 on (`u8`); else nothing.
     fn as_bytes(samples: &[Self]) -> Option<&[u8]>
@@ -85,6 +92,11 @@ trait Whole: TiffScalar + Copy {
         }
     }
 
+    // Makes bytes its own, the lowest first.
+    fn put(self, out: &mut [u8])
+        requires { length out.old ≡ type_size Self.value_type }
+        ensures { out.new ≡ le (type_size Self.value_type) (bits self) };
+
     // It is written as the bytes of its bits, the lowest first.
     ghost by_bits: { (x : Self) → Self.spelled x ≡ le (type_size Self.value_type) (bits x) };
 
@@ -120,6 +132,26 @@ fn less_all<T: Whole>(row: &[T], stride: usize, out: &mut [T])
     }
 }
 
+// Makes bytes those of a part of a row as differences; samples before `stride` are left as they are. Where the type is known, its
+// loops are compiled for it.
+fn put_row_part<T: Whole>(row: &[T], at: usize, end: usize, stride: usize, out: &mut [u8])
+    requires order { (at ≤ end) × (end ≤ length row.now) }
+    requires room { length out.old ≡ (end - at) * type_size T.value_type }
+    ensures { out.new ≡ flat_map (le (type_size T.value_type)) (predicted_part T.modulus stride at end (map (sample_number (type_size T.value_type) T.bits) row.now)) }
+{
+    let (_kind, len) = T::type_and_len();
+    let width = usize::from(len);
+    let split = stride.max(at).min(end);
+    'first: for k in at..split {
+        let to = (k - at) * width;
+        row[k].put(&mut out[to..to + width]);
+    }
+    'later: for k in split..end {
+        let to = (k - at) * width;
+        row[k].less(row[k - stride]).put(&mut out[to..to + width]);
+    }
+}
+
 // Appends a row, and then its differences in its place.
 fn push_differences<T: Whole>(row: &[T], stride: usize, out: &mut Vec<T>) -> TiffResult<()>
     ensures { AppendsRow T.bits (Ok (predicted_row T.modulus stride (map T.bits row.now))) out.old.items out.new.items result }
@@ -133,17 +165,24 @@ fn push_differences<T: Whole>(row: &[T], stride: usize, out: &mut Vec<T>) -> Tif
     Ok(())
 }
 
-// The same as bytes, of each number the lowest first: the differences are made in a list of their own.
+// The same as bytes, of each number the lowest first: zeros are appended, and made these in their place.
 fn push_row_differences<T: Whole>(row: &[T], stride: usize, out: &mut Vec<u8>) -> TiffResult<()>
     ensures { MatchResult result
         (λ _. out.new.items ≡ out.old.items ++ flat_map (le (type_size T.value_type)) (predicted_row T.modulus stride (map (sample_number (type_size T.value_type) T.bits) row.now)))
         (λ e. e ≡ TiffError.OutOfMemory) }
 {
-    let mut differences = Vec::new(out.allocator().clone()?);
-    push_differences(row, stride, &mut differences)?;
-    all_below(row);
-    all_below(&differences);
-    T::push_all(&differences, out)
+    if stride == 0 || row.len() < stride {
+        return Ok(());
+    }
+    let (_kind, len) = T::type_and_len();
+    let start = out.len();
+    let bytes = row.len().saturating_mul(usize::from(len));
+    let Some(end) = start.checked_add(bytes) else {
+        return Err(TiffError::OutOfMemory);
+    };
+    out.resize(end, 0)?;
+    put_row_part(row, 0, row.len(), stride, &mut out[start..]);
+    Ok(())
 }
 
 impl Whole for u8 {
@@ -157,6 +196,10 @@ impl Whole for u8 {
 
     fn less_lanes(row: &[u8], at: usize, before: usize, out: &mut [u8]) {
         (u8x16::from_slice(&row[at..]) - u8x16::from_slice(&row[before..])).copy_to_slice(out);
+    }
+
+    fn put(self, out: &mut [u8]) {
+        out.copy_from_slice(&self.to_le_bytes());
     }
 
     ghost by_bits = { λ x. refl };
@@ -184,6 +227,10 @@ impl Sample for u8 {
         push_differences(row, stride, out)
     }
 
+    fn put_part(row: &[u8], at: usize, end: usize, stride: usize, out: &mut [u8]) {
+        put_row_part(row, at, end, stride, out);
+    }
+
     fn as_bytes(samples: &[u8]) -> Option<&[u8]> {
         Some(samples)
     }
@@ -203,6 +250,10 @@ impl Whole for i8 {
 
     fn less_lanes(row: &[i8], at: usize, before: usize, out: &mut [i8]) {
         (i8x16::from_slice(&row[at..]) - i8x16::from_slice(&row[before..])).copy_to_slice(out);
+    }
+
+    fn put(self, out: &mut [u8]) {
+        out.copy_from_slice(&self.to_le_bytes());
     }
 
     ghost by_bits = { λ x. refl };
@@ -230,6 +281,10 @@ impl Sample for i8 {
         push_row_differences(row, stride, out)
     }
 
+    fn put_part(row: &[i8], at: usize, end: usize, stride: usize, out: &mut [u8]) {
+        put_row_part(row, at, end, stride, out);
+    }
+
     fn as_bytes(samples: &[i8]) -> Option<&[u8]> {
         None
     }
@@ -248,6 +303,10 @@ impl Whole for u16 {
 
     fn less_lanes(row: &[u16], at: usize, before: usize, out: &mut [u16]) {
         (u16x16::from_slice(&row[at..]) - u16x16::from_slice(&row[before..])).copy_to_slice(out);
+    }
+
+    fn put(self, out: &mut [u8]) {
+        out.copy_from_slice(&self.to_le_bytes());
     }
 
     ghost by_bits = { λ x. refl };
@@ -274,6 +333,10 @@ impl Sample for u16 {
         push_row_differences(row, stride, out)
     }
 
+    fn put_part(row: &[u16], at: usize, end: usize, stride: usize, out: &mut [u8]) {
+        put_row_part(row, at, end, stride, out);
+    }
+
     fn as_bytes(samples: &[u16]) -> Option<&[u8]> {
         None
     }
@@ -293,6 +356,10 @@ impl Whole for i16 {
 
     fn less_lanes(row: &[i16], at: usize, before: usize, out: &mut [i16]) {
         (i16x16::from_slice(&row[at..]) - i16x16::from_slice(&row[before..])).copy_to_slice(out);
+    }
+
+    fn put(self, out: &mut [u8]) {
+        out.copy_from_slice(&self.to_le_bytes());
     }
 
     ghost by_bits = { λ x. refl };
@@ -320,6 +387,10 @@ impl Sample for i16 {
         push_row_differences(row, stride, out)
     }
 
+    fn put_part(row: &[i16], at: usize, end: usize, stride: usize, out: &mut [u8]) {
+        put_row_part(row, at, end, stride, out);
+    }
+
     fn as_bytes(samples: &[i16]) -> Option<&[u8]> {
         None
     }
@@ -338,6 +409,10 @@ impl Whole for u32 {
 
     fn less_lanes(row: &[u32], at: usize, before: usize, out: &mut [u32]) {
         (u32x16::from_slice(&row[at..]) - u32x16::from_slice(&row[before..])).copy_to_slice(out);
+    }
+
+    fn put(self, out: &mut [u8]) {
+        out.copy_from_slice(&self.to_le_bytes());
     }
 
     ghost by_bits = { λ x. refl };
@@ -364,6 +439,10 @@ impl Sample for u32 {
         push_row_differences(row, stride, out)
     }
 
+    fn put_part(row: &[u32], at: usize, end: usize, stride: usize, out: &mut [u8]) {
+        put_row_part(row, at, end, stride, out);
+    }
+
     fn as_bytes(samples: &[u32]) -> Option<&[u8]> {
         None
     }
@@ -383,6 +462,10 @@ impl Whole for i32 {
 
     fn less_lanes(row: &[i32], at: usize, before: usize, out: &mut [i32]) {
         (i32x16::from_slice(&row[at..]) - i32x16::from_slice(&row[before..])).copy_to_slice(out);
+    }
+
+    fn put(self, out: &mut [u8]) {
+        out.copy_from_slice(&self.to_le_bytes());
     }
 
     ghost by_bits = { λ x. refl };
@@ -410,6 +493,10 @@ impl Sample for i32 {
         push_row_differences(row, stride, out)
     }
 
+    fn put_part(row: &[i32], at: usize, end: usize, stride: usize, out: &mut [u8]) {
+        put_row_part(row, at, end, stride, out);
+    }
+
     fn as_bytes(samples: &[i32]) -> Option<&[u8]> {
         None
     }
@@ -428,6 +515,10 @@ impl Whole for u64 {
 
     fn less_lanes(row: &[u64], at: usize, before: usize, out: &mut [u64]) {
         (u64x16::from_slice(&row[at..]) - u64x16::from_slice(&row[before..])).copy_to_slice(out);
+    }
+
+    fn put(self, out: &mut [u8]) {
+        out.copy_from_slice(&self.to_le_bytes());
     }
 
     ghost by_bits = { λ x. refl };
@@ -454,6 +545,10 @@ impl Sample for u64 {
         push_row_differences(row, stride, out)
     }
 
+    fn put_part(row: &[u64], at: usize, end: usize, stride: usize, out: &mut [u8]) {
+        put_row_part(row, at, end, stride, out);
+    }
+
     fn as_bytes(samples: &[u64]) -> Option<&[u8]> {
         None
     }
@@ -473,6 +568,10 @@ impl Whole for i64 {
 
     fn less_lanes(row: &[i64], at: usize, before: usize, out: &mut [i64]) {
         (i64x16::from_slice(&row[at..]) - i64x16::from_slice(&row[before..])).copy_to_slice(out);
+    }
+
+    fn put(self, out: &mut [u8]) {
+        out.copy_from_slice(&self.to_le_bytes());
     }
 
     ghost by_bits = { λ x. refl };
@@ -500,6 +599,10 @@ impl Sample for i64 {
         push_row_differences(row, stride, out)
     }
 
+    fn put_part(row: &[i64], at: usize, end: usize, stride: usize, out: &mut [u8]) {
+        put_row_part(row, at, end, stride, out);
+    }
+
     fn as_bytes(samples: &[i64]) -> Option<&[u8]> {
         None
     }
@@ -514,6 +617,10 @@ impl Whole for Bits32 {
 
     fn less(self, other: Bits32) -> Bits32 {
         Bits32(self.0.wrapping_sub(other.0))
+    }
+
+    fn put(self, out: &mut [u8]) {
+        out.copy_from_slice(&self.0.to_le_bytes());
     }
 
     ghost by_bits = { λ x. refl };
@@ -540,6 +647,10 @@ impl Sample for Bits32 {
         push_row_differences(row, stride, out)
     }
 
+    fn put_part(row: &[Bits32], at: usize, end: usize, stride: usize, out: &mut [u8]) {
+        put_row_part(row, at, end, stride, out);
+    }
+
     fn as_bytes(samples: &[Bits32]) -> Option<&[u8]> {
         None
     }
@@ -554,6 +665,10 @@ impl Whole for Bits64 {
 
     fn less(self, other: Bits64) -> Bits64 {
         Bits64(self.0.wrapping_sub(other.0))
+    }
+
+    fn put(self, out: &mut [u8]) {
+        out.copy_from_slice(&self.0.to_le_bytes());
     }
 
     ghost by_bits = { λ x. refl };
@@ -578,6 +693,10 @@ impl Sample for Bits64 {
 
     fn push_row(row: &[Bits64], stride: usize, out: &mut Vec<u8>) -> TiffResult<()> {
         push_row_differences(row, stride, out)
+    }
+
+    fn put_part(row: &[Bits64], at: usize, end: usize, stride: usize, out: &mut [u8]) {
+        put_row_part(row, at, end, stride, out);
     }
 
     fn as_bytes(samples: &[Bits64]) -> Option<&[u8]> {

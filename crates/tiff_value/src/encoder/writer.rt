@@ -9,6 +9,8 @@ ghost use Rattle.tiff_value.specs.Data.{signed_le};
 ghost use Rattle.tiff_value.specs.Stored.{StoresBytes};
 ghost use Rattle.tiff_value.specs.Written.{writer_after, new_writer, SinkFails, WritesCounted, WritesRaw};
 
+mod samples;
+
 use crate::encoder::compression::{CompressionAlgorithm, Compressor, Uncompressed};
 use std::alloc::Global;
 use std::marker::Model;

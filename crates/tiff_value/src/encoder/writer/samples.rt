@@ -1,0 +1,106 @@
+//! Samples are written, without a list of their bytes.
+
+ghost use Rattle.std.specs.List.{flat_map};
+ghost use Rattle.std.specs.Prelude.{◌≡◌, ◌%◌, ◌^◌, ◌<◌, ◌≤◌, length, map, MatchResult, None};
+ghost use Rattle.tiff_base.specs.Number.{le};
+ghost use Rattle.tiff_base.specs.Types.{type_size};
+ghost use Rattle.tiff_value.specs.ColorType.{sample_number};
+ghost use Rattle.tiff_value.specs.Differences.{differences, predicted_row};
+ghost use Rattle.tiff_value.specs.Written.{writer_after, IsCut, WritesCounted, WritesRaw};
+
+use super::TiffWriter;
+use crate::encoder::differences::Sample;
+use tiff_base::error::{TiffError, TiffResult, UsageError};
+use tiff_base::io::Sink;
+use tiff_base::tags::Predictor;
+
+// How many bytes are made before they go to the sink: few enough to stay near the processor.
+const BAND: usize = 8192;
+
+impl<W: Sink> TiffWriter<W> {
+    // The bytes of a row of differences, by way of a room for some of them; samples before `stride` go out as they are.
+    fn write_row<T: Sample>(&mut self, row: &[T], stride: usize, room: &mut [u8]) -> TiffResult<()>
+        requires stride { (0 < stride) × (stride ≤ length row.now) }
+        requires room { length room.old ≡ BAND }
+        requires fresh { self.old.fault ≡ None }
+        ensures { MatchResult result
+            (λ _. self.new ≡ writer_after self.old (flat_map (le (type_size T.value_type)) (predicted_row (256 ^ type_size T.value_type) stride (map (sample_number (type_size T.value_type) T.bits) row.now))))
+            (λ e. IsCut (flat_map (le (type_size T.value_type)) (predicted_row (256 ^ type_size T.value_type) stride (map (sample_number (type_size T.value_type) T.bits) row.now))) e self.old self.new) }
+    {
+        let (_kind, len) = T::type_and_len();
+        let width = usize::from(len);
+        let most = BAND / width;
+        let _start = self.offset();
+        let mut at = 0;
+        while at < row.len() {
+            let end = at + most.min(row.len() - at);
+            let band = &mut room[..(end - at) * width];
+            T::put_part(row, at, end, stride, band);
+            self.write_raw(band)?;
+            at = end;
+        }
+        Ok(())
+    }
+
+    // The same of several rows.
+    fn write_rows<T: Sample>(&mut self, samples: &[T], row: usize, stride: usize) -> TiffResult<()>
+        requires stride { (0 < stride) × (stride ≤ row) }
+        requires whole { length samples.now % row ≡ 0 }
+        requires fresh { self.old.fault ≡ None }
+        ensures { MatchResult result
+            (λ _. self.new ≡ writer_after self.old (flat_map (le (type_size T.value_type)) (differences Predictor.Horizontal (256 ^ type_size T.value_type) row stride (map (sample_number (type_size T.value_type) T.bits) samples.now))))
+            (λ e. IsCut (flat_map (le (type_size T.value_type)) (differences Predictor.Horizontal (256 ^ type_size T.value_type) row stride (map (sample_number (type_size T.value_type) T.bits) samples.now))) e self.old self.new) }
+    {
+        let mut room = [0u8; BAND];
+        let _start = self.offset();
+        let mut at = 0;
+        while at < samples.len() {
+            self.write_row(&samples[at..at + row], stride, &mut room)?;
+            at += row;
+        }
+        Ok(())
+    }
+
+    // All samples, with no count for `last_written`. Where nothing is predicted they are one row of which no difference is taken.
+    fn write_predicted<T: Sample>(
+        &mut self,
+        samples: &[T],
+        predictor: Predictor,
+        row: usize,
+        stride: usize,
+    ) -> TiffResult<()>
+        requires stride { (0 < stride) × (stride ≤ row) }
+        requires whole { length samples.now % row ≡ 0 }
+        ensures { WritesRaw (flat_map (le (type_size T.value_type)) (differences predictor (256 ^ type_size T.value_type) row stride (map (sample_number (type_size T.value_type) T.bits) samples.now))) self.old self.new result }
+    {
+        if self.failed {
+            return Err(TiffError::UsageError(UsageError::WriterFailed));
+        }
+        match predictor {
+            Predictor::Horizontal => self.write_rows(samples, row, stride),
+            _ => {
+                let all = samples.len().max(1);
+                self.write_rows(samples, all, all)
+            }
+        }
+    }
+
+    /// Writes the bytes of samples, as `push_chunk` appends them, and takes no memory for them (this project's). Errors are those
+    /// of `write_plain`.
+    pub fn write_samples<T: Sample>(
+        &mut self,
+        samples: &[T],
+        predictor: Predictor,
+        row: usize,
+        stride: usize,
+    ) -> TiffResult<()>
+        requires stride { (0 < stride) × (stride ≤ row) }
+        requires whole { length samples.now % row ≡ 0 }
+        ensures { WritesCounted (flat_map (le (type_size T.value_type)) (differences predictor (256 ^ type_size T.value_type) row stride (map (sample_number (type_size T.value_type) T.bits) samples.now))) self.old self.new result }
+    {
+        let start = self.at;
+        self.write_predicted(samples, predictor, row, stride)?;
+        self.last = self.at - start;
+        Ok(())
+    }
+}
