@@ -61,7 +61,10 @@ pub fn add_lines(report: &mut Report) -> TiffResult<()> {
     add_large(report);
     add_unsigned_lists(report);
     add_other_lists(report);
-    add_list(report, vec![in report.alloc(); Value::Short(1), Value::Rational(1, 2)]?);
+    add_list(
+        report,
+        vec![in report.alloc(); Value::Short(1), Value::Rational(1, 2)]?,
+    );
     let text = String::from_str(report.alloc(), "ab")?;
     add_text(report, Value::Ascii(text));
     Ok(())
