@@ -1,9 +1,10 @@
 -- The worked examples of Lists hold.
 use Rattle.std.specs.Prelude.{refl, ℕ, [], ◌∷◌, false, Result, Ok, Err}
-use Rattle.std.proofs.Common.{ap, arith}
+use Rattle.std.proofs.Common.{ap, sym, arith}
 use Rattle.std.proofs.lemmas.Bool.{false≢true}
 use Rattle.tiff_base.specs.declared.error.TiffError.{TiffError}
 use Rattle.tiff_base.specs.declared.error.TiffError.TheVariants.{LimitsExceeded}
+use Rattle.tiff_base.specs.declared.tags.Tag.TheVariants.{Compression}
 use Rattle.std.specs.Prelude.{length}
 use Rattle.tiff_value.specs.Buffer.{BufferRecord}
 use Rattle.tiff_base.specs.Directory.{directory_at, entries_from, last_of_each, entry_of}
@@ -16,6 +17,7 @@ use Rattle.tiff_decode.specs.Machine.{Decoding}
 use Rattle.tiff_decode.specs.Outcome as outcome
 use Rattle.tiff_examples.specs.Decoders.{gray_state, gray_decoder, two_decoder}
 use Rattle.tiff_examples.specs.Decode.Steps as s
+use Rattle.tiff_examples.proofs.OfIfd.View.{short_datum}
 
 -- which of two answers
 right : Result (ℕ × ℕ) TiffError → ℕ
@@ -196,7 +198,7 @@ pub item_not_failed : s.item_not_failed
 item_not_failed = λ h. omega (arith, h.1, h.2)
 
 pub item_told : s.item_told
-item_told = (0, (refl, refl), refl)
+item_told = (0, (λ i. Ok (Compression, sym (short_datum 1) i), refl), refl)
 
 fault_number : TiffError → ℕ
 fault_number LimitsExceeded = 1

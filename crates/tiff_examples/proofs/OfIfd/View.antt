@@ -1,31 +1,45 @@
 -- The worked examples of Views compute.
-use Rattle.std.specs.Prelude.{◌≡◌, refl, ℕ, ℤ, List, [], ◌∷◌, ◌++◌, length, map}
-use Rattle.std.proofs.Common.{ap, take, drop, ◌∙◌}
+use Rattle.std.specs.Prelude.{◌≡◌, refl, ℕ, ℤ, List, [], ◌∷◌, ◌++◌, Vec, length, map}
+use Rattle.std.proofs.Common.{ap, take, drop, ◌∙◌, rules}
 use Rattle.std.specs.Cmp.{nat_cmp_total}
 use Rattle.std.specs.FinMap.{empty, insert, get-insert}
 use Rattle.std.specs.Int.{w8, cast_unsigned}
+use Rattle.std.specs.declared.alloc.Global.{Global}
 use Rattle.tiff_base.specs.declared.tags.Bits16.{Bits16}
+use Rattle.tiff_ifd.specs.Datum as d
+use Rattle.tiff_ifd.specs.Datum.{more, none, datum_list_of}
+use Rattle.tiff_ifd.specs.View.{datum, datum_list}
+use Rattle.tiff_ifd.specs.declared.value.Value.{Value, the_lemmas}
+use Rattle.tiff_ifd.specs.declared.value.Value.TheVariants as v
 use Rattle.tiff_page.specs.declared.layout.DecodingSampleType.TheVariants as type
 use Rattle.tiff_page.specs.Image.{Decoded}
 use Rattle.tiff_examples.specs.Ifd.View as s
 
+byte_datum : (n : ℕ) → datum (v.Byte n) ≡ d.byte n
+byte_datum n = search (rules, the_lemmas)
+
+pub short_datum : (n : ℕ) → datum (v.Short n) ≡ d.short n
+short_datum n = search (rules, the_lemmas)
+
+list_datum : (vs : Vec Value Global) → datum (v.List vs) ≡ d.list (datum_list_of (datum_list vs.items))
+list_datum vs = search (rules, the_lemmas)
+
 pub byte_seen : s.byte_seen
-byte_seen = refl
+byte_seen = byte_datum 3
+
+inner_datum : (vs : Vec Value Global) → vs.items ≡ (v.Byte 2 ∷ []) → datum (v.List vs) ≡ d.list (more (d.byte 2) none)
+inner_datum vs e = list_datum vs ∙ ap (λ xs. d.list (datum_list_of (datum_list xs))) e ∙ ap (λ x. d.list (more x none)) (byte_datum 2)
 
 pub list_seen : s.list_seen
-list_seen = refl
+list_seen outer inner e f =
+    list_datum outer ∙ ap (λ xs. d.list (datum_list_of (datum_list xs))) f
+    ∙ λ i. d.list (more (short_datum 1 i) (more (inner_datum inner e i) none))
 
 pub float_seen : s.float_seen
-float_seen = refl
-
-pub no_depth : s.no_depth
-no_depth = refl
-
-pub two_deep : s.two_deep
-two_deep = refl
+float_seen = search (rules, the_lemmas)
 
 pub two_seen : s.two_seen
-two_seen = refl
+two_seen = λ i. byte_datum 1 i ∷ short_datum 2 i ∷ []
 
 pub bytes_decoded : s.bytes_decoded
 bytes_decoded samples = refl

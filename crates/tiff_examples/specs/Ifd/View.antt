@@ -9,8 +9,9 @@ use Rattle.tiff_ifd.specs.Same.{same}
 use Rattle.std.specs.declared.alloc.Global.{Global}
 use Rattle.tiff_base.specs.declared.tags.Bits16.{Bits16}
 use Rattle.tiff_ifd.specs.Datum as d
-use Rattle.tiff_ifd.specs.Datum.{none, more, depth}
+use Rattle.tiff_ifd.specs.Datum.{none, more}
 use Rattle.tiff_ifd.specs.View.{datum, datum_list}
+use Rattle.tiff_ifd.specs.declared.value.Value.{Value}
 use Rattle.tiff_ifd.specs.declared.value.Value.TheVariants as v
 use Rattle.tiff_page.specs.declared.layout.DecodingSampleType.TheVariants as type
 use Rattle.tiff_decode.specs.declared.result.DecodingResult.TheVariants as result
@@ -22,18 +23,13 @@ abbrev pub byte_seen : Type 0
 byte_seen = datum (v.Byte 3) ≡ d.byte 3
 
 abbrev pub list_seen : Type 0
-list_seen = datum (v.List (d.short 1 ∷ d.list none ∷ [])) ≡ d.list (more (d.short 1) (more (d.list none) none))
+list_seen =
+    (outer inner : Vec Value Global) → inner.items ≡ (v.Byte 2 ∷ []) → outer.items ≡ (v.Short 1 ∷ v.List inner ∷ [])
+    → datum (v.List outer) ≡ d.list (more (d.short 1) (more (d.list (more (d.byte 2) none)) none))
 
 -- floating numbers are their bits
 abbrev pub float_seen : Type 0
 float_seen = datum (v.Float (record { 0 = 0x3f80_0000 })) ≡ d.float 0x3f80_0000
-
--- how deep lists nest
-abbrev pub no_depth : Type 0
-no_depth = depth (d.ascii (0x41 ∷ [])) ≡ 0
-
-abbrev pub two_deep : Type 0
-two_deep = depth (d.list (more (d.list (more (d.byte 1) none)) none)) ≡ 2
 
 abbrev pub two_seen : Type 0
 two_seen = datum_list (v.Byte 1 ∷ v.Short 2 ∷ []) ≡ (d.byte 1 ∷ d.short 2 ∷ [])

@@ -4,7 +4,7 @@ ghost use Rattle.tiff_examples.specs.Ifd.View as s;
 
 /// Values and samples as plain data.
 pub fn views()
-    ensures { s.byte_seen × s.list_seen × s.float_seen × s.no_depth × s.two_deep × s.two_seen ×
+    ensures { s.byte_seen × s.list_seen × s.float_seen × s.two_seen ×
         s.bytes_decoded × s.signed_decoded × s.floats_decoded × s.first_stays ×
         s.zeros_behind × s.no_zeros × s.wide_bytes }
 {}

@@ -7,8 +7,6 @@ returns c = (
   p.byte_seen,
   p.list_seen,
   p.float_seen,
-  p.no_depth,
-  p.two_deep,
   p.two_seen,
   p.bytes_decoded,
   p.signed_decoded,
