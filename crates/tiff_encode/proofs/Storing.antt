@@ -1,7 +1,7 @@
 -- A chunk is written.
 use Rattle.std.proofs.Common.{◌≡◌, ℕ, ◌-◌, ◌*◌, ◌%◌, ◌^◌, ◌<◌, min, Bool, true, false, cond, List, length, get_or, Option, Some, None, Result, Ok, Err, refl, ap, sym, ◌∙◌, subst, inl, inr, arith, append-nil}
 use Rattle.std.proofs.lemmas.Bool.{eqb-true}
-use Rattle.std.proofs.lemmas.List.FromFn.{fill_by_all}
+use Rattle.std.proofs.lemmas.List.FromFn.{fill_by_all, length-map-range_with_len}
 use Rattle.std.proofs.Math.Nat.{mul-mod_left, zero-mod}
 use Rattle.std.specs.List.{flat_map}
 use Rattle.std.specs.Prelude.{◌⊎◌, ◌==◌, ◌||◌, not, IfSome}
@@ -13,7 +13,8 @@ use Rattle.tiff_base.specs.declared.tags.CompressionMethod.TheVariants as method
 use Rattle.tiff_base.specs.declared.tags.Predictor.TheVariants as predictor
 use Rattle.tiff_base.specs.Number.{le}
 use Rattle.tiff_page.specs.Pixels.{stored_samples}
-use Rattle.tiff_value.specs.Differences.{differences}
+use Rattle.tiff_base.specs.declared.tags.Predictor.{Predictor}
+use Rattle.tiff_value.specs.Differences.{stored_difference, differences}
 use Rattle.tiff_value.specs.Packed.{IsStored}
 use Rattle.tiff_encode.specs.Machine.{FileState, OpenImage, WriteOutcome, Writing, by_cause}
 use Rattle.tiff_encode.specs.Chunks.{image_page, row_samples, chunk_rows, is_left, next_chunk_sample_count}
@@ -25,6 +26,7 @@ use Rattle.tiff_encode.specs.FileWrites.{file_with_bytes}
 use Rattle.tiff_encode.specs.Stored.{unpacked_chunk}
 use Rattle.tiff_encode.specs.Storing.{AppendsChunk, StoresChunk, WritesStoredChunk}
 use Rattle.tiff_encode.proofs.Calling.{none_some, cut_off}
+use Rattle.tiff_encode.proofs.Shown.Bytes.{length_written}
 
 -- ---- a chunk is whole rows
 
@@ -112,6 +114,29 @@ unfolding write_chunk_cause
 chunk_counted old i n stored h =
     eqb-true n (next_chunk_sample_count i)
     (counted_by old.fault (is_past_chunks i) (is_left i) (n == next_chunk_sample_count i) (is_past old.kind (end_of old) || is_past old.kind stored) h)
+
+-- ---- samples whose bytes are made on their way
+
+module _ (i : OpenImage) (ns : List ℕ) (size : ℕ) (sized : i.size ≡ size) where
+  -- how many bytes they have
+  pub unpacked_len : (n : ℕ) → n ≡ length ns * size → n ≡ length (unpacked_chunk i ns)
+  unfolding unpacked_chunk differences
+  unpacked_len n h =
+      let p = image_page i in
+      let many = length-map-range_with_len (stored_difference i.predictor (256 ^ i.size) (row_samples p) (stored_samples p) ns) 0 (length ns) in
+      h ∙ ap (λ k. length ns * k) (sym sized) ∙ ap (λ k. k * i.size) (sym many)
+      ∙ sym (length_written i.size (differences i.predictor (256 ^ i.size) (row_samples p) (stored_samples p) ns))
+
+  -- which they are
+  pub unpacked_is : (predictor : Predictor) (row stride : ℕ) → i.predictor ≡ predictor → row ≡ row_samples (image_page i) → stride ≡ stored_samples (image_page i)
+      → flat_map (le size) (differences predictor (256 ^ size) row stride ns) ≡ unpacked_chunk i ns
+  unfolding unpacked_chunk
+  unpacked_is predictor row stride is wide deep =
+      λ j. flat_map (le (sym sized j)) (differences (sym is j) (256 ^ sym sized j) (wide j) (deep j) ns)
+
+-- bytes that aren't packed are stored as they are
+pub plain_stored : (i : OpenImage) (bytes : List ℕ) → i.method ≡ method.None → IsStored i.method bytes bytes
+plain_stored i bytes packed = subst (λ m. IsStored m bytes bytes) (sym packed) refl
 
 -- ---- samples that are stored
 

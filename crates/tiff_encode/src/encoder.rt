@@ -28,8 +28,13 @@ mod storing;
 mod tagging;
 mod values;
 
-ghost use Rattle.std.specs.Prelude.{◌≡◌, ℕ, ◌+◌, ◌<◌, ◌≤◌, [], length, IfOk, IsSome, MatchResult, false};
+ghost use Rattle.std.specs.List.{flat_map};
+ghost use Rattle.std.specs.Prelude.{◌≡◌, ℕ, ◌+◌, ◌%◌, ◌^◌, ◌<◌, ◌≤◌, [], length, map, IfOk, IsSome, MatchResult, false};
+ghost use Rattle.tiff_base.specs.Number.{le};
+ghost use Rattle.tiff_base.specs.Types.{type_size};
 ghost use Rattle.tiff_base.specs.declared.tags.FileKind.TheVariants.{Big, Classic};
+ghost use Rattle.tiff_value.specs.ColorType.{sample_number};
+ghost use Rattle.tiff_value.specs.Differences.{differences};
 ghost use Rattle.tiff_encode.specs.FileBytes.{padding, offset_len};
 ghost use Rattle.tiff_encode.specs.Calls as calls;
 ghost use Rattle.tiff_encode.specs.Causes.{is_past};
@@ -48,6 +53,7 @@ use tiff_base::error::TiffResult;
 use tiff_base::io::Sink;
 use tiff_base::tags::FileKind;
 pub use tiff_base::tags::Predictor;
+use tiff_value::encoder::differences::Sample;
 use tiff_value::encoder::writer::TiffWriter;
 
 /// Writes a file: a header, directories and pages. After a fault of the sink each call that writes answers
@@ -178,6 +184,21 @@ impl<W: Sink, K: TiffKind> TiffEncoder<W, K> {
         ensures { AppendsToFile bytes.now self.old self.new result }
     {
         self.writer.write_plain(bytes)
+    }
+
+    // Rows of samples at the end, as differences where these are predicted, without a list of their bytes.
+    fn append_rows<T: Sample>(
+        &mut self,
+        samples: &[T],
+        predictor: Predictor,
+        row: usize,
+        stride: usize,
+    ) -> TiffResult<()>
+        requires stride { (0 < stride) × (stride ≤ row) }
+        requires whole { length samples.now % row ≡ 0 }
+        ensures { AppendsToFile (flat_map (le (type_size T.value_type)) (differences predictor (256 ^ type_size T.value_type) row stride (map (sample_number (type_size T.value_type) T.bits) samples.now))) self.old self.new result }
+    {
+        self.writer.write_samples(samples, predictor, row, stride)
     }
 
     // Zeros up to a multiple of 4.

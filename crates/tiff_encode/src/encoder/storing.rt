@@ -1,12 +1,13 @@
 //! Chunks are written.
 
-ghost use Rattle.std.specs.Prelude.{◌≡◌, ℕ, ◌-◌, ◌^◌, ◌<◌, length, map, IfSome, MatchResult, None, Some};
+ghost use Rattle.std.specs.Prelude.{◌≡◌, ℕ, ◌-◌, ◌*◌, ◌^◌, ◌<◌, ◌≤◌, length, map, IfSome, MatchResult, None, Some};
 ghost use Rattle.tiff_base.specs.Types.{type_size};
 ghost use Rattle.tiff_value.specs.ColorType.{sample_number};
 ghost use Rattle.tiff_value.specs.Packed.{IsStored};
 ghost use Rattle.tiff_encode.specs.Calls as calls;
 ghost use Rattle.tiff_encode.specs.Causes.{end_of, write_chunk_cause, write_strip_cause};
-ghost use Rattle.tiff_encode.specs.Chunks.{next_chunk_sample_count};
+ghost use Rattle.tiff_page.specs.Pixels.{stored_samples};
+ghost use Rattle.tiff_encode.specs.Chunks.{image_page, next_chunk_sample_count, row_samples};
 ghost use Rattle.tiff_encode.specs.Machine.{compression_method};
 ghost use Rattle.tiff_encode.specs.Placing.{Checks};
 ghost use Rattle.tiff_encode.specs.Storing.{chunk_test, AppendsChunk, StoresChunk, WritesStoredChunk};
@@ -37,7 +38,31 @@ fn pack(alloc: Global, compression: Compression, bytes: Vec<u8>) -> TiffResult<V
     }
 }
 
+// How many bytes so many samples have. Its only error is `OutOfMemory`: more than a number can tell are in no memory.
+fn byte_count<T: Sample>(count: usize) -> TiffResult<usize>
+    ensures { MatchResult result (λ n. (n ≡ count * type_size T.value_type) × (count < 2 ^ 64 - 1)) (λ e. e ≡ TiffError.OutOfMemory) }
+{
+    if count == usize::MAX {
+        return Err(TiffError::OutOfMemory);
+    }
+    let (_kind, len) = T::type_and_len();
+    match count.checked_mul(usize::from(len)) {
+        Some(bytes) => Ok(bytes),
+        None => Err(TiffError::OutOfMemory),
+    }
+}
+
 impl<C: ColorType> Drawing<C> {
+    // How many samples a row of a chunk has, and a pixel there.
+    fn row_and_stride(&self) -> (usize, usize)
+        ensures row { result.0 ≡ row_samples (image_page self.now) }
+        ensures stride { result.1 ≡ stored_samples (image_page self.now) }
+        ensures order { (0 < result.1) × (result.1 ≤ result.0) }
+    {
+        let stride = self.stored_samples() as usize;
+        (self.form.chunk_width as usize * stride, stride)
+    }
+
     // The bytes of the next chunk before it is packed.
     #[tactic(auto, unfolding(crate::specs::Stored::unpacked_chunk))]
     fn chunk_bytes(&self, alloc: Global, samples: &[C::Inner]) -> TiffResult<Vec<u8>>
@@ -47,8 +72,7 @@ impl<C: ColorType> Drawing<C> {
             (λ v. v.items ≡ stored.unpacked_chunk self.now (map (sample_number (type_size C.Inner.value_type) C.Inner.bits) samples.now))
             (λ e. e ≡ TiffError.OutOfMemory) }
     {
-        let stride = self.stored_samples() as usize;
-        let row = self.form.chunk_width as usize * stride;
+        let (row, stride) = self.row_and_stride();
         let mut bytes = Vec::new(alloc);
         push_chunk(samples, self.predictor, row, stride, &mut bytes)?;
         Ok(bytes)
@@ -144,7 +168,33 @@ impl<W: Sink, K: TiffKind> TiffEncoder<W, K> {
         Ok(())
     }
 
-    /// The next chunk, of as many samples as it has. Samples of 8 bits that are stored as they lie are lent to the sink.
+    // The next chunk of an image that isn't packed, whose bytes are made on their way to the sink.
+    fn append_samples<C: ColorType>(
+        &mut self,
+        image: &mut Drawing<C>,
+        samples: &[C::Inner],
+    ) -> TiffResult<()>
+        requires { length samples.now ≡ next_chunk_sample_count image.old }
+        ensures { AppendsChunk (calls.write_chunk image.old (length samples.now) (stored.unpacked_chunk image.old
+            (map (sample_number (type_size C.Inner.value_type) C.Inner.bits) samples.now)) self.old) image.old result self.old self.new image.new }
+    {
+        let bytes = byte_count::<C::Inner>(samples.len())?;
+        let (row, stride) = image.row_and_stride();
+        let predictor = image.predictor;
+        let offset = self.chunk_offset(image, samples.len(), bytes)?;
+        let Ok(()) = image.chunks.reserve(1) else {
+            return Err(TiffError::OutOfMemory);
+        };
+        self.append_rows(samples, predictor, row, stride)?;
+        image.chunks.push_reserved(Chunk {
+            offset,
+            stored: bytes as u64,
+        });
+        Ok(())
+    }
+
+    /// The next chunk, of as many samples as it has. Where it isn't packed, no list is made of its bytes: samples of 8 bits that are
+    /// stored as they lie are lent to the sink.
     pub(crate) fn put_chunk<C: ColorType>(
         &mut self,
         image: &mut Drawing<C>,
@@ -156,6 +206,9 @@ impl<W: Sink, K: TiffKind> TiffEncoder<W, K> {
     {
         if let Some(bytes) = image.lent_bytes(samples) {
             return self.append_chunk(image, samples.len(), bytes);
+        }
+        if let Compression::Uncompressed = image.compression {
+            return self.append_samples(image, samples);
         }
         let stored = image.stored_bytes(self.alloc, samples)?;
         self.append_chunk(image, samples.len(), &stored)

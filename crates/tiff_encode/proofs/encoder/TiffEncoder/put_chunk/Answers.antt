@@ -1,10 +1,11 @@
-use Rattle.std.proofs.Common.{map, subst, sym}
+use Rattle.std.proofs.Common.{length, map, ap, subst, sym, ◌∙◌}
 use Rattle.std.proofs.lemmas.List.{length-map}
 use Rattle.tiff_base.specs.Types.{type_size}
 use Rattle.tiff_value.specs.ColorType.{sample_number}
 use Rattle.tiff_value.specs.Packed.{IsStored}
+use Rattle.tiff_encode.specs.Machine.{compression_method}
 use Rattle.tiff_encode.specs.Stored.{unpacked_chunk}
-use Rattle.tiff_encode.proofs.Storing.{chunk_stored}
+use Rattle.tiff_encode.proofs.Storing.{chunk_stored, plain_stored}
 use Rattle.tiff_encode.proofs.encoder.TiffEncoder.put_chunk.Goals as goal
 
 pub returns-in-Some : goal.returns-in-Some
@@ -21,3 +22,12 @@ returns g c =
     c.in_ok-stored.ensures in
     chunk_stored c.args.self.now c.args.image.now numbers c.append_chunk-2.new.self c.append_chunk-2.new.image _
     c.deref.result.now c.append_chunk-2.result (sym (length-map c.args.samples.now number)) is_stored c.append_chunk-2.ensures
+
+pub returns-in-Uncompressed : goal.returns-in-Uncompressed
+returns-in-Uncompressed g c =
+    let number = sample_number (type_size g.C.Inner.TiffValue.value_type) g.C.Inner.Sample.bits in
+    let i = c.args.image.now in
+    let numbers = map number c.args.samples.now in
+    let packed = sym (ap (λ i. i.method) c.image.view_is) ∙ ap compression_method c.in-Uncompressed.is in
+    chunk_stored c.args.self.now i numbers c.append_samples.new.self c.append_samples.new.image (length c.args.samples.now)
+    (unpacked_chunk i numbers) c.append_samples.result (sym (length-map c.args.samples.now number)) (plain_stored i (unpacked_chunk i numbers) packed) c.append_samples.ensures

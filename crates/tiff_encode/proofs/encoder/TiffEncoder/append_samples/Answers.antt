@@ -1,0 +1,61 @@
+use Rattle.std.proofs.Common.{rules, ◌≡◌, ◌^◌, ◌++◌, ◌∷◌, [], List, ℕ, length, map, ap, sym, ◌∙◌, subst}
+use Rattle.std.proofs.lemmas.List.{length-map}
+use Rattle.std.specs.Prelude.{◌*◌, ◌⊎◌}
+use Rattle.tiff_base.specs.Types.{type_size}
+use Rattle.tiff_value.specs.ColorType.{sample_number}
+use Rattle.tiff_encode.specs.Encoder.{AppendIsStopped, AppendIsCut}
+use Rattle.tiff_encode.specs.FileWrites.{file_with_bytes}
+use Rattle.tiff_encode.specs.Stored.{unpacked_chunk}
+use Rattle.tiff_encode.proofs.Storing.{append_refused, append_wanting, append_cut, append_done, unpacked_is, unpacked_len, whole_rows}
+use Rattle.tiff_encode.proofs.encoder.TiffEncoder.append_samples.Goals as goal
+
+pub returns-in_err-offset : goal.returns-in_err-offset
+returns-in_err-offset g c =
+    let size = type_size g.C.Inner.TiffValue.value_type in
+    let i = c.args.image.now in
+    let numbers = map (sample_number size g.C.Inner.Sample.bits) c.args.samples.now in
+    let long = length-map c.args.samples.now (sample_number size g.C.Inner.Sample.bits) in
+    let many = unpacked_len i numbers size (sym (ap (λ i. i.size) c.image.view_is)) c.in_ok-bytes.bytes (c.in_ok-bytes.ensures.0 ∙ ap (λ n. n * size) (sym long)) in
+    let told =
+    append_refused c.args.self.now i (length c.args.samples.now) (unpacked_chunk i numbers) c.in_ok-bytes.bytes c.in_err-offset.field-0.0 many c.in_err-offset.ensures in
+    search rules
+
+pub append_rows-requires-clause-whole : goal.append_rows-requires-clause-whole
+append_rows-requires-clause-whole g c =
+    whole_rows c.args.image.now (length c.args.samples.now) c.row_and_stride-row.result.0 c.requires c.in_ok-bytes.ensures.1 c.row_and_stride-row.ensures.row
+
+pub returns-in_err-append_rows : goal.returns-in_err-append_rows
+returns-in_err-append_rows g c =
+    let size = type_size g.C.Inner.TiffValue.value_type in
+    let i = c.args.image.now in
+    let old = c.args.self.now in
+    let new = c.append_rows.new.self in
+    let e = c.in_err-append_rows.field-0.0 in
+    let numbers = map (sample_number size g.C.Inner.Sample.bits) c.args.samples.now in
+    let long = length-map c.args.samples.now (sample_number size g.C.Inner.Sample.bits) in
+    let sized = sym (ap (λ i. i.size) c.image.view_is) in
+    let many = unpacked_len i numbers size sized c.in_ok-bytes.bytes (c.in_ok-bytes.ensures.0 ∙ ap (λ n. n * size) (sym long)) in
+    let same = unpacked_is i numbers size sized c.image.inside.predictor c.row_and_stride-row.result.0 c.row_and_stride-row.result.1 (sym (ap (λ i. i.predictor) c.image.view_is))
+    c.row_and_stride-row.ensures.row c.row_and_stride-row.ensures.stride in
+    let chunks = c.in-Ok.ensures.items ∙ ap (λ i. i.chunks) c.image.view_is in
+    let told =
+    append_cut old i (length c.args.samples.now) (unpacked_chunk i numbers) c.in_ok-bytes.bytes e new _ many c.in_ok-offset.ensures.0 c.in_ok-offset.ensures.2
+    (subst (λ (xs : List ℕ). AppendIsStopped e old new ⊎ AppendIsCut xs e old new) same c.in_err-append_rows.ensures)
+    (λ j. record (c.image.view_is j) { chunks = chunks j }) in
+    search rules
+
+pub returns : goal.returns
+returns g c =
+    let size = type_size g.C.Inner.TiffValue.value_type in
+    let i = c.args.image.now in
+    let numbers = map (sample_number size g.C.Inner.Sample.bits) c.args.samples.now in
+    let long = length-map c.args.samples.now (sample_number size g.C.Inner.Sample.bits) in
+    let sized = sym (ap (λ i. i.size) c.image.view_is) in
+    let many = unpacked_len i numbers size sized c.in_ok-bytes.bytes (c.in_ok-bytes.ensures.0 ∙ ap (λ n. n * size) (sym long)) in
+    let same = unpacked_is i numbers size sized c.image.inside.predictor c.row_and_stride-row.result.0 c.row_and_stride-row.result.1 (sym (ap (λ i. i.predictor) c.image.view_is))
+    c.row_and_stride-row.ensures.row c.row_and_stride-row.ensures.stride in
+    let before = c.in-Ok.ensures.items ∙ ap (λ i. i.chunks) c.image.view_is in
+    let chunks = c.push_reserved.ensures.items ∙ (λ j. before j ++ (record { offset = c.in_ok-offset.offset; stored = many j }) ∷ []) in
+    append_done c.args.self.now i (length c.args.samples.now) (unpacked_chunk i numbers) c.in_ok-bytes.bytes c.in_ok-offset.offset c.append_rows.new.self _ many
+    c.in_ok-offset.ensures.2 c.in_ok-offset.ensures.1 (c.in_ok-append_rows.ensures.1 ∙ ap (file_with_bytes c.args.self.now) same)
+    (λ j. record (c.image.view_is j) { chunks = chunks j })
