@@ -1,4 +1,4 @@
-use Rattle.std.proofs.Common.{rules, ◌≡◌, ◌^◌, ◌++◌, ◌∷◌, [], List, ℕ, length, map, ap, sym, ◌∙◌, subst}
+use Rattle.std.proofs.Common.{rules, ◌++◌, ◌∷◌, [], List, ℕ, length, map, ap, sym, ◌∙◌, subst}
 use Rattle.std.proofs.lemmas.List.{length-map}
 use Rattle.std.specs.Prelude.{◌*◌, ◌⊎◌}
 use Rattle.tiff_base.specs.Types.{type_size}
@@ -6,7 +6,7 @@ use Rattle.tiff_value.specs.ColorType.{sample_number}
 use Rattle.tiff_encode.specs.Encoder.{AppendIsStopped, AppendIsCut}
 use Rattle.tiff_encode.specs.FileWrites.{file_with_bytes}
 use Rattle.tiff_encode.specs.Stored.{unpacked_chunk}
-use Rattle.tiff_encode.proofs.Storing.{append_refused, append_wanting, append_cut, append_done, unpacked_is, unpacked_len, whole_rows}
+use Rattle.tiff_encode.proofs.Storing.{append_refused, append_cut, append_done, unpacked_is, unpacked_len, whole_rows}
 use Rattle.tiff_encode.proofs.encoder.TiffEncoder.append_samples.Goals as goal
 
 pub returns-in_err-offset : goal.returns-in_err-offset
