@@ -22,6 +22,7 @@ fn name_values<W: Sink, S: Sample>() {
     let _call = S::cut;
     let _call = S::predict_row;
     let _call = S::push_row;
+    let _call = S::put_part;
     let _call = S::as_bytes;
 }
 
