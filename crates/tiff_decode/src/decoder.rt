@@ -519,16 +519,4 @@ impl<R: Source> Decoder<R> {
         let (kind, order) = (self.tags.kind, self.tags.order);
         read_directory(self.alloc, &mut self.tags.source, pointer.0, kind, order)
     }
-
-    /// Shows the directory at any offset, of the chain or not, as a SubIFD or a preview (this project's): the calls to come answer its
-    /// page, its tags and its pixels. Where the decoder stands in the chain stays, so that `next_image` goes on from there. Too few
-    /// bytes: `IoError(UnexpectedEof)`; then the first fault of its page. After an error all is as it was.
-    #[tactic(auto, unfolding(crate::specs::Outcome::show_directory))]
-    pub fn show_directory(&mut self, pointer: IfdPointer) -> TiffResult<()>
-        ensures { Follows (λ x. x) (outcome.show_directory self.old pointer) result self.old self.new }
-    {
-        let directory = self.read_directory(pointer)?;
-        self.page = replace_directory(self.alloc, &mut self.tags, directory)?;
-        Ok(())
-    }
 }
