@@ -151,9 +151,7 @@ pub fn clear_from(image: &mut DecodingResult, start: usize)
     ensures { decoded_as image.new ≡ cleared_from start (decoded_as image.old) }
 {
     if let DecodingSampleType::U8 = image.sample_type() {
-        for sample in image.u8_rest(start) {
-            *sample = 0;
-        }
+        image.u8_rest(start).fill(0);
     }
 }
 
