@@ -53,6 +53,7 @@ use tiff_base::error::TiffResult;
 use tiff_base::io::Sink;
 use tiff_base::tags::FileKind;
 pub use tiff_base::tags::Predictor;
+use tiff_value::encoder::chunk::write_chunk;
 use tiff_value::encoder::differences::Sample;
 use tiff_value::encoder::writer::TiffWriter;
 
@@ -198,7 +199,7 @@ impl<W: Sink, K: TiffKind> TiffEncoder<W, K> {
         requires whole { length samples.now % row ≡ 0 }
         ensures { AppendsToFile (flat_map (le (type_size T.value_type)) (differences predictor (256 ^ type_size T.value_type) row stride (map (sample_number (type_size T.value_type) T.bits) samples.now))) self.old self.new result }
     {
-        self.writer.write_samples(samples, predictor, row, stride)
+        write_chunk(&mut self.writer, samples, predictor, row, stride)
     }
 
     // Zeros up to a multiple of 4.

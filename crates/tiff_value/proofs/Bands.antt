@@ -1,9 +1,10 @@
 -- Rows of samples go to a sink, some of their bytes at a time.
-use Rattle.std.proofs.Common.{◌≡◌, ℕ, ◌+◌, ◌-◌, ◌/◌, ◌%◌, ◌<◌, ◌≤◌, List, ◌++◌, map, length, take, drop, Option, Some, None, Result, Ok, Err, MatchResult, inl, inr, refl, subst, ap, sym, ◌∙◌, arith, lit<, append_assoc, length-append, replicate}
+use Rattle.std.proofs.Common.{◌≡◌, ℕ, ◌+◌, ◌-◌, ◌*◌, ◌/◌, ◌%◌, ◌<◌, ◌≤◌, List, ◌++◌, map, length, take, drop, Option, Some, None, Result, Ok, Err, MatchResult, inl, inr, refl, subst, ap, sym, ◌∙◌, arith, lit<, append_assoc, length-append, replicate}
 use Rattle.std.specs.List.{range_with_len, flat_map}
 use Rattle.std.specs.Prelude.{◌⊎◌, IsSome}
 use Rattle.std.proofs.lemmas.List.{length-map, take_all, take-append-le, length-take-le, length-drop, length-replicate}
 use Rattle.std.proofs.lemmas.Slice.{take-put_mid}
+use Rattle.std.proofs.Math.Nat.{le_trans, mul-le-mul_right, div-mul-le_self}
 use Rattle.std.proofs.Math.Seq.{take-append_seam}
 use borrow.Rule.Slice.PartMut.{put_mid, same_len_mid}
 use Rattle.std.proofs.lemmas.List.FromFn.{fill_by_all}
@@ -43,6 +44,15 @@ type_band IFD = (lit< tt, lit< tt)
 type_band LONG8 = (lit< tt, lit< tt)
 type_band SLONG8 = (lit< tt, lit< tt)
 type_band IFD8 = (lit< tt, lit< tt)
+
+-- a room of 8192 bytes has so many for as many numbers as it has room for
+pub band_long : (room : List ℕ) (at n size w : ℕ) → w ≡ size → n ≤ 8192 / w → length room ≡ 8192
+    → length (take ((at + n - at) * w) room) ≡ (at + n - at) * size
+band_long room at n size w same most long =
+    let count : at + n - at ≡ n = omega arith in
+    let few : n * w ≤ 8192 = le_trans (mul-le-mul_right w most) (div-mul-le_self 8192 w) in
+    let within : (at + n - at) * w ≤ length room = subst (λ (k : ℕ). k * w ≤ length room) (sym count) (subst (λ (k : ℕ). n * w ≤ k) (sym long) few) in
+    length-take-le ((at + n - at) * w) room within ∙ ap (λ (k : ℕ). (at + n - at) * k) same
 
 module _ (size : ℕ) (F : ℕ → ℕ) where
   -- the bytes of the first so many numbers

@@ -1,5 +1,5 @@
 -- Samples as differences along their row (TIFF 6.0 section 14).
-use Rattle.std.specs.Prelude.{◌≡◌, ℕ, ◌+◌, ◌-◌, ◌%◌, ◌<◌, ◌≤◌, Bool, true, false, if◌then◌else◌, ◌==◌, nat_lt, List, [], map, get_or, length}
+use Rattle.std.specs.Prelude.{◌≡◌, ℕ, ◌+◌, ◌-◌, ◌*◌, ◌%◌, ◌<◌, ◌≤◌, Bool, true, false, if◌then◌else◌, ◌==◌, nat_lt, List, [], map, get_or, length}
 use Rattle.std.specs.List.{range_with_len}
 use Rattle.tiff_base.specs.Number.{sample_sum}
 use Rattle.tiff_base.specs.declared.tags.Predictor.{Predictor}
@@ -26,6 +26,12 @@ predicted_row m stride row =
 -- the numbers from `at` up to `end` of a row as differences
 abbrev pub predicted_part : ℕ → ℕ → ℕ → ℕ → List ℕ → List ℕ
 predicted_part m stride at end row = map (λ k. stored_difference Horizontal m (length row) stride row (at + k)) (range_with_len 0 (end - at))
+
+-- the samples from `at` up to `end` stand in a row of `long`, and take `room` bytes, `size` each
+pub record IsPart (long at end size room : ℕ) : Type 0 where
+  pub order : at ≤ end
+  pub within : end ≤ long
+  pub fills : room ≡ (end - at) * size
 
 abbrev pub is_floating : «Type» → Bool
 is_floating FLOAT = true

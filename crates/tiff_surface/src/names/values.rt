@@ -53,7 +53,6 @@ fn name_writers<W: Sink>() {
     let _call = TiffWriter::<W>::goto_offset;
     let _call = TiffWriter::<W>::write_bytes;
     let _call = TiffWriter::<W>::write_plain;
-    let _call = TiffWriter::<W>::write_samples::<u16>;
     let _call = TiffWriter::<W>::write_u8;
     let _call = TiffWriter::<W>::write_i8;
     let _call = TiffWriter::<W>::write_u16;

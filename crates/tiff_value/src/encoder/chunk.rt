@@ -1,4 +1,4 @@
-//! The bytes of a chunk of samples, before they are packed.
+//! The bytes of a chunk of samples, before they are packed: appended to a list, or written without one.
 
 ghost use Rattle.std.specs.Prelude.{◌≡◌, ◌<◌, ◌≤◌, ◌%◌, ◌^◌, ◌++◌, false, length, map, MatchResult};
 ghost use Rattle.std.specs.List.{flat_map};
@@ -6,9 +6,12 @@ ghost use Rattle.tiff_base.specs.Number.{le};
 ghost use Rattle.tiff_base.specs.Types.{type_size};
 ghost use Rattle.tiff_value.specs.ColorType.{sample_number};
 ghost use Rattle.tiff_value.specs.Differences.{differences};
+ghost use Rattle.tiff_value.specs.Written.{WritesCounted};
 
 use super::differences::Sample;
+use super::writer::TiffWriter;
 use tiff_base::error::{TiffError, TiffResult};
+use tiff_base::io::Sink;
 use tiff_base::tags::Predictor;
 
 /// Appends the bytes of a chunk before it is packed: rows of `row` samples, `stride` a pixel; with `Predictor::Horizontal`
@@ -33,6 +36,23 @@ pub fn push_chunk<T: Sample>(
         Predictor::Horizontal => push_rows(samples, row, stride, out),
         _ => T::push_all(samples, out),
     }
+}
+
+/// Writes the bytes that `push_chunk` appends, at the writer's offset. They are made some at a time: it takes no memory for the
+/// samples. After an earlier fault: `UsageError(WriterFailed)`, and nothing is done. A fault of the sink: `IoError(Device)` or
+/// `OutOfMemory`, and a beginning of the bytes is written.
+pub fn write_chunk<W: Sink, T: Sample>(
+    writer: &mut TiffWriter<W>,
+    samples: &[T],
+    predictor: Predictor,
+    row: usize,
+    stride: usize,
+) -> TiffResult<()>
+    requires stride { (0 < stride) × (stride ≤ row) }
+    requires whole { length samples.now % row ≡ 0 }
+    ensures { WritesCounted (flat_map (le (type_size T.value_type)) (differences predictor (256 ^ type_size T.value_type) row stride (map (sample_number (type_size T.value_type) T.bits) samples.now))) writer.old writer.new result }
+{
+    writer.write_samples(samples, predictor, row, stride)
 }
 
 // Each row as differences.

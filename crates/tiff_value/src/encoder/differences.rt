@@ -1,12 +1,12 @@
 //! Rows of samples as differences: each sample less the one a stride before it.
 
 ghost use Rattle.std.specs.Int.{w8, w16, w32, w64, cast_unsigned};
-ghost use Rattle.std.specs.Prelude.{◌≡◌, ◌+◌, ◌-◌, ◌*◌, ◌^◌, ◌%◌, ◌<◌, ◌≤◌, ◌++◌, ℕ, get_or, length, map, Ok, IfSome, MatchResult, refl};
+ghost use Rattle.std.specs.Prelude.{◌≡◌, ◌+◌, ◌-◌, ◌*◌, ◌^◌, ◌%◌, ◌<◌, ◌≤◌, ◌++◌, ℕ, get_or, length, map, Ok, IfSome, MatchBool, MatchResult, refl};
 ghost use Rattle.std.specs.List.{flat_map};
 ghost use Rattle.tiff_base.specs.Number.{le};
 ghost use Rattle.tiff_base.specs.Types.{type_size};
 ghost use Rattle.tiff_value.specs.ColorType.{sample_number};
-ghost use Rattle.tiff_value.specs.Differences.{predicted_part, predicted_row};
+ghost use Rattle.tiff_value.specs.Differences.{predicted_part, predicted_row, IsPart};
 ghost use Rattle.tiff_value.specs.Predicted.{AppendsRow};
 
 use super::tiff_value::TiffScalar;
@@ -21,7 +21,7 @@ pub trait Sample: TiffScalar + Copy {
     ghost use Rattle.tiff_base.specs.Number.{le};
     ghost use Rattle.tiff_base.specs.Types.{type_size};
     ghost use Rattle.tiff_value.specs.ColorType.{sample_number};
-    ghost use Rattle.tiff_value.specs.Differences.{predicted_part, predicted_row};
+    ghost use Rattle.tiff_value.specs.Differences.{predicted_part, predicted_row, IsPart};
     ghost use Rattle.tiff_value.specs.Predicted.{row_of_type};
 
     // Its bits, as a number from 0 on.
@@ -49,11 +49,11 @@ pub trait Sample: TiffScalar + Copy {
             (λ e. e ≡ TiffError.OutOfMemory) };
 
     /// Makes bytes those of the differences of a row from sample `at` up to `end`, of the bits of floating numbers too: of each
-    /// number the lowest first. Samples before `stride` are left as they are, so that a row no longer than it stands plain.
+    /// number the lowest first. Samples before `stride` are left as they are, so that a row no longer than it stands plain. The
+    /// bytes stay where these samples aren't all in the row, or take more or fewer bytes.
     fn put_part(row: &[Self], at: usize, end: usize, stride: usize, out: &mut [u8])
-        requires order { (at ≤ end) × (end ≤ length row.now) }
-        requires room { length out.old ≡ (end - at) * type_size Self.value_type }
-        ensures { out.new ≡ flat_map (le (type_size Self.value_type)) (predicted_part (256 ^ type_size Self.value_type) stride at end (map (sample_number (type_size Self.value_type) bits) row.now)) };
+        ensures part { IsPart (length row.now) at end (type_size Self.value_type) (length out.old) → out.new ≡ flat_map (le (type_size Self.value_type)) (predicted_part (256 ^ type_size Self.value_type) stride at end (map (sample_number (type_size Self.value_type) bits) row.now)) }
+        ensures other { (IsPart (length row.now) at end (type_size Self.value_type) (length out.old) → ⊥) → out.new ≡ out.old };
 
     /// The bytes that samples are written as, without a copy, where each is one byte from 0 on (`u8`); else nothing.
     fn as_bytes(samples: &[Self]) -> Option<&[u8]>
@@ -152,6 +152,30 @@ fn put_row_part<T: Whole>(row: &[T], at: usize, end: usize, stride: usize, out: 
     }
 }
 
+// Whether samples of `width` bytes, from `at` up to `end`, are all in a row of `long`, and take `room` bytes.
+fn is_part(long: usize, at: usize, end: usize, width: usize, room: usize) -> bool
+    ensures { MatchBool result (IsPart long at end width room) (IsPart long at end width room → ⊥) }
+{
+    if end < at || long < end {
+        return false;
+    }
+    let Some(bytes) = (end - at).checked_mul(width) else {
+        return false;
+    };
+    bytes == room
+}
+
+// Makes bytes those of a part of a row as differences, where it is one and takes as many bytes; else they stay.
+fn put_fitting_part<T: Whole>(row: &[T], at: usize, end: usize, stride: usize, out: &mut [u8])
+    ensures part { IsPart (length row.now) at end (type_size T.value_type) (length out.old) → out.new ≡ flat_map (le (type_size T.value_type)) (predicted_part T.modulus stride at end (map (sample_number (type_size T.value_type) T.bits) row.now)) }
+    ensures other { (IsPart (length row.now) at end (type_size T.value_type) (length out.old) → ⊥) → out.new ≡ out.old }
+{
+    let (_kind, len) = T::type_and_len();
+    if is_part(row.len(), at, end, usize::from(len), out.len()) {
+        put_row_part(row, at, end, stride, out);
+    }
+}
+
 // Appends a row, and then its differences in its place.
 fn push_differences<T: Whole>(row: &[T], stride: usize, out: &mut Vec<T>) -> TiffResult<()>
     ensures { AppendsRow T.bits (Ok (predicted_row T.modulus stride (map T.bits row.now))) out.old.items out.new.items result }
@@ -228,7 +252,7 @@ impl Sample for u8 {
     }
 
     fn put_part(row: &[u8], at: usize, end: usize, stride: usize, out: &mut [u8]) {
-        put_row_part(row, at, end, stride, out);
+        put_fitting_part(row, at, end, stride, out);
     }
 
     fn as_bytes(samples: &[u8]) -> Option<&[u8]> {
@@ -282,7 +306,7 @@ impl Sample for i8 {
     }
 
     fn put_part(row: &[i8], at: usize, end: usize, stride: usize, out: &mut [u8]) {
-        put_row_part(row, at, end, stride, out);
+        put_fitting_part(row, at, end, stride, out);
     }
 
     fn as_bytes(samples: &[i8]) -> Option<&[u8]> {
@@ -334,7 +358,7 @@ impl Sample for u16 {
     }
 
     fn put_part(row: &[u16], at: usize, end: usize, stride: usize, out: &mut [u8]) {
-        put_row_part(row, at, end, stride, out);
+        put_fitting_part(row, at, end, stride, out);
     }
 
     fn as_bytes(samples: &[u16]) -> Option<&[u8]> {
@@ -388,7 +412,7 @@ impl Sample for i16 {
     }
 
     fn put_part(row: &[i16], at: usize, end: usize, stride: usize, out: &mut [u8]) {
-        put_row_part(row, at, end, stride, out);
+        put_fitting_part(row, at, end, stride, out);
     }
 
     fn as_bytes(samples: &[i16]) -> Option<&[u8]> {
@@ -440,7 +464,7 @@ impl Sample for u32 {
     }
 
     fn put_part(row: &[u32], at: usize, end: usize, stride: usize, out: &mut [u8]) {
-        put_row_part(row, at, end, stride, out);
+        put_fitting_part(row, at, end, stride, out);
     }
 
     fn as_bytes(samples: &[u32]) -> Option<&[u8]> {
@@ -494,7 +518,7 @@ impl Sample for i32 {
     }
 
     fn put_part(row: &[i32], at: usize, end: usize, stride: usize, out: &mut [u8]) {
-        put_row_part(row, at, end, stride, out);
+        put_fitting_part(row, at, end, stride, out);
     }
 
     fn as_bytes(samples: &[i32]) -> Option<&[u8]> {
@@ -546,7 +570,7 @@ impl Sample for u64 {
     }
 
     fn put_part(row: &[u64], at: usize, end: usize, stride: usize, out: &mut [u8]) {
-        put_row_part(row, at, end, stride, out);
+        put_fitting_part(row, at, end, stride, out);
     }
 
     fn as_bytes(samples: &[u64]) -> Option<&[u8]> {
@@ -600,7 +624,7 @@ impl Sample for i64 {
     }
 
     fn put_part(row: &[i64], at: usize, end: usize, stride: usize, out: &mut [u8]) {
-        put_row_part(row, at, end, stride, out);
+        put_fitting_part(row, at, end, stride, out);
     }
 
     fn as_bytes(samples: &[i64]) -> Option<&[u8]> {
@@ -648,7 +672,7 @@ impl Sample for Bits32 {
     }
 
     fn put_part(row: &[Bits32], at: usize, end: usize, stride: usize, out: &mut [u8]) {
-        put_row_part(row, at, end, stride, out);
+        put_fitting_part(row, at, end, stride, out);
     }
 
     fn as_bytes(samples: &[Bits32]) -> Option<&[u8]> {
@@ -696,7 +720,7 @@ impl Sample for Bits64 {
     }
 
     fn put_part(row: &[Bits64], at: usize, end: usize, stride: usize, out: &mut [u8]) {
-        put_row_part(row, at, end, stride, out);
+        put_fitting_part(row, at, end, stride, out);
     }
 
     fn as_bytes(samples: &[Bits64]) -> Option<&[u8]> {

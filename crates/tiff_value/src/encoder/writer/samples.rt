@@ -85,9 +85,8 @@ impl<W: Sink> TiffWriter<W> {
         }
     }
 
-    /// Writes the bytes of samples, as `push_chunk` appends them, and takes no memory for them (this project's). Errors are those
-    /// of `write_plain`.
-    pub fn write_samples<T: Sample>(
+    // All samples, as `write_chunk` writes them.
+    pub(crate) fn write_samples<T: Sample>(
         &mut self,
         samples: &[T],
         predictor: Predictor,
