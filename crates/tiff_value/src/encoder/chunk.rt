@@ -1,4 +1,4 @@
-//! The bytes of a chunk of samples, before they are packed: appended to a list, or written without one.
+//! The bytes of a chunk of samples: appended to a list, or written without one; and packed.
 
 ghost use Rattle.std.specs.Prelude.{◌≡◌, ◌<◌, ◌≤◌, ◌%◌, ◌^◌, ◌++◌, false, length, map, MatchResult};
 ghost use Rattle.std.specs.List.{flat_map};
@@ -6,8 +6,10 @@ ghost use Rattle.tiff_base.specs.Number.{le};
 ghost use Rattle.tiff_base.specs.Types.{type_size};
 ghost use Rattle.tiff_value.specs.ColorType.{sample_number};
 ghost use Rattle.tiff_value.specs.Differences.{differences};
+ghost use Rattle.tiff_value.specs.Packed.{IsPacked};
 ghost use Rattle.tiff_value.specs.Written.{WritesCounted};
 
+use super::compression::push_packed;
 use super::differences::Sample;
 use super::writer::TiffWriter;
 use tiff_base::error::{TiffError, TiffResult};
@@ -74,4 +76,15 @@ fn push_rows<T: Sample>(
         at += row;
     }
     Ok(())
+}
+
+/// Makes a list the bytes packed by PackBits (TIFF 6.0 section 9), in place of what it held. Room is asked for as many bytes as
+/// they may take, so that a list takes no more memory for as many bytes again. Its only error is `OutOfMemory`, after which the
+/// list may hold anything.
+pub fn pack_chunk(bytes: &[u8], out: &mut Vec<u8>) -> TiffResult<()>
+    ensures { MatchResult result (λ _. IsPacked bytes.now out.new.items) (λ e. e ≡ TiffError.OutOfMemory) }
+{
+    out.clear();
+    out.reserve(bytes.len().saturating_add(bytes.len().div_ceil(128)))?;
+    push_packed(bytes, out)
 }

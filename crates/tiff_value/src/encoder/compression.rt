@@ -8,6 +8,7 @@ mod packer;
 
 use crate::encoder::writer::TiffWriter;
 pub use packer::pack_bits;
+pub(crate) use packer::push_packed;
 use std::alloc::Global;
 use tiff_base::error::{TiffError, TiffResult, UsageError};
 use tiff_base::io::{IoKind, Sink};

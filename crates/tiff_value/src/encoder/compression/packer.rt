@@ -1,6 +1,6 @@
 //! PackBits: bytes as literals and runs.
 
-ghost use Rattle.std.specs.Prelude.{◌≡◌, ◌≢◌, ◌<◌, length, slice_index, MatchResult};
+ghost use Rattle.std.specs.Prelude.{◌≡◌, ◌≢◌, ◌<◌, [], length, slice_index, MatchResult};
 ghost use Rattle.tiff_value.specs.Packed.{IsPacked};
 ghost use Rattle.tiff_value.specs.Packing.{IsRun, IsVariedFront, PacksAtEnd};
 
@@ -57,15 +57,24 @@ fn pack_block(bytes: &[u8], out: &mut Vec<u8>) -> TiffResult<usize>
     Ok(count)
 }
 
+// Appends all blocks to a list that is empty.
+pub(crate) fn push_packed(bytes: &[u8], out: &mut Vec<u8>) -> TiffResult<()>
+    requires { out.old.items ≡ [] }
+    ensures { MatchResult result (λ _. IsPacked bytes.now out.new.items) (λ e. e ≡ TiffError.OutOfMemory) }
+{
+    let mut at = 0;
+    while at < bytes.len() {
+        at += pack_block(&bytes[at..], out)?;
+    }
+    Ok(())
+}
+
 /// Bytes packed by PackBits (TIFF 6.0 section 9), with at most one byte more for each 128 or part of 128. Its only error is
 /// `OutOfMemory`.
 pub fn pack_bits(alloc: Global, bytes: &[u8]) -> TiffResult<Vec<u8>>
     ensures { MatchResult result (λ packed. IsPacked bytes.now packed.items) (λ e. e ≡ TiffError.OutOfMemory) }
 {
     let mut out = Vec::new(alloc);
-    let mut at = 0;
-    while at < bytes.len() {
-        at += pack_block(&bytes[at..], &mut out)?;
-    }
+    push_packed(bytes, &mut out)?;
     Ok(out)
 }

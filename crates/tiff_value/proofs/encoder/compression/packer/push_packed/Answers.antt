@@ -2,10 +2,10 @@ use Rattle.std.proofs.Common.{ℕ, List, subst}
 use Rattle.std.proofs.lemmas.List.{take_rest}
 use Rattle.tiff_value.specs.Packing.{PacksAtEnd}
 use Rattle.tiff_value.proofs.Packing.{none_packed, block_next, all_packed}
-use Rattle.tiff_value.proofs.encoder.compression.packer.pack_bits.Goals as goal
+use Rattle.tiff_value.proofs.encoder.compression.packer.push_packed.Goals as goal
 
 pub loop-at-init : goal.loop-at-init
-loop-at-init c = none_packed _ _ c.new-out.ensures.items
+loop-at-init c = none_packed _ _ c.requires
 
 pub loop-at-preserved : goal.loop-at-preserved
 loop-at-preserved c =
