@@ -1,5 +1,6 @@
 //! Files are written.
 
+mod chunk_rooms;
 pub mod data_laws;
 mod directory_encoder;
 mod drawing;

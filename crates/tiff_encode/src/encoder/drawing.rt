@@ -9,6 +9,7 @@ ghost use Rattle.tiff_page.specs.Rect.{chunks_of_plane};
 ghost use Rattle.tiff_encode.specs.Causes.{image_samples, is_past_chunks};
 ghost use Rattle.tiff_encode.specs.Chunks.{all_samples, chunk_rows, chunks_left, image_page, is_begun, is_in_order, is_left, next_chunk_sample_count, next_strip_sample_count};
 
+use crate::encoder::chunk_rooms::ChunkRooms;
 use crate::encoder::open::{Fields, State};
 use crate::encoder::settings::Compression;
 use std::marker::{Model, PhantomData};
@@ -35,8 +36,8 @@ pub struct Chunk {
     pub stored: u64,
 }
 
-/// An image that is open: its directory, its sides, its extra samples, how it is packed and cut, and the chunks that were
-/// written.
+/// An image that is open: its directory, its sides, its extra samples, how it is packed and cut, the chunks that were
+/// written, and the lists in which they are packed, which are empty where they aren't.
 #[derive(Drop)]
 pub struct Drawing<C: ColorType> {
     pub(crate) directory: Fields,
@@ -47,6 +48,7 @@ pub struct Drawing<C: ColorType> {
     pub(crate) compression: Compression,
     pub(crate) form: Form,
     pub(crate) chunks: Vec<Chunk>,
+    pub(crate) rooms: ChunkRooms,
     pub(crate) color: PhantomData<C>,
 }
 

@@ -13,6 +13,7 @@ ghost use Rattle.tiff_encode.specs.Tagging.{fields_of};
 ghost use Rattle.tiff_encode.specs.FileBytes.{resolutions_offset};
 
 use crate::encoder::TiffEncoder;
+use crate::encoder::chunk_rooms::ChunkRooms;
 use crate::encoder::drawing::{Drawing, Form};
 use crate::encoder::kind::TiffKind;
 use crate::encoder::open::Fields;
@@ -147,6 +148,7 @@ impl<W: Sink, K: TiffKind> TiffEncoder<W, K> {
                 planar: PlanarConfiguration::Chunky,
             },
             chunks: Vec::new(self.alloc),
+            rooms: ChunkRooms::empty(self.alloc),
             color: PhantomData,
         }
     }

@@ -3,40 +3,29 @@
 ghost use Rattle.std.specs.Prelude.{◌≡◌, ℕ, ◌-◌, ◌*◌, ◌^◌, ◌<◌, ◌≤◌, length, map, IfSome, MatchResult, None, Some};
 ghost use Rattle.tiff_base.specs.Types.{type_size};
 ghost use Rattle.tiff_value.specs.ColorType.{sample_number};
-ghost use Rattle.tiff_value.specs.Packed.{IsStored};
+ghost use Rattle.tiff_base.specs.declared.tags.CompressionMethod.TheVariants as method;
+ghost use Rattle.tiff_value.specs.Packed.{IsPacked, IsStored};
 ghost use Rattle.tiff_encode.specs.Calls as calls;
 ghost use Rattle.tiff_encode.specs.Causes.{end_of, write_chunk_cause, write_strip_cause};
 ghost use Rattle.tiff_page.specs.Pixels.{stored_samples};
 ghost use Rattle.tiff_encode.specs.Chunks.{image_page, next_chunk_sample_count, row_samples};
-ghost use Rattle.tiff_encode.specs.Machine.{compression_method};
 ghost use Rattle.tiff_encode.specs.Placing.{Checks};
 ghost use Rattle.tiff_encode.specs.Storing.{chunk_test, AppendsChunk, StoresChunk, WritesStoredChunk};
 ghost use Rattle.tiff_encode.specs.Stored as stored;
 
 use crate::encoder::TiffEncoder;
+use crate::encoder::chunk_rooms::ChunkRooms;
 use crate::encoder::drawing::{Chunk, Drawing};
 use crate::encoder::kind::TiffKind;
 use crate::encoder::limits::is_past_offset;
 use crate::encoder::settings::Compression;
-use std::alloc::Global;
+use std::mem;
 use tiff_base::color::ChunkType;
 use tiff_base::error::{TiffError, TiffResult, UsageError};
 use tiff_base::io::{IoKind, Sink};
 use tiff_base::tags::{FileKind, Predictor};
-use tiff_value::encoder::chunk::push_chunk;
 use tiff_value::encoder::colortype::ColorType;
-use tiff_value::encoder::compression::pack_bits;
 use tiff_value::encoder::differences::Sample;
-
-// The bytes that stand for others by a packing.
-fn pack(alloc: Global, compression: Compression, bytes: Vec<u8>) -> TiffResult<Vec<u8>>
-    ensures { MatchResult result (λ v. IsStored (compression_method compression) v.items bytes.items) (λ e. e ≡ TiffError.OutOfMemory) }
-{
-    match compression {
-        Compression::Uncompressed => Ok(bytes),
-        Compression::Packbits => pack_bits(alloc, &bytes),
-    }
-}
 
 // How many bytes so many samples have. Its only error is `OutOfMemory`: more than a number can tell are in no memory.
 fn byte_count<T: Sample>(count: usize) -> TiffResult<usize>
@@ -63,34 +52,17 @@ impl<C: ColorType> Drawing<C> {
         (self.form.chunk_width as usize * stride, stride)
     }
 
-    // The bytes of the next chunk before it is packed.
-    #[tactic(auto, unfolding(crate::specs::Stored::unpacked_chunk))]
-    fn chunk_bytes(&self, alloc: Global, samples: &[C::Inner]) -> TiffResult<Vec<u8>>
-        requires next { length samples.now ≡ next_chunk_sample_count self.now }
-        requires fits { length samples.now < 2 ^ 64 - 1 }
-        ensures { MatchResult result
-            (λ v. v.items ≡ stored.unpacked_chunk self.now (map (sample_number (type_size C.Inner.value_type) C.Inner.bits) samples.now))
-            (λ e. e ≡ TiffError.OutOfMemory) }
-    {
-        let (row, stride) = self.row_and_stride();
-        let mut bytes = Vec::new(alloc);
-        push_chunk(samples, self.predictor, row, stride, &mut bytes)?;
-        Ok(bytes)
-    }
-
-    // The bytes that stand for the samples of the next chunk. Its only error is `OutOfMemory`: so many samples as a number
-    // can tell are in no memory.
-    fn stored_bytes(&self, alloc: Global, samples: &[C::Inner]) -> TiffResult<Vec<u8>>
+    // Packs the samples of the next chunk. Its only error is `OutOfMemory`: so many samples as a number can tell are in no
+    // memory.
+    fn pack_samples(&self, samples: &[C::Inner], rooms: &mut ChunkRooms) -> TiffResult<()>
         requires { length samples.now ≡ next_chunk_sample_count self.now }
         ensures { MatchResult result
-            (λ v. IsStored self.now.method v.items (stored.unpacked_chunk self.now (map (sample_number (type_size C.Inner.value_type) C.Inner.bits) samples.now)))
+            (λ _. IsPacked (stored.unpacked_chunk self.now (map (sample_number (type_size C.Inner.value_type) C.Inner.bits) samples.now)) rooms.new.packed.items)
             (λ e. e ≡ TiffError.OutOfMemory) }
     {
-        if samples.len() == usize::MAX {
-            return Err(TiffError::OutOfMemory);
-        }
-        let bytes = self.chunk_bytes(alloc, samples)?;
-        pack(alloc, self.compression, bytes)
+        byte_count::<C::Inner>(samples.len())?;
+        let (row, stride) = self.row_and_stride();
+        rooms.pack(samples, self.predictor, row, stride)
     }
 
     // The bytes that are stored for the samples of the next chunk, without a copy: those of 8 bits, where they are neither
@@ -193,8 +165,41 @@ impl<W: Sink, K: TiffKind> TiffEncoder<W, K> {
         Ok(())
     }
 
+    // The next chunk of an image that is packed, by way of these lists.
+    fn append_packed<C: ColorType>(
+        &mut self,
+        image: &mut Drawing<C>,
+        samples: &[C::Inner],
+        rooms: &mut ChunkRooms,
+    ) -> TiffResult<()>
+        requires next { length samples.now ≡ next_chunk_sample_count image.old }
+        requires packed { image.old.method ≡ method.PackBits }
+        ensures { StoresChunk calls.write_chunk image.old (map (sample_number (type_size C.Inner.value_type) C.Inner.bits)
+            samples.now) result self.old self.new image.new }
+    {
+        image.pack_samples(samples, rooms)?;
+        self.append_chunk(image, samples.len(), &rooms.packed)
+    }
+
+    // The same by way of the image's own lists, which it has again behind the chunk.
+    fn put_packed<C: ColorType>(
+        &mut self,
+        image: &mut Drawing<C>,
+        samples: &[C::Inner],
+    ) -> TiffResult<()>
+        requires next { length samples.now ≡ next_chunk_sample_count image.old }
+        requires packed { image.old.method ≡ method.PackBits }
+        ensures { StoresChunk calls.write_chunk image.old (map (sample_number (type_size C.Inner.value_type) C.Inner.bits)
+            samples.now) result self.old self.new image.new }
+    {
+        let mut rooms = mem::replace(&mut image.rooms, ChunkRooms::empty(self.alloc));
+        let result = self.append_packed(image, samples, &mut rooms);
+        image.rooms = rooms;
+        result
+    }
+
     /// The next chunk, of as many samples as it has. Where it isn't packed, no list is made of its bytes: samples of 8 bits that are
-    /// stored as they lie are lent to the sink.
+    /// stored as they lie are lent to the sink. Where it is, the lists are those of the chunk before.
     pub(crate) fn put_chunk<C: ColorType>(
         &mut self,
         image: &mut Drawing<C>,
@@ -207,11 +212,10 @@ impl<W: Sink, K: TiffKind> TiffEncoder<W, K> {
         if let Some(bytes) = image.lent_bytes(samples) {
             return self.append_chunk(image, samples.len(), bytes);
         }
-        if let Compression::Uncompressed = image.compression {
-            return self.append_samples(image, samples);
+        match image.compression {
+            Compression::Uncompressed => self.append_samples(image, samples),
+            Compression::Packbits => self.put_packed(image, samples),
         }
-        let stored = image.stored_bytes(self.alloc, samples)?;
-        self.append_chunk(image, samples.len(), &stored)
     }
 
     /// `write_chunk`: what no packing changes is told before the samples are packed.

@@ -1,8 +1,7 @@
-use Rattle.std.proofs.Common.{length, map, ap, subst, sym, ◌∙◌}
+use Rattle.std.proofs.Common.{length, map, ap, sym, ◌∙◌}
 use Rattle.std.proofs.lemmas.List.{length-map}
 use Rattle.tiff_base.specs.Types.{type_size}
 use Rattle.tiff_value.specs.ColorType.{sample_number}
-use Rattle.tiff_value.specs.Packed.{IsStored}
 use Rattle.tiff_encode.specs.Machine.{compression_method}
 use Rattle.tiff_encode.specs.Stored.{unpacked_chunk}
 use Rattle.tiff_encode.proofs.Storing.{chunk_stored, plain_stored}
@@ -13,15 +12,6 @@ returns-in-Some g c =
     let number = sample_number (type_size g.C.Inner.TiffValue.value_type) g.C.Inner.Sample.bits in
     chunk_stored c.args.self.now c.args.image.now (map number c.args.samples.now) c.append_chunk.new.self c.append_chunk.new.image _
     c.in-Some.bytes.now c.append_chunk.result (sym (length-map c.args.samples.now number)) c.in-Some.ensures c.append_chunk.ensures
-
-pub returns : goal.returns
-returns g c =
-    let number = sample_number (type_size g.C.Inner.TiffValue.value_type) g.C.Inner.Sample.bits in
-    let numbers = map number c.args.samples.now in
-    let is_stored = subst (λ xs. IsStored c.args.image.now.method xs (unpacked_chunk c.args.image.now numbers)) (sym c.deref.ensures.value)
-    c.in_ok-stored.ensures in
-    chunk_stored c.args.self.now c.args.image.now numbers c.append_chunk-2.new.self c.append_chunk-2.new.image _
-    c.deref.result.now c.append_chunk-2.result (sym (length-map c.args.samples.now number)) is_stored c.append_chunk-2.ensures
 
 pub returns-in-Uncompressed : goal.returns-in-Uncompressed
 returns-in-Uncompressed g c =
