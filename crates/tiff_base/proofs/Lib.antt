@@ -9,6 +9,8 @@ pub mod Blocks
 mod Named
 mod Extended
 pub mod After
+pub mod Ahead
+pub mod Told
 pub mod Fits
 pub mod Held
 mod Lasts

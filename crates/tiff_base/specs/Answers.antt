@@ -43,6 +43,17 @@ abbrev pub NoneSwallowed : {X : Type 0} → Result X TiffError → ℕ → ℕ �
 NoneSwallowed (Err (IoError Device)) before after = Unit {0}
 NoneSwallowed result before after = after ≡ before
 
+-- no fault of the device
+abbrev pub IsNotDevice : TiffError → Type 0
+IsNotDevice (IoError Device) = ⊥
+IsNotDevice e = Unit {0}
+
+-- A call asks a source for no other bytes: where these can be read, it answers no fault of the device. No failed read is passed
+-- over, so a call that asked for another byte would be refused by a source that answers for these alone.
+abbrev pub AsksOnly : {X : Type 0} → Type 0 → Result X TiffError → Type 0
+AsksOnly readable (Ok x) = Unit {0}
+AsksOnly readable (Err e) = readable → IsNotDevice e
+
 -- What a call leaves of a source that it is lent, with its answer: it tells the same, and no fewer failures; more only with
 -- a fault of the device.
 pub record IsKept {S W X : Type 0} (told_of : S → W) (failures_of : S → ℕ) (result : Result X TiffError) (old new : S) : Type 0 where

@@ -1,10 +1,20 @@
 -- What a source tells, and what a sink takes.
-use Rattle.std.specs.Prelude.{◌≡◌, ℕ, ◌+◌, ◌-◌, ◌≤◌, ◌<◌, List, ◌++◌, length, take, drop, if◌then◌else◌, nat_le, slice_index, Result, Ok, Err}
+use Rattle.std.specs.Prelude.{◌≡◌, ℕ, Bool, true, ◌+◌, ◌-◌, ◌≤◌, ◌<◌, List, ◌++◌, length, take, drop, if◌then◌else◌, nat_le, slice_index, Result, Ok, Err}
 use Rattle.tiff_base.specs.declared.error.TiffError.{TiffError}
 use Rattle.tiff_base.specs.declared.error.TiffError.TheVariants.{IoError, OutOfMemory}
 use Rattle.tiff_base.specs.declared.io.IoKind.TheVariants.{UnexpectedEof, Device}
 use Rattle.tiff_base.specs.declared.io.SinkFault.{SinkFault}
 use Rattle.tiff_base.specs.declared.io.SinkFault.TheVariants as fault
+
+-- What a source tells, which never changes: its bytes, and at which offsets it answers for a read. A read that asks for such
+-- bytes alone doesn't fail; what any other does is open.
+pub record SourceRecord : Type 0 where
+  pub bytes : List ℕ
+  pub readable : ℕ → Bool
+
+-- So many bytes from an offset on are bytes that a source answers for.
+abbrev pub AreReadable : SourceRecord → ℕ → ℕ → Type 0
+AreReadable source at len = (k : ℕ) → at ≤ k → k < at + len → source.readable k ≡ true
 
 -- the bytes from an offset on, or fewer at the end
 abbrev pub bytes_at : List ℕ → ℕ → ℕ → List ℕ
@@ -25,11 +35,6 @@ pub record Reads (bytes : List ℕ) (at : ℕ) (old : List ℕ) (n : ℕ) (new :
   pub in_bytes : n ≤ length bytes - at
   pub some : 0 < length old → at < length bytes → 0 < n
   pub next : new ≡ bytes_at bytes at n ++ drop n old
-
--- No byte was asked for that lies at this offset or behind it, but those that had been asked for before: `before` and `after`
--- are the offsets behind the furthest byte that was asked for.
-abbrev pub ReachesTo : ℕ → ℕ → ℕ → Type 0
-ReachesTo end before after = (n : ℕ) → before ≤ n → end ≤ n → after ≤ n
 
 -- So many bytes from an offset on have the one at another offset, where there is one.
 pub record HoldsByte (bytes : List ℕ) (from : ℕ) (count : ℕ) (at : ℕ) : Type 0 where

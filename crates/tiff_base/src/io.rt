@@ -1,8 +1,9 @@
 //! Where bytes come from and go to.
 
-ghost use Rattle.std.specs.Prelude.{◌≡◌, ℕ, ◌+◌, ◌^◌, ◌≤◌, ◌<◌, List, length, Option, None, Some, IfErr, IfOk, OnOk, OnErr, take, true};
-ghost use Rattle.tiff_base.specs.SourceAndSink.{AreOctets, bytes_at, HoldsByte, Reads, ReachesTo, Appends, Overwrites};
+ghost use Rattle.std.specs.Prelude.{◌≡◌, ℕ, ◌+◌, ◌^◌, ◌≤◌, ◌<◌, List, length, Option, None, Some, IfErr, IfOk, IsOk, OnOk, OnErr, take, true};
+ghost use Rattle.tiff_base.specs.SourceAndSink.{AreOctets, AreReadable, SourceRecord, bytes_at, HoldsByte, Reads, Appends, Overwrites};
 ghost use Rattle.tiff_base.specs.declared.io.SinkFault.{SinkFault};
+ghost use Rattle.tiff_base.specs.declared.io.TheConstants.{BUFFER_LEN};
 
 use crate::count::Count;
 use std::alloc::{AllocError, Global};
@@ -47,28 +48,25 @@ pub enum SinkFault {
 
 /// Bytes that can be read at any offset.
 pub trait Source: Drop {
-    /// The bytes; they never change.
-    ghost bytes: { Self → List ℕ };
+    /// The bytes, and those of them that it answers for: a read that asks for these alone doesn't fail. They never change.
+    ghost told: { Self → SourceRecord };
 
     /// How many reads failed so far.
     ghost failures: { Self → ℕ };
 
-    /// The offset behind the furthest byte that it was asked for, where it keeps that; else 0.
-    ghost reach: { Self → ℕ };
-
     /// Reads the bytes from `at` on, as many as it gives, but none only at the end or for an empty buffer.
     fn read_at(&mut self, at: u64, buf: &mut [u8]) -> Result<usize, DeviceFault>
-        ensures bytes { bytes self.new ≡ bytes self.old }
-        ensures ok { IfOk result (λ n. Reads (bytes self.old) at buf.old n buf.new) }
+        ensures told { told self.new ≡ told self.old }
+        ensures ok { IfOk result (λ n. Reads (told self.old).bytes at buf.old n buf.new) }
         ensures answered { OnOk result (failures self.new ≡ failures self.old) }
         ensures failed { OnErr result (failures self.old < failures self.new) }
-        ensures asked { ReachesTo (at + length buf.old) (reach self.old) (reach self.new) };
+        ensures asked { AreReadable (told self.old) at (length buf.old) → IsOk result };
 
     /// Every offset is below 2^64.
-    ghost offsets: { (s : Self) → length (bytes s) < 2 ^ 64 };
+    ghost offsets: { (s : Self) → length (told s).bytes < 2 ^ 64 };
 
     /// A byte is a number below 256.
-    ghost octets: { (s : Self) → AreOctets (bytes s) };
+    ghost octets: { (s : Self) → AreOctets (told s).bytes };
 }
 
 /// Bytes that can be added to, and written over.
@@ -143,11 +141,9 @@ impl MemorySource {
 impl Source for MemorySource {
     ghost use Rattle.tiff_base.specs.Memory.{source_bytes};
 
-    ghost bytes = { source_bytes };
+    ghost told = { λ s. record { bytes = source_bytes s; readable = λ _. true } };
 
     ghost failures = { λ _. 0 };
-
-    ghost reach = { λ _. 0 };
 
     ghost offsets = { λ s. s.offsets };
 
@@ -181,11 +177,9 @@ impl<'a> SliceSource<'a> {
 impl Source for SliceSource<'_> {
     ghost use Rattle.tiff_base.specs.Memory.{slice_bytes};
 
-    ghost bytes = { slice_bytes };
+    ghost told = { λ s. record { bytes = slice_bytes s; readable = λ _. true } };
 
     ghost failures = { λ _. 0 };
-
-    ghost reach = { λ _. 0 };
 
     ghost offsets = { λ s. s.offsets };
 
@@ -204,8 +198,9 @@ pub struct BufferedSource<S: Source> {
     buffer: Vec<u8>,
     from: u64,
     held: usize,
-    ghost in_buffer: { held ≤ length buffer.items },
-    ghost holds: { take held buffer.items ≡ bytes_at (S.bytes source) from held },
+    ghost full: { length buffer.items ≡ BUFFER_LEN },
+    ghost in_buffer: { held ≤ BUFFER_LEN },
+    ghost holds: { take held buffer.items ≡ bytes_at (S.told source).bytes from held },
 }
 
 impl<S: Source> BufferedSource<S> {
@@ -247,11 +242,11 @@ impl<S: Source> BufferedSource<S> {
 
     // Reads the source from an offset on into the buffer. After a fault the buffer is empty.
     fn fill(&mut self, at: u64) -> Result<(), DeviceFault>
-        requires { 0 < length self.old.buffer.items }
-        ensures bytes { S.bytes self.new.source ≡ S.bytes self.old.source }
-        ensures holds { OnOk result (HoldsByte (S.bytes self.new.source) self.new.from self.new.held at) }
+        ensures told { S.told self.new.source ≡ S.told self.old.source }
+        ensures holds { OnOk result (HoldsByte (S.told self.new.source).bytes self.new.from self.new.held at) }
         ensures answered { OnOk result (S.failures self.new.source ≡ S.failures self.old.source) }
         ensures failed { OnErr result (S.failures self.old.source < S.failures self.new.source) }
+        ensures asked { AreReadable (S.told self.old.source) at BUFFER_LEN → IsOk result }
     {
         self.held = 0;
         self.from = at;
@@ -261,11 +256,11 @@ impl<S: Source> BufferedSource<S> {
 
     // Has the byte at an offset in the buffer, where there is one.
     fn hold(&mut self, at: u64) -> Result<(), DeviceFault>
-        requires { 0 < length self.old.buffer.items }
-        ensures bytes { S.bytes self.new.source ≡ S.bytes self.old.source }
-        ensures holds { OnOk result (HoldsByte (S.bytes self.new.source) self.new.from self.new.held at) }
+        ensures told { S.told self.new.source ≡ S.told self.old.source }
+        ensures holds { OnOk result (HoldsByte (S.told self.new.source).bytes self.new.from self.new.held at) }
         ensures answered { OnOk result (S.failures self.new.source ≡ S.failures self.old.source) }
         ensures failed { OnErr result (S.failures self.old.source < S.failures self.new.source) }
+        ensures asked { AreReadable (S.told self.old.source) at BUFFER_LEN → IsOk result }
     {
         if self.has(at) {
             return Ok(());
@@ -275,25 +270,28 @@ impl<S: Source> BufferedSource<S> {
 
     // Reads what the buffer has from an offset on.
     fn read_held(&self, at: u64, buf: &mut [u8]) -> usize
-        requires { HoldsByte (S.bytes self.now.source) self.now.from self.now.held at }
-        ensures { Reads (S.bytes self.now.source) at buf.old result buf.new }
+        requires { HoldsByte (S.told self.now.source).bytes self.now.from self.now.held at }
+        ensures { Reads (S.told self.now.source).bytes at buf.old result buf.new }
     {
         read_of(&self.buffer[..self.held], at - self.from, buf)
     }
 }
 
 impl<S: Source> Source for BufferedSource<S> {
-    ghost bytes = { λ s. S.bytes s.source };
+    ghost use Rattle.tiff_base.specs.Memory.{buffered};
+
+    ghost told = { λ s. buffered (S.told s.source) };
 
     ghost failures = { λ s. S.failures s.source };
-
-    ghost reach = { λ _. 0 };
 
     ghost offsets = { λ s. S.offsets s.source };
 
     ghost octets = { λ s. S.octets s.source };
 
     fn read_at(&mut self, at: u64, buf: &mut [u8]) -> Result<usize, DeviceFault> {
+        if buf.is_empty() {
+            return Ok(0);
+        }
         if buf.len() >= self.buffer.len() {
             return self.source.read_at(at, buf);
         }

@@ -2,9 +2,9 @@
 
 ghost use Rattle.std.specs.Prelude.{◌≡◌, ◌+◌, ◌≤◌, length};
 ghost use Rattle.std.specs.Int.{w16, w32, w64};
-ghost use Rattle.tiff_base.specs.SourceAndSink.{ReachesTo, bytes_at, exactly_at};
+ghost use Rattle.tiff_base.specs.SourceAndSink.{AreReadable, bytes_at, exactly_at};
 ghost use Rattle.tiff_base.specs.Number.{number, number_at};
-ghost use Rattle.tiff_base.specs.Answers.{Answers, AnswersWithoutMemory, IsKept};
+ghost use Rattle.tiff_base.specs.Answers.{Answers, AnswersWithoutMemory, AsksOnly, IsKept};
 ghost use Rattle.tiff_base.specs.Sparing.{AnswersSparingly};
 
 use crate::error::{TiffError, TiffResult};
@@ -15,9 +15,9 @@ use std::alloc::Global;
 /// Fills the buffer with the bytes at an offset. Fewer bytes there: `IoError(UnexpectedEof)`.
 #[tactic(auto, using(crate::proofs::Bytes::next_read))]
 pub fn read_exact_at<R: Source>(source: &mut R, at: u64, buf: &mut [u8]) -> TiffResult<()>
-    ensures kept { IsKept R.bytes R.failures result source.old source.new }
-    ensures answer { AnswersWithoutMemory (λ _. buf.new) result (exactly_at (R.bytes source.old) at (length buf.old)) (R.failures source.old) (R.failures source.new) }
-    ensures asked { ReachesTo (at + length buf.old) (R.reach source.old) (R.reach source.new) }
+    ensures kept { IsKept R.told R.failures result source.old source.new }
+    ensures answer { AnswersWithoutMemory (λ _. buf.new) result (exactly_at (R.told source.old).bytes at (length buf.old)) (R.failures source.old) (R.failures source.new) }
+    ensures asked { AsksOnly (AreReadable (R.told source.old) at (length buf.old)) result }
 {
     let mut done = 0;
     while done < buf.len() {
@@ -42,9 +42,9 @@ pub fn read_bytes_at<R: Source>(
     at: u64,
     len: usize,
 ) -> TiffResult<Vec<u8>>
-    ensures kept { IsKept R.bytes R.failures result source.old source.new }
-    ensures answer { AnswersSparingly (λ v. v.items) result (exactly_at (R.bytes source.old) at len) (R.failures source.old) (R.failures source.new) }
-    ensures asked { ReachesTo (at + len) (R.reach source.old) (R.reach source.new) }
+    ensures kept { IsKept R.told R.failures result source.old source.new }
+    ensures answer { AnswersSparingly (λ v. v.items) result (exactly_at (R.told source.old).bytes at len) (R.failures source.old) (R.failures source.new) }
+    ensures asked { AsksOnly (AreReadable (R.told source.old) at len) result }
 {
     if len > 0 {
         let Some(last) = at.checked_add(len as u64 - 1) else {
@@ -145,9 +145,9 @@ pub fn u64_in(order: ByteOrder, bytes: &[u8], at: usize) -> u64
 
 /// The two bytes at an offset as a number.
 pub fn read_u16_at<R: Source>(source: &mut R, at: u64, order: ByteOrder) -> TiffResult<u16>
-    ensures kept { IsKept R.bytes R.failures result source.old source.new }
-    ensures answer { AnswersWithoutMemory (λ n. n) result (number_at order w16 (R.bytes source.old) at) (R.failures source.old) (R.failures source.new) }
-    ensures asked { ReachesTo (at + 2) (R.reach source.old) (R.reach source.new) }
+    ensures kept { IsKept R.told R.failures result source.old source.new }
+    ensures answer { AnswersWithoutMemory (λ n. n) result (number_at order w16 (R.told source.old).bytes at) (R.failures source.old) (R.failures source.new) }
+    ensures asked { AsksOnly (AreReadable (R.told source.old) at 2) result }
 {
     let mut bytes = [0u8; 2];
     read_exact_at(source, at, &mut bytes)?;
@@ -156,9 +156,9 @@ pub fn read_u16_at<R: Source>(source: &mut R, at: u64, order: ByteOrder) -> Tiff
 
 /// The four bytes at an offset as a number.
 pub fn read_u32_at<R: Source>(source: &mut R, at: u64, order: ByteOrder) -> TiffResult<u32>
-    ensures kept { IsKept R.bytes R.failures result source.old source.new }
-    ensures answer { AnswersWithoutMemory (λ n. n) result (number_at order w32 (R.bytes source.old) at) (R.failures source.old) (R.failures source.new) }
-    ensures asked { ReachesTo (at + 4) (R.reach source.old) (R.reach source.new) }
+    ensures kept { IsKept R.told R.failures result source.old source.new }
+    ensures answer { AnswersWithoutMemory (λ n. n) result (number_at order w32 (R.told source.old).bytes at) (R.failures source.old) (R.failures source.new) }
+    ensures asked { AsksOnly (AreReadable (R.told source.old) at 4) result }
 {
     let mut bytes = [0u8; 4];
     read_exact_at(source, at, &mut bytes)?;
@@ -167,9 +167,9 @@ pub fn read_u32_at<R: Source>(source: &mut R, at: u64, order: ByteOrder) -> Tiff
 
 /// The eight bytes at an offset as a number.
 pub fn read_u64_at<R: Source>(source: &mut R, at: u64, order: ByteOrder) -> TiffResult<u64>
-    ensures kept { IsKept R.bytes R.failures result source.old source.new }
-    ensures answer { AnswersWithoutMemory (λ n. n) result (number_at order w64 (R.bytes source.old) at) (R.failures source.old) (R.failures source.new) }
-    ensures asked { ReachesTo (at + 8) (R.reach source.old) (R.reach source.new) }
+    ensures kept { IsKept R.told R.failures result source.old source.new }
+    ensures answer { AnswersWithoutMemory (λ n. n) result (number_at order w64 (R.told source.old).bytes at) (R.failures source.old) (R.failures source.new) }
+    ensures asked { AsksOnly (AreReadable (R.told source.old) at 8) result }
 {
     let mut bytes = [0u8; 8];
     read_exact_at(source, at, &mut bytes)?;

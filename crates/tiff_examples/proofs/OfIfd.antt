@@ -8,3 +8,4 @@ pub mod View
 pub mod Stream
 pub mod Walk
 pub mod Unpacking
+pub mod Stretches

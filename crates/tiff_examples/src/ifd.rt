@@ -5,6 +5,7 @@ pub mod field_value;
 pub mod into;
 pub mod look;
 pub mod stream;
+pub mod stretches;
 pub mod tag_queries;
 pub mod unpacking;
 pub mod view;

@@ -15,3 +15,4 @@ pub mod TagQueries
 pub mod Same
 pub mod Stream
 pub mod Unpacking
+pub mod Stretches

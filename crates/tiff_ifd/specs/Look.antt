@@ -8,28 +8,34 @@ use Rattle.tiff_base.specs.declared.error.TiffFormatError.TheVariants.{RequiredT
 use Rattle.tiff_base.specs.declared.tags.ByteOrder.{ByteOrder}
 use Rattle.tiff_base.specs.declared.tags.FileKind.{FileKind}
 use Rattle.tiff_base.specs.declared.tags.Tag.{Tag}
-use Rattle.tiff_base.specs.Answers.{AnswersBut, ◌>>=◌}
+use Rattle.tiff_base.specs.Answers.{AnswersBut, AsksOnly, ◌>>=◌}
 use Rattle.tiff_base.specs.Sparing.{IsFoundWithin}
 use Rattle.tiff_base.specs.Field.{Field, DirectoryRecord}
+use Rattle.tiff_base.specs.SourceAndSink.{SourceRecord}
 use Rattle.tiff_base.specs.Tags.{tag_number}
 use Rattle.tiff_ifd.specs.declared.limits.Limits.{Limits}
 use Rattle.tiff_ifd.specs.Datum.{Datum}
 use Rattle.tiff_ifd.specs.FieldValue.{field_value}
+use Rattle.tiff_ifd.specs.Stretches.{TagReadable}
 
 -- which tags there are, and the value of each
 pub record Look : Type 0 where
   pub has : Tag → Bool
   pub value : Tag → Result (Option Datum) TiffError
 
--- what tags tell: the look-up, and the bytes, the kind and the byte order of the file, the directory and the limits that it
+-- what tags tell: the look-up, and the source, the kind and the byte order of the file, the directory and the limits that it
 -- is of
 pub record DirectoryTags : Type 0 where
   pub look : Look
-  pub bytes : List ℕ
+  pub source : SourceRecord
   pub kind : FileKind
   pub order : ByteOrder
   pub directory : DirectoryRecord
   pub limits : Limits
+
+-- Of the bytes that aren't the directory's, those of the values of a tag alone are asked for.
+abbrev pub AsksForTag : {X : Type 0} → DirectoryTags → Tag → Result X TiffError → Type 0
+AsksForTag tags tag result = AsksOnly (TagReadable tags.source tags.kind tags.order tags.directory tag) result
 
 -- what is found, read or converted or tested
 abbrev pub if_found : {A B : Type 0} → (A → Result B TiffError) → Option A → Result (Option B) TiffError

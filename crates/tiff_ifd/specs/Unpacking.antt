@@ -5,7 +5,7 @@ use Rattle.tiff_base.specs.declared.error.TiffError.TheVariants.{IoError}
 use Rattle.tiff_base.specs.declared.io.IoKind.TheVariants.{UnexpectedEof}
 use Rattle.tiff_base.specs.Answers.{IsCause}
 use Rattle.tiff_base.specs.Runs.{End, Plain, Broken, Unpacked, with_front, runs, runs_after}
-use Rattle.tiff_base.specs.SourceAndSink.{bytes_at}
+use Rattle.tiff_base.specs.SourceAndSink.{AreReadable, SourceRecord, bytes_at}
 use Rattle.tiff_ifd.specs.declared.packbits.Block.{Block}
 use Rattle.tiff_ifd.specs.declared.packbits.Block.TheVariants.{Literal, Run}
 use Rattle.tiff_ifd.specs.declared.packbits.PackedPosition.{PackedPosition}
@@ -64,19 +64,24 @@ abbrev pub left_at : List ℕ → PackedPosition → Unpacked
 left_at bytes offset = left_in offset.block (nat_lt (length bytes - offset.at) offset.len) (bytes_at bytes offset.at offset.len)
 
 -- a source, and an offset in its packed bytes, of which those tell the bytes and the failed reads
-abbrev pub unpacking : {S : Type 0} → (S → List ℕ) → (S → ℕ) → S → PackedPosition → Unpacking
-unpacking bytes_of failures_of source offset =
-    record { bytes = bytes_of source; failures = failures_of source; rest = left_at (bytes_of source) offset }
+abbrev pub unpacking : {S : Type 0} → (S → SourceRecord) → (S → ℕ) → S → PackedPosition → Unpacking
+unpacking told_of failures_of source offset =
+    record { bytes = (told_of source).bytes; failures = failures_of source; rest = left_at (told_of source).bytes offset }
 
--- the offset behind the packed bytes
-abbrev pub packed_end : PackedPosition → ℕ
-packed_end offset = offset.at + offset.len
+-- a source answers for the packed bytes behind an offset
+abbrev pub PackedReadable : SourceRecord → PackedPosition → Type 0
+PackedReadable source offset = AreReadable source offset.at offset.len
 
--- an offset that was found has the packed bytes end here
-abbrev pub EndsAt : ℕ → Result (Option PackedPosition) TiffError → Type 0
-EndsAt end (Ok (Some offset)) = packed_end offset ≡ end
-EndsAt end (Ok None) = Unit {0}
-EndsAt end (Err e) = Unit {0}
+-- The packed bytes behind an offset are the last ones of so many from another offset on.
+pub record IsLastPart (at len : ℕ) (rest : PackedPosition) : Type 0 where
+  pub start : at ≤ rest.at
+  pub end : rest.at + rest.len ≡ at + len
+
+-- the same of the packed bytes behind an offset, where one was found
+abbrev pub FindsLastPart : ℕ → ℕ → Result (Option PackedPosition) TiffError → Type 0
+FindsLastPart at len (Ok (Some rest)) = IsLastPart at len rest
+FindsLastPart at len (Ok None) = Unit {0}
+FindsLastPart at len (Err e) = Unit {0}
 
 -- how many bytes of a block are left
 abbrev pub count_of : Block → ℕ

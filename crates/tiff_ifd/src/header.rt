@@ -1,10 +1,9 @@
 //! The header of a file.
 
-ghost use Rattle.std.specs.Prelude.{◌≡◌, IfOk};
-ghost use Rattle.tiff_base.specs.declared.tags.FileKind.TheVariants.{Classic};
-ghost use Rattle.tiff_base.specs.Answers.{AnswersWithoutMemory, IsKept};
+ghost use Rattle.tiff_base.specs.Answers.{AnswersWithoutMemory, AsksOnly, IsKept};
 ghost use Rattle.tiff_base.specs.Header.{header_at, order_at};
-ghost use Rattle.tiff_base.specs.SourceAndSink.{ReachesTo};
+ghost use Rattle.tiff_base.specs.SourceAndSink.{AreReadable};
+ghost use Rattle.tiff_ifd.specs.Stretches.{HeaderReadable};
 
 use tiff_base::error::{TiffError, TiffFormatError, TiffResult};
 use tiff_base::io::{IoKind, Source};
@@ -21,9 +20,9 @@ pub struct FileHeader {
 }
 
 fn read_order<R: Source>(source: &mut R) -> TiffResult<ByteOrder>
-    ensures kept { IsKept R.bytes R.failures result source.old source.new }
-    ensures answer { AnswersWithoutMemory (λ o. o) result (order_at (R.bytes source.old)) (R.failures source.old) (R.failures source.new) }
-    ensures asked { ReachesTo 2 (R.reach source.old) (R.reach source.new) }
+    ensures kept { IsKept R.told R.failures result source.old source.new }
+    ensures answer { AnswersWithoutMemory (λ o. o) result (order_at (R.told source.old).bytes) (R.failures source.old) (R.failures source.new) }
+    ensures asked { AsksOnly (AreReadable (R.told source.old) 0 2) result }
 {
     let mark = match read_u16_at(source, 0, ByteOrder::LittleEndian) {
         Ok(mark) => mark,
@@ -43,10 +42,9 @@ fn read_order<R: Source>(source: &mut R) -> TiffResult<ByteOrder>
 /// `TiffSignatureInvalid`; a number cut: `IoError(UnexpectedEof)`; the first offset 0: `ImageFileDirectoryNotFound`.
 #[tactic(auto, unfolding(tiff_base::specs::Header::header_at))]
 pub fn read_header<R: Source>(source: &mut R) -> TiffResult<FileHeader>
-    ensures kept { IsKept R.bytes R.failures result source.old source.new }
-    ensures answer { AnswersWithoutMemory (λ h. record { order = h.order; kind = h.kind; first = h.first }) result (header_at (R.bytes source.old)) (R.failures source.old) (R.failures source.new) }
-    ensures asked { ReachesTo 16 (R.reach source.old) (R.reach source.new) }
-    ensures asked_of_classic { IfOk result (λ h. h.kind ≡ Classic → ReachesTo 8 (R.reach source.old) (R.reach source.new)) }
+    ensures kept { IsKept R.told R.failures result source.old source.new }
+    ensures answer { AnswersWithoutMemory (λ h. record { order = h.order; kind = h.kind; first = h.first }) result (header_at (R.told source.old).bytes) (R.failures source.old) (R.failures source.new) }
+    ensures asked { AsksOnly (HeaderReadable (R.told source.old)) result }
 {
     let order = read_order(source)?;
     let version = read_u16_at(source, 2, order)?;

@@ -4,7 +4,7 @@ ghost use Rattle.std.specs.Prelude.{◌≡◌, ℕ, ◌≤◌, ◌^◌, option_m
 ghost use Rattle.tiff_base.specs.Answers.{IsKept};
 ghost use Rattle.tiff_ifd.specs.View.{datum};
 ghost use Rattle.tiff_ifd.specs.Into as into;
-ghost use Rattle.tiff_ifd.specs.Look.{AnswersFound, find, require};
+ghost use Rattle.tiff_ifd.specs.Look.{AnswersFound, AsksForTag, find, require};
 
 use crate::value::Value;
 use std::alloc::Global;
@@ -28,12 +28,14 @@ pub trait Tags {
     /// The value of a tag. Memory is taken where there is the tag, within the limits and the source.
     fn find(&mut self, alloc: Global, tag: Tag) -> TiffResult<Option<Value>>
         ensures kept { IsKept told failures result self.old self.new }
-        ensures answer { AnswersFound (λ v. option_map datum v) result ((told self.old).look.value tag) (told self.old).look tag (failures self.old) (failures self.new) };
+        ensures answer { AnswersFound (λ v. option_map datum v) result ((told self.old).look.value tag) (told self.old).look tag (failures self.old) (failures self.new) }
+        ensures asked { AsksForTag (told self.old) tag result };
 
     /// A tag's numbers, as `Value::into_u64_vec` gives them, if there is the tag.
     fn find_u64_vec(&mut self, alloc: Global, tag: Tag) -> TiffResult<Option<Vec<u64>>>
         ensures kept { IsKept told failures result self.old self.new }
-        ensures answer { AnswersFound (λ o. option_map (λ v. v.items) o) result (find into.into_u64_vec (told self.old).look tag) (told self.old).look tag (failures self.old) (failures self.new) };
+        ensures answer { AnswersFound (λ o. option_map (λ v. v.items) o) result (find into.into_u64_vec (told self.old).look tag) (told self.old).look tag (failures self.old) (failures self.new) }
+        ensures asked { AsksForTag (told self.old) tag result };
 }
 
 /// A tag's number below 2^16, if there is the tag.
@@ -41,6 +43,7 @@ pub trait Tags {
 pub fn find_u16<T: Tags>(tags: &mut T, alloc: Global, tag: Tag) -> TiffResult<Option<u16>>
     ensures kept { IsKept T.told T.failures result tags.old tags.new }
     ensures answer { AnswersFound (λ n. n) result (find into.into_u16 (T.told tags.old).look tag) (T.told tags.old).look tag (T.failures tags.old) (T.failures tags.new) }
+    ensures asked { AsksForTag (T.told tags.old) tag result }
 {
     match tags.find(alloc, tag)? {
         None => Ok(None),
@@ -53,6 +56,7 @@ pub fn find_u16<T: Tags>(tags: &mut T, alloc: Global, tag: Tag) -> TiffResult<Op
 pub fn find_u32<T: Tags>(tags: &mut T, alloc: Global, tag: Tag) -> TiffResult<Option<u32>>
     ensures kept { IsKept T.told T.failures result tags.old tags.new }
     ensures answer { AnswersFound (λ n. n) result (find into.into_u32 (T.told tags.old).look tag) (T.told tags.old).look tag (T.failures tags.old) (T.failures tags.new) }
+    ensures asked { AsksForTag (T.told tags.old) tag result }
 {
     match tags.find(alloc, tag)? {
         None => Ok(None),
@@ -65,6 +69,7 @@ pub fn find_u32<T: Tags>(tags: &mut T, alloc: Global, tag: Tag) -> TiffResult<Op
 pub fn find_u16_vec<T: Tags>(tags: &mut T, alloc: Global, tag: Tag) -> TiffResult<Option<Vec<u16>>>
     ensures kept { IsKept T.told T.failures result tags.old tags.new }
     ensures answer { AnswersFound (λ o. option_map (λ v. v.items) o) result (find into.into_u16_vec (T.told tags.old).look tag) (T.told tags.old).look tag (T.failures tags.old) (T.failures tags.new) }
+    ensures asked { AsksForTag (T.told tags.old) tag result }
 {
     match tags.find(alloc, tag)? {
         None => Ok(None),
@@ -77,6 +82,7 @@ pub fn find_u16_vec<T: Tags>(tags: &mut T, alloc: Global, tag: Tag) -> TiffResul
 pub fn require_u32<T: Tags>(tags: &mut T, alloc: Global, tag: Tag) -> TiffResult<u32>
     ensures kept { IsKept T.told T.failures result tags.old tags.new }
     ensures answer { AnswersFound (λ n. n) result (require into.into_u32 (T.told tags.old).look tag) (T.told tags.old).look tag (T.failures tags.old) (T.failures tags.new) }
+    ensures asked { AsksForTag (T.told tags.old) tag result }
 {
     match find_u32(tags, alloc, tag)? {
         None => Err(TiffFormatError::RequiredTagNotFound(tag).into()),
@@ -89,6 +95,7 @@ pub fn require_u32<T: Tags>(tags: &mut T, alloc: Global, tag: Tag) -> TiffResult
 pub fn require_u64_vec<T: Tags>(tags: &mut T, alloc: Global, tag: Tag) -> TiffResult<Vec<u64>>
     ensures kept { IsKept T.told T.failures result tags.old tags.new }
     ensures answer { AnswersFound (λ v. v.items) result (require into.into_u64_vec (T.told tags.old).look tag) (T.told tags.old).look tag (T.failures tags.old) (T.failures tags.new) }
+    ensures asked { AsksForTag (T.told tags.old) tag result }
 {
     match tags.find_u64_vec(alloc, tag)? {
         None => Err(TiffFormatError::RequiredTagNotFound(tag).into()),

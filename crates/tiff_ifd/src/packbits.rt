@@ -1,10 +1,10 @@
 //! A packed list is unpacked, in pieces of any size.
 
 ghost use Rattle.std.specs.Prelude.{◌≡◌, ℕ, ◌+◌, ◌<◌, ◌≤◌, List, length, Ok, OnOk, IfOk, IfErr, IfSome, IfNone};
-ghost use Rattle.tiff_base.specs.Answers.{IsCause, IsKept, NoneSwallowed};
+ghost use Rattle.tiff_base.specs.Answers.{AsksOnly, IsCause, IsKept, NoneSwallowed};
 ghost use Rattle.tiff_base.specs.Runs.{with_front};
-ghost use Rattle.tiff_base.specs.SourceAndSink.{ReachesTo};
-ghost use Rattle.tiff_ifd.specs.Unpacking.{unpacked_at, left_at, unpacking, packed_end, EndsAt, count_of, GivesNext, HasTooFew, ReadsByte, Finds, ReadsBlock, PieceReads, Fills, UnpacksFront};
+ghost use Rattle.tiff_base.specs.SourceAndSink.{AreReadable};
+ghost use Rattle.tiff_ifd.specs.Unpacking.{unpacked_at, left_at, unpacking, PackedReadable, IsLastPart, FindsLastPart, count_of, GivesNext, HasTooFew, ReadsByte, Finds, ReadsBlock, PieceReads, Fills, UnpacksFront};
 ghost use Rattle.tiff_ifd.specs.declared.packbits.Block.TheVariants.{Literal, Run};
 
 use std::marker::Model;
@@ -45,9 +45,9 @@ impl Block {
 // The byte at an offset.
 #[tactic(auto, using(crate::proofs::Unpacking::byte_there, crate::proofs::Unpacking::byte_missing))]
 fn read_byte<R: Source>(source: &mut R, at: u64) -> TiffResult<u8>
-    ensures kept { IsKept R.bytes R.failures result source.old source.new }
-    ensures byte { ReadsByte (R.bytes source.old) at (R.failures source.old < R.failures source.new) result }
-    ensures asked { ReachesTo (at + 1) (R.reach source.old) (R.reach source.new) }
+    ensures kept { IsKept R.told R.failures result source.old source.new }
+    ensures byte { ReadsByte (R.told source.old).bytes at (R.failures source.old < R.failures source.new) result }
+    ensures asked { AsksOnly (AreReadable (R.told source.old) at 1) result }
 {
     let mut byte = [0u8; 1];
     read_exact_at(source, at, &mut byte)?;
@@ -56,10 +56,10 @@ fn read_byte<R: Source>(source: &mut R, at: u64) -> TiffResult<u8>
 
 // The next block of packed bytes. Headers that stand for nothing are passed.
 fn next_block<R: Source>(source: &mut R, at: u64, len: u64) -> TiffResult<Option<PackedPosition>>
-    ensures kept { IsKept R.bytes R.failures result source.old source.new }
-    ensures block { Finds (R.bytes source.old) (unpacked_at (R.bytes source.old) at len) (R.failures source.old < R.failures source.new) result }
-    ensures asked { ReachesTo (at + len) (R.reach source.old) (R.reach source.new) }
-    ensures end { EndsAt (at + len) result }
+    ensures kept { IsKept R.told R.failures result source.old source.new }
+    ensures block { Finds (R.told source.old).bytes (unpacked_at (R.told source.old).bytes at len) (R.failures source.old < R.failures source.new) result }
+    ensures asked { AsksOnly (AreReadable (R.told source.old) at len) result }
+    ensures rest { FindsLastPart at len result }
 {
     let mut at = at;
     let mut len = len;
@@ -92,10 +92,10 @@ fn begun_block<R: Source>(
     source: &mut R,
     offset: PackedPosition,
 ) -> TiffResult<Option<PackedPosition>>
-    ensures kept { IsKept R.bytes R.failures result source.old source.new }
-    ensures block { Finds (R.bytes source.old) (left_at (R.bytes source.old) offset) (R.failures source.old < R.failures source.new) result }
-    ensures asked { ReachesTo (packed_end offset) (R.reach source.old) (R.reach source.new) }
-    ensures end { EndsAt (packed_end offset) result }
+    ensures kept { IsKept R.told R.failures result source.old source.new }
+    ensures block { Finds (R.told source.old).bytes (left_at (R.told source.old).bytes offset) (R.failures source.old < R.failures source.new) result }
+    ensures asked { AsksOnly (PackedReadable (R.told source.old) offset) result }
+    ensures rest { FindsLastPart offset.at offset.len result }
 {
     if offset.block.count() > 0 {
         return Ok(Some(offset));
@@ -113,10 +113,10 @@ fn read_literal<R: Source>(
     requires literal { offset.block ≡ Literal count }
     requires begun { 0 < count }
     requires some { 0 < length buf.old }
-    ensures kept { IsKept R.bytes R.failures result source.old source.new }
-    ensures bytes { ReadsBlock (R.bytes source.old) offset (R.failures source.old < R.failures source.new) buf.old buf.new result }
-    ensures asked { ReachesTo (packed_end offset) (R.reach source.old) (R.reach source.new) }
-    ensures end { IfOk result (λ r. packed_end r.1 ≡ packed_end offset) }
+    ensures kept { IsKept R.told R.failures result source.old source.new }
+    ensures bytes { ReadsBlock (R.told source.old).bytes offset (R.failures source.old < R.failures source.new) buf.old buf.new result }
+    ensures asked { AsksOnly (PackedReadable (R.told source.old) offset) result }
+    ensures rest { IfOk result (λ r. IsLastPart offset.at offset.len r.1) }
 {
     let most = (count.min(buf.len()) as u64).min(offset.len) as usize;
     let n = source.read_at(offset.at, &mut buf[..most])?;
@@ -141,7 +141,7 @@ fn repeat(
     requires begun { 0 < count }
     requires some { 0 < length buf.old }
     ensures bytes { (bytes : List ℕ) → GivesNext (left_at bytes offset) buf.old result.0 buf.new (left_at bytes result.1) }
-    ensures end { packed_end result.1 ≡ packed_end offset }
+    ensures rest { IsLastPart offset.at offset.len result.1 }
 {
     let n = count.min(buf.len());
     buf[..n].fill(value);
@@ -163,10 +163,10 @@ fn read_block<R: Source>(
 ) -> TiffResult<(usize, PackedPosition)>
     requires begun { 0 < count_of offset.block }
     requires some { 0 < length buf.old }
-    ensures kept { IsKept R.bytes R.failures result source.old source.new }
-    ensures bytes { ReadsBlock (R.bytes source.old) offset (R.failures source.old < R.failures source.new) buf.old buf.new result }
-    ensures asked { ReachesTo (packed_end offset) (R.reach source.old) (R.reach source.new) }
-    ensures end { IfOk result (λ r. packed_end r.1 ≡ packed_end offset) }
+    ensures kept { IsKept R.told R.failures result source.old source.new }
+    ensures bytes { ReadsBlock (R.told source.old).bytes offset (R.failures source.old < R.failures source.new) buf.old buf.new result }
+    ensures asked { AsksOnly (PackedReadable (R.told source.old) offset) result }
+    ensures rest { IfOk result (λ r. IsLastPart offset.at offset.len r.1) }
 {
     match offset.block {
         Block::Literal(count) => read_literal(source, offset, count, buf),
@@ -225,7 +225,7 @@ impl PackedPosition {
     /// Before the `length` packed bytes from `at` on; a source may end before them.
     pub fn new(at: u64, length: u64) -> Self
         ensures rest { (bytes : List ℕ) → left_at bytes result ≡ unpacked_at bytes at length }
-        ensures end { packed_end result ≡ at + length }
+        ensures stretch { (result.at ≡ at) × (result.len ≡ length) }
     {
         PackedPosition {
             block: Block::Literal(0),
@@ -237,10 +237,10 @@ impl PackedPosition {
     /// What [`PackBitsReader::read`] reads, from a source that is lent.
     pub fn read<R: Source>(&mut self, source: &mut R, buf: &mut [u8]) -> TiffResult<usize>
         ensures empty { length buf.old ≡ 0 → (result ≡ Ok 0) × ((self.new ≡ self.old) × (source.new ≡ source.old)) }
-        ensures kept { IsKept R.bytes R.failures result source.old source.new }
-        ensures piece { PieceReads result (unpacking R.bytes R.failures source.old self.old) (unpacking R.bytes R.failures source.new self.new) buf.old buf.new }
-        ensures asked { ReachesTo (packed_end self.old) (R.reach source.old) (R.reach source.new) }
-        ensures end { packed_end self.new ≡ packed_end self.old }
+        ensures kept { IsKept R.told R.failures result source.old source.new }
+        ensures piece { PieceReads result (unpacking R.told R.failures source.old self.old) (unpacking R.told R.failures source.new self.new) buf.old buf.new }
+        ensures asked { AsksOnly (PackedReadable (R.told source.old) self.old) result }
+        ensures behind { IsLastPart self.old.at self.old.len self.new }
     {
         if buf.is_empty() {
             return Ok(0);
@@ -255,10 +255,10 @@ impl PackedPosition {
 
     // Reads as `read` does, but all blocks at once that are whole in some packed bytes that are read ahead.
     fn read_blocks<R: Source>(&mut self, source: &mut R, buf: &mut [u8]) -> TiffResult<usize>
-        ensures kept { IsKept R.bytes R.failures result source.old source.new }
-        ensures piece { PieceReads result (unpacking R.bytes R.failures source.old self.old) (unpacking R.bytes R.failures source.new self.new) buf.old buf.new }
-        ensures asked { ReachesTo (packed_end self.old) (R.reach source.old) (R.reach source.new) }
-        ensures end { packed_end self.new ≡ packed_end self.old }
+        ensures kept { IsKept R.told R.failures result source.old source.new }
+        ensures piece { PieceReads result (unpacking R.told R.failures source.old self.old) (unpacking R.told R.failures source.new self.new) buf.old buf.new }
+        ensures asked { AsksOnly (PackedReadable (R.told source.old) self.old) result }
+        ensures behind { IsLastPart self.old.at self.old.len self.new }
     {
         if self.block.count() > 0 {
             return self.read(source, buf);
@@ -279,11 +279,11 @@ impl PackedPosition {
     // Fills the buffer with the next bytes; after a fault some of them may have been passed.
     #[tactic(auto, using(crate::proofs::Unpacking::short_by, crate::proofs::Unpacking::short_cause))]
     fn fill<R: Source>(&mut self, source: &mut R, buf: &mut [u8]) -> TiffResult<()>
-        ensures kept { IsKept R.bytes R.failures result source.old source.new }
-        ensures ok { OnOk result (left_at (R.bytes source.old) self.old ≡ with_front buf.new (left_at (R.bytes source.old) self.new)) }
-        ensures err { IfErr result (λ e. IsCause ⊥ (R.failures source.old < R.failures source.new) e (HasTooFew (left_at (R.bytes source.old) self.old) (length buf.old) e)) }
-        ensures asked { ReachesTo (packed_end self.old) (R.reach source.old) (R.reach source.new) }
-        ensures end { packed_end self.new ≡ packed_end self.old }
+        ensures kept { IsKept R.told R.failures result source.old source.new }
+        ensures ok { OnOk result (left_at (R.told source.old).bytes self.old ≡ with_front buf.new (left_at (R.told source.old).bytes self.new)) }
+        ensures err { IfErr result (λ e. IsCause ⊥ (R.failures source.old < R.failures source.new) e (HasTooFew (left_at (R.told source.old).bytes self.old) (length buf.old) e)) }
+        ensures asked { AsksOnly (PackedReadable (R.told source.old) self.old) result }
+        ensures behind { IsLastPart self.old.at self.old.len self.new }
     {
         let mut done = 0;
         while done < buf.len() {
@@ -298,10 +298,10 @@ impl PackedPosition {
 
     /// What [`PackBitsReader::read_exact`] reads, from a source that is lent.
     pub fn read_exact<R: Source>(&mut self, source: &mut R, buf: &mut [u8]) -> TiffResult<()>
-        ensures kept { IsKept R.bytes R.failures result source.old source.new }
-        ensures filled { Fills result (unpacking R.bytes R.failures source.old self.old) (unpacking R.bytes R.failures source.new self.new) buf.new }
-        ensures asked { ReachesTo (packed_end self.old) (R.reach source.old) (R.reach source.new) }
-        ensures end { packed_end self.new ≡ packed_end self.old }
+        ensures kept { IsKept R.told R.failures result source.old source.new }
+        ensures filled { Fills result (unpacking R.told R.failures source.old self.old) (unpacking R.told R.failures source.new self.new) buf.new }
+        ensures asked { AsksOnly (PackedReadable (R.told source.old) self.old) result }
+        ensures behind { IsLastPart self.old.at self.old.len self.new }
     {
         let mut offset = *self;
         offset.fill(source, buf)?;
@@ -322,13 +322,13 @@ impl<R: Source> Model for PackBitsReader<R> {
 
     ghost Value = { Unpacking };
 
-    ghost view = { λ r. unpacking R.bytes R.failures r.source r.offset };
+    ghost view = { λ r. unpacking R.told R.failures r.source r.offset };
 }
 
 impl<R: Source> PackBitsReader<R> {
     /// Reads the `length` packed bytes from `at` on; the source may end before them.
     pub fn new(source: R, at: u64, length: u64) -> Self
-        ensures { result ≡ record { bytes = R.bytes source; failures = R.failures source; rest = unpacked_at (R.bytes source) at length } }
+        ensures { result ≡ record { bytes = (R.told source).bytes; failures = R.failures source; rest = unpacked_at (R.told source).bytes at length } }
     {
         PackBitsReader {
             source,

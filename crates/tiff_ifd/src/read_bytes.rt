@@ -2,10 +2,11 @@
 
 ghost use Rattle.std.specs.Prelude.{◌≡◌, ◌≤◌, IfOk, length, take, drop};
 ghost use Rattle.std.specs.Int.{byte_len};
-ghost use Rattle.tiff_base.specs.Answers.{AnswersWithoutMemory, IsKept};
+ghost use Rattle.tiff_base.specs.Answers.{AnswersWithoutMemory, AsksOnly, IsKept};
 ghost use Rattle.tiff_base.specs.Sparing.{AnswersSparingly};
 ghost use Rattle.tiff_base.specs.Number.{number};
 ghost use Rattle.tiff_base.specs.Directory.{offset_width};
+ghost use Rattle.tiff_ifd.specs.Stretches.{FieldReadable};
 ghost use Rattle.tiff_ifd.specs.TagQueries.{buffer_of, part_of_field};
 
 use crate::limits::Limits;
@@ -50,9 +51,10 @@ pub fn read_field_bytes<R: Source>(
     limits: &Limits,
     entry: &Entry,
 ) -> TiffResult<Vec<u8>>
-    ensures kept { IsKept R.bytes R.failures result source.old source.new }
+    ensures kept { IsKept R.told R.failures result source.old source.new }
     ensures answer { AnswersSparingly (λ v. record { order = order; data_type = entry.now.field_type; bytes = v.items }) result
-        (buffer_of kind order (R.bytes source.old) limits.now entry.now) (R.failures source.old) (R.failures source.new) }
+        (buffer_of kind order (R.told source.old).bytes limits.now entry.now) (R.failures source.old) (R.failures source.new) }
+    ensures asked { AsksOnly (FieldReadable (R.told source.old) kind order entry.now) result }
 {
     let size = u64::from(entry.field_type().byte_len());
     let Some(len) = entry.count().checked_mul(size) else {
@@ -82,9 +84,10 @@ pub fn read_part<R: Source>(
     at: u64,
     buf: &mut [u8],
 ) -> TiffResult<usize>
-    ensures kept { IsKept R.bytes R.failures result source.old source.new }
-    ensures answer { AnswersWithoutMemory (λ n. take n buf.new) result (part_of_field kind order (R.bytes source.old) entry.now (length buf.old) at)
+    ensures kept { IsKept R.told R.failures result source.old source.new }
+    ensures answer { AnswersWithoutMemory (λ n. take n buf.new) result (part_of_field kind order (R.told source.old).bytes entry.now (length buf.old) at)
         (R.failures source.old) (R.failures source.new) }
+    ensures asked { AsksOnly (FieldReadable (R.told source.old) kind order entry.now) result }
     ensures rest { IfOk result (λ n. (n ≤ length buf.old) × (drop n buf.new ≡ drop n buf.old)) }
 {
     let size = u64::from(entry.field_type().byte_len());

@@ -3,7 +3,7 @@
 ghost use Rattle.std.specs.Prelude.{◌≡◌, ◌*◌, ◌<◌, true, None, Ok, length, slice_index, EachIndex, option_map};
 ghost use Rattle.std.specs.FinMap.{get};
 ghost use Rattle.std.specs.Int.{byte_len};
-ghost use Rattle.tiff_base.specs.Answers.{IsKept};
+ghost use Rattle.tiff_base.specs.Answers.{AsksOnly, IsKept};
 ghost use Rattle.tiff_base.specs.Sparing.{AnswersWithin, GivesSparingly};
 ghost use Rattle.tiff_base.specs.Directory.{offset_width};
 ghost use Rattle.tiff_base.specs.FieldBytes.{field_len};
@@ -13,6 +13,7 @@ ghost use Rattle.tiff_base.specs.Tags.{tag_number};
 ghost use Rattle.tiff_base.specs.Types.{type_size};
 ghost use Rattle.tiff_ifd.specs.Into.{into_u64_vec};
 ghost use Rattle.tiff_ifd.specs.Look.{AnswersFound, find, look_in};
+ghost use Rattle.tiff_ifd.specs.Stretches.{FieldReadable, TagReadable};
 ghost use Rattle.tiff_ifd.specs.Unsigned.{IsUnsigned, field_numbers, numbers_from, placed_numbers, unsigned_width};
 
 use crate::limits::Limits;
@@ -117,8 +118,9 @@ fn read_placed<R: Source>(
     requires numbers { IsUnsigned entry.now.field_type }
     requires len { len ≡ field_len entry.now }
     requires elsewhere { byte_len (offset_width kind) < len }
-    ensures kept { IsKept R.bytes R.failures result source.old source.new }
-    ensures answer { AnswersWithin (λ v. v.items) result (placed_numbers kind order (R.bytes source.old) limits.now entry.now) (R.failures source.old) (R.failures source.new) }
+    ensures kept { IsKept R.told R.failures result source.old source.new }
+    ensures answer { AnswersWithin (λ v. v.items) result (placed_numbers kind order (R.told source.old).bytes limits.now entry.now) (R.failures source.old) (R.failures source.new) }
+    ensures asked { AsksOnly (FieldReadable (R.told source.old) kind order entry.now) result }
 {
     let (field_type, count) = (entry.field_type(), entry.count());
     if !is_allowed(limits, field_type, count) {
@@ -140,8 +142,9 @@ pub fn read_numbers<R: Source>(
     limits: &Limits,
     entry: &Entry,
 ) -> TiffResult<Vec<u64>>
-    ensures kept { IsKept R.bytes R.failures result source.old source.new }
-    ensures answer { AnswersWithin (λ v. v.items) result (field_numbers kind order (R.bytes source.old) limits.now entry.now) (R.failures source.old) (R.failures source.new) }
+    ensures kept { IsKept R.told R.failures result source.old source.new }
+    ensures answer { AnswersWithin (λ v. v.items) result (field_numbers kind order (R.told source.old).bytes limits.now entry.now) (R.failures source.old) (R.failures source.new) }
+    ensures asked { AsksOnly (FieldReadable (R.told source.old) kind order entry.now) result }
 {
     let field_type = entry.field_type();
     let Some(len) = entry.count().checked_mul(u64::from(field_type.byte_len())) else {
@@ -164,10 +167,11 @@ pub fn find_numbers<R: Source>(
     directory: &Directory,
     tag: Tag,
 ) -> TiffResult<Option<Vec<u64>>>
-    ensures kept { IsKept R.bytes R.failures result source.old source.new }
+    ensures kept { IsKept R.told R.failures result source.old source.new }
     ensures none { get directory.now.entries (tag_number tag) ≡ None → result ≡ Ok None }
-    ensures answer { let look = look_in kind order (R.bytes source.old) limits.now directory.now.entries in
+    ensures answer { let look = look_in kind order (R.told source.old).bytes limits.now directory.now.entries in
         AnswersFound (λ o. option_map (λ v. v.items) o) result (find into_u64_vec look tag) look tag (R.failures source.old) (R.failures source.new) }
+    ensures asked { AsksOnly (TagReadable (R.told source.old) kind order directory.now tag) result }
 {
     match directory.get(tag) {
         None => Ok(None),

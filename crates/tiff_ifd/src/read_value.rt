@@ -6,7 +6,7 @@ ghost use Rattle.std.specs.List.{list_all, position_or_len, prefix_len, suffix_l
 ghost use Rattle.std.specs.Str.{is_utf8};
 ghost use Rattle.tiff_base.specs.declared.error.TiffError.TheVariants as tiff;
 ghost use Rattle.tiff_base.specs.declared.error.TiffFormatError.TheVariants as format;
-ghost use Rattle.tiff_base.specs.Answers.{AnswersBut, AnswersWithoutSource, IsKept};
+ghost use Rattle.tiff_base.specs.Answers.{AnswersBut, AnswersWithoutSource, AsksOnly, IsKept};
 ghost use Rattle.tiff_base.specs.Sparing.{AnswersWithin, GivesSparingly};
 ghost use Rattle.std.specs.FinMap.{get};
 ghost use Rattle.tiff_base.specs.Tags.{tag_number};
@@ -16,7 +16,9 @@ ghost use Rattle.tiff_ifd.specs.Datum as f;
 ghost use Rattle.tiff_ifd.specs.View.{datum, datum_list};
 ghost use Rattle.tiff_ifd.specs.Item as spec;
 ghost use Rattle.tiff_ifd.specs.FieldValue as value;
+ghost use Rattle.tiff_base.specs.SourceAndSink.{AreReadable};
 ghost use Rattle.tiff_ifd.specs.Look.{look_in};
+ghost use Rattle.tiff_ifd.specs.Stretches.{FieldReadable, TagReadable};
 
 use crate::limits::Limits;
 use crate::read_bytes::{offset_in, offset_len};
@@ -280,8 +282,9 @@ pub fn read_text_at<R: Source>(
     at: u64,
     len: usize,
 ) -> TiffResult<String>
-    ensures kept { IsKept R.bytes R.failures result source.old source.new }
-    ensures answer { AnswersWithin string_bytes result (value.text_at (R.bytes source.old) at len) (R.failures source.old) (R.failures source.new) }
+    ensures kept { IsKept R.told R.failures result source.old source.new }
+    ensures answer { AnswersWithin string_bytes result (value.text_at (R.told source.old).bytes at len) (R.failures source.old) (R.failures source.new) }
+    ensures asked { AsksOnly (AreReadable (R.told source.old) at len) result }
 {
     let bytes = read_bytes_at(alloc, source, at, len)?;
     placed_text(alloc, &bytes)?.into_string()
@@ -310,9 +313,10 @@ pub fn read_value<R: Source>(
     limits: &Limits,
     entry: &Entry,
 ) -> TiffResult<Value>
-    ensures kept { IsKept R.bytes R.failures result source.old source.new }
-    ensures answer { let given = value.field_value kind order (R.bytes source.old) limits.now entry.now in
+    ensures kept { IsKept R.told R.failures result source.old source.new }
+    ensures answer { let given = value.field_value kind order (R.told source.old).bytes limits.now entry.now in
         AnswersBut (value.WantsValue (value.stands_in_entry kind entry.now) given) (R.failures source.old < R.failures source.new) datum result given }
+    ensures asked { AsksOnly (FieldReadable (R.told source.old) kind order entry.now) result }
 {
     let count = entry.count();
     if count == 0 {
@@ -352,11 +356,12 @@ pub fn find_value<R: Source>(
     directory: &Directory,
     tag: Tag,
 ) -> TiffResult<Option<Value>>
-    ensures kept { IsKept R.bytes R.failures result source.old source.new }
+    ensures kept { IsKept R.told R.failures result source.old source.new }
     ensures none { get directory.now.entries (tag_number tag) ≡ None → result ≡ Ok None }
-    ensures answer { let given = (look_in kind order (R.bytes source.old) limits.now directory.now.entries).value tag in
+    ensures answer { let given = (look_in kind order (R.told source.old).bytes limits.now directory.now.entries).value tag in
         AnswersBut (value.WantsFound kind (get directory.now.entries (tag_number tag)) given) (R.failures source.old < R.failures source.new)
         (λ v. option_map datum v) result given }
+    ensures asked { AsksOnly (TagReadable (R.told source.old) kind order directory.now tag) result }
 {
     match directory.get(tag) {
         None => Ok(None),

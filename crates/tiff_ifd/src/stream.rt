@@ -26,7 +26,7 @@ impl<R: Source> Model for EndianReader<R> {
     ghost Value = { Reading };
 
     ghost view = { λ r. record {
-      bytes = R.bytes r.source;
+      bytes = (R.told r.source).bytes;
       failures = R.failures r.source;
       order = r.byte_order;
       offset = r.offset;
@@ -46,7 +46,7 @@ impl<R: Source> fmt::Debug for EndianReader<R> {
 impl<R: Source> EndianReader<R> {
     /// Reads from the source's start on.
     pub fn new(source: R, byte_order: ByteOrder) -> Self
-        ensures { result ≡ record { bytes = R.bytes source; failures = R.failures source; order = byte_order; offset = 0 } }
+        ensures { result ≡ record { bytes = (R.told source).bytes; failures = R.failures source; order = byte_order; offset = 0 } }
     {
         EndianReader {
             source,
@@ -57,7 +57,7 @@ impl<R: Source> EndianReader<R> {
 
     /// The source.
     pub fn inner(&self) -> &R
-        ensures bytes { R.bytes result.now ≡ self.now.bytes }
+        ensures bytes { (R.told result.now).bytes ≡ self.now.bytes }
         ensures failures { R.failures result.now ≡ self.now.failures }
     {
         &self.source

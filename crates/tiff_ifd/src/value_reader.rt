@@ -28,8 +28,8 @@ pub struct ValueReader<R: Source> {
 
 impl<R: Source> Tags for ValueReader<R> {
     ghost told = { λ t. record {
-      look = look_in t.kind t.order (R.bytes t.source) t.limits t.directory.entries;
-      bytes = R.bytes t.source;
+      look = look_in t.kind t.order (R.told t.source).bytes t.limits t.directory.entries;
+      source = R.told t.source;
       kind = t.kind;
       order = t.order;
       directory = t.directory;

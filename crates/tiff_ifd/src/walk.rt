@@ -128,15 +128,15 @@ impl Walk {
         kind: FileKind,
         order: ByteOrder,
     ) -> TiffResult<Option<Directory>>
-        ensures kept { IsKept R.bytes R.failures result source.old source.new }
-        ensures ok { IfOk result (λ entered. WalkSteps kind order (R.bytes source.old) self.old (Ok entered) self.new) }
+        ensures kept { IsKept R.told R.failures result source.old source.new }
+        ensures ok { IfOk result (λ entered. WalkSteps kind order (R.told source.old).bytes self.old (Ok entered) self.new) }
         ensures err { IfErr result (λ e. IsCause (self.new ≡ self.old) ((R.failures source.old < R.failures source.new) × (self.new ≡ self.old)) e
-            (WalkSteps kind order (R.bytes source.old) self.old (Err e) self.new)) }
-        ensures begins { (first : ℕ) → ChainBegins kind order (R.bytes source.old) first self.old → ChainBegins kind order (R.bytes source.old) first self.new }
-        ensures end { IfOk result (λ entered. IfNone entered ((first : ℕ) → ChainBegins kind order (R.bytes source.old) first self.old
-            → ChainEnds kind order (R.bytes source.old) first self.old None)) }
+            (WalkSteps kind order (R.told source.old).bytes self.old (Err e) self.new)) }
+        ensures begins { (first : ℕ) → ChainBegins kind order (R.told source.old).bytes first self.old → ChainBegins kind order (R.told source.old).bytes first self.new }
+        ensures end { IfOk result (λ entered. IfNone entered ((first : ℕ) → ChainBegins kind order (R.told source.old).bytes first self.old
+            → ChainEnds kind order (R.told source.old).bytes first self.old None)) }
         ensures cut { IfErr result (λ e. IsCause (Unit {0}) (R.failures source.old < R.failures source.new) e
-            ((first : ℕ) → ChainBegins kind order (R.bytes source.old) first self.old → ChainEnds kind order (R.bytes source.old) first self.old (Some e))) }
+            ((first : ℕ) → ChainBegins kind order (R.told source.old).bytes first self.old → ChainEnds kind order (R.told source.old).bytes first self.old (Some e))) }
     {
         let Some(offset) = self.next else {
             return Ok(None);
@@ -155,15 +155,15 @@ impl Walk {
         kind: FileKind,
         order: ByteOrder,
     ) -> TiffResult<bool>
-        ensures kept { IsKept R.bytes R.failures result source.old source.new }
-        ensures ok { IfOk result (λ passed. StepsOver kind order (R.bytes source.old) self.old passed self.new) }
+        ensures kept { IsKept R.told R.failures result source.old source.new }
+        ensures ok { IfOk result (λ passed. StepsOver kind order (R.told source.old).bytes self.old passed self.new) }
         ensures err { IfErr result (λ e. IsCause (self.new ≡ self.old) ((R.failures source.old < R.failures source.new) × (self.new ≡ self.old)) e
-            (WalkSteps kind order (R.bytes source.old) self.old (Err e) self.new)) }
-        ensures begins { (first : ℕ) → ChainBegins kind order (R.bytes source.old) first self.old → ChainBegins kind order (R.bytes source.old) first self.new }
-        ensures end { IfOk result (λ passed. passed ≡ false → (first : ℕ) → ChainBegins kind order (R.bytes source.old) first self.old
-            → ChainEnds kind order (R.bytes source.old) first self.old None) }
+            (WalkSteps kind order (R.told source.old).bytes self.old (Err e) self.new)) }
+        ensures begins { (first : ℕ) → ChainBegins kind order (R.told source.old).bytes first self.old → ChainBegins kind order (R.told source.old).bytes first self.new }
+        ensures end { IfOk result (λ passed. passed ≡ false → (first : ℕ) → ChainBegins kind order (R.told source.old).bytes first self.old
+            → ChainEnds kind order (R.told source.old).bytes first self.old None) }
         ensures cut { IfErr result (λ e. IsCause (Unit {0}) (R.failures source.old < R.failures source.new) e
-            ((first : ℕ) → ChainBegins kind order (R.bytes source.old) first self.old → ChainEnds kind order (R.bytes source.old) first self.old (Some e))) }
+            ((first : ℕ) → ChainBegins kind order (R.told source.old).bytes first self.old → ChainEnds kind order (R.told source.old).bytes first self.old (Some e))) }
     {
         let Some(offset) = self.next else {
             return Ok(false);
@@ -183,20 +183,20 @@ impl Walk {
         order: ByteOrder,
         index: usize,
     ) -> TiffResult<Option<u64>>
-        ensures kept { IsKept R.bytes R.failures result source.old source.new }
+        ensures kept { IsKept R.told R.failures result source.old source.new }
         ensures there { IfOk result (λ offset. offset ≡ slice_get self.new.offsets index) }
         ensures short { OnErr result (length self.new.offsets ≤ index) }
         ensures no_further { length self.old.offsets ≤ index → length self.new.offsets ≤ index + 1 }
         ensures longer { (more : List ℕ) × (self.new.offsets ≡ self.old.offsets ++ more) }
         ensures known { index < length self.old.offsets → (self.new ≡ self.old) × (source.new ≡ source.old) }
-        ensures begins { (first : ℕ) → ChainBegins kind order (R.bytes source.old) first self.old → ChainBegins kind order (R.bytes source.old) first self.new }
-        ensures offset { IfOk result (λ offset. (first : ℕ) → ChainBegins kind order (R.bytes source.old) first self.old
-            → slice_get (chain kind order (R.bytes source.old) first).offsets index ≡ offset) }
-        ensures end { IfOk result (λ offset. IfNone offset ((first : ℕ) → ChainBegins kind order (R.bytes source.old) first self.old
-            → ChainEnds kind order (R.bytes source.old) first self.new None)) }
+        ensures begins { (first : ℕ) → ChainBegins kind order (R.told source.old).bytes first self.old → ChainBegins kind order (R.told source.old).bytes first self.new }
+        ensures offset { IfOk result (λ offset. (first : ℕ) → ChainBegins kind order (R.told source.old).bytes first self.old
+            → slice_get (chain kind order (R.told source.old).bytes first).offsets index ≡ offset) }
+        ensures end { IfOk result (λ offset. IfNone offset ((first : ℕ) → ChainBegins kind order (R.told source.old).bytes first self.old
+            → ChainEnds kind order (R.told source.old).bytes first self.new None)) }
         ensures cut { IfErr result (λ e. IsCause (Unit {0}) (R.failures source.old < R.failures source.new) e
-            ((first : ℕ) → ChainBegins kind order (R.bytes source.old) first self.old
-            → (slice_get (chain kind order (R.bytes source.old) first).offsets index ≡ None) × ChainEnds kind order (R.bytes source.old) first self.new (Some e))) }
+            ((first : ℕ) → ChainBegins kind order (R.told source.old).bytes first self.old
+            → (slice_get (chain kind order (R.told source.old).bytes first).offsets index ≡ None) × ChainEnds kind order (R.told source.old).bytes first self.new (Some e))) }
     {
         'way: while self.len() <= index {
             if !self.pass_next(source, kind, order)? {

@@ -1,12 +1,14 @@
--- How far into a source a read of pixels reaches.
-use Rattle.std.proofs.Common.{◌≡◌, ℕ, ◌+◌, ◌-◌, ◌*◌, ◌<◌, ◌≤◌, Bool, true, false, List, Ok, refl, ap, sym, subst, arith, ⊎_elim}
+-- Which bytes a source is asked for by reads of pixels.
+use Rattle.std.proofs.Common.{◌≡◌, ℕ, ◌+◌, ◌-◌, ◌*◌, ◌<◌, ◌≤◌, Bool, true, false, List, Ok, Err, refl, ap, sym, subst, arith, ⊎_elim}
 use Rattle.std.specs.Prelude.{Result, slice_index, if◌then◌else◌}
 use Rattle.std.proofs.lemmas.Bool.{cases_lt}
 use Rattle.std.proofs.Math.Nat.{mul-le-mul_right}
 use Rattle.tiff_base.specs.declared.color.ColorType.{ColorType}
 use Rattle.tiff_base.specs.declared.error.TiffError.{TiffError}
 use Rattle.tiff_base.specs.declared.tags.ByteOrder.{ByteOrder}
-use Rattle.tiff_base.specs.SourceAndSink.{ReachesTo}
+use Rattle.tiff_base.specs.Answers.{AsksOnly, IsNotDevice}
+use Rattle.tiff_base.specs.SourceAndSink.{AreReadable, SourceRecord}
+use Rattle.tiff_base.proofs.Told.{part_readable}
 use Rattle.tiff_page.specs.declared.chunk_data.Stored.{Stored}
 use Rattle.tiff_page.specs.declared.chunk_data.Stored.TheVariants.{Plain, Packed, Ended}
 use Rattle.tiff_page.specs.declared.samples.Portion.{Portion}
@@ -17,61 +19,63 @@ use Rattle.tiff_page.specs.Page.{PageRecord}
 use Rattle.tiff_page.specs.PixelCalls.{Part, image_part, chunk_part}
 use Rattle.tiff_page.specs.Layout.{LayoutRecord, row_bytes}
 use Rattle.tiff_page.specs.Pixels.{needed_bytes, needed_of_row, stored_row_bytes}
-use Rattle.tiff_page.specs.Reach.{stored_end, Moves, data_end, chunk_end, EndsBy, ReachesPart, ReachesLaid}
+use Rattle.tiff_page.specs.Reach.{StoredReadable, Moves, DataReadable, ChunkReadable, PartReadable, LaidReadable}
 use Rattle.tiff_page.specs.Rect.{rect, chunks_of_plane}
 use Rattle.tiff_page.specs.Samples.{color_in, first_in, part_of, IsLaid}
 use Rattle.tiff_page.proofs.Sizes.{plane_some}
 
--- more bytes end no earlier
-pub farther : (s : Stored) (a b : ℕ) → a ≤ b → stored_end s a ≤ stored_end s b
-farther (Plain at) a b h = omega (arith, h)
-farther (Packed position) a b h = omega arith
-farther Ended a b h = omega arith
+-- a call asks for bytes among others
+pub asks_more : {X : Type 0} (P Q : Type 0) (r : Result X TiffError) → (Q → P) → AsksOnly P r → AsksOnly Q r
+asks_more P Q (Ok x) f a = tt
+asks_more P Q (Err e) f a = λ q. a (f q)
 
-end_farther : (packed : Bool) (at count a b : ℕ) → a ≤ b → at + (if packed then count else a) ≤ at + (if packed then count else b)
-end_farther true at count a b h = omega arith
-end_farther false at count a b h = omega (arith, h)
+-- fewer bytes are among more
+pub fewer : (s : Stored) (a b : ℕ) → a ≤ b → (t : SourceRecord) → StoredReadable t s b → StoredReadable t s a
+fewer (Plain at) a b h t r = part_readable t at b at a (omega arith) (omega (arith, h)) r
+fewer (Packed position) a b h t r = r
+fewer Ended a b h t r = r
 
-data_farther : (p : PageRecord) (i a b : ℕ) → a ≤ b → data_end p i a ≤ data_end p i b
-data_farther p i a b h = end_farther (is_packed p.method) (slice_index p.offsets i) (slice_index p.byte_counts i) a b h
+counted_fewer : (packed : Bool) (at count a b : ℕ) → a ≤ b → (t : SourceRecord) → AreReadable t at (if packed then count else b) → AreReadable t at (if packed then count else a)
+counted_fewer true at count a b h t r = r
+counted_fewer false at count a b h t r = part_readable t at b at a (omega arith) (omega (arith, h)) r
+
+data_fewer : (p : PageRecord) (i a b : ℕ) → a ≤ b → (t : SourceRecord) → DataReadable t p i b → DataReadable t p i a
+data_fewer p i a b h t r = counted_fewer (is_packed p.method) (slice_index p.offsets i) (slice_index p.byte_counts i) a b h t r
 
 -- a position that is as many bytes behind one as that one and this are behind each other
 pub moves_on : (from mid rest : Stored) (a b n : ℕ) → a + b ≡ n → Moves from a mid → Moves mid b rest → Moves from n rest
-moves_on from mid rest a b n e h g m =
-    let x : stored_end from (a + (b + m)) ≡ stored_end from (n + m) = ap (stored_end from) (omega (arith, e)) in
-    omega (arith, g m, h (b + m), x)
+moves_on from mid rest a b n e g m t k r =
+    let x : n + k ≡ a + (b + k) = omega (arith, e) in
+    m t k (g t (b + k) (subst (StoredReadable t from) x r))
 
 -- some more bytes of so many are read
-pub more_asked : (from mid : Stored) (a b n before so_far after : ℕ) → a + b ≤ n → Moves from a mid → ReachesTo (stored_end from n) before so_far
-    → ReachesTo (stored_end mid b) so_far after → ReachesTo (stored_end from n) before after
-more_asked from mid a b n before so_far after l h g r k bk ek =
-    let x : stored_end from (a + b) ≤ stored_end from n = farther from (a + b) n l in
-    r k (g k bk ek) (omega (arith, h b, x, ek))
+pub more_asked : (from mid : Stored) (a b n : ℕ) (e : TiffError) (s t : SourceRecord) → t ≡ s → a + b ≤ n → Moves from a mid
+    → (StoredReadable t mid b → IsNotDevice e) → StoredReadable s from n → IsNotDevice e
+more_asked from mid a b n e s t same l g asked r =
+    asked (g t b (fewer from (a + b) n l t (subst (λ x. StoredReadable x from n) (sym same) r)))
 
-pub asked_as : (s : Stored) (n m before after : ℕ) → n ≡ m → ReachesTo (stored_end s n) before after → ReachesTo (stored_end s m) before after
-asked_as s n m before after e r = subst (λ (k : ℕ). ReachesTo (stored_end s k) before after) e r
+pub asked_as : {X : Type 0} (s : Stored) (n m : ℕ) (t : SourceRecord) (r : Result X TiffError) → n ≡ m → AsksOnly (StoredReadable t s n) r → AsksOnly (StoredReadable t s m) r
+asked_as s n m t r same a = subst (λ (k : ℕ). AsksOnly (StoredReadable t s k) r) same a
 
 -- ---- the data of a chunk
 
 -- a position is so many bytes behind the front of a chunk's data
 abbrev pub StandsAt : PageRecord → ℕ → ℕ → Stored → Type 0
-StandsAt p i at position = (m : ℕ) → stored_end position m ≤ data_end p i (at + m)
+StandsAt p i at position = (t : SourceRecord) (m : ℕ) → DataReadable t p i (at + m) → StoredReadable t position m
 
 pub stands_on : (p : PageRecord) (i at n next : ℕ) (position rest : Stored) → at + n ≤ next → StandsAt p i at position → Moves position n rest → StandsAt p i next rest
-stands_on p i at n next position rest l s h m =
-    let x = data_farther p i (at + (n + m)) (next + m) (omega (arith, l)) in
-    omega (arith, h m, s (n + m), x)
+stands_on p i at n next position rest l s h t m r =
+    h t m (s t (n + m) (data_fewer p i (at + (n + m)) (next + m) (omega (arith, l)) t r))
 
 -- so does the front itself, by no or more bytes
-pub front_stands : (p : PageRecord) (i at : ℕ) (position : Stored) → ((n : ℕ) → stored_end position n ≡ data_end p i n) → StandsAt p i at position
-front_stands p i at position e m = let x = data_farther p i m (at + m) (omega arith) in omega (arith, e m, x)
+pub front_stands : (p : PageRecord) (i at : ℕ) (position : Stored) → ((t : SourceRecord) (n : ℕ) → DataReadable t p i n → StoredReadable t position n) → StandsAt p i at position
+front_stands p i at position e t m r = e t m (data_fewer p i m (at + m) (omega arith) t r)
 
 -- bytes within those that are needed of a chunk are read
-pub chunk_asked : (p : PageRecord) (color : ColorType) (i at n before so_far after : ℕ) (position : Stored) → at + n ≤ needed_bytes p color i → StandsAt p i at position
-    → ReachesTo (chunk_end p color i) before so_far → ReachesTo (stored_end position n) so_far after → ReachesTo (chunk_end p color i) before after
-chunk_asked p color i at n before so_far after position l s g r k bk ek =
-    let x = data_farther p i (at + n) (needed_bytes p color i) l in
-    r k (g k bk ek) (omega (arith, s n, x, ek))
+pub chunk_asked : (p : PageRecord) (color : ColorType) (i at n : ℕ) (position : Stored) (e : TiffError) (s t : SourceRecord) → t ≡ s → at + n ≤ needed_bytes p color i
+    → StandsAt p i at position → (StoredReadable t position n → IsNotDevice e) → ChunkReadable s p color i → IsNotDevice e
+chunk_asked p color i at n position e s t same l stands asked r =
+    asked (stands t n (data_fewer p i (at + n) (needed_bytes p color i) l t (subst (λ x. ChunkReadable x p color i) (sym same) r)))
 
 -- a row, and the bytes behind it up to the next one, are within those that are needed
 pub row_within : (row h stored need gap : ℕ) → row < h → need + gap ≤ stored → (row + 1 ≡ h → gap ≡ 0) → row * stored + (need + gap) ≤ (h - 1) * stored + need
@@ -98,9 +102,8 @@ behind_within row h stored need gap l w b e =
 
 -- ---- the rows of a chunk, one after another
 
-module _ (p : PageRecord) (color : ColorType) (k row n : ℕ) (position : Stored) (before so_far read : ℕ) (rl : row < (rect p k).height)
-    (whole : n ≡ row_bytes p color (rect p k).width) (stands : StandsAt p k (row * stored_row_bytes p) position)
-    (asked : ReachesTo (chunk_end p color k) before so_far) (reads : ReachesTo (stored_end position (needed_of_row p color n)) so_far read) where
+module _ (p : PageRecord) (color : ColorType) (k row n : ℕ) (position : Stored) (rl : row < (rect p k).height)
+    (whole : n ≡ row_bytes p color (rect p k).width) (stands : StandsAt p k (row * stored_row_bytes p) position) where
   abbrev h : ℕ
   h = (rect p k).height
 
@@ -117,10 +120,10 @@ module _ (p : PageRecord) (color : ColorType) (k row n : ℕ) (position : Stored
   need_is = ap (needed_of_row p color) whole
 
   -- a row is read
-  pub row_asked : ReachesTo (chunk_end p color k) before read
-  row_asked =
+  pub row_asked : (e : TiffError) (s t : SourceRecord) → t ≡ s → (StoredReadable t position (needed_of_row p color n) → IsNotDevice e) → ChunkReadable s p color k → IsNotDevice e
+  row_asked e s t same asked =
       let x : row * stored ≤ (h - 1) * stored = mul-le-mul_right stored (omega (arith, rl)) in
-      chunk_asked p color k at (needed_of_row p color n) before so_far read position (omega (arith, x, need_is)) stands asked reads
+      chunk_asked p color k at (needed_of_row p color n) position e s t same (omega (arith, x, need_is)) stands asked
 
   -- and the bytes behind it are passed
   module _ (rest : Stored) (behind : ℕ) (within : need ≤ stored) (moves : Moves position (needed_of_row p color n) rest)
@@ -131,10 +134,10 @@ module _ (p : PageRecord) (color : ColorType) (k row n : ℕ) (position : Stored
     rest_stands : StandsAt p k (at + need) rest
     rest_stands = stands_on p k at (needed_of_row p color n) (at + need) position rest (omega (arith, need_is)) stands moves
 
-    pub behind_asked : (after : ℕ) → ReachesTo (stored_end rest behind) read after → ReachesTo (chunk_end p color k) before after
-    behind_asked after passes =
+    pub behind_asked : (e : TiffError) (s t : SourceRecord) → t ≡ s → (StoredReadable t rest behind → IsNotDevice e) → ChunkReadable s p color k → IsNotDevice e
+    behind_asked e s t same asked =
         let x = row_within row h stored need behind rl gap last in
-        chunk_asked p color k (at + need) behind before read after rest (omega (arith, x)) rest_stands row_asked passes
+        chunk_asked p color k (at + need) behind rest e s t same (omega (arith, x)) rest_stands asked
 
     pub next_stands : (next : Stored) → Moves rest behind next → StandsAt p k ((row + 1) * stored) next
     next_stands next m =
@@ -144,51 +147,58 @@ module _ (p : PageRecord) (color : ColorType) (k row n : ℕ) (position : Stored
 -- ---- the chunks of a part of an image
 
 -- one more chunk of a part is read
-pub part_asked : (p : PageRecord) (color : ColorType) (part : Part) (plane j i before so_far after : ℕ) → i ≡ plane * chunks_of_plane p + (part.first + j)
-    → plane < part.planes → j < part.count → ReachesPart p color part before so_far → ReachesTo (chunk_end p color i) so_far after
-    → ReachesPart p color part before after
-part_asked p color part plane j i before so_far after e pl jl g r end ends k bk ek =
-    let x : chunk_end p color i ≡ chunk_end p color (plane * chunks_of_plane p + (part.first + j)) = ap (chunk_end p color) e in
-    r k (g end ends k bk ek) (omega (arith, ends plane pl j jl, x, ek))
+pub part_asked : (p : PageRecord) (color : ColorType) (part : Part) (plane j i : ℕ) (e : TiffError) (s t : SourceRecord) → t ≡ s → i ≡ plane * chunks_of_plane p + (part.first + j)
+    → plane < part.planes → j < part.count → (ChunkReadable t p color i → IsNotDevice e) → PartReadable s p color part → IsNotDevice e
+part_asked p color part plane j i e s t same x pl jl asked r =
+    asked (subst (λ k. ChunkReadable t p color k) (sym x) (subst (λ z. ChunkReadable z p color (plane * chunks_of_plane p + (part.first + j))) (sym same) (r.chunk plane pl j jl)))
 
 -- one more chunk of an image is read in its planes
-pub image_asked : (p : PageRecord) (color : ColorType) (planes stride chunk before so_far after : ℕ) → chunk < chunks_of_plane p
-    → ReachesPart p color (image_part p planes stride) before so_far → ReachesPart p color (chunk_part p chunk planes stride) so_far after
-    → ReachesPart p color (image_part p planes stride) before after
-image_asked p color planes stride chunk before so_far after l g r end ends k bk ek =
-    let here : EndsBy p color (chunk_part p chunk planes stride) end =
-    λ plane pl j jl.
-    let x : chunk_end p color (plane * chunks_of_plane p + (chunk + j)) ≡ chunk_end p color (plane * chunks_of_plane p + (0 + chunk)) = ap (chunk_end p color) (omega (arith, jl)) in
-    omega (arith, ends plane pl chunk l, x) in
-    r end here k (g end ends k bk ek) ek
+pub image_asked : (p : PageRecord) (color : ColorType) (planes stride chunk : ℕ) (e : TiffError) (s t : SourceRecord) → t ≡ s → chunk < chunks_of_plane p
+    → (PartReadable t p color (chunk_part p chunk planes stride) → IsNotDevice e) → PartReadable s p color (image_part p planes stride) → IsNotDevice e
+image_asked p color planes stride chunk e s t same l asked r =
+    asked (record {
+      chunk = λ plane pl j jl.
+          let x : plane * chunks_of_plane p + (0 + chunk) ≡ plane * chunks_of_plane p + (chunk + j) = omega (arith, jl) in
+          subst (λ k. ChunkReadable t p color k) x (subst (λ z. ChunkReadable z p color (plane * chunks_of_plane p + (0 + chunk))) (sym same) (r.chunk plane pl chunk l));
+    })
 
 -- the first chunk is one of them
-pub portion_asked : (file : List ℕ) (order : ByteOrder) (p : PageRecord) (portion : Portion) (before after : ℕ) → HasSides p → IsLaid p portion
-    → ReachesTo (chunk_end p (color_in portion) (first_in portion)) before after
-    → ReachesPart p (color_in portion) (part_of file order p portion) before after
-portion_asked file order p (Image layout planes) before after sides laid r =
-    part_asked p layout.color (image_part p planes layout.row_bytes) 0 0 0 before before after (omega arith) laid.1
-    (plane_some p.width p.height p.chunk_width p.chunk_height sides.wide sides.high sides.chunk_wide sides.chunk_high) (λ end ends k bk ek. bk) r
-portion_asked file order p (Chunk color i stride) before after sides laid r =
-    part_asked p color (chunk_part p i 1 stride) 0 0 i before before after (omega arith) (omega arith) (omega arith) (λ end ends k bk ek. bk) r
+pub first_readable : (file : List ℕ) (order : ByteOrder) (p : PageRecord) (portion : Portion) (s : SourceRecord) → HasSides p → IsLaid p portion
+    → PartReadable s p (color_in portion) (part_of file order p portion) → ChunkReadable s p (color_in portion) (first_in portion)
+first_readable file order p (Image layout planes) s sides laid r =
+    let x : 0 * chunks_of_plane p + (0 + 0) ≡ 0 = omega arith in
+    subst (λ k. ChunkReadable s p layout.color k) x (r.chunk 0 laid.1 0 (plane_some p.width p.height p.chunk_width p.chunk_height sides.wide sides.high sides.chunk_wide sides.chunk_high))
+first_readable file order p (Chunk color i stride) s sides laid r =
+    let x : 0 * chunks_of_plane p + (i + 0) ≡ i = omega arith in
+    subst (λ k. ChunkReadable s p color k) x (r.chunk 0 (omega arith) 0 (omega arith))
 
 part_same : (file other : List ℕ) (order : ByteOrder) (p : PageRecord) (portion : Portion) → part_of file order p portion ≡ part_of other order p portion
 part_same file other order p (Image layout planes) = refl
 part_same file other order p (Chunk color i stride) = refl
 
--- then all are read, from a source that tells the same
-pub portion_filled : (file first : List ℕ) (order : ByteOrder) (p : PageRecord) (portion : Portion) (before so_far after : ℕ) → HasSides p → IsLaid p portion
-    → ReachesTo (chunk_end p (color_in portion) (first_in portion)) before so_far
-    → ReachesPart p (color_in portion) (part_of file order p portion) so_far after
-    → ReachesPart p (color_in portion) (part_of first order p portion) before after
-portion_filled file first order p portion before so_far after sides laid g r end ends k bk ek =
-    let same : EndsBy p (color_in portion) (part_of file order p portion) end = subst (λ (part : Part). EndsBy p (color_in portion) part end) (part_same first file order p portion) ends in
-    r end same k (portion_asked first order p portion before so_far sides laid g end ends k bk ek) ek
+-- a portion is read, from a source that tells the same
+pub portion_filled : (order : ByteOrder) (p : PageRecord) (portion : Portion) (e : TiffError) (s t : SourceRecord) → t ≡ s
+    → (PartReadable t p (color_in portion) (part_of t.bytes order p portion) → IsNotDevice e)
+    → PartReadable s p (color_in portion) (part_of s.bytes order p portion) → IsNotDevice e
+portion_filled order p portion e s t same asked r =
+    asked (subst (λ z. PartReadable z p (color_in portion) (part_of z.bytes order p portion)) (sym same) r)
 
 -- ---- what a layout tells
 
 -- the part that the layout tells was read
-pub laid_asked : (p : PageRecord) (laid : Result LayoutRecord TiffError) (part : LayoutRecord → Part) (l : LayoutRecord) (here : Part) (before after : ℕ)
-    → laid ≡ Ok l → here ≡ part l → ReachesPart p l.color here before after → ReachesLaid p laid part before after
-laid_asked p laid part l here before after e same r end ends =
-    r end (subst (λ (q : Part). EndsBy p l.color q end) (sym same) (ends l e))
+pub laid_asked : {X : Type 0} (p : PageRecord) (laid : Result LayoutRecord TiffError) (part : LayoutRecord → Part) (l : LayoutRecord) (here : Part) (s : SourceRecord) (r : Result X TiffError)
+    → laid ≡ Ok l → here ≡ part l → AsksOnly (PartReadable s p l.color here) r → AsksOnly (LaidReadable s p laid part) r
+laid_asked p laid part l here s r given same a =
+    asks_more (PartReadable s p l.color here) (LaidReadable s p laid part) r (λ q. subst (λ (x : Part). PartReadable s p l.color x) (sym same) (q.part_readable l given)) a
+
+-- the same of an error that is passed on
+pub laid_error : (p : PageRecord) (laid : Result LayoutRecord TiffError) (part : LayoutRecord → Part) (l : LayoutRecord) (here : Part) (s : SourceRecord) (e : TiffError)
+    → laid ≡ Ok l → here ≡ part l → (PartReadable s p l.color here → IsNotDevice e) → LaidReadable s p laid part → IsNotDevice e
+laid_error p laid part l here s e given same a q = a (subst (λ (x : Part). PartReadable s p l.color x) (sym same) (q.part_readable l given))
+
+-- a chunk's bytes don't depend on how far its rows lie apart
+pub strided_asked : {X : Type 0} (p : PageRecord) (laid : Result LayoutRecord TiffError) (i stride : ℕ) (l : LayoutRecord) (s : SourceRecord) (r : Result X TiffError)
+    → laid ≡ Ok l → AsksOnly (PartReadable s p l.color (chunk_part p i 1 stride)) r → AsksOnly (LaidReadable s p laid (λ l. chunk_part p i 1 l.row_bytes)) r
+strided_asked p laid i stride l s r given a =
+    asks_more (PartReadable s p l.color (chunk_part p i 1 stride)) (LaidReadable s p laid (λ l. chunk_part p i 1 l.row_bytes)) r
+    (λ q. record { chunk = (q.part_readable l given).chunk }) a

@@ -1,46 +1,51 @@
--- How far into a source a read of pixels reaches.
-use Rattle.std.specs.Prelude.{◌≡◌, ℕ, ◌+◌, ◌*◌, ◌<◌, ◌≤◌, if◌then◌else◌, slice_index, Result, Ok}
+-- Which bytes a source is asked for by reads of pixels.
+use Rattle.std.specs.Prelude.{◌≡◌, ℕ, ◌+◌, ◌*◌, ◌<◌, if◌then◌else◌, slice_index, Result, Ok}
 use Rattle.tiff_base.specs.declared.color.ColorType.{ColorType}
 use Rattle.tiff_base.specs.declared.error.TiffError.{TiffError}
-use Rattle.tiff_base.specs.SourceAndSink.{ReachesTo}
-use Rattle.tiff_ifd.specs.Unpacking.{packed_end}
+use Rattle.tiff_base.specs.SourceAndSink.{AreReadable, SourceRecord}
+use Rattle.tiff_ifd.specs.Unpacking.{PackedReadable}
 use Rattle.tiff_page.specs.declared.chunk_data.Stored.{Stored}
 use Rattle.tiff_page.specs.declared.chunk_data.Stored.TheVariants.{Plain, Packed, Ended}
+use Rattle.tiff_page.specs.Buffers.{planes_layout}
 use Rattle.tiff_page.specs.EarlyFaults.{is_packed}
 use Rattle.tiff_page.specs.Layout.{LayoutRecord}
 use Rattle.tiff_page.specs.Page.{PageRecord}
-use Rattle.tiff_page.specs.PixelCalls.{Part}
+use Rattle.tiff_page.specs.PixelCalls.{Part, image_part, chunk_part}
 use Rattle.tiff_page.specs.Pixels.{needed_bytes}
-use Rattle.tiff_page.specs.Rect.{chunks_of_plane}
+use Rattle.tiff_page.specs.Rect.{rect, chunks_of_plane}
 
--- where so many bytes from a position in a chunk's data end in the file, at the latest
-abbrev pub stored_end : Stored → ℕ → ℕ
-stored_end (Plain at) n = at + n
-stored_end (Packed position) n = packed_end position
-stored_end Ended n = 0
+-- A source answers for so many bytes of a chunk's data from a position on; of packed data, for all that are counted.
+abbrev pub StoredReadable : SourceRecord → Stored → ℕ → Type 0
+StoredReadable source (Plain at) n = AreReadable source at n
+StoredReadable source (Packed position) n = PackedReadable source position
+StoredReadable source Ended n = Unit {0}
 
--- A position is so many bytes behind another one: what is read from it ends no later than counted from there.
+-- A position is so many bytes behind another one: what is read from it is among the bytes from that one on.
 abbrev pub Moves : Stored → ℕ → Stored → Type 0
-Moves from n rest = (m : ℕ) → stored_end rest m ≤ stored_end from (n + m)
+Moves from n rest = (source : SourceRecord) (m : ℕ) → StoredReadable source from (n + m) → StoredReadable source rest m
 
--- where so many bytes of the data of a chunk end in the file; of packed data all that are counted may be read for them
-abbrev pub data_end : PageRecord → ℕ → ℕ → ℕ
-data_end p i n = slice_index p.offsets i + (if is_packed p.method then slice_index p.byte_counts i else n)
+-- A source answers for so many bytes of the data of a chunk; of packed data, for all that are counted.
+abbrev pub DataReadable : SourceRecord → PageRecord → ℕ → ℕ → Type 0
+DataReadable source p i n = AreReadable source (slice_index p.offsets i) (if is_packed p.method then slice_index p.byte_counts i else n)
 
--- where those end that are needed of a chunk
-abbrev pub chunk_end : PageRecord → ColorType → ℕ → ℕ
-chunk_end p color i = data_end p i (needed_bytes p color i)
+-- It answers for those that are needed of a chunk: up to the last byte of its last row, as it is stored.
+abbrev pub ChunkReadable : SourceRecord → PageRecord → ColorType → ℕ → Type 0
+ChunkReadable source p color i = DataReadable source p i (needed_bytes p color i)
 
--- those of all chunks of a part of an image end by there
-abbrev pub EndsBy : PageRecord → ColorType → Part → ℕ → Type 0
-EndsBy p color part end =
-    (plane : ℕ) → plane < part.planes → (j : ℕ) → j < part.count → chunk_end p color (plane * chunks_of_plane p + (part.first + j)) ≤ end
+-- It answers for those of each chunk of a part of an image.
+pub record PartReadable (source : SourceRecord) (p : PageRecord) (color : ColorType) (part : Part) : Type 0 where
+  pub chunk : (plane : ℕ) → plane < part.planes → (j : ℕ) → j < part.count
+      → ChunkReadable source p color (plane * chunks_of_plane p + (part.first + j))
 
--- No byte was asked for that lies behind the bytes needed of the chunks of a part.
-abbrev pub ReachesPart : PageRecord → ColorType → Part → ℕ → ℕ → Type 0
-ReachesPart p color part before after = (end : ℕ) → EndsBy p color part end → ReachesTo end before after
+-- The same of a part that a layout tells; where there is no layout, nothing is read.
+pub record LaidReadable (source : SourceRecord) (p : PageRecord) (laid : Result LayoutRecord TiffError) (part : LayoutRecord → Part) : Type 0 where
+  pub part_readable : (l : LayoutRecord) → laid ≡ Ok l → PartReadable source p l.color (part l)
 
--- The same of a part that a layout tells; where there is no layout, none was asked for.
-abbrev pub ReachesLaid : PageRecord → Result LayoutRecord TiffError → (LayoutRecord → Part) → ℕ → ℕ → Type 0
-ReachesLaid p laid part before after =
-    (end : ℕ) → ((l : LayoutRecord) → laid ≡ Ok l → EndsBy p l.color (part l) end) → ReachesTo end before after
+-- A source answers for the bytes that are needed of all chunks of an image, in so many planes as its layout tells.
+abbrev pub ImageReadable : SourceRecord → PageRecord → (LayoutRecord → ℕ) → Type 0
+ImageReadable source p planes = LaidReadable source p (planes_layout p p.width p.height) (λ l. image_part p (planes l) l.row_bytes)
+
+-- It answers for those of a chunk, or of a coding unit's chunk in each of so many planes.
+abbrev pub ChunksReadable : SourceRecord → PageRecord → ℕ → (LayoutRecord → ℕ) → Type 0
+ChunksReadable source p i planes =
+    LaidReadable source p (planes_layout p (rect p i).width (rect p i).height) (λ l. chunk_part p i (planes l) l.row_bytes)

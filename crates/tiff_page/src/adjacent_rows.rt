@@ -1,8 +1,7 @@
 //! The rows of a chunk that lie together, in its data and in a buffer, are read many at once.
 
 ghost use Rattle.std.specs.Prelude.{◌≡◌, ◌+◌, ◌*◌, ◌^◌, ◌<◌, ◌≤◌, ◌↔◌, IsTrue, Ok, length, OnOk};
-ghost use Rattle.tiff_base.specs.Answers.{Answers, IsKept};
-ghost use Rattle.tiff_base.specs.SourceAndSink.{ReachesTo};
+ghost use Rattle.tiff_base.specs.Answers.{Answers, AsksOnly, IsKept};
 ghost use Rattle.tiff_base.specs.declared.error.TiffError.TheVariants as tiff;
 ghost use Rattle.tiff_base.specs.declared.io.IoKind.TheVariants as io;
 ghost use Rattle.tiff_page.specs.Layout.{row_bytes};
@@ -12,7 +11,7 @@ ghost use Rattle.tiff_page.specs.BufferPositions.{WritesChunk};
 ghost use Rattle.tiff_page.specs.ReadablePage.{IsRead};
 ghost use Rattle.tiff_page.specs.Rect.{rect};
 ghost use Rattle.tiff_page.specs.AdjacentRows.{LieTogether};
-ghost use Rattle.tiff_page.specs.Reach.{chunk_end};
+ghost use Rattle.tiff_page.specs.Reach.{ChunkReadable};
 ghost use Rattle.tiff_page.specs.PageView as view;
 
 use crate::chunk_data::Stored;
@@ -77,14 +76,13 @@ impl ChunkReader<'_> {
         requires rows { (corner.top + (rect (view.page self.now.page.now) self.now.index).height) * corner.stride
             ≤ length (W.bytes buf.old) }
         requires few { (corner.top + (rect (view.page self.now.page.now) self.now.index).height) * corner.stride < 2 ^ 64 }
-        ensures kept { IsKept R.bytes R.failures result source.old source.new }
-        ensures ok { OnOk result (WritesChunk (R.bytes source.old) self.now.order (view.page self.now.page.now) self.now.color
+        ensures kept { IsKept R.told R.failures result source.old source.new }
+        ensures ok { OnOk result (WritesChunk (R.told source.old).bytes self.now.order (view.page self.now.page.now) self.now.color
             self.now.index corner.stride corner.top corner.left (W.bytes buf.old) (W.bytes buf.new)) }
         ensures answer { Answers (λ _. tt) result (unless
-            (is_short (R.bytes source.old) self.now.order (view.page self.now.page.now) self.now.color self.now.index)
+            (is_short (R.told source.old).bytes self.now.order (view.page self.now.page.now) self.now.color self.now.index)
             (tiff.IoError io.UnexpectedEof)) (R.failures source.old) (R.failures source.new) }
-        ensures asked { ReachesTo (chunk_end (view.page self.now.page.now) self.now.color self.now.index) (R.reach source.old)
-            (R.reach source.new) }
+        ensures asked { AsksOnly (ChunkReadable (R.told source.old) (view.page self.now.page.now) self.now.color self.now.index) result }
     {
         let rows = self.height as usize;
         let mut position = self.front();

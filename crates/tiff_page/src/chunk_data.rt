@@ -1,14 +1,14 @@
 //! The data of a chunk, read from the front on.
 
 ghost use Rattle.std.specs.Prelude.{◌≡◌, ◌+◌, ◌<◌, ◌≤◌, ℕ, List, if◌then◌else◌, length, slice_index, Ok, IfOk};
-ghost use Rattle.tiff_base.specs.Answers.{IsKept};
-ghost use Rattle.tiff_base.specs.SourceAndSink.{ReachesTo};
-ghost use Rattle.tiff_ifd.specs.Unpacking.{packed_end};
+ghost use Rattle.tiff_base.specs.Answers.{AsksOnly, IsKept};
+ghost use Rattle.tiff_base.specs.SourceAndSink.{AreReadable, SourceRecord};
+ghost use Rattle.tiff_ifd.specs.Unpacking.{PackedReadable};
 ghost use Rattle.tiff_page.specs.PixelFault.{method_fault};
 ghost use Rattle.tiff_page.specs.Pixels.{data_by_method};
 ghost use Rattle.tiff_page.specs.ChunkData.{bytes_left, Takes, Passes};
 ghost use Rattle.tiff_page.specs.EarlyFaults.{is_packed};
-ghost use Rattle.tiff_page.specs.Reach.{stored_end, Moves};
+ghost use Rattle.tiff_page.specs.Reach.{StoredReadable, Moves};
 ghost use Rattle.tiff_page.specs.declared.chunk_data.Stored.TheVariants.{Packed};
 ghost use Rattle.tiff_base.specs.declared.tags.ByteOrder.{ByteOrder};
 ghost use Rattle.tiff_page.specs.Page.{PageRecord};
@@ -32,9 +32,9 @@ const PIECE: usize = 65536;
 
 // Passes so many bytes of packed data, or all that are left.
 fn pass_packed<R: Source>(source: &mut R, position: PackedPosition, n: u64) -> TiffResult<Stored>
-    ensures kept { IsKept R.bytes R.failures result source.old source.new }
-    ensures passed { Passes (R.bytes source.old) (Packed position) (R.failures source.old < R.failures source.new) n result }
-    ensures asked { ReachesTo (packed_end position) (R.reach source.old) (R.reach source.new) }
+    ensures kept { IsKept R.told R.failures result source.old source.new }
+    ensures passed { Passes (R.told source.old).bytes (Packed position) (R.failures source.old < R.failures source.new) n result }
+    ensures asked { AsksOnly (PackedReadable (R.told source.old) position) result }
     ensures moves { IfOk result (λ rest. Moves (Packed position) n rest) }
 {
     let mut piece = [0u8; 512];
@@ -58,7 +58,7 @@ impl Stored {
     pub fn new(method: CompressionMethod, at: u64, count: u64) -> Self
         requires { method_fault method ≡ Ok tt }
         ensures rest { (file : List ℕ) (order : ByteOrder) (p : PageRecord) → bytes_left file result ≡ data_by_method file order p method at count }
-        ensures end { (n : ℕ) → stored_end result n ≡ at + (if is_packed method then count else n) }
+        ensures readable { (source : SourceRecord) (n : ℕ) → AreReadable source at (if is_packed method then count else n) → StoredReadable source result n }
     {
         match method {
             CompressionMethod::PackBits => Stored::Packed(PackedPosition::new(at, count)),
@@ -68,9 +68,9 @@ impl Stored {
 
     /// Fills a buffer with the next bytes, and answers the position behind them. Fewer are left: `IoError(UnexpectedEof)`.
     pub fn read<R: Source>(self, source: &mut R, buf: &mut [u8]) -> TiffResult<Stored>
-        ensures kept { IsKept R.bytes R.failures result source.old source.new }
-        ensures taken { Takes (R.bytes source.old) self ⊥ (R.failures source.old < R.failures source.new) (length buf.old) buf.new result }
-        ensures asked { ReachesTo (stored_end self (length buf.old)) (R.reach source.old) (R.reach source.new) }
+        ensures kept { IsKept R.told R.failures result source.old source.new }
+        ensures taken { Takes (R.told source.old).bytes self ⊥ (R.failures source.old < R.failures source.new) (length buf.old) buf.new result }
+        ensures asked { AsksOnly (StoredReadable (R.told source.old) self (length buf.old)) result }
         ensures moves { IfOk result (λ rest. Moves self (length buf.old) rest) }
     {
         match self {
@@ -99,11 +99,11 @@ impl Stored {
         row: &mut Vec<u8>,
         len: usize,
     ) -> TiffResult<Stored>
-        ensures kept { IsKept R.bytes R.failures result source.old source.new }
-        ensures taken { Takes (R.bytes source.old) self (Unit {0}) (R.failures source.old < R.failures source.new) len
+        ensures kept { IsKept R.told R.failures result source.old source.new }
+        ensures taken { Takes (R.told source.old).bytes self (Unit {0}) (R.failures source.old < R.failures source.new) len
             row.new.items result }
-        ensures grown { length row.new.items ≤ length (bytes_left (R.bytes source.old) self) + PIECE }
-        ensures asked { ReachesTo (stored_end self len) (R.reach source.old) (R.reach source.new) }
+        ensures grown { length row.new.items ≤ length (bytes_left (R.told source.old).bytes self) + PIECE }
+        ensures asked { AsksOnly (StoredReadable (R.told source.old) self len) result }
         ensures moves { IfOk result (λ rest. Moves self len rest) }
     {
         row.clear();
@@ -119,9 +119,9 @@ impl Stored {
     /// Passes so many bytes, or all that are left where there are fewer.
     #[tactic(auto, using(crate::proofs::Data::passed_end))]
     pub fn pass<R: Source>(self, source: &mut R, n: u64) -> TiffResult<Stored>
-        ensures kept { IsKept R.bytes R.failures result source.old source.new }
-        ensures passed { Passes (R.bytes source.old) self (R.failures source.old < R.failures source.new) n result }
-        ensures asked { ReachesTo (stored_end self n) (R.reach source.old) (R.reach source.new) }
+        ensures kept { IsKept R.told R.failures result source.old source.new }
+        ensures passed { Passes (R.told source.old).bytes self (R.failures source.old < R.failures source.new) n result }
+        ensures asked { AsksOnly (StoredReadable (R.told source.old) self n) result }
         ensures moves { IfOk result (λ rest. Moves self n rest) }
     {
         match self {

@@ -1,8 +1,8 @@
 //! The rows of a chunk are read into a buffer.
 
 ghost use Rattle.std.specs.Prelude.{◌≡◌, ℕ, List, ◌+◌, ◌-◌, ◌*◌, Ok, true, ◌<◌, ◌≤◌, ◌^◌, length, false, ◌/◌, ◌⊎◌, OnOk, IfOk};
-ghost use Rattle.tiff_base.specs.Answers.{Answers, IsKept};
-ghost use Rattle.tiff_base.specs.SourceAndSink.{ReachesTo};
+ghost use Rattle.tiff_base.specs.Answers.{Answers, AsksOnly, IsKept};
+ghost use Rattle.tiff_base.specs.SourceAndSink.{SourceRecord};
 ghost use Rattle.tiff_base.specs.declared.error.TiffError.TheVariants as tiff;
 ghost use Rattle.tiff_base.specs.declared.io.IoKind.TheVariants as io;
 ghost use Rattle.tiff_base.specs.declared.tags.ByteOrder.{ByteOrder};
@@ -16,7 +16,7 @@ ghost use Rattle.tiff_page.specs.OutputRow.{is_turned};
 ghost use Rattle.tiff_page.specs.RowReads.{NumbersRead, RowRead};
 ghost use Rattle.tiff_page.specs.Rect.{rect};
 ghost use Rattle.tiff_page.specs.ChunkData.{bytes_left};
-ghost use Rattle.tiff_page.specs.Reach.{stored_end, Moves, data_end, chunk_end};
+ghost use Rattle.tiff_page.specs.Reach.{StoredReadable, Moves, DataReadable, ChunkReadable};
 ghost use Rattle.tiff_page.specs.PageView as view;
 
 use crate::chunk_data::Stored;
@@ -102,11 +102,10 @@ impl ChunkReader<'_> {
         requires whole { needs_whole_rows (view.page self.now.page.now) self.now.color ≡ true }
         requires width { self.now.width ≤ self.now.page.now.chunk_width }
         requires out { length out.old ≡ row_bytes (view.page self.now.page.now) self.now.color self.now.width }
-        ensures kept { IsKept R.bytes R.failures result source.old source.new }
-        ensures row { RowRead (R.bytes source.old) self.now.order (view.page self.now.page.now) self.now.color position (Unit {0})
+        ensures kept { IsKept R.told R.failures result source.old source.new }
+        ensures row { RowRead (R.told source.old).bytes self.now.order (view.page self.now.page.now) self.now.color position (Unit {0})
             (R.failures source.old < R.failures source.new) out.new result }
-        ensures asked { ReachesTo (stored_end position (stored_row_bytes (view.page self.now.page.now))) (R.reach source.old)
-            (R.reach source.new) }
+        ensures asked { AsksOnly (StoredReadable (R.told source.old) position (stored_row_bytes (view.page self.now.page.now))) result }
         ensures moves { IfOk result (λ rest. Moves position (stored_row_bytes (view.page self.now.page.now)) rest) }
     {
         let page = self.page;
@@ -130,10 +129,10 @@ impl ChunkReader<'_> {
         requires turned { is_turned self.now.order self.now.page.now.depth ≡ true }
         requires size { IsSize (self.now.page.now.depth / 8) }
         requires whole { length out.old / (self.now.page.now.depth / 8) * (self.now.page.now.depth / 8) ≡ length out.old }
-        ensures kept { IsKept R.bytes R.failures result source.old source.new }
-        ensures numbers { NumbersRead (R.bytes source.old) self.now.order (view.page self.now.page.now) position
+        ensures kept { IsKept R.told R.failures result source.old source.new }
+        ensures numbers { NumbersRead (R.told source.old).bytes self.now.order (view.page self.now.page.now) position
             (R.failures source.old < R.failures source.new) out.new result }
-        ensures asked { ReachesTo (stored_end position (length out.old)) (R.reach source.old) (R.reach source.new) }
+        ensures asked { AsksOnly (StoredReadable (R.told source.old) position (length out.old)) result }
         ensures moves { IfOk result (λ rest. Moves position (length out.old) rest) }
     {
         room.resize(out.len(), 0)?;
@@ -154,10 +153,10 @@ impl ChunkReader<'_> {
         requires read { IsRead (view.page self.now.page.now) self.now.color }
         requires whole { (self.now.page.now.depth < 8)
             ⊎ (length out.old / (self.now.page.now.depth / 8) * (self.now.page.now.depth / 8) ≡ length out.old) }
-        ensures kept { IsKept R.bytes R.failures result source.old source.new }
-        ensures numbers { NumbersRead (R.bytes source.old) self.now.order (view.page self.now.page.now) position
+        ensures kept { IsKept R.told R.failures result source.old source.new }
+        ensures numbers { NumbersRead (R.told source.old).bytes self.now.order (view.page self.now.page.now) position
             (R.failures source.old < R.failures source.new) out.new result }
-        ensures asked { ReachesTo (stored_end position (length out.old)) (R.reach source.old) (R.reach source.new) }
+        ensures asked { AsksOnly (StoredReadable (R.told source.old) position (length out.old)) result }
         ensures moves { IfOk result (λ rest. Moves position (length out.old) rest) }
     {
         if is_turned(self.order, self.page) {
@@ -179,10 +178,10 @@ impl ChunkReader<'_> {
         requires in_place { needs_whole_rows (view.page self.now.page.now) self.now.color ≡ false }
         requires whole { (self.now.page.now.depth < 8)
             ⊎ (length out.old / (self.now.page.now.depth / 8) * (self.now.page.now.depth / 8) ≡ length out.old) }
-        ensures kept { IsKept R.bytes R.failures result source.old source.new }
-        ensures row { RowRead (R.bytes source.old) self.now.order (view.page self.now.page.now) self.now.color position (Unit {0})
+        ensures kept { IsKept R.told R.failures result source.old source.new }
+        ensures row { RowRead (R.told source.old).bytes self.now.order (view.page self.now.page.now) self.now.color position (Unit {0})
             (R.failures source.old < R.failures source.new) out.new result }
-        ensures asked { ReachesTo (stored_end position (length out.old)) (R.reach source.old) (R.reach source.new) }
+        ensures asked { AsksOnly (StoredReadable (R.told source.old) position (length out.old)) result }
         ensures moves { IfOk result (λ rest. Moves position (length out.old) rest) }
     {
         let rest = self.read_numbers(source, position, room, out)?;
@@ -201,11 +200,11 @@ impl ChunkReader<'_> {
         requires read { IsRead (view.page self.now.page.now) self.now.color }
         requires width { self.now.width ≤ self.now.page.now.chunk_width }
         requires out { length out.old ≡ row_bytes (view.page self.now.page.now) self.now.color self.now.width }
-        ensures kept { IsKept R.bytes R.failures result source.old source.new }
-        ensures row { RowRead (R.bytes source.old) self.now.order (view.page self.now.page.now) self.now.color position (Unit {0})
+        ensures kept { IsKept R.told R.failures result source.old source.new }
+        ensures row { RowRead (R.told source.old).bytes self.now.order (view.page self.now.page.now) self.now.color position (Unit {0})
             (R.failures source.old < R.failures source.new) out.new result }
-        ensures asked { ReachesTo (stored_end position (needed_of_row (view.page self.now.page.now) self.now.color
-            (length out.old))) (R.reach source.old) (R.reach source.new) }
+        ensures asked { AsksOnly (StoredReadable (R.told source.old) position (needed_of_row (view.page self.now.page.now) self.now.color
+            (length out.old))) result }
         ensures moves { IfOk result (λ rest. Moves position (needed_of_row (view.page self.now.page.now) self.now.color
             (length out.old)) rest) }
     {
@@ -231,7 +230,8 @@ impl ChunkReader<'_> {
         requires listed { self.now.index < length self.now.page.now.offsets }
         ensures rest { (file : List ℕ) (order : ByteOrder) → bytes_left file result
             ≡ chunk_data file order (view.page self.now.page.now) self.now.index }
-        ensures end { (n : ℕ) → stored_end result n ≡ data_end (view.page self.now.page.now) self.now.index n }
+        ensures readable { (source : SourceRecord) (n : ℕ) → DataReadable source (view.page self.now.page.now) self.now.index n
+            → StoredReadable source result n }
     {
         let page = self.page;
         let chunk = self.index as usize;
@@ -259,14 +259,13 @@ impl ChunkReader<'_> {
         requires rows { (corner.top + (rect (view.page self.now.page.now) self.now.index).height) * corner.stride
             ≤ length (W.bytes buf.old) }
         requires few { (corner.top + (rect (view.page self.now.page.now) self.now.index).height) * corner.stride < 2 ^ 64 }
-        ensures kept { IsKept R.bytes R.failures result source.old source.new }
-        ensures ok { OnOk result (WritesChunk (R.bytes source.old) self.now.order (view.page self.now.page.now) self.now.color
+        ensures kept { IsKept R.told R.failures result source.old source.new }
+        ensures ok { OnOk result (WritesChunk (R.told source.old).bytes self.now.order (view.page self.now.page.now) self.now.color
             self.now.index corner.stride corner.top corner.left (W.bytes buf.old) (W.bytes buf.new)) }
         ensures answer { Answers (λ _. tt) result (unless
-            (is_short (R.bytes source.old) self.now.order (view.page self.now.page.now) self.now.color self.now.index)
+            (is_short (R.told source.old).bytes self.now.order (view.page self.now.page.now) self.now.color self.now.index)
             (tiff.IoError io.UnexpectedEof)) (R.failures source.old) (R.failures source.new) }
-        ensures asked { ReachesTo (chunk_end (view.page self.now.page.now) self.now.color self.now.index) (R.reach source.old)
-            (R.reach source.new) }
+        ensures asked { AsksOnly (ChunkReadable (R.told source.old) (view.page self.now.page.now) self.now.color self.now.index) result }
     {
         let rows = self.height as usize;
         let len = row_len(self.page, self.color, self.width);
@@ -299,14 +298,13 @@ impl ChunkReader<'_> {
         requires rows { (corner.top + (rect (view.page self.now.page.now) self.now.index).height) * corner.stride
             ≤ length (W.bytes buf.old) }
         requires few { (corner.top + (rect (view.page self.now.page.now) self.now.index).height) * corner.stride < 2 ^ 64 }
-        ensures kept { IsKept R.bytes R.failures result source.old source.new }
-        ensures ok { OnOk result (WritesChunk (R.bytes source.old) self.now.order (view.page self.now.page.now) self.now.color
+        ensures kept { IsKept R.told R.failures result source.old source.new }
+        ensures ok { OnOk result (WritesChunk (R.told source.old).bytes self.now.order (view.page self.now.page.now) self.now.color
             self.now.index corner.stride corner.top corner.left (W.bytes buf.old) (W.bytes buf.new)) }
         ensures answer { Answers (λ _. tt) result (unless
-            (is_short (R.bytes source.old) self.now.order (view.page self.now.page.now) self.now.color self.now.index)
+            (is_short (R.told source.old).bytes self.now.order (view.page self.now.page.now) self.now.color self.now.index)
             (tiff.IoError io.UnexpectedEof)) (R.failures source.old) (R.failures source.new) }
-        ensures asked { ReachesTo (chunk_end (view.page self.now.page.now) self.now.color self.now.index) (R.reach source.old)
-            (R.reach source.new) }
+        ensures asked { AsksOnly (ChunkReadable (R.told source.old) (view.page self.now.page.now) self.now.color self.now.index) result }
     {
         if self.lies_together(corner) {
             return self.read_together(source, corner, writer, buf);

@@ -2,14 +2,14 @@
 
 ghost use Rattle.std.specs.Prelude.{◌≡◌, ◌+◌, ◌-◌, ◌*◌, ◌<◌, ◌≤◌, ◌^◌, length, min, nat_lt};
 ghost use Rattle.std.specs.Int.{div_ceil};
-ghost use Rattle.tiff_base.specs.Answers.{AnswersWithoutMemory, IsKept};
-ghost use Rattle.tiff_base.specs.SourceAndSink.{ReachesTo};
+ghost use Rattle.tiff_base.specs.Answers.{AnswersWithoutMemory, AsksOnly, IsKept};
+ghost use Rattle.tiff_base.specs.SourceAndSink.{AreReadable};
 ghost use Rattle.tiff_base.specs.declared.error.TiffError.TheVariants as tiff;
 ghost use Rattle.tiff_base.specs.declared.io.IoKind.TheVariants as io;
 ghost use Rattle.tiff_page.specs.EarlyFaults as spec;
 ghost use Rattle.tiff_page.specs.PixelFault.{chunk_fault, unless};
 ghost use Rattle.tiff_page.specs.Pixels as pixels;
-ghost use Rattle.tiff_page.specs.Reach.{chunk_end};
+ghost use Rattle.tiff_page.specs.Reach.{ChunkReadable};
 ghost use Rattle.tiff_page.specs.PageView as view;
 
 use crate::faults::form_fault;
@@ -57,10 +57,10 @@ fn needed_bytes(page: &Page, color: ColorType, index: u32) -> u128
 #[tactic(auto, using(crate::proofs::Cut::reached, crate::proofs::Cut::past_all))]
 fn reach<R: Source>(source: &mut R, at: u64, len: u128) -> TiffResult<()>
     requires few { len < 2 ^ 89 }
-    ensures kept { IsKept R.bytes R.failures result source.old source.new }
-    ensures answer { AnswersWithoutMemory (λ _. tt) result (unless (nat_lt (length (R.bytes source.old) - at) len)
+    ensures kept { IsKept R.told R.failures result source.old source.new }
+    ensures answer { AnswersWithoutMemory (λ _. tt) result (unless (nat_lt (length (R.told source.old).bytes - at) len)
         (tiff.IoError io.UnexpectedEof)) (R.failures source.old) (R.failures source.new) }
-    ensures asked { ReachesTo (at + len) (R.reach source.old) (R.reach source.new) }
+    ensures asked { AsksOnly (AreReadable (R.told source.old) at len) result }
 {
     if len == 0 {
         return Ok(());
@@ -75,11 +75,11 @@ fn reach<R: Source>(source: &mut R, at: u64, len: u128) -> TiffResult<()>
 #[tactic(auto, using(crate::proofs::Cut::counted_few, crate::proofs::Cut::counted_all, crate::proofs::Cut::least_few))]
 fn reach_packed<R: Source>(source: &mut R, at: u64, count: u64, needed: u128) -> TiffResult<()>
     requires few { needed < 2 ^ 89 }
-    ensures kept { IsKept R.bytes R.failures result source.old source.new }
+    ensures kept { IsKept R.told R.failures result source.old source.new }
     ensures answer { AnswersWithoutMemory (λ _. tt) result (unless
-        (nat_lt (min count (length (R.bytes source.old) - at)) (div_ceil needed 64)) (tiff.IoError io.UnexpectedEof))
+        (nat_lt (min count (length (R.told source.old).bytes - at)) (div_ceil needed 64)) (tiff.IoError io.UnexpectedEof))
         (R.failures source.old) (R.failures source.new) }
-    ensures asked { ReachesTo (at + count) (R.reach source.old) (R.reach source.new) }
+    ensures asked { AsksOnly (AreReadable (R.told source.old) at count) result }
 {
     let least = needed.div_ceil(64);
     if u128::from(count) < least {
@@ -91,11 +91,11 @@ fn reach_packed<R: Source>(source: &mut R, at: u64, count: u64, needed: u128) ->
 // A source that has fewer bytes for a chunk than its data take at least: `IoError(UnexpectedEof)`. One byte is read.
 fn cut_fault<R: Source>(source: &mut R, page: &Page, color: ColorType, index: u32) -> TiffResult<()>
     requires listed { index < length page.now.offsets }
-    ensures kept { IsKept R.bytes R.failures result source.old source.new }
+    ensures kept { IsKept R.told R.failures result source.old source.new }
     ensures answer { AnswersWithoutMemory (λ _. tt) result (unless
-        (spec.is_cut (R.bytes source.old) (view.page page.now) color index) (tiff.IoError io.UnexpectedEof))
+        (spec.is_cut (R.told source.old).bytes (view.page page.now) color index) (tiff.IoError io.UnexpectedEof))
         (R.failures source.old) (R.failures source.new) }
-    ensures asked { ReachesTo (chunk_end (view.page page.now) color index) (R.reach source.old) (R.reach source.new) }
+    ensures asked { AsksOnly (ChunkReadable (R.told source.old) (view.page page.now) color index) result }
 {
     let chunk = index as usize;
     let at = page.offsets.as_slice()[chunk];
@@ -116,11 +116,11 @@ impl PageReader<'_> {
         color: ColorType,
         index: u32,
     ) -> TiffResult<()>
-        ensures kept { IsKept R.bytes R.failures result source.old source.new }
+        ensures kept { IsKept R.told R.failures result source.old source.new }
         ensures answer { AnswersWithoutMemory (λ _. tt) result (chunk_fault (view.page self.now.page.now) self.now.limits.now
-            (spec.is_cut (R.bytes source.old) (view.page self.now.page.now) color) color index) (R.failures source.old)
+            (spec.is_cut (R.told source.old).bytes (view.page self.now.page.now) color) color index) (R.failures source.old)
             (R.failures source.new) }
-        ensures asked { ReachesTo (chunk_end (view.page self.now.page.now) color index) (R.reach source.old) (R.reach source.new) }
+        ensures asked { AsksOnly (ChunkReadable (R.told source.old) (view.page self.now.page.now) color index) result }
     {
         form_fault(self.page, self.limits, color, index as usize)?;
         cut_fault(source, self.page, color, index)

@@ -5,13 +5,12 @@
 //! `UnsupportedSampleFormat`, and more of them than `decoding_buffer_size` bytes hold, `LimitsExceeded`; then of the first
 //! chunk, and in it of the first plane, that has one: a form that isn't supported, or more bytes in the file than
 //! `intermediate_buffer_size`, as `faults::form_fault`, and too few data, `IoError(UnexpectedEof)`. What a slice holds after
-//! a fault is open. No call asks a source for a byte behind those that are needed of the chunks that it reads; of packed
+//! a fault is open. No call asks a source for other bytes than those that are needed of the chunks that it reads; of packed
 //! data all bytes that are counted may be asked for.
 
 ghost use Rattle.std.specs.Int.{div_ceil};
 ghost use Rattle.std.specs.Prelude.{◌≡◌, ◌*◌, ◌<◌, ◌≤◌, ◌^◌, Ok, IfOk, length, map, replicate, if◌then◌else◌, nat_le};
-ghost use Rattle.tiff_base.specs.Answers.{Answers, AnswersWithoutSource, Gives, IsKept};
-ghost use Rattle.tiff_base.specs.SourceAndSink.{ReachesTo};
+ghost use Rattle.tiff_base.specs.Answers.{Answers, AnswersWithoutSource, AsksOnly, Gives, IsKept};
 ghost use Rattle.tiff_base.specs.Sparing.{AnswersSparingly, IsListFault};
 ghost use Rattle.tiff_page.specs.Buffers as buffers;
 ghost use Rattle.tiff_page.specs.EarlyFaults.{WantsAfter, WantsWhere, chunk_bytes_early, chunk_early, early_fault, image_bytes_early, image_early, planes_early, samples_early, strided_early, unit_bytes_early};
@@ -19,8 +18,7 @@ ghost use Rattle.tiff_page.specs.PixelCalls.{image_of};
 ghost use Rattle.tiff_page.specs.Layout as layouts;
 ghost use Rattle.tiff_page.specs.PixelCalls as calls;
 ghost use Rattle.tiff_page.specs.PixelCalls.{fill_buffer};
-ghost use Rattle.tiff_page.specs.Reach as reach;
-ghost use Rattle.tiff_page.specs.Reach.{ReachesPart, ReachesLaid};
+ghost use Rattle.tiff_page.specs.Reach.{ChunkReadable, ChunksReadable, ImageReadable, PartReadable};
 ghost use Rattle.tiff_page.specs.Rect as rects;
 ghost use Rattle.tiff_page.specs.Samples.{samples_as, color_in, first_in, part_of, IsLaid, room_of};
 ghost use Rattle.tiff_page.specs.PageView as view;
@@ -166,12 +164,11 @@ impl PageReader<'_> {
         len: usize,
     ) -> TiffResult<Vec<T>>
         requires { 0 < N }
-        ensures kept { IsKept R.bytes R.failures result source.old source.new }
-        ensures answer { AnswersSparingly (λ _. tt) result (early_fault (R.bytes source.old) (view.page self.now.page.now)
+        ensures kept { IsKept R.told R.failures result source.old source.new }
+        ensures answer { AnswersSparingly (λ _. tt) result (early_fault (R.told source.old).bytes (view.page self.now.page.now)
             self.now.limits.now (color_in portion) sample_type (first_in portion) len) (R.failures source.old)
             (R.failures source.new) }
-        ensures asked { ReachesTo (reach.chunk_end (view.page self.now.page.now) (color_in portion) (first_in portion))
-            (R.reach source.old) (R.reach source.new) }
+        ensures asked { AsksOnly (ChunkReadable (R.told source.old) (view.page self.now.page.now) (color_in portion) (first_in portion)) result }
         ensures zeros { IfOk result (λ v. map T.bits v.items ≡ replicate (div_ceil len N) 0) }
     {
         samples_fault(self.limits, size_of(sample_type), len)?;
@@ -190,13 +187,13 @@ impl PageReader<'_> {
         requires laid { IsLaid (view.page self.now.page.now) portion }
         requires room { room_of (view.page self.now.page.now) portion ≤ length (W.bytes out.old) }
         requires few { room_of (view.page self.now.page.now) portion < 2 ^ 64 }
-        ensures kept { IsKept R.bytes R.failures result source.old source.new }
-        ensures answer { Answers (λ _. W.bytes out.new) result (fill_buffer (R.bytes source.old) self.now.order
+        ensures kept { IsKept R.told R.failures result source.old source.new }
+        ensures answer { Answers (λ _. W.bytes out.new) result (fill_buffer (R.told source.old).bytes self.now.order
             (view.page self.now.page.now) self.now.limits.now (color_in portion)
-            (part_of (R.bytes source.old) self.now.order (view.page self.now.page.now) portion) (W.bytes out.old))
+            (part_of (R.told source.old).bytes self.now.order (view.page self.now.page.now) portion) (W.bytes out.old))
             (R.failures source.old) (R.failures source.new) }
-        ensures asked { ReachesPart (view.page self.now.page.now) (color_in portion) (part_of (R.bytes source.old) self.now.order
-            (view.page self.now.page.now) portion) (R.reach source.old) (R.reach source.new) }
+        ensures asked { AsksOnly (PartReadable (R.told source.old) (view.page self.now.page.now) (color_in portion) (part_of (R.told source.old).bytes self.now.order
+            (view.page self.now.page.now) portion)) result }
     {
         match portion {
             Portion::Image(layout, planes) => {
@@ -225,15 +222,15 @@ impl PageReader<'_> {
         requires laid { IsLaid (view.page self.now.page.now) portion }
         requires room { room_of (view.page self.now.page.now) portion ≤ len }
         requires typed { layouts.sample_type_of (view.page self.now.page.now) ≡ Ok type.U8 }
-        ensures kept { IsKept R.bytes R.failures result source.old source.new }
-        ensures memory { WantsAfter (early_fault (R.bytes source.old) (view.page self.now.page.now) self.now.limits.now
+        ensures kept { IsKept R.told R.failures result source.old source.new }
+        ensures memory { WantsAfter (early_fault (R.told source.old).bytes (view.page self.now.page.now) self.now.limits.now
             (color_in portion) type.U8 (first_in portion) len) result }
         ensures answer { Answers (λ v. record { sample_type = type.U8; numbers = v.items }) result
-            (calls.samples (R.bytes source.old) self.now.order (view.page self.now.page.now) self.now.limits.now
-            (color_in portion) (part_of (R.bytes source.old) self.now.order (view.page self.now.page.now) portion) len)
+            (calls.samples (R.told source.old).bytes self.now.order (view.page self.now.page.now) self.now.limits.now
+            (color_in portion) (part_of (R.told source.old).bytes self.now.order (view.page self.now.page.now) portion) len)
             (R.failures source.old) (R.failures source.new) }
-        ensures asked { ReachesPart (view.page self.now.page.now) (color_in portion) (part_of (R.bytes source.old) self.now.order
-            (view.page self.now.page.now) portion) (R.reach source.old) (R.reach source.new) }
+        ensures asked { AsksOnly (PartReadable (R.told source.old) (view.page self.now.page.now) (color_in portion) (part_of (R.told source.old).bytes self.now.order
+            (view.page self.now.page.now) portion)) result }
     {
         let mut bytes: Vec<u8> = self.zeros(source, portion, DecodingSampleType::U8, len)?;
         let mut writer = InPlace::new(self.alloc);
@@ -255,15 +252,15 @@ impl PageReader<'_> {
         requires room { room_of (view.page self.now.page.now) portion ≤ len }
         requires typed { layouts.sample_type_of (view.page self.now.page.now) ≡ Ok sample_type }
         requires size { layouts.size_of sample_type ≡ N }
-        ensures kept { IsKept R.bytes R.failures result source.old source.new }
-        ensures memory { WantsAfter (early_fault (R.bytes source.old) (view.page self.now.page.now) self.now.limits.now
+        ensures kept { IsKept R.told R.failures result source.old source.new }
+        ensures memory { WantsAfter (early_fault (R.told source.old).bytes (view.page self.now.page.now) self.now.limits.now
             (color_in portion) sample_type (first_in portion) len) result }
         ensures answer { Answers (λ v. record { sample_type = sample_type; numbers = map T.bits v.items }) result
-            (calls.samples (R.bytes source.old) self.now.order (view.page self.now.page.now) self.now.limits.now
-            (color_in portion) (part_of (R.bytes source.old) self.now.order (view.page self.now.page.now) portion) len)
+            (calls.samples (R.told source.old).bytes self.now.order (view.page self.now.page.now) self.now.limits.now
+            (color_in portion) (part_of (R.told source.old).bytes self.now.order (view.page self.now.page.now) portion) len)
             (R.failures source.old) (R.failures source.new) }
-        ensures asked { ReachesPart (view.page self.now.page.now) (color_in portion) (part_of (R.bytes source.old) self.now.order
-            (view.page self.now.page.now) portion) (R.reach source.old) (R.reach source.new) }
+        ensures asked { AsksOnly (PartReadable (R.told source.old) (view.page self.now.page.now) (color_in portion) (part_of (R.told source.old).bytes self.now.order
+            (view.page self.now.page.now) portion)) result }
     {
         let mut numbers: Vec<T> = self.zeros(source, portion, sample_type, len)?;
         let mut writer = NumberRoom::<N>::new(self.alloc);
@@ -281,15 +278,15 @@ impl PageReader<'_> {
     ) -> TiffResult<Samples>
         requires laid { IsLaid (view.page self.now.page.now) portion }
         requires room { room_of (view.page self.now.page.now) portion ≤ len }
-        ensures kept { IsKept R.bytes R.failures result source.old source.new }
-        ensures memory { WantsAfter (samples_early (R.bytes source.old) (view.page self.now.page.now) self.now.limits.now
+        ensures kept { IsKept R.told R.failures result source.old source.new }
+        ensures memory { WantsAfter (samples_early (R.told source.old).bytes (view.page self.now.page.now) self.now.limits.now
             (color_in portion) (first_in portion) len) result }
-        ensures answer { Answers samples_as result (calls.samples (R.bytes source.old) self.now.order
+        ensures answer { Answers samples_as result (calls.samples (R.told source.old).bytes self.now.order
             (view.page self.now.page.now) self.now.limits.now (color_in portion)
-            (part_of (R.bytes source.old) self.now.order (view.page self.now.page.now) portion) len) (R.failures source.old)
+            (part_of (R.told source.old).bytes self.now.order (view.page self.now.page.now) portion) len) (R.failures source.old)
             (R.failures source.new) }
-        ensures asked { ReachesPart (view.page self.now.page.now) (color_in portion) (part_of (R.bytes source.old) self.now.order
-            (view.page self.now.page.now) portion) (R.reach source.old) (R.reach source.new) }
+        ensures asked { AsksOnly (PartReadable (R.told source.old) (view.page self.now.page.now) (color_in portion) (part_of (R.told source.old).bytes self.now.order
+            (view.page self.now.page.now) portion)) result }
     {
         let sample_type = sample_type_of(self.page, self.alloc)?;
         match sample_type {
@@ -337,13 +334,11 @@ pub fn read_image<R: Source>(
     page: &Page,
     limits: &Limits,
 ) -> TiffResult<Samples>
-    ensures kept { IsKept R.bytes R.failures result source.old source.new }
-    ensures memory { WantsAfter (image_early (R.bytes source.old) (view.page page.now) limits.now) result }
-    ensures answer { Answers samples_as result (image_of (R.bytes source.old) order (view.page page.now) limits.now)
+    ensures kept { IsKept R.told R.failures result source.old source.new }
+    ensures memory { WantsAfter (image_early (R.told source.old).bytes (view.page page.now) limits.now) result }
+    ensures answer { Answers samples_as result (image_of (R.told source.old).bytes order (view.page page.now) limits.now)
         (R.failures source.old) (R.failures source.new) }
-    ensures asked { ReachesLaid (view.page page.now) (buffers.planes_layout (view.page page.now) page.now.width
-        page.now.height) (λ l. calls.image_part (view.page page.now) 1 l.row_bytes)
-        (R.reach source.old) (R.reach source.new) }
+    ensures asked { AsksOnly (ImageReadable (R.told source.old) (view.page page.now) (λ l. 1)) result }
 {
     let reader = PageReader {
         alloc,
@@ -366,14 +361,12 @@ pub fn read_image_to_buffer<R: Source>(
     page: &Page,
     limits: &Limits,
 ) -> TiffResult<(BufferLayoutPreference, Samples)>
-    ensures kept { IsKept R.bytes R.failures result source.old source.new }
-    ensures memory { WantsAfter (planes_early (R.bytes source.old) (view.page page.now) limits.now) result }
+    ensures kept { IsKept R.told R.failures result source.old source.new }
+    ensures memory { WantsAfter (planes_early (R.told source.old).bytes (view.page page.now) limits.now) result }
     ensures answer { Answers (λ r. (r.0, samples_as r.1)) result
-        (calls.read_image_to_buffer (R.bytes source.old) order (view.page page.now) limits.now) (R.failures source.old)
+        (calls.read_image_to_buffer (R.told source.old).bytes order (view.page page.now) limits.now) (R.failures source.old)
         (R.failures source.new) }
-    ensures asked { ReachesLaid (view.page page.now) (buffers.planes_layout (view.page page.now) page.now.width
-        page.now.height) (λ l. calls.image_part (view.page page.now) (calls.planes_within (view.page page.now) limits.now l)
-        l.row_bytes) (R.reach source.old) (R.reach source.new) }
+    ensures asked { AsksOnly (ImageReadable (R.told source.old) (view.page page.now) (λ l. calls.planes_within (view.page page.now) limits.now l)) result }
 {
     let reader = PageReader {
         alloc,
@@ -401,13 +394,11 @@ pub fn read_image_bytes<R: Source>(
     limits: &Limits,
     buf: &mut [u8],
 ) -> TiffResult<()>
-    ensures kept { IsKept R.bytes R.failures result source.old source.new }
+    ensures kept { IsKept R.told R.failures result source.old source.new }
     ensures memory { WantsAfter (image_bytes_early (view.page page.now) limits.now (length buf.old)) result }
-    ensures answer { Answers (λ _. buf.new) result (calls.read_image_bytes (R.bytes source.old) order (view.page page.now)
+    ensures answer { Answers (λ _. buf.new) result (calls.read_image_bytes (R.told source.old).bytes order (view.page page.now)
         limits.now buf.old) (R.failures source.old) (R.failures source.new) }
-    ensures asked { ReachesLaid (view.page page.now) (buffers.planes_layout (view.page page.now) page.now.width
-        page.now.height) (λ l. calls.image_part (view.page page.now) (calls.planes_used (view.page page.now) l (length buf.old))
-        l.row_bytes) (R.reach source.old) (R.reach source.new) }
+    ensures asked { AsksOnly (ImageReadable (R.told source.old) (view.page page.now) (λ l. calls.planes_used (view.page page.now) l (length buf.old))) result }
 {
     let reader = PageReader {
         alloc,
@@ -434,13 +425,11 @@ pub fn read_chunk<R: Source>(
     limits: &Limits,
     index: u32,
 ) -> TiffResult<Samples>
-    ensures kept { IsKept R.bytes R.failures result source.old source.new }
-    ensures memory { WantsAfter (chunk_early (R.bytes source.old) (view.page page.now) limits.now index) result }
-    ensures answer { Answers samples_as result (calls.read_chunk (R.bytes source.old) order (view.page page.now) limits.now
+    ensures kept { IsKept R.told R.failures result source.old source.new }
+    ensures memory { WantsAfter (chunk_early (R.told source.old).bytes (view.page page.now) limits.now index) result }
+    ensures answer { Answers samples_as result (calls.read_chunk (R.told source.old).bytes order (view.page page.now) limits.now
         index) (R.failures source.old) (R.failures source.new) }
-    ensures asked { ReachesLaid (view.page page.now) (buffers.planes_layout (view.page page.now)
-        (rects.rect (view.page page.now) index).width (rects.rect (view.page page.now) index).height)
-        (λ l. calls.chunk_part (view.page page.now) index 1 l.row_bytes) (R.reach source.old) (R.reach source.new) }
+    ensures asked { AsksOnly (ChunksReadable (R.told source.old) (view.page page.now) index (λ l. 1)) result }
 {
     let reader = PageReader {
         alloc,
@@ -465,13 +454,11 @@ pub fn read_chunk_bytes<R: Source>(
     index: u32,
     buf: &mut [u8],
 ) -> TiffResult<()>
-    ensures kept { IsKept R.bytes R.failures result source.old source.new }
+    ensures kept { IsKept R.told R.failures result source.old source.new }
     ensures memory { WantsAfter (chunk_bytes_early (view.page page.now) limits.now index (length buf.old)) result }
-    ensures answer { Answers (λ _. buf.new) result (calls.read_chunk_bytes (R.bytes source.old) order (view.page page.now)
+    ensures answer { Answers (λ _. buf.new) result (calls.read_chunk_bytes (R.told source.old).bytes order (view.page page.now)
         limits.now index buf.old) (R.failures source.old) (R.failures source.new) }
-    ensures asked { ReachesLaid (view.page page.now) (buffers.planes_layout (view.page page.now)
-        (rects.rect (view.page page.now) index).width (rects.rect (view.page page.now) index).height)
-        (λ l. calls.chunk_part (view.page page.now) index 1 l.row_bytes) (R.reach source.old) (R.reach source.new) }
+    ensures asked { AsksOnly (ChunksReadable (R.told source.old) (view.page page.now) index (λ l. 1)) result }
 {
     let reader = PageReader {
         alloc,
@@ -504,13 +491,11 @@ pub fn read_chunk_to_buffer<R: Source>(
     index: u32,
     stride: usize,
 ) -> TiffResult<Samples>
-    ensures kept { IsKept R.bytes R.failures result source.old source.new }
-    ensures memory { WantsAfter (strided_early (R.bytes source.old) (view.page page.now) limits.now index stride) result }
-    ensures answer { Answers samples_as result (calls.read_chunk_to_buffer (R.bytes source.old) order (view.page page.now)
+    ensures kept { IsKept R.told R.failures result source.old source.new }
+    ensures memory { WantsAfter (strided_early (R.told source.old).bytes (view.page page.now) limits.now index stride) result }
+    ensures answer { Answers samples_as result (calls.read_chunk_to_buffer (R.told source.old).bytes order (view.page page.now)
         limits.now index stride) (R.failures source.old) (R.failures source.new) }
-    ensures asked { ReachesLaid (view.page page.now) (buffers.planes_layout (view.page page.now)
-        (rects.rect (view.page page.now) index).width (rects.rect (view.page page.now) index).height)
-        (λ l. calls.chunk_part (view.page page.now) index 1 stride) (R.reach source.old) (R.reach source.new) }
+    ensures asked { AsksOnly (ChunksReadable (R.told source.old) (view.page page.now) index (λ l. 1)) result }
 {
     let reader = PageReader {
         alloc,
@@ -539,14 +524,11 @@ pub fn read_coding_unit_bytes<R: Source>(
     unit: u32,
     buf: &mut [u8],
 ) -> TiffResult<()>
-    ensures kept { IsKept R.bytes R.failures result source.old source.new }
+    ensures kept { IsKept R.told R.failures result source.old source.new }
     ensures memory { WantsAfter (unit_bytes_early (view.page page.now) limits.now unit (length buf.old)) result }
-    ensures answer { Answers (λ _. buf.new) result (calls.read_coding_unit_bytes (R.bytes source.old) order (view.page page.now)
+    ensures answer { Answers (λ _. buf.new) result (calls.read_coding_unit_bytes (R.told source.old).bytes order (view.page page.now)
         limits.now unit buf.old) (R.failures source.old) (R.failures source.new) }
-    ensures asked { ReachesLaid (view.page page.now) (buffers.planes_layout (view.page page.now)
-        (rects.rect (view.page page.now) unit).width (rects.rect (view.page page.now) unit).height)
-        (λ l. calls.chunk_part (view.page page.now) unit (calls.planes_used (view.page page.now) l (length buf.old)) l.row_bytes)
-        (R.reach source.old) (R.reach source.new) }
+    ensures asked { AsksOnly (ChunksReadable (R.told source.old) (view.page page.now) unit (λ l. calls.planes_used (view.page page.now) l (length buf.old))) result }
 {
     let reader = PageReader {
         alloc,

@@ -1,13 +1,13 @@
 //! The chunks of an image are read into a list of bytes or of numbers, in one plane or in several.
 
 ghost use Rattle.std.specs.Prelude.{◌≡◌, ◌+◌, ◌*◌, ◌<◌, ◌≤◌, ◌^◌, ◌⊎◌, List, ℕ, Ok, length, OnOk};
-ghost use Rattle.tiff_base.specs.Answers.{Answers, IsKept};
+ghost use Rattle.tiff_base.specs.Answers.{Answers, AsksOnly, IsKept};
 ghost use Rattle.tiff_page.specs.Layout.{color_of, layout_of, row_bytes};
 ghost use Rattle.tiff_page.specs.PixelCalls.{fill_buffer, image_part, chunk_part};
 ghost use Rattle.tiff_page.specs.PixelFault.{chunk_fault, each_below};
 ghost use Rattle.tiff_page.specs.Pixels.{is_short};
 ghost use Rattle.tiff_page.specs.BufferPositions.{WritesNext, top_of, left_of};
-ghost use Rattle.tiff_page.specs.Reach.{ReachesPart};
+ghost use Rattle.tiff_page.specs.Reach.{PartReadable};
 ghost use Rattle.tiff_page.specs.Rect.{rect, chunks_of_plane};
 ghost use Rattle.tiff_page.specs.PageView as view;
 
@@ -88,16 +88,16 @@ impl PageReader<'_> {
         requires room { next.part.planes * next.part.layout.plane_stride ≤ length (W.bytes buf.old) }
         requires few { next.part.planes * next.part.layout.plane_stride < 2 ^ 64 }
         requires chunk { next.chunk < chunks_of_plane (view.page self.now.page.now) }
-        ensures kept { IsKept R.bytes R.failures result source.old source.new }
-        ensures ok { OnOk result (WritesNext (R.bytes source.old) self.now.order (view.page self.now.page.now)
+        ensures kept { IsKept R.told R.failures result source.old source.new }
+        ensures ok { OnOk result (WritesNext (R.told source.old).bytes self.now.order (view.page self.now.page.now)
             next.part.layout.color next.part.layout.row_bytes next.part.planes next.chunk (W.bytes buf.old) (W.bytes buf.new)) }
         ensures answer { Answers (λ _. tt) result (each_below (λ plane. chunk_fault (view.page self.now.page.now)
-            self.now.limits.now (is_short (R.bytes source.old) self.now.order (view.page self.now.page.now)
+            self.now.limits.now (is_short (R.told source.old).bytes self.now.order (view.page self.now.page.now)
             next.part.layout.color) next.part.layout.color
             (plane * chunks_of_plane (view.page self.now.page.now) + (0 + next.chunk))) next.part.planes)
             (R.failures source.old) (R.failures source.new) }
-        ensures asked { ReachesPart (view.page self.now.page.now) next.part.layout.color (chunk_part (view.page self.now.page.now)
-            next.chunk next.part.planes next.part.layout.row_bytes) (R.reach source.old) (R.reach source.new) }
+        ensures asked { AsksOnly (PartReadable (R.told source.old) (view.page self.now.page.now) next.part.layout.color (chunk_part (view.page self.now.page.now)
+            next.chunk next.part.planes next.part.layout.row_bytes)) result }
     {
         let page = self.page;
         let layout = next.part.layout;
@@ -134,13 +134,13 @@ impl PageReader<'_> {
         requires some { 0 < part.planes }
         requires room { part.planes * part.layout.plane_stride ≤ length (W.bytes buf.old) }
         requires few { part.planes * part.layout.plane_stride < 2 ^ 64 }
-        ensures kept { IsKept R.bytes R.failures result source.old source.new }
-        ensures answer { Answers (λ _. W.bytes buf.new) result (fill_buffer (R.bytes source.old) self.now.order
+        ensures kept { IsKept R.told R.failures result source.old source.new }
+        ensures answer { Answers (λ _. W.bytes buf.new) result (fill_buffer (R.told source.old).bytes self.now.order
             (view.page self.now.page.now) self.now.limits.now part.layout.color
             (image_part (view.page self.now.page.now) part.planes part.layout.row_bytes)
             (W.bytes buf.old)) (R.failures source.old) (R.failures source.new) }
-        ensures asked { ReachesPart (view.page self.now.page.now) part.layout.color (image_part (view.page self.now.page.now)
-            part.planes part.layout.row_bytes) (R.reach source.old) (R.reach source.new) }
+        ensures asked { AsksOnly (PartReadable (R.told source.old) (view.page self.now.page.now) part.layout.color (image_part (view.page self.now.page.now)
+            part.planes part.layout.row_bytes)) result }
     {
         for chunk in 0..chunks_of_plane(self.page) {
             self.fill_chunk(source, ImageChunk { part, chunk }, writer, buf)?;
@@ -165,13 +165,13 @@ impl PageReader<'_> {
             ≤ length (W.bytes buf.old) }
         requires few { unit.planes * ((rect (view.page self.now.page.now) unit.index).height * unit.stride) < 2 ^ 64 }
         requires which { (unit.planes ≡ 1) ⊎ (unit.index < chunks_of_plane (view.page self.now.page.now)) }
-        ensures kept { IsKept R.bytes R.failures result source.old source.new }
-        ensures answer { Answers (λ _. W.bytes buf.new) result (fill_buffer (R.bytes source.old) self.now.order
+        ensures kept { IsKept R.told R.failures result source.old source.new }
+        ensures answer { Answers (λ _. W.bytes buf.new) result (fill_buffer (R.told source.old).bytes self.now.order
             (view.page self.now.page.now) self.now.limits.now unit.color
             (chunk_part (view.page self.now.page.now) unit.index unit.planes unit.stride)
             (W.bytes buf.old)) (R.failures source.old) (R.failures source.new) }
-        ensures asked { ReachesPart (view.page self.now.page.now) unit.color (chunk_part (view.page self.now.page.now)
-            unit.index unit.planes unit.stride) (R.reach source.old) (R.reach source.new) }
+        ensures asked { AsksOnly (PartReadable (R.told source.old) (view.page self.now.page.now) unit.color (chunk_part (view.page self.now.page.now)
+            unit.index unit.planes unit.stride)) result }
     {
         let page = self.page;
         let (_, rows) = chunk_data_dimensions(page, unit.index);

@@ -1,14 +1,13 @@
 //! Rows of a chunk go into a list of bytes or of numbers.
 
 ghost use Rattle.std.specs.Prelude.{◌≡◌, ℕ, ◌+◌, ◌*◌, ◌/◌, ◌^◌, ◌<◌, ◌≤◌, ◌⊎◌, List, length, map, false, IfOk};
-ghost use Rattle.tiff_base.specs.Answers.{IsKept};
-ghost use Rattle.tiff_base.specs.SourceAndSink.{ReachesTo};
+ghost use Rattle.tiff_base.specs.Answers.{AsksOnly, IsKept};
 ghost use Rattle.tiff_page.specs.Layout.{row_bytes};
 ghost use Rattle.tiff_page.specs.NumberBytes.{bytes_in};
 ghost use Rattle.tiff_page.specs.Pixels.{needed_of_row, needs_whole_rows};
 ghost use Rattle.tiff_page.specs.ReadablePage.{IsRead};
 ghost use Rattle.tiff_page.specs.RowReads.{RowPut};
-ghost use Rattle.tiff_page.specs.Reach.{stored_end, Moves};
+ghost use Rattle.tiff_page.specs.Reach.{StoredReadable, Moves};
 ghost use Rattle.tiff_page.specs.PageView as view;
 
 use crate::chunk_data::Stored;
@@ -36,11 +35,11 @@ pub trait RowWriter<T> {
         requires len { next.len ≡ row_bytes (view.page reader.now.page.now) reader.now.color reader.now.width }
         requires room { next.at + next.len ≤ length (bytes out.old) }
         requires fits { next.at + next.len < 2 ^ 64 }
-        ensures kept { IsKept R.bytes R.failures result source.old source.new }
-        ensures row { RowPut (R.bytes source.old) reader.now.order (view.page reader.now.page.now) reader.now.color next.position
+        ensures kept { IsKept R.told R.failures result source.old source.new }
+        ensures row { RowPut (R.told source.old).bytes reader.now.order (view.page reader.now.page.now) reader.now.color next.position
             (R.failures source.old < R.failures source.new) next.at next.len (bytes out.old) (bytes out.new) result }
-        ensures asked { ReachesTo (stored_end next.position (needed_of_row (view.page reader.now.page.now) reader.now.color
-            next.len)) (R.reach source.old) (R.reach source.new) }
+        ensures asked { AsksOnly (StoredReadable (R.told source.old) next.position (needed_of_row (view.page reader.now.page.now) reader.now.color
+            next.len)) result }
         ensures moves { IfOk result (λ rest. Moves next.position (needed_of_row (view.page reader.now.page.now)
             reader.now.color next.len) rest) };
 
@@ -59,10 +58,10 @@ pub trait RowWriter<T> {
             ⊎ (next.len / (reader.now.page.now.depth / 8) * (reader.now.page.now.depth / 8) ≡ next.len) }
         requires room { next.at + next.len ≤ length (bytes out.old) }
         requires fits { next.at + next.len < 2 ^ 64 }
-        ensures kept { IsKept R.bytes R.failures result source.old source.new }
-        ensures row { RowPut (R.bytes source.old) reader.now.order (view.page reader.now.page.now) reader.now.color next.position
+        ensures kept { IsKept R.told R.failures result source.old source.new }
+        ensures row { RowPut (R.told source.old).bytes reader.now.order (view.page reader.now.page.now) reader.now.color next.position
             (R.failures source.old < R.failures source.new) next.at next.len (bytes out.old) (bytes out.new) result }
-        ensures asked { ReachesTo (stored_end next.position next.len) (R.reach source.old) (R.reach source.new) }
+        ensures asked { AsksOnly (StoredReadable (R.told source.old) next.position next.len) result }
         ensures moves { IfOk result (λ rest. Moves next.position next.len rest) };
 
     /// Lists of one length have as many bytes.

@@ -1,5 +1,6 @@
 //! A source in memory that may give one byte at a time, may fail once, and knows which bytes it was asked for.
 
+ghost use Rattle.std.specs.Prelude.{false};
 ghost use Rattle.tiff_replay.specs.Failed.{failed};
 
 use crate::asked::Asked;
@@ -43,17 +44,19 @@ impl ScriptedSource {
 }
 
 impl Source for ScriptedSource {
-    ghost bytes = { λ s. ⟦<MemorySource as Source>⟧.bytes s.inner };
+    ghost told = { λ s. record { bytes = (⟦<MemorySource as Source>⟧.told s.inner).bytes; readable = λ _. false } };
 
     ghost failures = { λ s. failed s.failure };
-
-    ghost reach = { λ _. 0 };
 
     ghost offsets = { λ s. s.inner.offsets };
 
     ghost octets = { λ s. s.inner.octets };
 
     fn read_at(&mut self, at: u64, buf: &mut [u8]) -> Result<usize, DeviceFault> {
+        // A read of no bytes doesn't fail.
+        if buf.is_empty() {
+            return Ok(0);
+        }
         self.reads.add();
         self.asked.add(at, buf.len());
         if self.failure.next() {

@@ -1,7 +1,7 @@
 //! Sources and sinks that answer a byte at a time, and that fail once: a call that is made again is answered. A source that
 //! keeps how far it was asked.
 
-ghost use Rattle.std.specs.Prelude.{◌≡◌, ◌+◌};
+ghost use Rattle.std.specs.Prelude.{◌≡◌, ◌+◌, false};
 
 use std::marker::Model;
 use std::snapshot::Snapshot;
@@ -89,17 +89,18 @@ impl FailingSource {
 }
 
 impl Source for FailingSource {
-    ghost bytes = { λ s. ⟦<MemorySource as Source>⟧.bytes s.inner };
+    ghost told = { λ s. record { bytes = (⟦<MemorySource as Source>⟧.told s.inner).bytes; readable = λ _. false } };
 
     ghost failures = { λ s. s.failed };
-
-    ghost reach = { λ _. 0 };
 
     ghost offsets = { λ s. s.inner.offsets };
 
     ghost octets = { λ s. s.inner.octets };
 
     fn read_at(&mut self, at: u64, buf: &mut [u8]) -> Result<usize, DeviceFault> {
+        if buf.is_empty() {
+            return Ok(0);
+        }
         if self.countdown.is_over() {
             self.failed.add();
             return Err(DeviceFault);
@@ -129,11 +130,9 @@ impl WatchedSource {
 }
 
 impl Source for WatchedSource {
-    ghost bytes = { λ s. ⟦<MemorySource as Source>⟧.bytes s.inner };
+    ghost told = { λ s. ⟦<MemorySource as Source>⟧.told s.inner };
 
     ghost failures = { λ _. 0 };
-
-    ghost reach = { λ s. s.furthest };
 
     ghost offsets = { λ s. s.inner.offsets };
 

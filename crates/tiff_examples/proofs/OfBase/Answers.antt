@@ -72,6 +72,12 @@ not_kept = (λ h. omega (arith, h.told), λ h. omega (arith, h.failures))
 pub swallowed : s.swallowed
 swallowed = (λ h. omega (arith, h.swallowed), λ h. omega (arith, h.swallowed), λ h. omega (arith, h.swallowed))
 
+pub asks : s.asks
+asks = (λ r. tt, λ r. tt, λ r. r)
+
+pub asks_not : s.asks_not
+asks_not = λ a. a tt
+
 pub fails_from : s.fails_from
 fails_from = record { last = (7, 2); told = refl; grew = omega arith }
 

@@ -1,6 +1,7 @@
 -- The worked examples of ShortAnswers compute.
 use Rattle.std.specs.Prelude.{refl, ◌≡◌, ℕ, zero, suc, ◌<◌, List, [], ◌∷◌, reverse, get_or, slice_index}
 use Rattle.std.proofs.Common.{ap, arith}
+use Rattle.std.proofs.lemmas.Bool.{false≢true, lt-ltb}
 use Rattle.std.specs.Ordering.{nat_cmp}
 use Rattle.std.specs.Cmp.{nat_cmp_total}
 use Rattle.std.specs.FinMap.{find, get, from_entries, get-from_entries}
@@ -46,14 +47,14 @@ read_past_end = λ r. omega (arith, r.in_bytes)
 pub read_elsewhere : s.read_elsewhere
 read_elsewhere = λ r. (let e = ap (λ l. get_or l 0 0) r.next in omega (arith, e))
 
-pub reach_of_six : s.reach_of_six
-reach_of_six = λ n before end. end
+pub last_of_six : s.last_of_six
+last_of_six = λ k l h. lt-ltb k 6 (omega (arith, h))
 
-pub reach_one_more : s.reach_one_more
-reach_one_more = λ r. omega (arith, r 6 (omega arith) (omega arith))
+pub one_more_than_six : s.one_more_than_six
+one_more_than_six = λ r. false≢true (r 6 (omega arith) (omega arith))
 
-pub reach_of_before : s.reach_of_before
-reach_of_before = λ n before end. before
+pub nothing_readable : s.nothing_readable
+nothing_readable = λ k l h. Prim.absurd (omega (arith, l, h))
 
 pub read_into_none : s.read_into_none
 read_into_none = record { in_buffer = omega arith; in_bytes = omega arith; some = λ a b. absurd (omega (arith, a)); next = refl }

@@ -42,8 +42,11 @@ pub in_run : s.in_run
 unfolding runs_after
 in_run = refl
 
-pub end_of_packed : s.end_of_packed
-end_of_packed = refl
+pub last_of_packed : s.last_of_packed
+last_of_packed = record { start = omega arith; end = omega arith }
+
+pub not_the_last : s.not_the_last
+not_the_last p = omega (arith, p.end)
 
 pub two_read : s.two_read
 two_read = record { in_buffer = lit≤ tt; next = refl; behind = refl; none = λ o z. absurd (omega (arith, z)) }

@@ -11,7 +11,7 @@ use Rattle.tiff_base.specs.declared.tags.PhotometricInterpretation.TheVariants a
 use Rattle.tiff_base.specs.declared.tags.ResolutionUnit.TheVariants as unit
 use Rattle.tiff_base.specs.declared.tags.SampleFormat.TheVariants as format
 use Rattle.tiff_base.specs.declared.tags.Tag.TheVariants as tag
-use Rattle.tiff_base.specs.Answers.{Answers, AnswersWithoutMemory, AnswersWithoutSource, Gives, IsKept, FailsFrom}
+use Rattle.tiff_base.specs.Answers.{AsksOnly, Answers, AnswersWithoutMemory, AnswersWithoutSource, Gives, IsKept, FailsFrom}
 use Rattle.tiff_base.specs.declared.tags.«Type».TheVariants.{SHORT}
 use Rattle.tiff_base.specs.Field.{Field, In, IsEntry, AreEntries}
 use Rattle.tiff_base.specs.SourceAndSink.{sink_error}
@@ -98,6 +98,14 @@ swallowed =
     Never (IsKept bytes_of failures_of answered (7, 1) (7, 2))
     × Never (IsKept bytes_of failures_of ended (7, 1) (7, 2))
     × Never (IsKept bytes_of failures_of memory_wanted (7, 1) (7, 2))
+
+-- a call that asks for bytes that can be read may answer other errors, and where these can't be read a fault of the device
+abbrev pub asks : Type 0
+asks = AsksOnly (Unit {0}) ended × AsksOnly (Unit {0}) memory_wanted × AsksOnly ⊥ device_failed
+
+-- a fault of the device it doesn't answer where they can
+abbrev pub asks_not : Type 0
+asks_not = Never (AsksOnly (Unit {0}) device_failed)
 
 -- a source that came to fail, and one that can't
 abbrev pub fails_from : Type 0

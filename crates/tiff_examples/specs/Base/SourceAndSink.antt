@@ -1,12 +1,12 @@
 -- Worked answers of sources and sinks, and values looked up in a directory.
-use Rattle.std.specs.Prelude.{◌≡◌, ℕ, negsuc, List, [], ◌∷◌, Some, Ok, Err}
+use Rattle.std.specs.Prelude.{◌≡◌, ℕ, negsuc, List, [], ◌∷◌, Some, Ok, Err, nat_lt}
 use Rattle.tiff_base.specs.declared.error.TiffError.TheVariants.{IoError, LimitsExceeded}
 use Rattle.tiff_base.specs.declared.io.IoKind.TheVariants.{UnexpectedEof}
 use Rattle.tiff_base.specs.declared.tags.ByteOrder.TheVariants.{LittleEndian, BigEndian}
 use Rattle.tiff_base.specs.declared.tags.FileKind.TheVariants.{Classic, Big}
 use Rattle.tiff_base.specs.declared.tags.Tag.TheVariants as tag
 use Rattle.tiff_base.specs.declared.tags.«Type».TheVariants.{BYTE, ASCII, SHORT, SBYTE}
-use Rattle.tiff_base.specs.SourceAndSink.{bytes_at, AreOctets, Reads, ReachesTo, Appends, Overwrites}
+use Rattle.tiff_base.specs.SourceAndSink.{SourceRecord, AreReadable, bytes_at, AreOctets, Reads, Appends, Overwrites}
 use Rattle.tiff_base.specs.Directory.{entry_of, last_of_each}
 use Rattle.tiff_base.specs.Field.{Field}
 use Rattle.tiff_base.specs.FieldBytes.{field_bytes}
@@ -57,16 +57,20 @@ abbrev pub read_past_end : Type 0
 read_past_end =
     Reads (0x0a ∷ 0x0b ∷ 0x0c ∷ []) 2 (0x00 ∷ 0x00 ∷ []) 2 (0x0c ∷ 0x00 ∷ []) → ⊥
 
--- a source that was asked for six bytes reached to 6, and no byte further
-abbrev pub reach_of_six : Type 0
-reach_of_six = ReachesTo 6 0 6
+-- a source that answers for its first six bytes alone
+abbrev pub six : SourceRecord
+six = record { bytes = 1 ∷ 2 ∷ 3 ∷ 4 ∷ 5 ∷ 6 ∷ 7 ∷ 8 ∷ []; readable = λ k. nat_lt k 6 }
 
-abbrev pub reach_one_more : Type 0
-reach_one_more = ReachesTo 6 0 7 → ⊥
+-- answers for the two last ones of these, and not for one more
+abbrev pub last_of_six : Type 0
+last_of_six = AreReadable six 4 2
 
--- one that had been asked for nine bytes before stays there
-abbrev pub reach_of_before : Type 0
-reach_of_before = ReachesTo 6 9 9
+abbrev pub one_more_than_six : Type 0
+one_more_than_six = AreReadable six 4 3 → ⊥
+
+-- for no bytes at all each source does
+abbrev pub nothing_readable : Type 0
+nothing_readable = AreReadable six 9 0
 
 -- nor other bytes
 abbrev pub read_elsewhere : Type 0

@@ -5,7 +5,7 @@ use Rattle.tiff_base.specs.declared.error.TiffError.TheVariants.{IoError, OutOfM
 use Rattle.tiff_base.specs.declared.io.IoKind.TheVariants.{Device, UnexpectedEof}
 use Rattle.tiff_base.specs.Runs.{End, Plain, Broken, Unpacked}
 use Rattle.tiff_ifd.specs.declared.packbits.Block.TheVariants.{Literal, Run}
-use Rattle.tiff_ifd.specs.Unpacking.{Unpacking, unpacked_at, left_in, packed_end, GivesNext, PieceReads, Fills}
+use Rattle.tiff_ifd.specs.Unpacking.{Unpacking, unpacked_at, left_in, IsLastPart, GivesNext, PieceReads, Fills}
 
 abbrev pub gives : List ℕ → End → Unpacked
 gives out end = record { out = out; end = end }
@@ -32,9 +32,13 @@ in_literal = left_in (Literal 2) false (0x01 ∷ 0x02 ∷ 0xff ∷ 0x07 ∷ []) 
 abbrev pub in_run : Type 0
 in_run = left_in (Run 0x07 2) false (0x00 ∷ 0x41 ∷ []) ≡ gives (0x07 ∷ 0x07 ∷ 0x41 ∷ []) Plain
 
--- seven packed bytes at 5
-abbrev pub end_of_packed : Type 0
-end_of_packed = packed_end (record { block = Literal 0; at = 5; len = 7 }) ≡ 12
+-- the last three of seven packed bytes at 5
+abbrev pub last_of_packed : Type 0
+last_of_packed = IsLastPart 5 7 (record { block = Literal 0; at = 9; len = 3 })
+
+-- two of them don't end where those do
+abbrev pub not_the_last : Type 0
+not_the_last = IsLastPart 5 7 (record { block = Literal 0; at = 9; len = 2 }) → ⊥
 
 -- ---- a piece
 

@@ -5,7 +5,7 @@ ghost use Rattle.tiff_examples.specs.Base.Answers as s;
 /// What a call may answer, and what a source is left as.
 pub fn answers()
     ensures { s.given × s.another × s.fault_given × s.fault_another × s.fault_for_none × s.wanting × s.not_wanting × s.failed ×
-        s.not_failed × s.end_given × s.kept × s.not_kept × s.swallowed × s.fails_from × s.never_fails × s.fails_elsewhere }
+        s.not_failed × s.end_given × s.kept × s.not_kept × s.swallowed × s.asks × s.asks_not × s.fails_from × s.never_fails × s.fails_elsewhere }
 {}
 
 /// What a sink and a directory in memory have.

@@ -5,8 +5,8 @@ ghost use Rattle.tiff_examples.specs.Base.SourceAndSink as s;
 /// Answers of a source.
 pub fn reads()
     ensures { s.two_in_middle × s.read_two × s.read_one × s.read_none × s.read_at_end × s.read_past_end ×
-        s.read_elsewhere × s.read_into_none × s.octets × s.no_octets × s.reach_of_six × s.reach_one_more ×
-        s.reach_of_before }
+        s.read_elsewhere × s.read_into_none × s.octets × s.no_octets × s.last_of_six × s.one_more_than_six ×
+        s.nothing_readable }
 {}
 
 /// Answers of a sink.

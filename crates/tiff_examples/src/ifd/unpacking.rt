@@ -5,7 +5,7 @@ ghost use Rattle.tiff_examples.specs.Ifd.Unpacking as s;
 /// What packed bytes at an offset unpack to, and what is left in a block.
 pub fn offsets()
     ensures { s.at_offset × s.of_length × s.past_end × s.none_past_end × s.in_literal × s.in_run ×
-        s.end_of_packed }
+        s.last_of_packed × s.not_the_last }
 {}
 
 /// Pieces that are read.

@@ -1,14 +1,14 @@
-//! Worked ends: how far a source is asked for the data of chunks.
+//! Worked reads: which bytes a source is asked for, for the data of chunks.
 
 ghost use Rattle.tiff_examples.specs.Page.Reach as s;
 
 /// Of chunks, and of parts of an image.
-pub fn ends()
-    ensures { s.pixel_end × s.packed_end × s.cut_tile_end × s.corner_tile_end × s.plane_ends ×
-        s.plane_not_earlier × s.unit_not_earlier }
+pub fn chunks()
+    ensures { s.pixel_needs × s.pixel_needs_it × s.packed_needs × s.packed_needs_all × s.cut_tile_needs × s.corner_tile_needs ×
+        s.plane_needs × s.plane_needs_last × s.unit_needs_second }
 {}
 
 /// From a position in a chunk's data on.
 pub fn positions()
-    ensures { s.moves_on × s.no_further × s.nothing_behind }
+    ensures { s.three_from_five × s.not_two_of_three × s.nothing_behind }
 {}

@@ -1,16 +1,15 @@
 use Rattle.std.proofs.Common.{length, take, ◌+◌, ◌-◌, ◌≡◌, ◌≤◌}
-use Rattle.tiff_base.specs.SourceAndSink.{ReachesTo, bytes_at}
+use Rattle.tiff_base.specs.SourceAndSink.{bytes_at}
 use Rattle.tiff_base.proofs.read.read_exact_at.Given as goal
 
 abbrev pub invariant-loop-done : goal.invariant-loop-done
 invariant-loop-done g l =
-    let bytes = g.R.Source.bytes l.fn.source in
+    let bytes = (g.R.Source.told l.fn.source).bytes in
     record {
-      same_bytes : g.R.Source.bytes l.source ≡ bytes;
+      same : g.R.Source.told l.source ≡ g.R.Source.told l.fn.source;
       count : g.R.Source.failures l.source ≡ g.R.Source.failures l.fn.source;
       in_buffer : l.done ≤ length l.buf;
       in_bytes : l.done ≤ length bytes - l.at;
-      asked : ReachesTo (l.at + length l.initial.buf) (g.R.Source.reach l.fn.source) (g.R.Source.reach l.source);
       so_far : take l.done l.buf ≡ bytes_at bytes l.at l.done;
     }
 

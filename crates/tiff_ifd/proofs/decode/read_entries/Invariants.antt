@@ -4,9 +4,9 @@ use Rattle.tiff_ifd.proofs.decode.read_entries.Given as goal
 
 abbrev pub invariant-loop-i : goal.invariant-loop-i
 invariant-loop-i g l =
-    let bytes = g.R.Source.bytes l.fn.source in
+    let bytes = (g.R.Source.told l.fn.source).bytes in
     record {
-      same_bytes : g.R.Source.bytes l.source ≡ bytes;
+      same : g.R.Source.told l.source ≡ g.R.Source.told l.fn.source;
       failures : g.R.Source.failures l.source ≡ g.R.Source.failures l.fn.source;
       here : l.offset ≡ l.first + entry_len l.kind * l.i;
       so_far : l.entries.items ≡ entries_from l.kind l.order bytes l.first l.i;

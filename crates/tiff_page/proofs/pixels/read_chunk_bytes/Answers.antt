@@ -26,10 +26,10 @@ returns-in_err-form_fault-clause-answer g c =
     let l = layout c.in_ok-layout.layout in
     let room : room_fault (length c.args.buf.now) l.plane_stride ≡ Ok tt = grind (arith, common_steps) in
     rw (answered.1, answered.2)
-    (chunk_form _ _ (g.R.Source.bytes c.args.source.now) c.args.order (view.page c.args.page.now) c.args.limits.now c.args.buf.now l c.in_err-form_fault.field-0.0 c.args.index c.in_ok-layout.ensures.answer room c.in_err-form_fault.ensures.answer)
+    (chunk_form _ _ (g.R.Source.told c.args.source.now).bytes c.args.order (view.page c.args.page.now) c.args.limits.now c.args.buf.now l c.in_err-form_fault.field-0.0 c.args.index c.in_ok-layout.ensures.answer room c.in_err-form_fault.ensures.answer)
 
 pub returns-clause-asked : goal.returns-clause-asked
 returns-clause-asked g c =
     let p = view.page c.args.page.now in
     let l = layout c.in_ok-layout.layout in
-    laid_asked p (planes_layout p (rect p c.args.index).width (rect p c.args.index).height) (λ l. chunk_part p c.args.index 1 l.row_bytes) l (chunk_part p c.args.index 1 l.row_bytes) _ _ c.in_ok-layout.ensures.answer refl c.fill_unit.ensures.asked
+    laid_asked p (planes_layout p (rect p c.args.index).width (rect p c.args.index).height) (λ l. chunk_part p c.args.index 1 l.row_bytes) l (chunk_part p c.args.index 1 l.row_bytes) (g.R.Source.told c.args.source.now) _ c.in_ok-layout.ensures.answer refl c.fill_unit.ensures.asked

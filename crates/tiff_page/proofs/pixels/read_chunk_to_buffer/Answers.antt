@@ -7,7 +7,7 @@ use Rattle.tiff_page.specs.Layout.{LayoutRecord}
 use Rattle.tiff_page.specs.declared.layout.PlaneLayout.{PlaneLayout}
 use Rattle.tiff_page.specs.PixelCalls.{chunk_part}
 use Rattle.tiff_page.proofs.Wants.{layout_wanted}
-use Rattle.tiff_page.proofs.Reach.{laid_asked}
+use Rattle.tiff_page.proofs.Reach.{strided_asked}
 use Rattle.tiff_page.proofs.pixels.read_chunk_to_buffer.Goals as goal
 
 abbrev pub layout : PlaneLayout → LayoutRecord
@@ -22,4 +22,4 @@ pub returns-clause-asked : goal.returns-clause-asked
 returns-clause-asked g c =
     let p = view.page c.args.page.now in
     let l = layout c.in_ok-layout.layout in
-    laid_asked p (planes_layout p (rect p c.args.index).width (rect p c.args.index).height) (λ l. chunk_part p c.args.index 1 c.args.stride) l (chunk_part p c.args.index 1 c.args.stride) _ _ c.in_ok-layout.ensures.answer refl c.samples_of.ensures.asked
+    strided_asked p (planes_layout p (rect p c.args.index).width (rect p c.args.index).height) c.args.index c.args.stride l (g.R.Source.told c.args.source.now) _ c.in_ok-layout.ensures.answer c.samples_of.ensures.asked

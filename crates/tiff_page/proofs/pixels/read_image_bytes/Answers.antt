@@ -26,10 +26,10 @@ returns-in_err-form_fault-clause-answer g c =
     let room : room_fault (length c.args.buf.now) l.plane_stride ≡ Ok tt = grind (arith, common_steps) in
     let some : 0 < planes_used (view.page c.args.page.now) l (length c.args.buf.now) = grind (arith, common_steps) in
     rw (answered.1, answered.2)
-    (image_form _ _ (g.R.Source.bytes c.args.source.now) c.args.order (view.page c.args.page.now) c.args.limits.now c.args.buf.now l c.in_err-form_fault.field-0.0 (grind (arith, common_steps)) (grind (arith, common_steps)) (grind (arith, common_steps)) (grind (arith, common_steps)) c.in_ok-layout.ensures.answer room some c.in_err-form_fault.ensures.answer)
+    (image_form _ _ (g.R.Source.told c.args.source.now).bytes c.args.order (view.page c.args.page.now) c.args.limits.now c.args.buf.now l c.in_err-form_fault.field-0.0 (grind (arith, common_steps)) (grind (arith, common_steps)) (grind (arith, common_steps)) (grind (arith, common_steps)) c.in_ok-layout.ensures.answer room some c.in_err-form_fault.ensures.answer)
 
 pub returns-clause-asked : goal.returns-clause-asked
 returns-clause-asked g c =
     let p = view.page c.args.page.now in
     let l = layout c.in_ok-layout.layout in
-    laid_asked p (planes_layout p p.width p.height) (λ l. image_part p (planes_used p l (length c.args.buf.now)) l.row_bytes) l (image_part p c.planes_used-planes.result l.row_bytes) _ _ c.in_ok-layout.ensures.answer (ap (λ (m : ℕ). image_part p m l.row_bytes) c.planes_used-planes.ensures.value) c.fill_image.ensures.asked
+    laid_asked p (planes_layout p p.width p.height) (λ l. image_part p (planes_used p l (length c.args.buf.now)) l.row_bytes) l (image_part p c.planes_used-planes.result l.row_bytes) (g.R.Source.told c.args.source.now) _ c.in_ok-layout.ensures.answer (ap (λ (m : ℕ). image_part p m l.row_bytes) c.planes_used-planes.ensures.value) c.fill_image.ensures.asked

@@ -7,7 +7,7 @@ use Rattle.tiff_page.specs.declared.layout.PlaneLayout.{PlaneLayout}
 use Rattle.tiff_page.specs.PixelCalls.{image_part}
 use Rattle.tiff_page.specs.PixelCalls.{planes_within}
 use Rattle.tiff_page.proofs.Wants.{layout_wanted}
-use Rattle.tiff_page.proofs.Reach.{laid_asked}
+use Rattle.tiff_page.proofs.Reach.{laid_error}
 use Rattle.tiff_page.proofs.pixels.read_image_to_buffer.Goals as goal
 
 abbrev pub layout : PlaneLayout → LayoutRecord
@@ -22,10 +22,5 @@ pub returns-in_err-samples-clause-asked : goal.returns-in_err-samples-clause-ask
 returns-in_err-samples-clause-asked g c =
     let p = view.page c.args.page.now in
     let l = layout c.in_ok-layout.layout in
-    laid_asked p (planes_layout p p.width p.height) (λ l. image_part p (planes_within p c.args.limits.now l) l.row_bytes) l (image_part p c.planes_within-planes.result l.row_bytes) _ _ c.in_ok-layout.ensures.answer (ap (λ (m : ℕ). image_part p m l.row_bytes) c.planes_within-planes.ensures.value) c.in_err-samples.ensures.asked
-
-pub returns-clause-asked : goal.returns-clause-asked
-returns-clause-asked g c =
-    let p = view.page c.args.page.now in
-    let l = layout c.in_ok-layout.layout in
-    laid_asked p (planes_layout p p.width p.height) (λ l. image_part p (planes_within p c.args.limits.now l) l.row_bytes) l (image_part p c.planes_within-planes.result l.row_bytes) _ _ c.in_ok-layout.ensures.answer (ap (λ (m : ℕ). image_part p m l.row_bytes) c.planes_within-planes.ensures.value) c.in_ok-samples.ensures.asked
+    let answered = err_from_is_err_and c.from_residual-in_err-samples.result c.from_residual-in_err-samples.ensures.1 in
+    rw (answered.1, answered.2) (laid_error p (planes_layout p p.width p.height) (λ l. image_part p (planes_within p c.args.limits.now l) l.row_bytes) l (image_part p c.planes_within-planes.result l.row_bytes) (g.R.Source.told c.args.source.now) _ c.in_ok-layout.ensures.answer (ap (λ (m : ℕ). image_part p m l.row_bytes) c.planes_within-planes.ensures.value) c.in_err-samples.ensures.asked)

@@ -17,6 +17,8 @@ returns c = (
   p.kept,
   p.not_kept,
   p.swallowed,
+  p.asks,
+  p.asks_not,
   p.fails_from,
   p.never_fails,
   p.fails_elsewhere,

@@ -14,7 +14,7 @@ returns c = (
   p.read_into_none,
   p.octets,
   p.no_octets,
-  p.reach_of_six,
-  p.reach_one_more,
-  p.reach_of_before,
+  p.last_of_six,
+  p.one_more_than_six,
+  p.nothing_readable,
 )

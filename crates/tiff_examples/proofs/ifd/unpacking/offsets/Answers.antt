@@ -10,5 +10,6 @@ returns c = (
   p.none_past_end,
   p.in_literal,
   p.in_run,
-  p.end_of_packed,
+  p.last_of_packed,
+  p.not_the_last,
 )

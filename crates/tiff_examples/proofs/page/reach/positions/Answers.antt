@@ -4,7 +4,7 @@ use Rattle.tiff_examples.proofs.page.reach.positions.Goals as goal
 
 pub returns : goal.returns
 returns c = (
-  p.moves_on,
-  p.no_further,
+  p.three_from_five,
+  p.not_two_of_three,
   p.nothing_behind,
 )

@@ -1,18 +1,16 @@
 use Rattle.std.proofs.Common.{◌≡◌, ◌-◌, ◌≤◌, length, ◌++◌}
-use Rattle.tiff_base.specs.SourceAndSink.{ReachesTo}
 use Rattle.tiff_page.specs.ChunkData.{bytes_left}
-use Rattle.tiff_page.specs.Reach.{stored_end, Moves}
+use Rattle.tiff_page.specs.Reach.{Moves}
 use Rattle.tiff_page.proofs.chunk_data.Stored.read_grown.Given as goal
 
 -- what was read, then what is left
 abbrev pub invariant-loop-row : goal.invariant-loop-row
 invariant-loop-row g l =
-    let bytes = g.R.Source.bytes l.fn.source in
+    let bytes = (g.R.Source.told l.fn.source).bytes in
     record {
       within : length l.row.items ≤ l.fn.len;
-      same_bytes : g.R.Source.bytes l.source ≡ bytes;
+      same : g.R.Source.told l.source ≡ g.R.Source.told l.fn.source;
       count : g.R.Source.failures l.source ≡ g.R.Source.failures l.fn.source;
-      asked : ReachesTo (stored_end l.fn.self l.fn.len) (g.R.Source.reach l.fn.source) (g.R.Source.reach l.source);
       moves : Moves l.fn.self (length l.row.items) l.position;
       read : bytes_left bytes l.fn.self ≡ l.row.items ++ bytes_left bytes l.position;
     }

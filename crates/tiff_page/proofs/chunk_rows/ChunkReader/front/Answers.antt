@@ -1,5 +1,6 @@
-use Rattle.std.proofs.Common.{◌∙◌, ◌+◌}
+use Rattle.std.proofs.Common.{ℕ, List, ◌∙◌, sym, subst}
 use Rattle.std.specs.Prelude.{slice_index, if◌then◌else◌}
+use Rattle.tiff_base.specs.SourceAndSink.{AreReadable}
 use Rattle.tiff_page.specs.EarlyFaults.{is_packed}
 use Rattle.tiff_page.specs.Pixels.{data_by_method}
 use Rattle.tiff_page.specs.PageView as view
@@ -11,9 +12,10 @@ returns-clause-rest c = λ file order.
     c.new.ensures.rest file order p
     ∙ (λ t. data_by_method file order p c.args.self.now.page.now.method (slice_index (c.as_slice.ensures t) c.args.self.now.index) (slice_index (c.as_slice-2.ensures t) c.args.self.now.index))
 
-pub returns-clause-end : goal.returns-clause-end
-returns-clause-end c = λ n.
+pub returns-clause-readable : goal.returns-clause-readable
+returns-clause-readable c = λ source n r.
     let page = c.args.self.now.page.now in
     let i = c.args.self.now.index in
-    c.new.ensures.end n
-    ∙ (λ t. slice_index (c.as_slice.ensures t) i + (if is_packed page.method then slice_index (c.as_slice-2.ensures t) i else n))
+    c.new.ensures.readable source n
+    (subst (λ (counts : List ℕ). AreReadable source (slice_index c.as_slice.result.now i) (if is_packed page.method then slice_index counts i else n)) (sym c.as_slice-2.ensures)
+    (subst (λ (offsets : List ℕ). AreReadable source (slice_index offsets i) (if is_packed page.method then slice_index page.byte_counts i else n)) (sym c.as_slice.ensures) r))

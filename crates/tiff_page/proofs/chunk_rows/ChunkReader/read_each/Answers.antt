@@ -1,5 +1,6 @@
 use Rattle.std.proofs.Common.{arith, ◌≡◌, ℕ, ◌<◌, ◌∙◌, ◌+◌, ◌-◌, ◌*◌, length, refl, drop, ap, subst}
 use Rattle.std.proofs.lemmas.Result.{err_from_is_err_and}
+use Rattle.tiff_base.proofs.Told.{same_bytes}
 use Rattle.tiff_page.specs.declared.page.Page.{Page}
 use Rattle.tiff_page.specs.Pixels.{chunk_data, stored_row_bytes, needed_of_row}
 use Rattle.tiff_page.specs.Counts.{all_chunks}
@@ -20,17 +21,16 @@ sides_of p = record { wide = p.wide; high = p.high; chunk_wide = p.chunk_wide; c
 
 pub loop-row-init : goal.loop-row-init
 loop-row-init g c =
-    let bytes = g.R.Source.bytes c.args.source.now in
+    let bytes = (g.R.Source.told c.args.source.now).bytes in
     let p = view.page c.args.self.now.page.now in
     let none : 0 ≡ 0 * stored_row_bytes p = omega arith in
     record {
-      same_bytes = refl;
+      same = refl;
       count = omega arith;
-      asked = λ k before end. before;
-      stands = front_stands p c.args.self.now.index (0 * stored_row_bytes p) c.front-position.result c.front-position.ensures.end;
+      stands = front_stands p c.args.self.now.index (0 * stored_row_bytes p) c.front-position.result c.front-position.ensures.readable;
       position = λ z. c.front-position.ensures.rest bytes c.args.self.now.order ∙ ap (λ (m : ℕ). drop m (chunk_data bytes c.args.self.now.order p c.args.self.now.index)) none;
       enough = λ z. Prim.absurd (omega (arith, z));
-      written = no_row (chunk_byte (g.R.Source.bytes c.args.source.now) c.args.self.now.order (view.page c.args.self.now.page.now) c.args.self.now.color c.args.self.now.index) c.args.corner.stride c.args.corner.top c.args.corner.left (row_bytes (view.page c.args.self.now.page.now) c.args.self.now.color (rect (view.page c.args.self.now.page.now) c.args.self.now.index).width) (g.W.RowWriter.bytes c.args.buf.now);
+      written = no_row (chunk_byte (g.R.Source.told c.args.source.now).bytes c.args.self.now.order (view.page c.args.self.now.page.now) c.args.self.now.color c.args.self.now.index) c.args.corner.stride c.args.corner.top c.args.corner.left (row_bytes (view.page c.args.self.now.page.now) c.args.self.now.color (rect (view.page c.args.self.now.page.now) c.args.self.now.index).width) (g.W.RowWriter.bytes c.args.buf.now);
     }
 
 pub overflow_add-at : goal.overflow_add-at
@@ -47,14 +47,14 @@ read_row-requires-clause-width g c =
 
 pub returns-in_err-rest-clause-answer : goal.returns-in_err-rest-clause-answer
 returns-in_err-rest-clause-answer g c =
-    let bytes = g.R.Source.bytes c.args.source.now in
+    let bytes = (g.R.Source.told c.args.source.now).bytes in
     let p = view.page c.args.self.now.page.now in
     let len = row_bytes p c.args.self.now.color (rect p c.args.self.now.index).width in
     let h = c.args.self.now.high in
     let w = c.args.self.now.wide in
     let n : c.row_len-len.result ≡ len = c.row_len-len.ensures.value ∙ ap (row_bytes p c.args.self.now.color) w in
     let rl : c.loop-row.row < (rect p c.args.self.now.index).height = omega (arith, h, c.loop-row-test.true) in
-    let given = rw c.loop-row.invariant.same_bytes at c.in_err-rest.ensures.row in
+    let given = rw (same_bytes c.loop-row.invariant.same) at c.in_err-rest.ensures.row in
     let listed : c.args.self.now.index < all_chunks p = omega (arith, c.requires.listed, c.args.self.now.page.now.counted) in
     let answered = err_from_is_err_and c.from_residual.result c.from_residual.ensures.1 in
     rw (answered.1, answered.2) (too_short bytes c.args.self.now.order p c.args.self.now.color c.args.self.now.index (sides_of c.args.self.now.page.now) c.requires.read.stored listed _ _ c.loop-row.row c.row_len-len.result _ c.in_err-rest.field-0.0 (λ f. omega (arith, f, c.loop-row.invariant.count)) rl
@@ -84,7 +84,7 @@ read_row-requires-clause-fits g c =
 
 pub loop-row-preserved : goal.loop-row-preserved
 loop-row-preserved g c =
-    let bytes = g.R.Source.bytes c.args.source.now in
+    let bytes = (g.R.Source.told c.args.source.now).bytes in
     let p = view.page c.args.self.now.page.now in
     let order = c.args.self.now.order in
     let color = c.args.self.now.color in
@@ -97,8 +97,8 @@ loop-row-preserved g c =
     let w = c.args.self.now.wide in
     let n : c.row_len-len.result ≡ len = c.row_len-len.ensures.value ∙ ap (row_bytes p color) w in
     let rl : row < (rect p k).height = omega (arith, h, c.loop-row-test.true) in
-    let same = c.loop-row.invariant.same_bytes in
-    let told = c.in_ok-rest.ensures.kept.told ∙ same in
+    let same = (same_bytes c.loop-row.invariant.same) in
+    let told = same_bytes (c.in_ok-rest.ensures.kept.told ∙ c.loop-row.invariant.same) in
     let given = rw same at c.in_ok-rest.ensures.row in
     let passed = rw told at c.in_ok-position.ensures.passed in
     let listed : k < all_chunks p = omega (arith, c.requires.listed, c.args.self.now.page.now.counted) in
@@ -126,11 +126,9 @@ loop-row-preserved g c =
     c.gap_behind-behind.ensures.between (omega (arith, z, h)) ∙ (c.gap-gap.ensures ∙ ap (λ (m : ℕ). stored_row_bytes p - needed_of_row p color m) n) in
     let last : row + 1 ≡ (rect p k).height → c.gap_behind-behind.result ≡ 0 = λ z. c.gap_behind-behind.ensures.last (omega (arith, z, h)) in
     record {
-      same_bytes = c.in_ok-position.ensures.kept.told ∙ told;
+      same = c.in_ok-position.ensures.kept.told ∙ (c.in_ok-rest.ensures.kept.told ∙ c.loop-row.invariant.same);
       count = omega (arith, c.in_ok-position.ensures.kept.swallowed, c.in_ok-rest.ensures.kept.swallowed, c.loop-row.invariant.count);
-      asked = behind_asked p color k row c.row_len-len.result c.loop-row.position _ _ _ rl n c.loop-row.invariant.stands c.loop-row.invariant.asked c.in_ok-rest.ensures.asked
-          c.in_ok-rest.rest c.gap_behind-behind.result within c.in_ok-rest.ensures.moves between last _ c.in_ok-position.ensures.asked;
-      stands = next_stands p color k row c.row_len-len.result c.loop-row.position _ _ _ rl n c.loop-row.invariant.stands c.loop-row.invariant.asked c.in_ok-rest.ensures.asked
+      stands = next_stands p color k row c.row_len-len.result c.loop-row.position rl n c.loop-row.invariant.stands
           c.in_ok-rest.rest c.gap_behind-behind.result within c.in_ok-rest.ensures.moves between last c.in_ok-position.position c.in_ok-position.ensures.moves;
       position = λ z. next_row bytes order p color k sides stored listed row c.gap_behind-behind.result left rest next given.row some z (out ∙ n) from given.takes (between z) passed;
       enough = λ z. omega (arith, held, now);
@@ -139,7 +137,7 @@ loop-row-preserved g c =
 
 pub returns-clause-ok : goal.returns-clause-ok
 returns-clause-ok g c =
-    let bytes = g.R.Source.bytes c.args.source.now in
+    let bytes = (g.R.Source.told c.args.source.now).bytes in
     let p = view.page c.args.self.now.page.now in
     let len = row_bytes p c.args.self.now.color (rect p c.args.self.now.index).width in
     let corner = c.args.corner in
@@ -155,11 +153,12 @@ returns-in_err-rest-clause-asked g c =
     let h = c.args.self.now.high in
     let w = c.args.self.now.wide in
     let n : c.row_len-len.result ≡ row_bytes p color (rect p k).width = c.row_len-len.ensures.value ∙ ap (row_bytes p color) w in
-    row_asked p color k c.loop-row.row c.row_len-len.result c.loop-row.position _ _ _ (omega (arith, h, c.loop-row-test.true)) n c.loop-row.invariant.stands c.loop-row.invariant.asked c.in_err-rest.ensures.asked
+    let answered = err_from_is_err_and c.from_residual.result c.from_residual.ensures.1 in
+    rw (answered.1, answered.2) (row_asked p color k c.loop-row.row c.row_len-len.result c.loop-row.position (omega (arith, h, c.loop-row-test.true)) n c.loop-row.invariant.stands _ (g.R.Source.told c.args.source.now) (g.R.Source.told c.loop-row.source) c.loop-row.invariant.same c.in_err-rest.ensures.asked)
 
 pub returns-in_err-position-clause-asked : goal.returns-in_err-position-clause-asked
 returns-in_err-position-clause-asked g c =
-    let bytes = g.R.Source.bytes c.args.source.now in
+    let bytes = (g.R.Source.told c.args.source.now).bytes in
     let p = view.page c.args.self.now.page.now in
     let color = c.args.self.now.color in
     let k = c.args.self.now.index in
@@ -177,5 +176,6 @@ returns-in_err-position-clause-asked g c =
     let between : row + 1 < (rect p k).height → c.gap_behind-behind.result ≡ stored_row_bytes p - needed_of_row p color len = λ z.
     c.gap_behind-behind.ensures.between (omega (arith, z, h)) ∙ (c.gap-gap.ensures ∙ ap (λ (m : ℕ). stored_row_bytes p - needed_of_row p color m) n) in
     let last : row + 1 ≡ (rect p k).height → c.gap_behind-behind.result ≡ 0 = λ z. c.gap_behind-behind.ensures.last (omega (arith, z, h)) in
-    behind_asked p color k row c.row_len-len.result c.loop-row.position _ _ _ rl n c.loop-row.invariant.stands c.loop-row.invariant.asked c.in_ok-rest.ensures.asked
-    c.in_ok-rest.rest c.gap_behind-behind.result within c.in_ok-rest.ensures.moves between last _ c.in_err-position.ensures.asked
+    let answered = err_from_is_err_and c.from_residual-in_err-position.result c.from_residual-in_err-position.ensures.1 in
+    rw (answered.1, answered.2) (behind_asked p color k row c.row_len-len.result c.loop-row.position rl n c.loop-row.invariant.stands c.in_ok-rest.rest c.gap_behind-behind.result within c.in_ok-rest.ensures.moves between last
+    _ (g.R.Source.told c.args.source.now) (g.R.Source.told c.read_row.new.source) (c.in_ok-rest.ensures.kept.told ∙ c.loop-row.invariant.same) c.in_err-position.ensures.asked)

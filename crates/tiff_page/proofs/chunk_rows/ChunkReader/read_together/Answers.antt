@@ -1,5 +1,6 @@
 use Rattle.std.proofs.Common.{arith, ◌≡◌, ℕ, ◌<◌, ◌≤◌, ◌∙◌, ◌+◌, ◌*◌, length, refl, drop, ap, subst}
 use Rattle.std.proofs.lemmas.Result.{err_from_is_err_and}
+use Rattle.tiff_base.proofs.Told.{same_bytes}
 use Rattle.tiff_page.specs.declared.page.Page.{Page}
 use Rattle.tiff_page.specs.Counts.{all_chunks}
 use Rattle.tiff_page.specs.Laws.{HasSides}
@@ -19,15 +20,14 @@ sides_of p = record { wide = p.wide; high = p.high; chunk_wide = p.chunk_wide; c
 
 pub loop-row-init : goal.loop-row-init
 loop-row-init g c =
-    let bytes = g.R.Source.bytes c.args.source.now in
+    let bytes = (g.R.Source.told c.args.source.now).bytes in
     let p = view.page c.args.self.now.page.now in
     let none : 0 ≡ 0 * c.args.corner.stride = omega arith in
     record {
       within = omega arith;
-      same_bytes = refl;
+      same = refl;
       count = omega arith;
-      asked = λ k before end. before;
-      stands = front_stands p c.args.self.now.index (0 * c.args.corner.stride) c.front-position.result c.front-position.ensures.end;
+      stands = front_stands p c.args.self.now.index (0 * c.args.corner.stride) c.front-position.result c.front-position.ensures.readable;
       position = c.front-position.ensures.rest bytes c.args.self.now.order ∙ ap (λ (m : ℕ). drop m (chunk_data bytes c.args.self.now.order p c.args.self.now.index)) none;
       enough = omega arith;
       written = no_row (chunk_byte bytes c.args.self.now.order p c.args.self.now.color c.args.self.now.index) c.args.corner.stride c.args.corner.top c.args.corner.left (row_bytes p c.args.self.now.color (rect p c.args.self.now.index).width) (g.W.RowWriter.bytes c.args.buf.now);
@@ -64,14 +64,14 @@ read_band-requires-clause-whole g c =
 
 pub returns-in_err-position-clause-answer : goal.returns-in_err-position-clause-answer
 returns-in_err-position-clause-answer g c =
-    let bytes = g.R.Source.bytes c.args.source.now in
+    let bytes = (g.R.Source.told c.args.source.now).bytes in
     let p = view.page c.args.self.now.page.now in
     let corner = c.args.corner in
     let row = c.loop-row.row in
     let more = c.min-more.result in
     let h = c.args.self.now.high in
     let rl : row + more ≤ (rect p c.args.self.now.index).height = omega (arith, h, c.loop-row-test.true, c.min-more.ensures) in
-    let given = rw c.loop-row.invariant.same_bytes at c.in_err-position.ensures.row in
+    let given = rw (same_bytes c.loop-row.invariant.same) at c.in_err-position.ensures.row in
     let listed : c.args.self.now.index < all_chunks p = omega (arith, c.requires.listed, c.args.self.now.page.now.counted) in
     let answered = err_from_is_err_and c.from_residual.result c.from_residual.ensures.1 in
     rw (answered.1, answered.2) (short_band bytes c.args.self.now.order p c.args.self.now.color c.args.self.now.index corner.left corner.stride (sides_of c.args.self.now.page.now) c.requires.read.stored listed c.requires.together
@@ -79,7 +79,7 @@ returns-in_err-position-clause-answer g c =
 
 pub loop-row-preserved : goal.loop-row-preserved
 loop-row-preserved g c =
-    let bytes = g.R.Source.bytes c.args.source.now in
+    let bytes = (g.R.Source.told c.args.source.now).bytes in
     let p = view.page c.args.self.now.page.now in
     let order = c.args.self.now.order in
     let color = c.args.self.now.color in
@@ -90,8 +90,8 @@ loop-row-preserved g c =
     let at = (corner.top + row) * corner.stride in
     let h = c.args.self.now.high in
     let rl : row + more ≤ (rect p k).height = omega (arith, h, c.loop-row-test.true, c.min-more.ensures) in
-    let told = c.in_ok-position.ensures.kept.told ∙ c.loop-row.invariant.same_bytes in
-    let given = rw c.loop-row.invariant.same_bytes at c.in_ok-position.ensures.row in
+    let told = c.in_ok-position.ensures.kept.told ∙ c.loop-row.invariant.same in
+    let given = rw (same_bytes c.loop-row.invariant.same) at c.in_ok-position.ensures.row in
     let listed : k < all_chunks p = omega (arith, c.requires.listed, c.args.self.now.page.now.counted) in
     let out : length given.row ≡ more * corner.stride = given.all in
     let sides = sides_of c.args.self.now.page.now in
@@ -107,9 +107,8 @@ loop-row-preserved g c =
     let ends = band_within bytes order p color k corner.left corner.stride sides stored listed together row more (omega (arith, h, c.loop-row-test.true)) rl in
     record {
       within = rl;
-      same_bytes = told;
+      same = told;
       count = omega (arith, c.in_ok-position.ensures.kept.swallowed, c.loop-row.invariant.count);
-      asked = chunk_asked p color k (row * corner.stride) (more * corner.stride) _ _ _ c.loop-row.position (omega (arith, ends)) c.loop-row.invariant.stands c.loop-row.invariant.asked c.in_ok-position.ensures.asked;
       stands = stands_on p k (row * corner.stride) (more * corner.stride) ((row + more) * corner.stride) c.loop-row.position c.in_ok-position.position (omega arith) c.loop-row.invariant.stands c.in_ok-position.ensures.moves;
       position = next_band bytes order p color k corner.left corner.stride sides stored listed together row more ahead rest given.row out from given.takes;
       enough = band_held bytes order p color k corner.left corner.stride sides stored listed together row more ahead rest given.row c.requires.some (omega (arith, c.loop-row-test.true, c.min-more.ensures, c.rows_at_once-band.ensures)) out from given.takes;
@@ -121,7 +120,7 @@ loop-row-preserved g c =
 
 pub returns-clause-ok : goal.returns-clause-ok
 returns-clause-ok g c =
-    let bytes = g.R.Source.bytes c.args.source.now in
+    let bytes = (g.R.Source.told c.args.source.now).bytes in
     let p = view.page c.args.self.now.page.now in
     let len = row_bytes p c.args.self.now.color (rect p c.args.self.now.index).width in
     let corner = c.args.corner in
@@ -139,6 +138,7 @@ returns-in_err-position-clause-asked g c =
     let h = c.args.self.now.high in
     let rl : row + more ≤ (rect p k).height = omega (arith, h, c.loop-row-test.true, c.min-more.ensures) in
     let listed : k < all_chunks p = omega (arith, c.requires.listed, c.args.self.now.page.now.counted) in
-    let ends = band_within (g.R.Source.bytes c.args.source.now) c.args.self.now.order p c.args.self.now.color k corner.left corner.stride (sides_of c.args.self.now.page.now) c.requires.read.stored listed c.requires.together
+    let ends = band_within (g.R.Source.told c.args.source.now).bytes c.args.self.now.order p c.args.self.now.color k corner.left corner.stride (sides_of c.args.self.now.page.now) c.requires.read.stored listed c.requires.together
     row more (omega (arith, h, c.loop-row-test.true)) rl in
-    chunk_asked p c.args.self.now.color k (row * corner.stride) (more * corner.stride) _ _ _ c.loop-row.position (omega (arith, ends)) c.loop-row.invariant.stands c.loop-row.invariant.asked c.in_err-position.ensures.asked
+    let answered = err_from_is_err_and c.from_residual.result c.from_residual.ensures.1 in
+    rw (answered.1, answered.2) (chunk_asked p c.args.self.now.color k (row * corner.stride) (more * corner.stride) c.loop-row.position _ (g.R.Source.told c.args.source.now) (g.R.Source.told c.loop-row.source) c.loop-row.invariant.same (omega (arith, ends)) c.loop-row.invariant.stands c.in_err-position.ensures.asked)

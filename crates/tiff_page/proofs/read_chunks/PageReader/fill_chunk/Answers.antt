@@ -3,6 +3,7 @@ use Rattle.std.proofs.lemmas.Result.{err_from_is_err_and}
 use Rattle.tiff_base.specs.Answers.{IsCause}
 use Rattle.tiff_base.specs.declared.error.TiffError.TheVariants.{IoError}
 use Rattle.tiff_base.specs.declared.io.IoKind.TheVariants.{UnexpectedEof}
+use Rattle.tiff_base.proofs.Told.{same_bytes}
 use Rattle.tiff_page.specs.PixelCalls.{chunk_part}
 use Rattle.tiff_page.specs.PixelFault.{unless}
 use Rattle.tiff_page.specs.Pixels.{is_short}
@@ -30,7 +31,7 @@ returns-in_err-form_fault-clause-answer g c =
     let i = c.from.result * c.chunks_of_plane-chunks.result + c.args.next.chunk in
     let q : i ≡ c.loop-plane.plane * chunks_of_plane (view.page p) + c.args.next.chunk = λ t. c.from.ensures t * c.chunks_of_plane-chunks.ensures.count t + c.args.next.chunk in
     let answered = err_from_is_err_and c.from_residual.result c.from_residual.ensures.1 in
-    rw (answered.1, answered.2) (form_cause (g.R.Source.bytes c.args.source.now) c.args.self.now.order (view.page p) c.args.self.now.limits.now (layout c.args.next.part.layout) (sides_of p) p.sampled p.deep c.requires.laid
+    rw (answered.1, answered.2) (form_cause (g.R.Source.told c.args.source.now).bytes c.args.self.now.order (view.page p) c.args.self.now.limits.now (layout c.args.next.part.layout) (sides_of p) p.sampled p.deep c.requires.laid
     c.args.next.part.planes c.args.next.chunk c.requires.chunk _ c.loop-plane.plane i c.in_err-form_fault.field-0.0 q c.loop-plane-test.true c.loop-plane.invariant.none c.in_err-form_fault.ensures.answer)
 
 pub read_rows-requires-clause-read : goal.read_rows-requires-clause-read
@@ -38,7 +39,7 @@ read_rows-requires-clause-read g c =
     let p = c.args.self.now.page.now in
     let i = c.from.result * c.chunks_of_plane-chunks.result + c.args.next.chunk in
     let q : i ≡ c.loop-plane.plane * chunks_of_plane (view.page p) + c.args.next.chunk = λ t. c.from.ensures t * c.chunks_of_plane-chunks.ensures.count t + c.args.next.chunk in
-    is_formed (g.R.Source.bytes c.args.source.now) c.args.self.now.order (view.page p) c.args.self.now.limits.now (layout c.args.next.part.layout) (sides_of p) p.sampled p.deep c.requires.laid i c.in_ok-form_fault.ensures.answer
+    is_formed (g.R.Source.told c.args.source.now).bytes c.args.self.now.order (view.page p) c.args.self.now.limits.now (layout c.args.next.part.layout) (sides_of p) p.sampled p.deep c.requires.laid i c.in_ok-form_fault.ensures.answer
 
 pub read_rows-requires-clause-formed : goal.read_rows-requires-clause-formed
 read_rows-requires-clause-formed g c =
@@ -50,7 +51,7 @@ read_rows-requires-clause-formed g c =
 pub read_rows-requires-clause-some : goal.read_rows-requires-clause-some
 read_rows-requires-clause-some g c =
     let p = c.args.self.now.page.now in
-    let l = stride_some (g.R.Source.bytes c.args.source.now) c.args.self.now.order (view.page p) c.args.self.now.limits.now (layout c.args.next.part.layout) (sides_of p) p.sampled p.deep c.requires.laid in
+    let l = stride_some (g.R.Source.told c.args.source.now).bytes c.args.self.now.order (view.page p) c.args.self.now.limits.now (layout c.args.next.part.layout) (sides_of p) p.sampled p.deep c.requires.laid in
     omega (arith, l, c.image_corner-corner.ensures.stride)
 
 pub read_rows-requires-clause-columns : goal.read_rows-requires-clause-columns
@@ -58,7 +59,7 @@ read_rows-requires-clause-columns g c =
     let p = c.args.self.now.page.now in
     let i = c.from.result * c.chunks_of_plane-chunks.result + c.args.next.chunk in
     let q : i ≡ c.loop-plane.plane * chunks_of_plane (view.page p) + c.args.next.chunk = λ t. c.from.ensures t * c.chunks_of_plane-chunks.ensures.count t + c.args.next.chunk in
-    let l = columns_in (g.R.Source.bytes c.args.source.now) c.args.self.now.order (view.page p) c.args.self.now.limits.now (layout c.args.next.part.layout) (sides_of p) p.sampled p.deep c.requires.laid c.args.next.part.planes c.args.next.chunk c.requires.chunk c.loop-plane.plane i q c.in_ok-form_fault.ensures.answer in
+    let l = columns_in (g.R.Source.told c.args.source.now).bytes c.args.self.now.order (view.page p) c.args.self.now.limits.now (layout c.args.next.part.layout) (sides_of p) p.sampled p.deep c.requires.laid c.args.next.part.planes c.args.next.chunk c.requires.chunk c.loop-plane.plane i q c.in_ok-form_fault.ensures.answer in
     omega (arith, l, c.image_corner-corner.ensures.left, c.image_corner-corner.ensures.stride)
 
 pub read_rows-requires-clause-rows : goal.read_rows-requires-clause-rows
@@ -67,7 +68,7 @@ read_rows-requires-clause-rows g c =
     let i = c.from.result * c.chunks_of_plane-chunks.result + c.args.next.chunk in
     let q : i ≡ c.loop-plane.plane * chunks_of_plane (view.page p) + c.args.next.chunk = λ t. c.from.ensures t * c.chunks_of_plane-chunks.ensures.count t + c.args.next.chunk in
     let size = c.args.next.part.planes * c.args.next.part.layout.plane_stride in
-    let l = rows_in (g.R.Source.bytes c.args.source.now) c.args.self.now.order (view.page p) c.args.self.now.limits.now (layout c.args.next.part.layout) (sides_of p) p.sampled p.deep c.requires.laid c.args.next.part.planes c.args.next.chunk c.requires.chunk c.loop-plane.plane i size q c.loop-plane-test.true (omega arith) in
+    let l = rows_in (g.R.Source.told c.args.source.now).bytes c.args.self.now.order (view.page p) c.args.self.now.limits.now (layout c.args.next.part.layout) (sides_of p) p.sampled p.deep c.requires.laid c.args.next.part.planes c.args.next.chunk c.requires.chunk c.loop-plane.plane i size q c.loop-plane-test.true (omega arith) in
     let same = g.met.W.RowWriter.same_length c.loop-plane.buf c.args.buf.now c.loop-plane.auto.buf in
     rw (c.image_corner-corner.ensures.top, c.image_corner-corner.ensures.stride) (omega (arith, l, same, c.requires.room))
 
@@ -77,7 +78,7 @@ read_rows-requires-clause-few g c =
     let i = c.from.result * c.chunks_of_plane-chunks.result + c.args.next.chunk in
     let q : i ≡ c.loop-plane.plane * chunks_of_plane (view.page p) + c.args.next.chunk = λ t. c.from.ensures t * c.chunks_of_plane-chunks.ensures.count t + c.args.next.chunk in
     let size = c.args.next.part.planes * c.args.next.part.layout.plane_stride in
-    let l = rows_in (g.R.Source.bytes c.args.source.now) c.args.self.now.order (view.page p) c.args.self.now.limits.now (layout c.args.next.part.layout) (sides_of p) p.sampled p.deep c.requires.laid c.args.next.part.planes c.args.next.chunk c.requires.chunk c.loop-plane.plane i size q c.loop-plane-test.true (omega arith) in
+    let l = rows_in (g.R.Source.told c.args.source.now).bytes c.args.self.now.order (view.page p) c.args.self.now.limits.now (layout c.args.next.part.layout) (sides_of p) p.sampled p.deep c.requires.laid c.args.next.part.planes c.args.next.chunk c.requires.chunk c.loop-plane.plane i size q c.loop-plane-test.true (omega arith) in
     rw (c.image_corner-corner.ensures.top, c.image_corner-corner.ensures.stride) (omega (arith, l, c.requires.few))
 
 pub returns-in_err-read_rows-clause-answer : goal.returns-in_err-read_rows-clause-answer
@@ -85,9 +86,9 @@ returns-in_err-read_rows-clause-answer g c =
     let p = c.args.self.now.page.now in
     let i = c.from.result * c.chunks_of_plane-chunks.result + c.args.next.chunk in
     let q : i ≡ c.loop-plane.plane * chunks_of_plane (view.page p) + c.args.next.chunk = λ t. c.from.ensures t * c.chunks_of_plane-chunks.ensures.count t + c.args.next.chunk in
-    let given = subst (λ (bytes : List ℕ). IsCause (Unit {0}) (g.R.Source.failures c.loop-plane.source < g.R.Source.failures c.read_rows.new.source) c.in_err-read_rows.field-0.0 (unless (is_short bytes c.args.self.now.order (view.page p) c.args.next.part.layout.color i) (IoError UnexpectedEof) ≡ Err c.in_err-read_rows.field-0.0)) c.loop-plane.invariant.same_bytes c.in_err-read_rows.ensures.answer in
+    let given = subst (λ (bytes : List ℕ). IsCause (Unit {0}) (g.R.Source.failures c.loop-plane.source < g.R.Source.failures c.read_rows.new.source) c.in_err-read_rows.field-0.0 (unless (is_short bytes c.args.self.now.order (view.page p) c.args.next.part.layout.color i) (IoError UnexpectedEof) ≡ Err c.in_err-read_rows.field-0.0)) (same_bytes c.loop-plane.invariant.same) c.in_err-read_rows.ensures.answer in
     let answered = err_from_is_err_and c.from_residual-in_err-read_rows.result c.from_residual-in_err-read_rows.ensures.1 in
-    rw (answered.1, answered.2) (rows_cause (g.R.Source.bytes c.args.source.now) c.args.self.now.order (view.page p) c.args.self.now.limits.now (layout c.args.next.part.layout) (sides_of p) p.sampled p.deep c.requires.laid
+    rw (answered.1, answered.2) (rows_cause (g.R.Source.told c.args.source.now).bytes c.args.self.now.order (view.page p) c.args.self.now.limits.now (layout c.args.next.part.layout) (sides_of p) p.sampled p.deep c.requires.laid
     c.args.next.part.planes c.args.next.chunk c.requires.chunk _ _ c.loop-plane.plane i c.in_err-read_rows.field-0.0 q (λ f. omega (arith, f, c.loop-plane.invariant.count)) c.loop-plane-test.true c.loop-plane.invariant.none c.in_ok-form_fault.ensures.answer given)
 
 pub loop-plane-preserved : goal.loop-plane-preserved
@@ -95,18 +96,17 @@ loop-plane-preserved g c =
     let p = c.args.self.now.page.now in
     let i = c.from.result * c.chunks_of_plane-chunks.result + c.args.next.chunk in
     let q : i ≡ c.loop-plane.plane * chunks_of_plane (view.page p) + c.args.next.chunk = λ t. c.from.ensures t * c.chunks_of_plane-chunks.ensures.count t + c.args.next.chunk in
-    let same = c.loop-plane.invariant.same_bytes in
+    let same = (same_bytes c.loop-plane.invariant.same) in
     let given = subst (λ (bytes : List ℕ). unless (is_short bytes c.args.self.now.order (view.page p) c.args.next.part.layout.color i) (IoError UnexpectedEof) ≡ Ok tt) same c.in_ok-read_rows.ensures.answer in
-    let wrote = moved c.args.self.now.order (view.page p) c.args.next.part.layout.color i (rect (view.page p) i).height (row_bytes (view.page p) c.args.next.part.layout.color (rect (view.page p) i).width) (g.W.RowWriter.bytes c.loop-plane.buf) (g.W.RowWriter.bytes c.read_rows.new.buf) (g.R.Source.bytes c.loop-plane.source) (g.R.Source.bytes c.args.source.now)
+    let wrote = moved c.args.self.now.order (view.page p) c.args.next.part.layout.color i (rect (view.page p) i).height (row_bytes (view.page p) c.args.next.part.layout.color (rect (view.page p) i).width) (g.W.RowWriter.bytes c.loop-plane.buf) (g.W.RowWriter.bytes c.read_rows.new.buf) (g.R.Source.told c.loop-plane.source).bytes (g.R.Source.told c.args.source.now).bytes
     c.image_corner-corner.result.stride c.args.next.part.layout.row_bytes c.image_corner-corner.result.top (top_of (view.page p) c.args.next.part.layout.color c.args.next.part.layout.row_bytes c.loop-plane.plane c.args.next.chunk)
     c.image_corner-corner.result.left (left_of (view.page p) c.args.next.part.layout.color c.args.next.part.layout.row_bytes c.loop-plane.plane c.args.next.chunk)
     same c.image_corner-corner.ensures.stride c.image_corner-corner.ensures.top c.image_corner-corner.ensures.left c.in_ok-read_rows.ensures.ok in
     record {
-      same_bytes = c.in_ok-read_rows.ensures.kept.told ∙ same;
+      same = c.in_ok-read_rows.ensures.kept.told ∙ c.loop-plane.invariant.same;
       count = omega (arith, c.in_ok-read_rows.ensures.kept.swallowed, c.loop-plane.invariant.count);
-      asked = part_asked (view.page p) c.args.next.part.layout.color (chunk_part (view.page p) c.args.next.chunk c.args.next.part.planes c.args.next.part.layout.row_bytes) c.loop-plane.plane 0 i _ _ _ (q ∙ omega arith) c.loop-plane-test.true (omega arith) c.loop-plane.invariant.asked c.in_ok-read_rows.ensures.asked;
-      none = plane_none (g.R.Source.bytes c.args.source.now) c.args.self.now.order (view.page p) c.args.self.now.limits.now (layout c.args.next.part.layout) (sides_of p) p.sampled p.deep c.requires.laid c.args.next.part.planes c.args.next.chunk c.requires.chunk c.loop-plane.plane i q c.loop-plane.invariant.none c.in_ok-form_fault.ensures.answer given;
-      written = λ before a. plane_written (g.R.Source.bytes c.args.source.now) c.args.self.now.order (view.page p) c.args.self.now.limits.now (layout c.args.next.part.layout) (sides_of p) p.sampled p.deep c.requires.laid c.args.next.part.planes c.args.next.chunk c.requires.chunk c.loop-plane.plane i before (g.W.RowWriter.bytes c.loop-plane.buf) (g.W.RowWriter.bytes c.read_rows.new.buf) q c.loop-plane-test.true c.in_ok-form_fault.ensures.answer
+      none = plane_none (g.R.Source.told c.args.source.now).bytes c.args.self.now.order (view.page p) c.args.self.now.limits.now (layout c.args.next.part.layout) (sides_of p) p.sampled p.deep c.requires.laid c.args.next.part.planes c.args.next.chunk c.requires.chunk c.loop-plane.plane i q c.loop-plane.invariant.none c.in_ok-form_fault.ensures.answer given;
+      written = λ before a. plane_written (g.R.Source.told c.args.source.now).bytes c.args.self.now.order (view.page p) c.args.self.now.limits.now (layout c.args.next.part.layout) (sides_of p) p.sampled p.deep c.requires.laid c.args.next.part.planes c.args.next.chunk c.requires.chunk c.loop-plane.plane i before (g.W.RowWriter.bytes c.loop-plane.buf) (g.W.RowWriter.bytes c.read_rows.new.buf) q c.loop-plane-test.true c.in_ok-form_fault.ensures.answer
           (c.loop-plane.invariant.written before a) wrote;
     }
 
@@ -114,12 +114,13 @@ pub returns-clause-ok : goal.returns-clause-ok
 returns-clause-ok g c =
     let p = c.args.self.now.page.now in
     let e : c.loop-plane.plane ≡ c.args.next.part.planes = omega (arith, c.loop-plane-test.false, c.loop-plane.auto.plane-end) in
-    λ before a. subst (λ (m : ℕ). Writes (IsBefore (view.page p) c.args.next.part.layout.color c.args.next.part.layout.row_bytes c.args.next.part.planes c.args.next.chunk m) (image_byte (view.page p) c.args.next.part.layout.color c.args.next.part.layout.row_bytes (g.R.Source.bytes c.args.source.now) c.args.self.now.order) before (g.W.RowWriter.bytes c.loop-plane.buf)) e (c.loop-plane.invariant.written before a)
+    λ before a. subst (λ (m : ℕ). Writes (IsBefore (view.page p) c.args.next.part.layout.color c.args.next.part.layout.row_bytes c.args.next.part.planes c.args.next.chunk m) (image_byte (view.page p) c.args.next.part.layout.color c.args.next.part.layout.row_bytes (g.R.Source.told c.args.source.now).bytes c.args.self.now.order) before (g.W.RowWriter.bytes c.loop-plane.buf)) e (c.loop-plane.invariant.written before a)
 
 pub returns-in_err-read_rows-clause-asked : goal.returns-in_err-read_rows-clause-asked
 returns-in_err-read_rows-clause-asked g c =
     let p = c.args.self.now.page.now in
     let i = c.from.result * c.chunks_of_plane-chunks.result + c.args.next.chunk in
     let q : i ≡ c.loop-plane.plane * chunks_of_plane (view.page p) + c.args.next.chunk = λ t. c.from.ensures t * c.chunks_of_plane-chunks.ensures.count t + c.args.next.chunk in
-    part_asked (view.page p) c.args.next.part.layout.color (chunk_part (view.page p) c.args.next.chunk c.args.next.part.planes c.args.next.part.layout.row_bytes) c.loop-plane.plane 0 i _ _ _
-    (q ∙ omega arith) c.loop-plane-test.true (omega arith) c.loop-plane.invariant.asked c.in_err-read_rows.ensures.asked
+    let answered = err_from_is_err_and c.from_residual-in_err-read_rows.result c.from_residual-in_err-read_rows.ensures.1 in
+    rw (answered.1, answered.2) (part_asked (view.page p) c.args.next.part.layout.color (chunk_part (view.page p) c.args.next.chunk c.args.next.part.planes c.args.next.part.layout.row_bytes) c.loop-plane.plane 0 i _ (g.R.Source.told c.args.source.now) (g.R.Source.told c.loop-plane.source) c.loop-plane.invariant.same
+    (q ∙ omega arith) c.loop-plane-test.true (omega arith) c.in_err-read_rows.ensures.asked)

@@ -3,7 +3,6 @@ use Rattle.tiff_page.specs.Pixels.{is_short}
 use Rattle.tiff_page.specs.PixelFault.{chunk_fault, each_below}
 use Rattle.tiff_page.specs.BufferPositions.{Writes, IsBefore, image_byte}
 use Rattle.tiff_page.specs.PixelCalls.{chunk_part}
-use Rattle.tiff_page.specs.Reach.{ReachesPart}
 use Rattle.tiff_page.specs.Rect.{chunks_of_plane}
 use Rattle.tiff_page.specs.PageView as view
 use Rattle.tiff_page.proofs.read_chunks.PageReader.fill_chunk.Given as goal
@@ -11,14 +10,13 @@ use Rattle.tiff_page.proofs.read_chunks.PageReader.fill_chunk.Given as goal
 -- the chunk of the planes so far has no fault, and is in the buffer
 abbrev pub invariant-loop-plane : goal.invariant-loop-plane
 invariant-loop-plane g l =
-    let bytes = g.R.Source.bytes l.fn.source in
+    let bytes = (g.R.Source.told l.fn.source).bytes in
     let p = view.page l.self.page.now in
     let color = l.next.part.layout.color in
     let stride = l.next.part.layout.row_bytes in
     record {
-      same_bytes : g.R.Source.bytes l.source ≡ bytes;
+      same : g.R.Source.told l.source ≡ g.R.Source.told l.fn.source;
       count : g.R.Source.failures l.source ≡ g.R.Source.failures l.fn.source;
-      asked : ReachesPart p color (chunk_part p l.next.chunk l.next.part.planes stride) (g.R.Source.reach l.fn.source) (g.R.Source.reach l.source);
       none : each_below (λ plane. chunk_fault p l.self.limits.now (is_short bytes l.self.order p color) color (plane * chunks_of_plane p + (0 + l.next.chunk))) l.plane ≡ Ok tt;
       written : (before : List ℕ) → Writes (IsBefore p color stride l.next.part.planes l.next.chunk 0) (image_byte p color stride bytes l.self.order) before (g.W.RowWriter.bytes l.fn.buf)
           → Writes (IsBefore p color stride l.next.part.planes l.next.chunk l.plane) (image_byte p color stride bytes l.self.order) before (g.W.RowWriter.bytes l.buf);

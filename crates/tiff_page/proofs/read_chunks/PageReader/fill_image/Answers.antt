@@ -1,6 +1,7 @@
 use Rattle.std.proofs.Common.{arith, Ok, Err, ◌≡◌, ℕ, List, ◌∙◌, ◌+◌, ◌*◌, ◌<◌, subst}
 use Rattle.std.proofs.lemmas.Result.{err_from_is_err_and}
 use Rattle.tiff_base.specs.Answers.{IsCause}
+use Rattle.tiff_base.proofs.Told.{same_bytes}
 use Rattle.tiff_page.specs.Layout.{LayoutRecord}
 use Rattle.tiff_page.specs.Laws.{HasSides}
 use Rattle.tiff_page.specs.Pixels.{is_short}
@@ -24,12 +25,12 @@ layout l = record { color = l.color; row_bytes = l.row_bytes; plane_stride = l.p
 pub returns-in_err-fill_chunk-clause-answer : goal.returns-in_err-fill_chunk-clause-answer
 returns-in_err-fill_chunk-clause-answer g c =
     let p = c.args.self.now.page.now in
-    let file = g.R.Source.bytes c.args.source.now in
+    let file = (g.R.Source.told c.args.source.now).bytes in
     let given = subst
     (λ (bytes : List ℕ).
     IsCause (Unit {0}) (g.R.Source.failures c.loop-chunk.source < g.R.Source.failures c.fill_chunk.new.source) c.in_err-fill_chunk.field-0.0
     (each_below (λ plane. chunk_fault (view.page p) c.args.self.now.limits.now (is_short bytes c.args.self.now.order (view.page p) c.args.part.layout.color) c.args.part.layout.color (plane * chunks_of_plane (view.page p) + (0 + c.loop-chunk.chunk))) c.args.part.planes ≡ Err c.in_err-fill_chunk.field-0.0))
-    c.loop-chunk.invariant.same_bytes c.in_err-fill_chunk.ensures.answer in
+    (same_bytes c.loop-chunk.invariant.same) c.in_err-fill_chunk.ensures.answer in
     let answered = err_from_is_err_and c.from_residual.result c.from_residual.ensures.1 in
     rw (answered.1, answered.2) (chunk_cause file c.args.self.now.order (view.page p) c.args.self.now.limits.now (layout c.args.part.layout) (sides_of p) p.sampled p.deep c.requires.laid c.args.part.planes
     _ _ c.loop-chunk.chunk (g.W.RowWriter.bytes c.args.buf.now) c.in_err-fill_chunk.field-0.0 (λ f. omega (arith, f, c.loop-chunk.invariant.count)) (omega (arith, c.loop-chunk-test.true, c.chunks_of_plane-chunk-end.ensures.count)) c.loop-chunk.invariant.none given)
@@ -37,10 +38,10 @@ returns-in_err-fill_chunk-clause-answer g c =
 pub loop-chunk-preserved : goal.loop-chunk-preserved
 loop-chunk-preserved g c =
     let p = c.args.self.now.page.now in
-    let file = g.R.Source.bytes c.args.source.now in
+    let file = (g.R.Source.told c.args.source.now).bytes in
     let color = c.args.part.layout.color in
     let stride = c.args.part.layout.row_bytes in
-    let same = c.loop-chunk.invariant.same_bytes in
+    let same = (same_bytes c.loop-chunk.invariant.same) in
     let given = subst
     (λ (bytes : List ℕ).
     each_below (λ plane. chunk_fault (view.page p) c.args.self.now.limits.now (is_short bytes c.args.self.now.order (view.page p) color) color (plane * chunks_of_plane (view.page p) + (0 + c.loop-chunk.chunk))) c.args.part.planes ≡ Ok tt)
@@ -51,9 +52,8 @@ loop-chunk-preserved g c =
     → Writes (IsBefore (view.page p) color stride c.args.part.planes c.loop-chunk.chunk c.args.part.planes) (image_byte (view.page p) color stride bytes c.args.self.now.order) before (g.W.RowWriter.bytes c.fill_chunk.new.buf))
     same c.in_ok-fill_chunk.ensures.ok in
     record {
-      same_bytes = c.in_ok-fill_chunk.ensures.kept.told ∙ same;
+      same = c.in_ok-fill_chunk.ensures.kept.told ∙ c.loop-chunk.invariant.same;
       count = omega (arith, c.in_ok-fill_chunk.ensures.kept.swallowed, c.loop-chunk.invariant.count);
-      asked = image_asked (view.page p) color c.args.part.planes stride c.loop-chunk.chunk _ _ _ (omega (arith, c.loop-chunk-test.true, c.chunks_of_plane-chunk-end.ensures.count)) c.loop-chunk.invariant.asked c.in_ok-fill_chunk.ensures.asked;
       none = one_more (of_chunk file c.args.self.now.order (view.page p) c.args.self.now.limits.now (layout c.args.part.layout) (sides_of p) p.sampled p.deep c.requires.laid c.args.part.planes) c.loop-chunk.chunk c.loop-chunk.invariant.none given;
       written = planes_written (view.page p) color stride c.args.part.planes c.loop-chunk.chunk (image_byte (view.page p) color stride file c.args.self.now.order) (g.W.RowWriter.bytes c.args.buf.now) (g.W.RowWriter.bytes c.fill_chunk.new.buf)
           (wrote (g.W.RowWriter.bytes c.args.buf.now) c.loop-chunk.invariant.written);
@@ -62,7 +62,7 @@ loop-chunk-preserved g c =
 pub returns-clause-answer : goal.returns-clause-answer
 returns-clause-answer g c =
     let p = c.args.self.now.page.now in
-    let file = g.R.Source.bytes c.args.source.now in
+    let file = (g.R.Source.told c.args.source.now).bytes in
     let e : c.loop-chunk.chunk ≡ chunks_of_plane (view.page p) = omega (arith, c.loop-chunk-test.false, c.loop-chunk.auto.chunk-end, c.chunks_of_plane-chunk-end.ensures.count) in
     image_filled file c.args.self.now.order (view.page p) c.args.self.now.limits.now (layout c.args.part.layout) (sides_of p) p.sampled p.deep c.requires.laid c.args.part.planes (g.W.RowWriter.bytes c.args.buf.now) (g.W.RowWriter.bytes c.loop-chunk.buf) c.requires.some
     (subst (λ (m : ℕ). each_below (of_chunk file c.args.self.now.order (view.page p) c.args.self.now.limits.now (layout c.args.part.layout) (sides_of p) p.sampled p.deep c.requires.laid c.args.part.planes) m ≡ Ok tt) e c.loop-chunk.invariant.none)
@@ -75,5 +75,6 @@ fill_chunk-requires-clause-room g c =
 
 pub returns-in_err-fill_chunk-clause-asked : goal.returns-in_err-fill_chunk-clause-asked
 returns-in_err-fill_chunk-clause-asked g c =
-    image_asked (view.page c.args.self.now.page.now) c.args.part.layout.color c.args.part.planes c.args.part.layout.row_bytes c.loop-chunk.chunk _ _ _ (omega (arith, c.loop-chunk-test.true, c.chunks_of_plane-chunk-end.ensures.count))
-    c.loop-chunk.invariant.asked c.in_err-fill_chunk.ensures.asked
+    let answered = err_from_is_err_and c.from_residual.result c.from_residual.ensures.1 in
+    rw (answered.1, answered.2) (image_asked (view.page c.args.self.now.page.now) c.args.part.layout.color c.args.part.planes c.args.part.layout.row_bytes c.loop-chunk.chunk _ (g.R.Source.told c.args.source.now) (g.R.Source.told c.loop-chunk.source) c.loop-chunk.invariant.same
+    (omega (arith, c.loop-chunk-test.true, c.chunks_of_plane-chunk-end.ensures.count)) c.in_err-fill_chunk.ensures.asked)

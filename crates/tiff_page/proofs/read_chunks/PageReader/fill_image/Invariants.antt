@@ -3,7 +3,6 @@ use Rattle.tiff_page.specs.Pixels.{is_short}
 use Rattle.tiff_page.specs.PixelFault.{chunk_fault, each_below}
 use Rattle.tiff_page.specs.BufferPositions.{Writes, IsBefore, image_byte}
 use Rattle.tiff_page.specs.PixelCalls.{image_part}
-use Rattle.tiff_page.specs.Reach.{ReachesPart}
 use Rattle.tiff_page.specs.Rect.{chunks_of_plane}
 use Rattle.tiff_page.specs.PageView as view
 use Rattle.tiff_page.proofs.read_chunks.PageReader.fill_image.Given as goal
@@ -11,14 +10,13 @@ use Rattle.tiff_page.proofs.read_chunks.PageReader.fill_image.Given as goal
 -- the chunks so far have no fault, and are in the buffer
 abbrev pub invariant-loop-chunk : goal.invariant-loop-chunk
 invariant-loop-chunk g l =
-    let bytes = g.R.Source.bytes l.fn.source in
+    let bytes = (g.R.Source.told l.fn.source).bytes in
     let p = view.page l.self.page.now in
     let color = l.part.layout.color in
     let stride = l.part.layout.row_bytes in
     record {
-      same_bytes : g.R.Source.bytes l.source ≡ bytes;
+      same : g.R.Source.told l.source ≡ g.R.Source.told l.fn.source;
       count : g.R.Source.failures l.source ≡ g.R.Source.failures l.fn.source;
-      asked : ReachesPart p color (image_part p l.part.planes stride) (g.R.Source.reach l.fn.source) (g.R.Source.reach l.source);
       none : each_below (λ j. each_below (λ plane. chunk_fault p l.self.limits.now (is_short bytes l.self.order p color) color (plane * chunks_of_plane p + (0 + j))) l.part.planes) l.chunk ≡ Ok tt;
       written : Writes (IsBefore p color stride l.part.planes l.chunk 0) (image_byte p color stride bytes l.self.order) (g.W.RowWriter.bytes l.fn.buf) (g.W.RowWriter.bytes l.buf);
     }

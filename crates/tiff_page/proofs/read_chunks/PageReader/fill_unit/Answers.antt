@@ -3,6 +3,7 @@ use Rattle.std.proofs.lemmas.Result.{err_from_is_err_and}
 use Rattle.tiff_base.specs.Answers.{IsCause}
 use Rattle.tiff_base.specs.declared.error.TiffError.TheVariants.{IoError}
 use Rattle.tiff_base.specs.declared.io.IoKind.TheVariants.{UnexpectedEof}
+use Rattle.tiff_base.proofs.Told.{same_bytes}
 use Rattle.tiff_page.specs.Laws.{HasSides}
 use Rattle.tiff_page.specs.Pixels.{is_short}
 use Rattle.tiff_page.specs.PixelCalls.{chunk_part}
@@ -25,7 +26,7 @@ returns-in_err-form_fault-clause-answer g c =
     let i = c.from.result * c.chunks_of_plane-chunks.result + c.args.unit.index in
     let q : i ≡ c.loop-plane.plane * chunks_of_plane (view.page p) + c.args.unit.index = λ t. c.from.ensures t * c.chunks_of_plane-chunks.ensures.count t + c.args.unit.index in
     let answered = err_from_is_err_and c.from_residual.result c.from_residual.ensures.1 in
-    rw (answered.1, answered.2) (unit_form_cause (g.R.Source.bytes c.args.source.now) c.args.self.now.order (view.page p) c.args.self.now.limits.now c.args.unit.color (sides_of p) p.sampled p.deep c.requires.colored c.args.unit.stride c.args.unit.index c.args.unit.planes c.requires.which
+    rw (answered.1, answered.2) (unit_form_cause (g.R.Source.told c.args.source.now).bytes c.args.self.now.order (view.page p) c.args.self.now.limits.now c.args.unit.color (sides_of p) p.sampled p.deep c.requires.colored c.args.unit.stride c.args.unit.index c.args.unit.planes c.requires.which
     _ c.loop-plane.plane i (g.W.RowWriter.bytes c.args.buf.now) c.in_err-form_fault.field-0.0 q c.loop-plane-test.true c.loop-plane.invariant.none c.in_err-form_fault.ensures.answer)
 
 pub read_rows-requires-clause-read : goal.read_rows-requires-clause-read
@@ -33,7 +34,7 @@ read_rows-requires-clause-read g c =
     let p = c.args.self.now.page.now in
     let i = c.from.result * c.chunks_of_plane-chunks.result + c.args.unit.index in
     let q : i ≡ c.loop-plane.plane * chunks_of_plane (view.page p) + c.args.unit.index = λ t. c.from.ensures t * c.chunks_of_plane-chunks.ensures.count t + c.args.unit.index in
-    unit_read (g.R.Source.bytes c.args.source.now) c.args.self.now.order (view.page p) c.args.self.now.limits.now c.args.unit.color (sides_of p) p.sampled p.deep c.requires.colored c.args.unit.stride c.args.unit.index c.args.unit.planes c.requires.which i c.in_ok-form_fault.ensures.answer
+    unit_read (g.R.Source.told c.args.source.now).bytes c.args.self.now.order (view.page p) c.args.self.now.limits.now c.args.unit.color (sides_of p) p.sampled p.deep c.requires.colored c.args.unit.stride c.args.unit.index c.args.unit.planes c.requires.which i c.in_ok-form_fault.ensures.answer
 
 pub read_rows-requires-clause-formed : goal.read_rows-requires-clause-formed
 read_rows-requires-clause-formed g c =
@@ -47,14 +48,14 @@ read_rows-requires-clause-some g c =
     let p = c.args.self.now.page.now in
     let i = c.from.result * c.chunks_of_plane-chunks.result + c.args.unit.index in
     let q : i ≡ c.loop-plane.plane * chunks_of_plane (view.page p) + c.args.unit.index = λ t. c.from.ensures t * c.chunks_of_plane-chunks.ensures.count t + c.args.unit.index in
-    unit_some (g.R.Source.bytes c.args.source.now) c.args.self.now.order (view.page p) c.args.self.now.limits.now c.args.unit.color (sides_of p) p.sampled p.deep c.requires.colored c.args.unit.stride c.args.unit.index c.args.unit.planes c.requires.which i c.in_ok-form_fault.ensures.answer c.requires.columns
+    unit_some (g.R.Source.told c.args.source.now).bytes c.args.self.now.order (view.page p) c.args.self.now.limits.now c.args.unit.color (sides_of p) p.sampled p.deep c.requires.colored c.args.unit.stride c.args.unit.index c.args.unit.planes c.requires.which i c.in_ok-form_fault.ensures.answer c.requires.columns
 
 pub read_rows-requires-clause-columns : goal.read_rows-requires-clause-columns
 read_rows-requires-clause-columns g c =
     let p = c.args.self.now.page.now in
     let i = c.from.result * c.chunks_of_plane-chunks.result + c.args.unit.index in
     let q : i ≡ c.loop-plane.plane * chunks_of_plane (view.page p) + c.args.unit.index = λ t. c.from.ensures t * c.chunks_of_plane-chunks.ensures.count t + c.args.unit.index in
-    unit_columns (g.R.Source.bytes c.args.source.now) c.args.self.now.order (view.page p) c.args.self.now.limits.now c.args.unit.color (sides_of p) p.sampled p.deep c.requires.colored c.args.unit.stride c.args.unit.index c.args.unit.planes c.requires.which c.loop-plane.plane i q c.loop-plane-test.true c.requires.columns
+    unit_columns (g.R.Source.told c.args.source.now).bytes c.args.self.now.order (view.page p) c.args.self.now.limits.now c.args.unit.color (sides_of p) p.sampled p.deep c.requires.colored c.args.unit.stride c.args.unit.index c.args.unit.planes c.requires.which c.loop-plane.plane i q c.loop-plane-test.true c.requires.columns
 
 pub read_rows-requires-clause-rows : goal.read_rows-requires-clause-rows
 read_rows-requires-clause-rows g c =
@@ -63,7 +64,7 @@ read_rows-requires-clause-rows g c =
     let q : i ≡ c.loop-plane.plane * chunks_of_plane (view.page p) + c.args.unit.index = λ t. c.from.ensures t * c.chunks_of_plane-chunks.ensures.count t + c.args.unit.index in
     let t : c.from-in-loop-plane.result * c.chunk_data_dimensions-rows.result.1 ≡ c.loop-plane.plane * (rect (view.page p) c.args.unit.index).height = λ z. c.from-in-loop-plane.ensures z * (c.chunk_data_dimensions-rows.ensures.size z).1 in
     let size = c.args.unit.planes * ((rect (view.page p) c.args.unit.index).height * c.args.unit.stride) in
-    let l = unit_rows (g.R.Source.bytes c.args.source.now) c.args.self.now.order (view.page p) c.args.self.now.limits.now c.args.unit.color (sides_of p) p.sampled p.deep c.requires.colored c.args.unit.stride c.args.unit.index c.args.unit.planes c.requires.which c.loop-plane.plane i (c.from-in-loop-plane.result * c.chunk_data_dimensions-rows.result.1) size q c.loop-plane-test.true t (omega arith) in
+    let l = unit_rows (g.R.Source.told c.args.source.now).bytes c.args.self.now.order (view.page p) c.args.self.now.limits.now c.args.unit.color (sides_of p) p.sampled p.deep c.requires.colored c.args.unit.stride c.args.unit.index c.args.unit.planes c.requires.which c.loop-plane.plane i (c.from-in-loop-plane.result * c.chunk_data_dimensions-rows.result.1) size q c.loop-plane-test.true t (omega arith) in
     let same = g.met.W.RowWriter.same_length c.loop-plane.buf c.args.buf.now c.loop-plane.auto.buf in
     omega (arith, l, same, c.requires.room)
 
@@ -74,7 +75,7 @@ read_rows-requires-clause-few g c =
     let q : i ≡ c.loop-plane.plane * chunks_of_plane (view.page p) + c.args.unit.index = λ t. c.from.ensures t * c.chunks_of_plane-chunks.ensures.count t + c.args.unit.index in
     let t : c.from-in-loop-plane.result * c.chunk_data_dimensions-rows.result.1 ≡ c.loop-plane.plane * (rect (view.page p) c.args.unit.index).height = λ z. c.from-in-loop-plane.ensures z * (c.chunk_data_dimensions-rows.ensures.size z).1 in
     let size = c.args.unit.planes * ((rect (view.page p) c.args.unit.index).height * c.args.unit.stride) in
-    let l = unit_rows (g.R.Source.bytes c.args.source.now) c.args.self.now.order (view.page p) c.args.self.now.limits.now c.args.unit.color (sides_of p) p.sampled p.deep c.requires.colored c.args.unit.stride c.args.unit.index c.args.unit.planes c.requires.which c.loop-plane.plane i (c.from-in-loop-plane.result * c.chunk_data_dimensions-rows.result.1) size q c.loop-plane-test.true t (omega arith) in
+    let l = unit_rows (g.R.Source.told c.args.source.now).bytes c.args.self.now.order (view.page p) c.args.self.now.limits.now c.args.unit.color (sides_of p) p.sampled p.deep c.requires.colored c.args.unit.stride c.args.unit.index c.args.unit.planes c.requires.which c.loop-plane.plane i (c.from-in-loop-plane.result * c.chunk_data_dimensions-rows.result.1) size q c.loop-plane-test.true t (omega arith) in
     omega (arith, l, c.requires.few)
 
 pub returns-in_err-read_rows-clause-answer : goal.returns-in_err-read_rows-clause-answer
@@ -82,9 +83,9 @@ returns-in_err-read_rows-clause-answer g c =
     let p = c.args.self.now.page.now in
     let i = c.from.result * c.chunks_of_plane-chunks.result + c.args.unit.index in
     let q : i ≡ c.loop-plane.plane * chunks_of_plane (view.page p) + c.args.unit.index = λ t. c.from.ensures t * c.chunks_of_plane-chunks.ensures.count t + c.args.unit.index in
-    let given = subst (λ (bytes : List ℕ). IsCause (Unit {0}) (g.R.Source.failures c.loop-plane.source < g.R.Source.failures c.read_rows.new.source) c.in_err-read_rows.field-0.0 (unless (is_short bytes c.args.self.now.order (view.page p) c.args.unit.color i) (IoError UnexpectedEof) ≡ Err c.in_err-read_rows.field-0.0)) c.loop-plane.invariant.same_bytes c.in_err-read_rows.ensures.answer in
+    let given = subst (λ (bytes : List ℕ). IsCause (Unit {0}) (g.R.Source.failures c.loop-plane.source < g.R.Source.failures c.read_rows.new.source) c.in_err-read_rows.field-0.0 (unless (is_short bytes c.args.self.now.order (view.page p) c.args.unit.color i) (IoError UnexpectedEof) ≡ Err c.in_err-read_rows.field-0.0)) (same_bytes c.loop-plane.invariant.same) c.in_err-read_rows.ensures.answer in
     let answered = err_from_is_err_and c.from_residual-in_err-read_rows.result c.from_residual-in_err-read_rows.ensures.1 in
-    rw (answered.1, answered.2) (unit_rows_cause (g.R.Source.bytes c.args.source.now) c.args.self.now.order (view.page p) c.args.self.now.limits.now c.args.unit.color (sides_of p) p.sampled p.deep c.requires.colored c.args.unit.stride c.args.unit.index c.args.unit.planes c.requires.which
+    rw (answered.1, answered.2) (unit_rows_cause (g.R.Source.told c.args.source.now).bytes c.args.self.now.order (view.page p) c.args.self.now.limits.now c.args.unit.color (sides_of p) p.sampled p.deep c.requires.colored c.args.unit.stride c.args.unit.index c.args.unit.planes c.requires.which
     _ _ c.loop-plane.plane i (g.W.RowWriter.bytes c.args.buf.now) c.in_err-read_rows.field-0.0 q (λ f. omega (arith, f, c.loop-plane.invariant.count)) c.loop-plane-test.true c.loop-plane.invariant.none c.in_ok-form_fault.ensures.answer given)
 
 pub loop-plane-preserved : goal.loop-plane-preserved
@@ -93,14 +94,13 @@ loop-plane-preserved g c =
     let i = c.from.result * c.chunks_of_plane-chunks.result + c.args.unit.index in
     let q : i ≡ c.loop-plane.plane * chunks_of_plane (view.page p) + c.args.unit.index = λ t. c.from.ensures t * c.chunks_of_plane-chunks.ensures.count t + c.args.unit.index in
     let t : c.from-in-loop-plane.result * c.chunk_data_dimensions-rows.result.1 ≡ c.loop-plane.plane * (rect (view.page p) c.args.unit.index).height = λ z. c.from-in-loop-plane.ensures z * (c.chunk_data_dimensions-rows.ensures.size z).1 in
-    let same = c.loop-plane.invariant.same_bytes in
+    let same = (same_bytes c.loop-plane.invariant.same) in
     let given = subst (λ (bytes : List ℕ). unless (is_short bytes c.args.self.now.order (view.page p) c.args.unit.color i) (IoError UnexpectedEof) ≡ Ok tt) same c.in_ok-read_rows.ensures.answer in
     record {
-      same_bytes = c.in_ok-read_rows.ensures.kept.told ∙ same;
+      same = c.in_ok-read_rows.ensures.kept.told ∙ c.loop-plane.invariant.same;
       count = omega (arith, c.in_ok-read_rows.ensures.kept.swallowed, c.loop-plane.invariant.count);
-      asked = part_asked (view.page p) c.args.unit.color (chunk_part (view.page p) c.args.unit.index c.args.unit.planes c.args.unit.stride) c.loop-plane.plane 0 i _ _ _ (q ∙ omega arith) c.loop-plane-test.true (omega arith) c.loop-plane.invariant.asked c.in_ok-read_rows.ensures.asked;
-      none = unit_none (g.R.Source.bytes c.args.source.now) c.args.self.now.order (view.page p) c.args.self.now.limits.now c.args.unit.color (sides_of p) p.sampled p.deep c.requires.colored c.args.unit.stride c.args.unit.index c.args.unit.planes c.requires.which c.loop-plane.plane i q c.loop-plane.invariant.none c.in_ok-form_fault.ensures.answer given;
-      written = unit_more (g.R.Source.bytes c.args.source.now) c.args.self.now.order (view.page p) c.args.self.now.limits.now c.args.unit.color (sides_of p) p.sampled p.deep c.requires.colored c.args.unit.stride c.args.unit.index c.args.unit.planes c.requires.which c.loop-plane.plane i (c.from-in-loop-plane.result * c.chunk_data_dimensions-rows.result.1) (g.R.Source.bytes c.loop-plane.source) (g.W.RowWriter.bytes c.args.buf.now) (g.W.RowWriter.bytes c.loop-plane.buf) (g.W.RowWriter.bytes c.read_rows.new.buf) q c.loop-plane-test.true t same
+      none = unit_none (g.R.Source.told c.args.source.now).bytes c.args.self.now.order (view.page p) c.args.self.now.limits.now c.args.unit.color (sides_of p) p.sampled p.deep c.requires.colored c.args.unit.stride c.args.unit.index c.args.unit.planes c.requires.which c.loop-plane.plane i q c.loop-plane.invariant.none c.in_ok-form_fault.ensures.answer given;
+      written = unit_more (g.R.Source.told c.args.source.now).bytes c.args.self.now.order (view.page p) c.args.self.now.limits.now c.args.unit.color (sides_of p) p.sampled p.deep c.requires.colored c.args.unit.stride c.args.unit.index c.args.unit.planes c.requires.which c.loop-plane.plane i (c.from-in-loop-plane.result * c.chunk_data_dimensions-rows.result.1) (g.R.Source.told c.loop-plane.source).bytes (g.W.RowWriter.bytes c.args.buf.now) (g.W.RowWriter.bytes c.loop-plane.buf) (g.W.RowWriter.bytes c.read_rows.new.buf) q c.loop-plane-test.true t same
           c.loop-plane.invariant.written c.in_ok-read_rows.ensures.ok;
     }
 
@@ -108,14 +108,15 @@ pub returns-clause-answer : goal.returns-clause-answer
 returns-clause-answer g c =
     let p = c.args.self.now.page.now in
     let e : c.loop-plane.plane ≡ c.args.unit.planes = omega (arith, c.loop-plane-test.false, c.loop-plane.auto.plane-end) in
-    unit_filled (g.R.Source.bytes c.args.source.now) c.args.self.now.order (view.page p) c.args.self.now.limits.now c.args.unit.color (sides_of p) p.sampled p.deep c.requires.colored c.args.unit.stride c.args.unit.index c.args.unit.planes c.requires.which (g.W.RowWriter.bytes c.args.buf.now) (g.W.RowWriter.bytes c.loop-plane.buf) c.requires.columns
-    (subst (λ (m : ℕ). each_below (in_unit (g.R.Source.bytes c.args.source.now) c.args.self.now.order (view.page p) c.args.self.now.limits.now c.args.unit.color (sides_of p) p.sampled p.deep c.requires.colored c.args.unit.stride c.args.unit.index c.args.unit.planes c.requires.which) m ≡ Ok tt) e c.loop-plane.invariant.none)
-    (subst (λ (m : ℕ). Writes (IsInUnit (view.page p) c.args.unit.color c.args.unit.stride c.args.unit.index m) (unit_byte (g.R.Source.bytes c.args.source.now) c.args.self.now.order (view.page p) c.args.unit.color c.args.unit.stride c.args.unit.index) (g.W.RowWriter.bytes c.args.buf.now) (g.W.RowWriter.bytes c.loop-plane.buf)) e c.loop-plane.invariant.written)
+    unit_filled (g.R.Source.told c.args.source.now).bytes c.args.self.now.order (view.page p) c.args.self.now.limits.now c.args.unit.color (sides_of p) p.sampled p.deep c.requires.colored c.args.unit.stride c.args.unit.index c.args.unit.planes c.requires.which (g.W.RowWriter.bytes c.args.buf.now) (g.W.RowWriter.bytes c.loop-plane.buf) c.requires.columns
+    (subst (λ (m : ℕ). each_below (in_unit (g.R.Source.told c.args.source.now).bytes c.args.self.now.order (view.page p) c.args.self.now.limits.now c.args.unit.color (sides_of p) p.sampled p.deep c.requires.colored c.args.unit.stride c.args.unit.index c.args.unit.planes c.requires.which) m ≡ Ok tt) e c.loop-plane.invariant.none)
+    (subst (λ (m : ℕ). Writes (IsInUnit (view.page p) c.args.unit.color c.args.unit.stride c.args.unit.index m) (unit_byte (g.R.Source.told c.args.source.now).bytes c.args.self.now.order (view.page p) c.args.unit.color c.args.unit.stride c.args.unit.index) (g.W.RowWriter.bytes c.args.buf.now) (g.W.RowWriter.bytes c.loop-plane.buf)) e c.loop-plane.invariant.written)
 
 pub returns-in_err-read_rows-clause-asked : goal.returns-in_err-read_rows-clause-asked
 returns-in_err-read_rows-clause-asked g c =
     let p = c.args.self.now.page.now in
     let i = c.from.result * c.chunks_of_plane-chunks.result + c.args.unit.index in
     let q : i ≡ c.loop-plane.plane * chunks_of_plane (view.page p) + c.args.unit.index = λ t. c.from.ensures t * c.chunks_of_plane-chunks.ensures.count t + c.args.unit.index in
-    part_asked (view.page p) c.args.unit.color (chunk_part (view.page p) c.args.unit.index c.args.unit.planes c.args.unit.stride) c.loop-plane.plane 0 i _ _ _
-    (q ∙ omega arith) c.loop-plane-test.true (omega arith) c.loop-plane.invariant.asked c.in_err-read_rows.ensures.asked
+    let answered = err_from_is_err_and c.from_residual-in_err-read_rows.result c.from_residual-in_err-read_rows.ensures.1 in
+    rw (answered.1, answered.2) (part_asked (view.page p) c.args.unit.color (chunk_part (view.page p) c.args.unit.index c.args.unit.planes c.args.unit.stride) c.loop-plane.plane 0 i _ (g.R.Source.told c.args.source.now) (g.R.Source.told c.loop-plane.source) c.loop-plane.invariant.same
+    (q ∙ omega arith) c.loop-plane-test.true (omega arith) c.in_err-read_rows.ensures.asked)

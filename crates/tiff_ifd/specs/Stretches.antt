@@ -1,0 +1,49 @@
+-- Which bytes a source is asked for by reads of a header, of directories and of values (TIFF 6.0 section 2; BigTIFF).
+use Rattle.std.specs.Int.{byte_len, w16}
+use Rattle.std.specs.FinMap.{get}
+use Rattle.std.specs.Prelude.{◌≡◌, ℕ, ◌+◌, ◌*◌, ◌-◌, ◌<◌, ◌==◌, List, Some, Result, Ok, Err, if◌then◌else◌}
+use Rattle.tiff_base.specs.declared.error.TiffError.{TiffError}
+use Rattle.tiff_base.specs.declared.tags.ByteOrder.{ByteOrder}
+use Rattle.tiff_base.specs.declared.tags.FileKind.{FileKind}
+use Rattle.tiff_base.specs.declared.tags.Tag.{Tag}
+use Rattle.tiff_base.specs.Answers.{◌>>=◌}
+use Rattle.tiff_base.specs.Directory.{count_width, entry_len, link_offset, offset_width}
+use Rattle.tiff_base.specs.Field.{DirectoryRecord, Field}
+use Rattle.tiff_base.specs.FieldBytes.{field_len, field_offset}
+use Rattle.tiff_base.specs.Header.{order_at}
+use Rattle.tiff_base.specs.Number.{number_at}
+use Rattle.tiff_base.specs.SourceAndSink.{AreReadable, SourceRecord}
+use Rattle.tiff_base.specs.Tags.{tag_number}
+
+-- how many bytes are read of a header of this version: 16 of BigTIFF's, whose version is 43, else 8
+abbrev pub header_len_of : Result ℕ TiffError → ℕ
+header_len_of (Ok version) = if version == 43 then 16 else 8
+header_len_of (Err e) = 8
+
+-- those of the header of a file
+abbrev pub header_len : List ℕ → ℕ
+header_len bytes = header_len_of (order_at bytes >>= (λ order. number_at order w16 bytes 2))
+
+-- A source answers for the bytes of the header.
+abbrev pub HeaderReadable : SourceRecord → Type 0
+HeaderReadable source = AreReadable source 0 (header_len source.bytes)
+
+-- It answers for the count of entries of the directory at an offset, and for its link.
+pub record LinkReadable (source : SourceRecord) (kind : FileKind) (order : ByteOrder) (at : ℕ) : Type 0 where
+  pub count : AreReadable source at (byte_len (count_width kind))
+  pub link : (n : ℕ) → number_at order (count_width kind) source.bytes at ≡ Ok n
+      → AreReadable source (link_offset kind at n) (byte_len (offset_width kind))
+
+-- It answers for the whole directory at an offset: its count, so many entries, and its link.
+pub record DirectoryReadable (source : SourceRecord) (kind : FileKind) (order : ByteOrder) (at : ℕ) : Type 0 where
+  pub count : AreReadable source at (byte_len (count_width kind))
+  pub entries : (n : ℕ) → number_at order (count_width kind) source.bytes at ≡ Ok n
+      → AreReadable source (at + byte_len (count_width kind)) (entry_len kind * n + byte_len (offset_width kind))
+
+-- It answers for the values of a field where these don't stand in the entry.
+pub record FieldReadable (source : SourceRecord) (kind : FileKind) (order : ByteOrder) (f : Field) : Type 0 where
+  pub placed : byte_len (offset_width kind) < field_len f → AreReadable source (field_offset kind order f) (field_len f)
+
+-- It answers for those of a tag of a directory, if the directory has it.
+pub record TagReadable (source : SourceRecord) (kind : FileKind) (order : ByteOrder) (directory : DirectoryRecord) (tag : Tag) : Type 0 where
+  pub field : (f : Field) → get directory.entries (tag_number tag) ≡ Some f → FieldReadable source kind order f
