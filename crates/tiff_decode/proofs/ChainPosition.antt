@@ -20,7 +20,7 @@ use Rattle.tiff_ifd.proofs.Chain.{apart_chain}
 use Rattle.tiff_ifd.proofs.Begun.{offset_begun}
 use Rattle.tiff_decode.specs.ChainPosition.{IsAt, IsInChain}
 use Rattle.tiff_decode.specs.Machine.{State, Decoding, Outcome, GivesOutcome, FollowsBut, Follows, keeps_state}
-use Rattle.tiff_decode.specs.Outcome.{chain_of, offset_after, next_offset, next_outcome, next_image, enter, entry_outcome, seek_to_image, seek_outcome, end_outcome, end_fault, not_found}
+use Rattle.tiff_decode.specs.Outcome.{chain_of, offset_after, next_offset, next_outcome, next_image, enter, entry_outcome, seek_to_image, seek_outcome, end_outcome, end_fault, not_found, show_outcome, show_directory}
 
 -- ---- where the pointer is
 
@@ -203,6 +203,15 @@ stands_told s d told failures e f = λ i. record d { bytes = e i; failures = f i
 pub shown : (o : Decoding → Call) (r : Result (Unit {0}) TiffError) (seen old new : Decoding) → seen ≡ old → Follows (λ x. x) (o seen) r seen new
     → Follows (λ x. x) (o old) r old new
 shown o r seen old new e h = (let P : Decoding → Type 0 = λ d. Follows (λ x. x) (o d) r d new in subst P e h)
+
+-- a directory that is shown
+pub shows_read : (r : Result (Unit {0}) TiffError) (at : IfdPointer) (d : DirectoryRecord) (old mid new : Decoding) → mid ≡ old
+    → directory_at old.kind old.order old.bytes at.0 ≡ Ok d
+    → Follows (λ x. x) (show_outcome mid (Ok d)) r mid new → Follows (λ x. x) (show_directory old at) r old new
+unfolding show_directory
+shows_read r at d old mid new e k f =
+    let P : Decoding → Type 0 = λ x. Follows (λ y. y) (show_outcome x (Ok d)) r x new in
+    same_outcome r (show_outcome old (Ok d)) (show_directory old at) old new (sym (ap (show_outcome old) k)) (subst P e f)
 
 -- a call that may want memory does so of a decoder that has a next page
 open_wanting : (o : Call) (r : Result (Unit {0}) TiffError) (d new : Decoding) → d.state.more ≡ true → Follows (λ x. x) o r d new → FollowsBut (d.state.more ≡ true) (λ x. x) o r d new

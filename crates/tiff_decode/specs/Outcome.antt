@@ -186,6 +186,15 @@ byte_order d = d.order
 unfoldable pub read_directory : Decoding → IfdPointer → Outcome DirectoryRecord
 read_directory d pointer = stays d (directory_at d.kind d.order d.bytes pointer.0)
 
+-- the page and the tags of a directory take the place of those that the decoder had; a fault leaves all
+abbrev pub show_outcome : Decoding → Result DirectoryRecord TiffError → Outcome (Unit {0})
+show_outcome d (Ok directory) = with_page d.state directory (page_in d.kind d.order d.bytes d.state.limits directory)
+show_outcome d (Err e) = stays d (Err e)
+
+-- to show the directory at any offset, of the chain or not; where the decoder stands in the chain stays
+unfoldable pub show_directory : Decoding → IfdPointer → Outcome (Unit {0})
+show_directory d pointer = show_outcome d (directory_at d.kind d.order d.bytes pointer.0)
+
 -- ---- reads at the offset
 
 unfoldable pub goto_offset : Decoding → ℕ → Outcome (Unit {0})

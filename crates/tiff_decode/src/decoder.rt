@@ -1,6 +1,6 @@
 //! Files are read.
 
-ghost use Rattle.std.specs.Prelude.{◌≡◌, ◌<◌, ◌≤◌, ◌+◌, ◌++◌, ℕ, List, [], ◌∷◌, IfOk, IfErr, IfSome, IfNone, OnOk, OnErr, None, Some, Ok, true, false, if◌then◌else◌, is_some, option_map, length};
+ghost use Rattle.std.specs.Prelude.{◌≡◌, ◌<◌, ◌≤◌, ◌+◌, ◌++◌, ℕ, List, [], ◌∷◌, IfOk, IfErr, IfSome, IfNone, OnOk, OnErr, None, Some, Ok, true, false, if◌then◌else◌, is_some, option_map, length, Option, Bool};
 ghost use Rattle.std.specs.List.{last_or, slice_get};
 ghost use Rattle.tiff_base.specs.Answers.{Answers, AnswersBut, FailsFrom, IsCause, IsKept};
 ghost use Rattle.tiff_base.specs.Directory.{directory_at};
@@ -64,10 +64,10 @@ fn read_first_directory<R: Source>(
     alloc: Global,
     source: &mut R,
 ) -> TiffResult<(FileHeader, Walk, Directory)>
-    ensures kept { IsKept R.bytes R.failures result source.old source.new }
+    ensures kept { IsKept R.told R.failures result source.old source.new }
     ensures answer { Answers (λ r. (record { order = r.0.order; kind = r.0.kind; first = r.0.first }, r.0.first, r.2)) result
-        (first_directory (R.bytes source.old)) (R.failures source.old) (R.failures source.new) }
-    ensures walk { IfOk result (λ r. IsInChain r.0.kind r.0.order (R.bytes source.old) r.0.first r.1
+        (first_directory (R.told source.old).bytes) (R.failures source.old) (R.failures source.new) }
+    ensures walk { IfOk result (λ r. IsInChain r.0.kind r.0.order (R.told source.old).bytes r.0.first r.1
         (Some (record { 0 = r.0.first })) 0 (is_some r.2.next)) }
 {
     let header = read_header(source)?;
@@ -149,11 +149,11 @@ fn replace_directory<R: Source>(
     tags: &mut ValueReader<R>,
     directory: Directory,
 ) -> TiffResult<Page>
-    ensures kept { IsKept R.bytes R.failures result tags.old.source tags.new.source }
+    ensures kept { IsKept R.told R.failures result tags.old.source tags.new.source }
     ensures kind { tags.new.kind ≡ tags.old.kind }
     ensures order { tags.new.order ≡ tags.old.order }
     ensures limits { tags.new.limits ≡ tags.old.limits }
-    ensures answer { Answers page_record result (page_in tags.old.kind tags.old.order (R.bytes tags.old.source) tags.old.limits
+    ensures answer { Answers page_record result (page_in tags.old.kind tags.old.order (R.told tags.old.source).bytes tags.old.limits
         directory) (R.failures tags.old.source) (R.failures tags.new.source) }
     ensures replaced { OnOk result (tags.new.directory ≡ directory) }
     ensures stays { OnErr result (tags.new.directory ≡ tags.old.directory) }
@@ -180,15 +180,15 @@ fn enter_directory<R: Source>(
     offset: u64,
     directory: Directory,
 ) -> TiffResult<()>
-    ensures kept { IsKept R.bytes R.failures result tags.old.source tags.new.source }
+    ensures kept { IsKept R.told R.failures result tags.old.source tags.new.source }
     ensures kind { tags.new.kind ≡ tags.old.kind }
     ensures order { tags.new.order ≡ tags.old.order }
     ensures follows { (first here : ℕ) → Follows (λ x. x) (outcome.entry_outcome
-        (decoding (R.bytes tags.old.source) tags.old.kind tags.old.order first (R.failures tags.old.source) standing.old.pointer
+        (decoding (R.told tags.old.source).bytes tags.old.kind tags.old.order first (R.failures tags.old.source) standing.old.pointer
         standing.old.more (page_record page.old) tags.old.directory here tags.old.limits) offset (Ok directory)) result
-        (decoding (R.bytes tags.old.source) tags.old.kind tags.old.order first (R.failures tags.old.source) standing.old.pointer
+        (decoding (R.told tags.old.source).bytes tags.old.kind tags.old.order first (R.failures tags.old.source) standing.old.pointer
         standing.old.more (page_record page.old) tags.old.directory here tags.old.limits)
-        (decoding (R.bytes tags.new.source) tags.new.kind tags.new.order first (R.failures tags.new.source) standing.new.pointer
+        (decoding (R.told tags.new.source).bytes tags.new.kind tags.new.order first (R.failures tags.new.source) standing.new.pointer
         standing.new.more (page_record page.new) tags.new.directory here tags.new.limits) }
     ensures stands { (offsets : List ℕ) → IsAt offsets standing.old.pointer standing.old.at standing.old.more → slice_get offsets
         at ≡ Some offset → IsAt offsets standing.new.pointer standing.new.at standing.new.more }
@@ -220,15 +220,15 @@ fn enter_offset<R: Source>(
     at: usize,
     offset: u64,
 ) -> TiffResult<()>
-    ensures kept { IsKept R.bytes R.failures result tags.old.source tags.new.source }
+    ensures kept { IsKept R.told R.failures result tags.old.source tags.new.source }
     ensures kind { tags.new.kind ≡ tags.old.kind }
     ensures order { tags.new.order ≡ tags.old.order }
     ensures follows { (first here : ℕ) → Follows (λ x. x) (outcome.enter
-        (decoding (R.bytes tags.old.source) tags.old.kind tags.old.order first (R.failures tags.old.source) standing.old.pointer
+        (decoding (R.told tags.old.source).bytes tags.old.kind tags.old.order first (R.failures tags.old.source) standing.old.pointer
         standing.old.more (page_record page.old) tags.old.directory here tags.old.limits) offset) result
-        (decoding (R.bytes tags.old.source) tags.old.kind tags.old.order first (R.failures tags.old.source) standing.old.pointer
+        (decoding (R.told tags.old.source).bytes tags.old.kind tags.old.order first (R.failures tags.old.source) standing.old.pointer
         standing.old.more (page_record page.old) tags.old.directory here tags.old.limits)
-        (decoding (R.bytes tags.new.source) tags.new.kind tags.new.order first (R.failures tags.new.source) standing.new.pointer
+        (decoding (R.told tags.new.source).bytes tags.new.kind tags.new.order first (R.failures tags.new.source) standing.new.pointer
         standing.new.more (page_record page.new) tags.new.directory here tags.new.limits) }
     ensures stands { (offsets : List ℕ) → IsAt offsets standing.old.pointer standing.old.at standing.old.more → slice_get offsets
         at ≡ Some offset → IsAt offsets standing.new.pointer standing.new.at standing.new.more }
@@ -236,6 +236,57 @@ fn enter_offset<R: Source>(
     let (kind, order) = (tags.kind, tags.order);
     let directory = read_directory(alloc, &mut tags.source, offset, kind, order)?;
     enter_directory(alloc, tags, page, standing, at, offset, directory)
+}
+
+// Shows a directory that was read: its page and its fields take the place of the former ones, which stay where its page has a fault.
+fn show_read<R: Source>(
+    alloc: Global,
+    tags: &mut ValueReader<R>,
+    page: &mut Page,
+    directory: Directory,
+) -> TiffResult<()>
+    ensures kept { IsKept R.told R.failures result tags.old.source tags.new.source }
+    ensures kind { tags.new.kind ≡ tags.old.kind }
+    ensures order { tags.new.order ≡ tags.old.order }
+    ensures follows { (first here : ℕ) (pointer : Option IfdPointer) (more : Bool) → Follows (λ x. x) (outcome.show_outcome
+        (decoding (R.told tags.old.source).bytes tags.old.kind tags.old.order first (R.failures tags.old.source) pointer more
+        (page_record page.old) tags.old.directory here tags.old.limits) (Ok directory)) result
+        (decoding (R.told tags.old.source).bytes tags.old.kind tags.old.order first (R.failures tags.old.source) pointer more
+        (page_record page.old) tags.old.directory here tags.old.limits)
+        (decoding (R.told tags.new.source).bytes tags.new.kind tags.new.order first (R.failures tags.new.source) pointer more
+        (page_record page.new) tags.new.directory here tags.new.limits) }
+{
+    match replace_directory(alloc, tags, directory) {
+        Ok(found) => {
+            *page = found;
+            return Ok(());
+        }
+        Err(fault) => return Err(fault),
+    }
+}
+
+// Reads the directory at an offset, and shows it.
+#[tactic(auto, unfolding(crate::specs::Outcome::show_directory))]
+fn show_offset<R: Source>(
+    alloc: Global,
+    tags: &mut ValueReader<R>,
+    page: &mut Page,
+    at: IfdPointer,
+) -> TiffResult<()>
+    ensures kept { IsKept R.told R.failures result tags.old.source tags.new.source }
+    ensures kind { tags.new.kind ≡ tags.old.kind }
+    ensures order { tags.new.order ≡ tags.old.order }
+    ensures follows { (first here : ℕ) (pointer : Option IfdPointer) (more : Bool) → Follows (λ x. x) (outcome.show_directory
+        (decoding (R.told tags.old.source).bytes tags.old.kind tags.old.order first (R.failures tags.old.source) pointer more
+        (page_record page.old) tags.old.directory here tags.old.limits) at) result
+        (decoding (R.told tags.old.source).bytes tags.old.kind tags.old.order first (R.failures tags.old.source) pointer more
+        (page_record page.old) tags.old.directory here tags.old.limits)
+        (decoding (R.told tags.new.source).bytes tags.new.kind tags.new.order first (R.failures tags.new.source) pointer more
+        (page_record page.new) tags.new.directory here tags.new.limits) }
+{
+    let (kind, order) = (tags.kind, tags.order);
+    let directory = read_directory(alloc, &mut tags.source, at.0, kind, order)?;
+    show_read(alloc, tags, page, directory)
 }
 
 // Enters the next offset of a walk: its directory, and the offset.
@@ -246,16 +297,16 @@ fn enter_behind<R: Source>(
     kind: FileKind,
     order: ByteOrder,
 ) -> TiffResult<Option<(u64, Directory)>>
-    ensures kept { IsKept R.bytes R.failures result source.old source.new }
-    ensures begins { (first : ℕ) → ChainBegins kind order (R.bytes source.old) first walk.old → ChainBegins kind order (R.bytes source.old)
+    ensures kept { IsKept R.told R.failures result source.old source.new }
+    ensures begins { (first : ℕ) → ChainBegins kind order (R.told source.old).bytes first walk.old → ChainBegins kind order (R.told source.old).bytes
         first walk.new }
     ensures entered { IfOk result (λ found. IfSome found (λ f. (walk.new.offsets ≡ walk.old.offsets ++ f.0 ∷ []) ×
-        (directory_at kind order (R.bytes source.old) f.0 ≡ Ok f.1))) }
-    ensures end { IfOk result (λ found. IfNone found ((walk.new ≡ walk.old) × ((first : ℕ) → ChainBegins kind order (R.bytes source.old) first walk.old
-        → ChainEnds kind order (R.bytes source.old) first walk.old None))) }
+        (directory_at kind order (R.told source.old).bytes f.0 ≡ Ok f.1))) }
+    ensures end { IfOk result (λ found. IfNone found ((walk.new ≡ walk.old) × ((first : ℕ) → ChainBegins kind order (R.told source.old).bytes first walk.old
+        → ChainEnds kind order (R.told source.old).bytes first walk.old None))) }
     ensures stays { OnErr result (walk.new ≡ walk.old) }
     ensures cut { IfErr result (λ e. IsCause (Unit {0}) (R.failures source.old < R.failures source.new) e
-        ((first : ℕ) → ChainBegins kind order (R.bytes source.old) first walk.old → ChainEnds kind order (R.bytes source.old) first walk.old (Some e))) }
+        ((first : ℕ) → ChainBegins kind order (R.told source.old).bytes first walk.old → ChainEnds kind order (R.told source.old).bytes first walk.old (Some e))) }
 {
     let Some(offset) = walk.next() else {
         return Ok(None);
@@ -290,7 +341,7 @@ impl<R: Source> Model for Decoder<R> {
     ghost coded = { Prim.hlevel (codes, map.code) };
 
     ghost view = { λ d. record {
-      bytes = R.bytes d.tags.source;
+      bytes = (R.told d.tags.source).bytes;
       kind = d.tags.kind;
       order = d.tags.order;
       first = d.first;
@@ -305,7 +356,7 @@ impl<R: Source> Model for Decoder<R> {
       };
     } };
 
-    ghost invariant = { λ d. IsInChain d.tags.kind d.tags.order (R.bytes d.tags.source) d.first d.walk d.standing.pointer d.standing.at d.standing.more };
+    ghost invariant = { λ d. IsInChain d.tags.kind d.tags.order (R.told d.tags.source).bytes d.first d.walk d.standing.pointer d.standing.at d.standing.more };
 }
 
 /// What is known of the file and the page without a read of it.
@@ -326,9 +377,9 @@ impl<R: Source> Decoder<R> {
     /// Opens a file at its first page, under the limits by default. The first fault of the header, the directory or the
     /// page is answered.
     pub fn new(alloc: Global, source: R) -> TiffResult<Self>
-        ensures answer { AnswersBut (Unit {0}) (FailsFrom R.bytes R.failures source)
+        ensures answer { AnswersBut (Unit {0}) (FailsFrom R.told R.failures source)
             (λ (d : Decoding). record d { failures = R.failures source }) result
-            (decoder_of (R.bytes source) (R.failures source)) }
+            (decoder_of (R.told source).bytes (R.failures source)) }
         ensures count { IfOk result (λ d. d.failures ≡ R.failures source) }
     {
         let mut source = source;
@@ -430,7 +481,7 @@ impl<R: Source> Decoder<R> {
 
     /// The source.
     pub fn inner(&self) -> &R
-        ensures bytes { R.bytes result.now ≡ self.now.bytes }
+        ensures bytes { (R.told result.now).bytes ≡ self.now.bytes }
         ensures failures { R.failures result.now ≡ self.now.failures }
     {
         &self.tags.source
@@ -518,5 +569,15 @@ impl<R: Source> Decoder<R> {
     {
         let (kind, order) = (self.tags.kind, self.tags.order);
         read_directory(self.alloc, &mut self.tags.source, pointer.0, kind, order)
+    }
+
+    /// Shows the directory at any offset, of the chain or not, as a SubIFD or a preview (this project's): the calls to come answer its
+    /// page, its tags and its pixels. Where the decoder stands in the chain stays, so that `next_image` goes on from there. Too few
+    /// bytes: `IoError(UnexpectedEof)`; then the first fault of its page. After an error all is as it was.
+    #[tactic(auto, unfolding(crate::specs::Outcome::show_directory))]
+    pub fn show_directory(&mut self, pointer: IfdPointer) -> TiffResult<()>
+        ensures { Follows (λ x. x) (outcome.show_directory self.old pointer) result self.old self.new }
+    {
+        show_offset(self.alloc, &mut self.tags, &mut self.page, pointer)
     }
 }

@@ -21,8 +21,8 @@ use tiff_ifd::read_value::read_text_at;
 // The byte at an offset.
 #[tactic(auto, unfolding(tiff_base::specs::Number::number))]
 fn read_u8_at<R: Source>(source: &mut R, at: u64, order: ByteOrder) -> TiffResult<u8>
-    ensures kept { IsKept R.bytes R.failures result source.old source.new }
-    ensures answer { AnswersWithoutMemory (λ n. n) result (number_at order w8 (R.bytes source.old) at) (R.failures source.old)
+    ensures kept { IsKept R.told R.failures result source.old source.new }
+    ensures answer { AnswersWithoutMemory (λ n. n) result (number_at order w8 (R.told source.old).bytes at) (R.failures source.old)
         (R.failures source.new) }
 {
     let mut bytes = [0u8; 1];

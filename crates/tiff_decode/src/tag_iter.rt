@@ -45,8 +45,8 @@ fn read_item<R: Source>(
     number: u16,
     entry: &Entry,
 ) -> TiffResult<(Tag, Value)>
-    ensures kept { IsKept R.bytes R.failures result source.old source.new }
-    ensures item { ItemIs (item_of kind order (R.bytes source.old) limits.now (number, entry.now)) result (R.failures source.old)
+    ensures kept { IsKept R.told R.failures result source.old source.new }
+    ensures item { ItemIs (item_of kind order (R.told source.old).bytes limits.now (number, entry.now)) result (R.failures source.old)
         (R.failures source.new) }
 {
     let value = read_value(alloc, source, kind, order, limits, entry)?;

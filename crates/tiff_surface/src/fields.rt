@@ -1,4 +1,4 @@
-//! `tiff::decoder`: the fields of a directory that is read apart, and the samples of its page.
+//! `tiff::decoder`: the fields of a directory that is read apart, and the page of one that isn't in the chain.
 
 use crate::report::Report;
 use std::alloc::Global;
@@ -6,7 +6,7 @@ use tiff::TiffResult;
 use tiff::decoder::{Decoder, DecodingSampleType, IfdDecoder};
 use tiff::directory::{Directory, Entry};
 use tiff::io::{MemorySource, Source};
-use tiff::tags::{Tag, Type};
+use tiff::tags::{IfdPointer, Tag, Type};
 
 // One pixel of one bit.
 const PAGE: [u8; 75] = [
@@ -19,6 +19,17 @@ const PAGE: [u8; 75] = [
     0x17, 0x01, 0x03, 0x00, 0x01, 0x00, 0x00, 0x00, 0x01, 0x00, 0x00, 0x00, // StripByteCounts
     0x00, 0x00, 0x00, 0x00, // link
     0x80, // the sample
+];
+
+// Behind that page, a directory that no other links to: two pixels of one bit.
+const SHOWN: [u8; 66] = [
+    0x05, 0x00, // directory of 5 entries
+    0x00, 0x01, 0x03, 0x00, 0x01, 0x00, 0x00, 0x00, 0x02, 0x00, 0x00, 0x00, // ImageWidth
+    0x01, 0x01, 0x03, 0x00, 0x01, 0x00, 0x00, 0x00, 0x01, 0x00, 0x00, 0x00, // ImageLength
+    0x06, 0x01, 0x03, 0x00, 0x01, 0x00, 0x00, 0x00, 0x01, 0x00, 0x00, 0x00, // PhotometricInterpretation
+    0x11, 0x01, 0x03, 0x00, 0x01, 0x00, 0x00, 0x00, 0x4a, 0x00, 0x00, 0x00, // StripOffsets
+    0x17, 0x01, 0x03, 0x00, 0x01, 0x00, 0x00, 0x00, 0x01, 0x00, 0x00, 0x00, // StripByteCounts
+    0x00, 0x00, 0x00, 0x00, // link
 ];
 
 const BYTES: Tag = Tag::Unknown(65001);
@@ -82,8 +93,14 @@ fn add_page<R: Source>(report: &mut Report, decoder: &mut Decoder<R>, directory:
     add_fields(report, decoder.read_directory_tags(directory));
 }
 
-// The samples of the page, lent from the first on.
-fn add_samples<R: Source>(report: &mut Report, decoder: &mut Decoder<R>) -> TiffResult<()> {
+// The page of a directory out of the chain, and its samples; what is refused leaves them.
+fn add_shown<R: Source>(report: &mut Report, decoder: &mut Decoder<R>) -> TiffResult<()> {
+    let shown = decoder.show_directory(IfdPointer(75));
+    report.line("Decoder::show_directory", shown);
+    let refused = decoder.show_directory(IfdPointer(140));
+    report.line("Decoder::show_directory", refused);
+    report.line("Decoder::dimensions", decoder.dimensions());
+    report.line("Decoder::ifd_pointer", decoder.ifd_pointer());
     let mut image = decoder.read_image()?;
     let sample_type = image.sample_type();
     if let DecodingSampleType::U8 = sample_type {
@@ -100,5 +117,8 @@ pub fn add_lines(report: &mut Report) -> TiffResult<()> {
     let mut decoder = Decoder::new(report.alloc(), MemorySource::new(page))?;
     report.line("Decoder::inner", decoder.inner());
     add_page(report, &mut decoder, &directory);
-    add_samples(report, &mut decoder)
+    let mut file = Vec::from_slice(report.alloc(), &PAGE)?;
+    file.extend_from_slice(&SHOWN)?;
+    let mut decoder = Decoder::new(report.alloc(), MemorySource::new(file))?;
+    add_shown(report, &mut decoder)
 }

@@ -21,6 +21,7 @@ fn name_pages<R: Source>() {
     let _call = Decoder::<R>::next_image;
     let _call = Decoder::<R>::seek_to_image;
     let _call = Decoder::<R>::read_directory;
+    let _call = Decoder::<R>::show_directory;
     let _call = Decoder::<R>::read_directory_tags;
     let _call = Decoder::<R>::image_ifd;
     let _call = Limits::unlimited;

@@ -1,5 +1,6 @@
 use Rattle.std.proofs.Common.{rules, ap, sym, ◌∙◌, arith, Ok, Some}
 use Rattle.tiff_base.specs.Answers.{FailsFrom}
+use Rattle.tiff_base.proofs.Told.{same_bytes}
 use Rattle.tiff_base.specs.Header.{Header}
 use Rattle.tiff_page.specs.PageView as view
 use Rattle.tiff_decode.proofs.Opening.{begun_unread, begun_unpaged, begun_page}
@@ -7,28 +8,28 @@ use Rattle.tiff_decode.proofs.decoder.Decoder.new.Goals as goal
 
 pub returns-in_err-header-clause-answer : goal.returns-in_err-header-clause-answer
 returns-in_err-header-clause-answer g c =
-    let told = begun_unread _ (FailsFrom g.R.Source.bytes g.R.Source.failures c.args.source) (g.R.Source.bytes c.args.source) (g.R.Source.failures c.args.source) c.in_err-header.field-0.0
+    let told = begun_unread _ (FailsFrom g.R.Source.told g.R.Source.failures c.args.source) (g.R.Source.told c.args.source).bytes (g.R.Source.failures c.args.source) c.in_err-header.field-0.0
     (λ grew. record { last = c.read_first_directory.new.source; told = c.in_err-header.ensures.kept.told; grew = grew })
     c.in_err-header.ensures.answer in search rules
 
 pub returns-in_err-page-clause-answer : goal.returns-in_err-page-clause-answer
 returns-in_err-page-clause-answer g c =
     let header : Header = record { order = c.in_ok-header.header.order; kind = c.in_ok-header.header.kind; first = c.in_ok-header.header.first } in
-    let told = begun_unpaged _ _ (FailsFrom g.R.Source.bytes g.R.Source.failures c.args.source) (g.R.Source.bytes c.args.source) _ _ (g.R.Source.failures c.args.source) header header.first c.in_ok-header.directory c.in_err-page.field-0.0
+    let told = begun_unpaged _ _ (FailsFrom g.R.Source.told g.R.Source.failures c.args.source) (g.R.Source.told c.args.source).bytes _ _ (g.R.Source.failures c.args.source) header header.first c.in_ok-header.directory c.in_err-page.field-0.0
     (λ grew. record {
       last = c.read_page.new.tags.source;
-      told = ap (λ t. t.bytes) c.in_err-page.ensures.kept.told ∙ c.in_ok-header.ensures.kept.told;
+      told = ap (λ t. t.source) c.in_err-page.ensures.kept.told ∙ c.in_ok-header.ensures.kept.told;
       grew = omega (arith, c.in_ok-header.ensures.kept.failures, grew);
     })
-    c.in_ok-header.ensures.kept.told c.default.ensures c.in_ok-header.ensures.answer c.in_err-page.ensures.answer in search rules
+    (same_bytes c.in_ok-header.ensures.kept.told) c.default.ensures c.in_ok-header.ensures.answer c.in_err-page.ensures.answer in search rules
 
 pub returns-clause-answer : goal.returns-clause-answer
 returns-clause-answer g c =
     let header : Header = record { order = c.in_ok-header.header.order; kind = c.in_ok-header.header.kind; first = c.in_ok-header.header.first } in
-    begun_page (g.R.Source.bytes c.args.source) _ _ _ header header.first c.in_ok-header.directory (view.page c.in_ok-page.page)
-    c.in_ok-header.ensures.kept.told c.default.ensures c.in_ok-header.ensures.answer c.in_ok-page.ensures.answer
+    begun_page (g.R.Source.told c.args.source).bytes _ _ _ header header.first c.in_ok-header.directory (view.page c.in_ok-page.page)
+    (same_bytes c.in_ok-header.ensures.kept.told) c.default.ensures c.in_ok-header.ensures.answer c.in_ok-page.ensures.answer
     ∙ (λ i. Ok (record {
-      bytes = (sym c.in_ok-header.ensures.kept.told ∙ ap (λ t. t.bytes) (sym c.in_ok-page.ensures.kept.told)) i;
+      bytes = (same_bytes (sym c.in_ok-header.ensures.kept.told ∙ ap (λ t. t.source) (sym c.in_ok-page.ensures.kept.told))) i;
       kind = (ap (λ t. t.kind) (sym c.in_ok-page.ensures.kept.told)) i;
       order = (ap (λ t. t.order) (sym c.in_ok-page.ensures.kept.told)) i;
       first = c.in_ok-header.header.first;

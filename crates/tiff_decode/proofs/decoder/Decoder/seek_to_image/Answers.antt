@@ -1,4 +1,5 @@
 use Rattle.std.proofs.Common.{refl, sym, ◌∙◌}
+use Rattle.tiff_base.proofs.Told.{same_bytes}
 use Rattle.tiff_page.specs.PageView as view
 use Rattle.tiff_decode.specs.Machine.{Decoding, decoding}
 use Rattle.tiff_decode.specs.Outcome.{seek_to_image}
@@ -9,8 +10,8 @@ pub invariant_of-self : goal.invariant_of-self
 invariant_of-self g c =
     let s = c.self.inside in
     let longer = c.offset_of.ensures.longer in
-    along_on s.tags.kind _ s.tags.order _ (g.R.Source.bytes s.tags.source) _ s.first c.offset_of.new.self _ _ _
-    c.enter_offset.ensures.kind c.enter_offset.ensures.order (c.enter_offset.ensures.kept.told ∙ c.offset_of.ensures.kept.told)
+    along_on s.tags.kind _ s.tags.order _ (g.R.Source.told s.tags.source).bytes _ s.first c.offset_of.new.self _ _ _
+    c.enter_offset.ensures.kind c.enter_offset.ensures.order (same_bytes (c.enter_offset.ensures.kept.told ∙ c.offset_of.ensures.kept.told))
     (c.offset_of.ensures.begins s.first c.self.invariant.begins) (some_longer s.walk.offsets c.offset_of.new.self.offsets longer.0 longer.1 c.self.invariant.some)
     (c.enter_offset.ensures.stands c.offset_of.new.self.offsets
     (stands_longer s.walk.offsets c.offset_of.new.self.offsets longer.0 s.standing.pointer s.standing.at s.standing.more longer.1 c.self.invariant.stands)
@@ -20,18 +21,18 @@ pub invariant_of-self-then-keeps_state : goal.invariant_of-self-then-keeps_state
 invariant_of-self-then-keeps_state g c =
     let s = c.self.inside in
     let longer = c.offset_of.ensures.longer in
-    along_on s.tags.kind _ s.tags.order _ (g.R.Source.bytes s.tags.source) _ s.first c.offset_of.new.self _ _ _
-    refl refl c.offset_of.ensures.kept.told (c.offset_of.ensures.begins s.first c.self.invariant.begins)
+    along_on s.tags.kind _ s.tags.order _ (g.R.Source.told s.tags.source).bytes _ s.first c.offset_of.new.self _ _ _
+    refl refl (same_bytes c.offset_of.ensures.kept.told) (c.offset_of.ensures.begins s.first c.self.invariant.begins)
     (some_longer s.walk.offsets c.offset_of.new.self.offsets longer.0 longer.1 c.self.invariant.some)
     (stands_longer s.walk.offsets c.offset_of.new.self.offsets longer.0 s.standing.pointer s.standing.at s.standing.more longer.1 c.self.invariant.stands)
 
 pub returns-in-Ok-Some : goal.returns-in-Ok-Some
 returns-in-Ok-Some g c =
     let s = c.self.inside in
-    let d : Decoding = decoding (g.R.Source.bytes s.tags.source) s.tags.kind s.tags.order s.first (g.R.Source.failures s.tags.source) s.standing.pointer s.standing.more
+    let d : Decoding = decoding (g.R.Source.told s.tags.source).bytes s.tags.kind s.tags.order s.first (g.R.Source.failures s.tags.source) s.standing.pointer s.standing.more
     (view.page s.page) s.tags.directory s.offset s.tags.limits in
-    let mid : Decoding = record d { bytes = g.R.Source.bytes c.offset_of.new.source; failures = g.R.Source.failures c.offset_of.new.source } in
+    let mid : Decoding = record d { bytes = (g.R.Source.told c.offset_of.new.source).bytes; failures = g.R.Source.failures c.offset_of.new.source } in
     let h = rw c.in-Ok-Some.field-0-is at c.in-Ok-Some.ensures.offset in
     shown (λ x. seek_to_image x c.args.ifd_index) c.enter_offset.result d _ _ c.self.view_is
     (seek_known c.enter_offset.result d mid _ c.args.ifd_index c.in-Ok-Some.offset (h s.first c.self.invariant.begins)
-    (told_same d _ _ c.offset_of.ensures.kept.told c.in-Ok-Some.ensures.kept.swallowed) (c.enter_offset.ensures.follows s.first s.offset))
+    (told_same d _ _ (same_bytes c.offset_of.ensures.kept.told) c.in-Ok-Some.ensures.kept.swallowed) (c.enter_offset.ensures.follows s.first s.offset))
