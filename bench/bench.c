@@ -7,7 +7,7 @@
 #include <string.h>
 #include <time.h>
 #include "by_libtiff.h"
-#include "tiff.h"
+#include "mangohatch_tiff.h"
 
 enum { ROUNDS = 25, OPENINGS = 2000 };
 

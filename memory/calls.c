@@ -3,11 +3,11 @@
      calls FILE ..
 
    makes those that read on the first three pages of each file, and tiff_write_image on images of all colors, methods, predictors and kinds of
-   files. A refused request has to be answered TIFF_OUT_OF_MEMORY, with nothing written into the answer but as tiff.h says, or, where the call does
+   files. A refused request has to be answered TIFF_OUT_OF_MEMORY, with nothing written into the answer but as mangohatch_tiff.h says, or, where the call does
    without it, as at first; no block may be left behind; and the call that is made again has to answer what it answered at first. It prints a
    line for each call; what isn't as it has to be stands on standard error, and the status is 1 then. */
 #include "heap.h"
-#include "tiff.h"
+#include "mangohatch_tiff.h"
 
 enum { PATTERN = 0x5a, ROOM = 2048, GUARD = 16, LISTED = 4, PAGES = 3, SECONDS = 300, TOLD = 10 };
 

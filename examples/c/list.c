@@ -6,7 +6,7 @@
 #include <inttypes.h>
 #include <stdio.h>
 #include <stdlib.h>
-#include "tiff.h"
+#include "mangohatch_tiff.h"
 
 static uint8_t *read_file(const char *name, size_t *len) {
     FILE *in = fopen(name, "rb");

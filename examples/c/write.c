@@ -4,7 +4,7 @@
    First build the library by `rt lib` in crates/tiff_c; KIT is the folder of the toolchain. */
 #include <stdio.h>
 #include <stdlib.h>
-#include "tiff.h"
+#include "mangohatch_tiff.h"
 
 static int refuse(const char *what, tiff_status status) {
     uint8_t text[80];

@@ -1,4 +1,4 @@
-//! A static library for C: the calls of `tiff_statuses` under their names in C. `include/tiff.h` tells each call.
+//! A static library for C: the calls of `tiff_statuses` under their names in C. `include/mangohatch_tiff.h` tells each call.
 #![tactic(auto)]
 
 ghost use Rattle.std.specs.Prelude.{◌≡◌, ◌⊎◌};
@@ -186,6 +186,14 @@ pub extern "C" fn tiff_write_image(
     ensures stays { (result ≡ 0) ⊎ (buffer.new ≡ buffer.old) }
 {
     tiff_statuses::write_image(alloc, image, samples, buffer, len)
+}
+
+/// The version of these calls.
+#[unsafe(no_mangle)]
+pub extern "C" fn tiff_version() -> u32
+    ensures { result ≡ 1 }
+{
+    tiff_statuses::version()
 }
 
 /// Writes the text of a status into a slice, as much of it as fits, and answers how many bytes it has.

@@ -147,6 +147,7 @@ fn main(rt: HostRuntime) -> io::Result<()> {
     print_file(&rt, cut)?;
     print_list(&rt, file)?;
     print_list(&rt, cut)?;
+    println!(rt; "version: {}", tiff_statuses::version())?;
     print_text(&rt, 0)?;
     print_text(&rt, 22)
 }

@@ -167,6 +167,13 @@ pub fn write_image(
     deliver(write_new(alloc, image, samples), buffer, len)
 }
 
+/// The version of these calls, as the header for C tells it: it is raised where a call changes or is added.
+pub fn version() -> u32
+    ensures { result ≡ 1 }
+{
+    1
+}
+
 /// Writes the text of a status into a slice, as much of it as fits, and answers how many bytes it has.
 pub fn fault_text(status: u32, buffer: &mut [u8]) -> usize {
     let text = text_of(status).as_bytes();

@@ -6,7 +6,7 @@ ghost use Rattle.tiff_statuses.specs.Status as spec;
 use tiff_base::error::{TiffError, TiffFormatError, TiffResult, TiffUnsupportedError, UsageError};
 use tiff_base::io::IoKind;
 
-/// What a call answers C: that it is done, or why not. The numbers are those of `tiff_status` in `include/tiff.h`.
+/// What a call answers C: that it is done, or why not. The numbers are those of `tiff_status` in `include/mangohatch_tiff.h`.
 #[derive(Clone, Copy, Debug, PartialEq, Eq)]
 pub enum Status {
     Done = 0,

@@ -1,9 +1,14 @@
-/* tiff.h - pages of TIFF files, read from memory; files of one image, written into memory
+/* mangohatch_tiff.h - pages of TIFF files, read from memory; files of one image, written into memory
+
+   Copyright (c) 2018 PistonDevelopers (the Rust crate `tiff`, whose names and behaviour this library ports)
+   Copyright (c) 2026 Mangohatch
+   SPDX-License-Identifier: MIT
 
 DESCRIPTION
     A file is FILE, LEN bytes of the caller's memory that hold all of it. Nothing of it is copied, and nothing is kept between calls:
     each call that reads opens the file anew, reads the header and the directories up to the page that is asked for, and lets go of all memory
-    that it took. Calls of several threads at once don't disturb each other.
+    that it took. FILE must stay unchanged during a call. Calls of several threads at once don't disturb each other, also on the same FILE: no call
+    writes anything but what it is handed to write into, and none has a state of its own.
 
     PAGE is the number of a page from 0, along the file's chain of directories.
 
@@ -17,10 +22,18 @@ POINTERS
     No pointer may be null, not even with a length of 0: hand the address of any byte. FILE with a length of 0 is no TIFF file
     (TIFF_SIGNATURE_NOT_FOUND). What is read and what is written may not overlap.
 
+VERSION
+    MANGOHATCH_TIFF_VERSION is the version of these calls; it is raised where a call changes or is added. tiff_version tells the one of the library
+    that is linked. The numbers that have names here stay as they are.
+
 LINKING
-    cc .. libtiff_c.a liblibc_c.a: the first is built by `rt lib` in crates/tiff_c, the second is in the toolchain's folder c. */
-#ifndef TIFF_H
-#define TIFF_H
+    cc .. $(pkg-config --cflags --libs mangohatch_tiff), where it is installed (`make install`). Without: cc .. libtiff_c.a liblibc_c.a. The first is built
+    by `rt lib` in crates/tiff_c, under the licence above; the second is the toolchain's, in its folder c: the heap, over malloc and free of the C library.
+    An installed library holds both. Its calls have other names than those of libtiff, so a program can link both. */
+#ifndef MANGOHATCH_TIFF_H
+#define MANGOHATCH_TIFF_H
+
+#define MANGOHATCH_TIFF_VERSION 1
 
 #include <stddef.h>
 #include <stdint.h>
@@ -280,6 +293,9 @@ struct tiff_image {
    samples, TIFF_INVALID_DATA; a file that its kind can't hold, TIFF_INT_SIZE_ERROR. */
 tiff_status tiff_write_image(const struct tiff_image *image, const uint8_t *samples, size_t samples_len, uint8_t *buffer, size_t size,
                              size_t *len);
+
+/* The version of the calls of this library, as MANGOHATCH_TIFF_VERSION is that of this header. */
+uint32_t tiff_version(void);
 
 /* Writes the text of a status into BUFFER, of SIZE bytes, as much of it as fits, with no zero behind it. Answers how many bytes the
    text has. */
