@@ -1,8 +1,7 @@
 /* Lists the pages of a TIFF file: number, offset, sides, color, method, chunks; or why a page is refused. How the chain of pages ends, where it
    ends by a fault, stands on standard error.
-     cc -I ../../crates/tiff_c/include list.c ../../crates/tiff_c/out/libtiff_c.a "$KIT/c/liblibc_c.a" -o list
-     ./list page.tif
-   First build the library by `rt lib` in crates/tiff_c; KIT is the folder of the toolchain. */
+     cc list.c -o list $(pkg-config --cflags --libs mangohatch_tiff)
+     ./list page.tif */
 #include <inttypes.h>
 #include <stdio.h>
 #include <stdlib.h>

@@ -1,8 +1,7 @@
 /* Reads the first page of a TIFF file and writes it as PGM (gray) or PPM (RGB), of 8 bits a sample; one of 16 rows and columns or more,
    in a quarter of its width and height.
-     cc -I ../../crates/tiff_c/include thumbnail.c ../../crates/tiff_c/out/libtiff_c.a "$KIT/c/liblibc_c.a" -o thumbnail
-     ./thumbnail page.tif > page.pgm
-   First build the library by `rt lib` in crates/tiff_c; KIT is the folder of the toolchain. */
+     cc thumbnail.c -o thumbnail $(pkg-config --cflags --libs mangohatch_tiff)
+     ./thumbnail page.tif > page.pgm */
 #include <stdio.h>
 #include <stdlib.h>
 #include "mangohatch_tiff.h"

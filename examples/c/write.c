@@ -1,7 +1,6 @@
 /* Reads a PGM (gray) or a PPM (RGB) of 8 or 16 bits a sample, and writes it as a TIFF file, packed by PackBits.
-     cc -I ../../crates/tiff_c/include write.c ../../crates/tiff_c/out/libtiff_c.a "$KIT/c/liblibc_c.a" -o write
-     ./write < page.pgm > page.tif
-   First build the library by `rt lib` in crates/tiff_c; KIT is the folder of the toolchain. */
+     cc write.c -o write $(pkg-config --cflags --libs mangohatch_tiff)
+     ./write < page.pgm > page.tif */
 #include <stdio.h>
 #include <stdlib.h>
 #include "mangohatch_tiff.h"

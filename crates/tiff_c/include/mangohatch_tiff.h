@@ -10,7 +10,9 @@ DESCRIPTION
     that it took. FILE must stay unchanged during a call. Calls of several threads at once don't disturb each other, also on the same FILE: no call
     writes anything but what it is handed to write into, and none has a state of its own.
 
-    PAGE is the number of a page from 0, along the file's chain of directories.
+    PAGE is the number of a page from 0, along the file's chain of directories; or TIFF_AT(OFFSET), the directory at that offset of the file, in the chain
+    or not: one of tiff_list_pages, a SubIFD, a preview. A call on a number goes along the chain up to it. One on an offset doesn't: all pages of a file
+    are asked one by one in time that grows with their number, where they are told by the offsets that tiff_list_pages gave.
 
     A call that answers TIFF_DONE has written its answer. One that answers anything else has left a struct or a number as it was; what it leaves
     in a buffer of bytes isn't told. tiff_write_image tells more.
@@ -34,6 +36,9 @@ LINKING
 #define MANGOHATCH_TIFF_H
 
 #define MANGOHATCH_TIFF_VERSION 1
+
+/* A PAGE that is the directory at an offset. */
+#define TIFF_AT(offset) ((size_t)(offset) | (size_t)1 << 63)
 
 #include <stddef.h>
 #include <stdint.h>
@@ -194,6 +199,11 @@ tiff_status tiff_list_pages(const uint8_t *file, size_t len, struct tiff_listed_
 /* Reads the chunk of this number, from 0, into BUFFER, as it is in the image and in one plane; the other bytes of BUFFER stay. A
    BUFFER that is shorter than the chunk: TIFF_INSUFFICIENT_OUTPUT_BUFFER_SIZE. */
 tiff_status tiff_read_chunk_bytes(const uint8_t *file, size_t len, size_t page, uint32_t chunk, uint8_t *buffer, size_t size);
+
+/* Reads COUNT chunks from FIRST on into BUFFER, one behind the other, each as tiff_read_chunk_bytes reads it; the bytes of BUFFER behind them stay. The file is
+   opened once for all. A BUFFER that is too short for one of them: TIFF_INSUFFICIENT_OUTPUT_BUFFER_SIZE. FIRST + COUNT of 2^32 or more:
+   TIFF_INVALID_CHUNK_INDEX. */
+tiff_status tiff_read_chunks(const uint8_t *file, size_t len, size_t page, uint32_t first, uint32_t count, uint8_t *buffer, size_t size);
 
 /* Reads a coding unit, which is a chunk of the first plane with those of the other planes that lie upon it, one behind the other, as
    many as BUFFER takes whole. No such unit: TIFF_INVALID_CODING_UNIT. */

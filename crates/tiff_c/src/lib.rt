@@ -82,6 +82,21 @@ pub extern "C" fn tiff_read_chunk_bytes(
     tiff_statuses::read_chunk_bytes(alloc, file, page, chunk, buffer)
 }
 
+/// Reads so many chunks of a page from one on into a slice, one behind the other.
+#[unsafe(no_mangle)]
+pub extern "C" fn tiff_read_chunks(
+    alloc: Global,
+    file: &[u8],
+    page: usize,
+    first: u32,
+    count: u32,
+    buffer: &mut [u8],
+) -> u32
+    ensures { StatusTells (calls.read_chunks file.now page first count buffer.old) result buffer.new }
+{
+    tiff_statuses::read_chunks(alloc, file, page, first, count, buffer)
+}
+
 /// Reads a coding unit of a page into a slice.
 #[unsafe(no_mangle)]
 pub extern "C" fn tiff_read_coding_unit_bytes(

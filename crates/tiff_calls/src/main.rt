@@ -19,6 +19,9 @@ const IMAGE: NewImage = NewImage {
 
 const SAMPLES: [u8; 12] = [1, 2, 3, 4, 5, 6, 7, 8, 9, 10, 11, 12];
 
+// A page that is the directory at an offset: this is added to it. The one that is written stands at 48.
+const AT: usize = 1 << 63;
+
 const IMAGE_WIDTH: u16 = 256;
 
 const BITS_PER_SAMPLE: u16 = 258;
@@ -66,6 +69,12 @@ fn print_pixels(rt: &HostRuntime, file: &[u8], page: usize) -> io::Result<()> {
     let mut unit = [0u8; 12];
     let status = tiff_statuses::read_coding_unit_bytes(rt.alloc(), file, page, 0, &mut unit);
     println!(rt; "read_coding_unit_bytes {page}: {status}, {unit:?}")
+}
+
+fn print_chunks(rt: &HostRuntime, file: &[u8], first: u32, count: u32) -> io::Result<()> {
+    let mut chunks = [0u8; 14];
+    let status = tiff_statuses::read_chunks(rt.alloc(), file, 0, first, count, &mut chunks);
+    println!(rt; "read_chunks {first} {count}: {status}, {chunks:?}")
 }
 
 fn print_tags(rt: &HostRuntime, file: &[u8], page: usize) -> io::Result<()> {
@@ -143,6 +152,11 @@ fn main(rt: HostRuntime) -> io::Result<()> {
     let cut = &file[..file.len().min(4)];
     print_page(&rt, file, 0)?;
     print_page(&rt, file, 1)?;
+    print_sides(&rt, file, AT + 48)?;
+    print_sides(&rt, file, AT + 400)?;
+    print_chunks(&rt, file, 0, 1)?;
+    print_chunks(&rt, file, 0, 2)?;
+    print_chunks(&rt, file, 1, u32::MAX)?;
     print_file(&rt, file)?;
     print_file(&rt, cut)?;
     print_list(&rt, file)?;

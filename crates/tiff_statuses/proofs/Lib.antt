@@ -6,3 +6,4 @@ pub mod PieceNumbers
 pub mod Writing
 pub mod Delivered
 pub mod Listed
+mod Ranges

@@ -1,5 +1,5 @@
 -- What the pages of a file answer, by the outcomes of a decoder's calls.
-use Rattle.std.specs.Prelude.{ℕ, List, length, Option, None, Some, Result, Ok, Err}
+use Rattle.std.specs.Prelude.{ℕ, zero, suc, ◌+◌, ◌-◌, ◌^◌, List, ◌++◌, length, take, drop, if◌then◌else◌, nat_le, nat_lt, Option, None, Some, Result, Ok, Err}
 use Rattle.tiff_base.specs.declared.color.ChunkType.{ChunkType}
 use Rattle.tiff_base.specs.declared.color.ChunkType.TheVariants.{Strip, Tile}
 use Rattle.tiff_base.specs.declared.color.ColorType.{ColorType}
@@ -7,10 +7,11 @@ use Rattle.tiff_base.specs.declared.color.ColorType.TheVariants.{Gray, RGB, Pale
 use Rattle.tiff_base.specs.declared.error.TiffError.{TiffError}
 use Rattle.tiff_base.specs.Answers.{◌>>=◌}
 use Rattle.tiff_base.specs.Color.{bit_depth, num_samples}
-use Rattle.tiff_decode.specs.Machine.{Decoding}
+use Rattle.tiff_decode.specs.Machine.{Decoding, Outcome}
 use Rattle.tiff_decode.specs.Outcome as outcome
-use Rattle.tiff_base.specs.declared.error.TiffError.TheVariants.{FormatError}
+use Rattle.tiff_base.specs.declared.error.TiffError.TheVariants.{FormatError, UsageError}
 use Rattle.tiff_base.specs.declared.error.TiffFormatError.TheVariants.{RequiredTagNotFound}
+use Rattle.tiff_base.specs.declared.error.UsageError.TheVariants.{InsufficientOutputBufferSize, InvalidChunkIndex}
 use Rattle.tiff_base.specs.declared.tags.ByteOrder.{ByteOrder}
 use Rattle.tiff_base.specs.declared.tags.ByteOrder.TheVariants.{LittleEndian, BigEndian}
 use Rattle.tiff_base.specs.declared.tags.Tag.{Tag}
@@ -23,12 +24,18 @@ use Rattle.tiff_statuses.specs.declared.calls.Layout.{Layout}
 use Rattle.tiff_statuses.specs.declared.calls.Color.{Color}
 use Rattle.tiff_statuses.specs.declared.calls.Chunks.{Chunks}
 
--- the decoder at the page of this number
+-- to go to a page: the one of this number in the chain; or, of a number from 2^63 on, the directory at the offset that the
+-- number is less 2^63
+abbrev pub page_outcome : Decoding → ℕ → Outcome (Unit {0})
+page_outcome d page =
+    if nat_lt page (2 ^ 63) then outcome.seek_to_image d page else outcome.show_directory d (record { 0 = page - 2 ^ 63 })
+
+-- the decoder at a page
 abbrev pub decoder_at_page : List ℕ → ℕ → Result Decoding TiffError
 decoder_at_page file page = do
   d ← outcome.decoder_of file 0
-  _ ← (outcome.seek_to_image d page).answer
-  Ok (record d { state = (outcome.seek_to_image d page).next })
+  _ ← (page_outcome d page).answer
+  Ok (record d { state = (page_outcome d page).next })
 
 -- the sides of a page
 abbrev pub page_sides : List ℕ → ℕ → Result Sides TiffError
@@ -57,6 +64,33 @@ abbrev pub read_chunk_bytes : List ℕ → ℕ → ℕ → List ℕ → Result (
 read_chunk_bytes file page chunk slice = do
   d ← decoder_at_page file page
   (outcome.read_chunk_bytes d chunk slice).answer
+
+-- how many bytes a chunk has
+abbrev pub chunk_len : Decoding → ℕ → Result ℕ TiffError
+chunk_len d i = do
+  layout ← (outcome.image_chunk_buffer_layout d i).answer
+  Ok layout.len
+
+-- the bytes that one of several chunks takes of a slice; a slice that is shorter is refused
+abbrev pub room_for : ℕ → List ℕ → Result (List ℕ) TiffError
+room_for len slice =
+    if nat_le len (length slice) then Ok (take len slice) else Err (UsageError (InsufficientOutputBufferSize len (length slice)))
+
+-- the bytes of so many chunks from one on in a slice, one behind the other; those behind them stay
+unfoldable pub chunks_in : Decoding → ℕ → ℕ → List ℕ → Result (List ℕ) TiffError
+chunks_in d zero i slice = Ok slice
+chunks_in d (suc count) i slice = do
+  len ← chunk_len d i
+  room ← room_for len slice
+  chunk ← (outcome.read_chunk_bytes d i room).answer
+  rest ← chunks_in d count (i + 1) (drop len slice)
+  Ok (chunk ++ rest)
+
+-- so many chunks of a page, where the numbers of all are below 2^32
+abbrev pub read_chunks : List ℕ → ℕ → ℕ → ℕ → List ℕ → Result (List ℕ) TiffError
+read_chunks file page first count slice = do
+  d ← decoder_at_page file page
+  if nat_lt (first + count) (2 ^ 32) then chunks_in d count first slice else Err (UsageError (InvalidChunkIndex (2 ^ 32 - 1)))
 
 -- the bytes of a coding unit in a slice
 abbrev pub read_unit_bytes : List ℕ → ℕ → ℕ → List ℕ → Result (List ℕ) TiffError

@@ -1,7 +1,7 @@
 //! The calls of a decoder on a page of a file that lies in a slice. No read of it fails, so a fault is the file's, the
 //! caller's, or want of memory.
 
-ghost use Rattle.std.specs.Prelude.{◌≡◌, ◌^◌, ◌<◌, length, IfOk, Ok, OnOk};
+ghost use Rattle.std.specs.Prelude.{◌≡◌, ◌-◌, ◌^◌, ◌<◌, length, IfOk, Ok, OnOk};
 ghost use Rattle.tiff_base.specs.Answers.{AnswersWithoutMemory, AnswersWithoutSource, Gives};
 ghost use Rattle.tiff_base.specs.declared.error.TiffError.TheVariants.{FormatError};
 ghost use Rattle.tiff_base.specs.declared.error.TiffFormatError.TheVariants.{RequiredTagNotFound};
@@ -11,12 +11,15 @@ ghost use Rattle.tiff_statuses.specs.Calls as calls;
 
 use std::alloc::Global;
 use tiff_base::color::{ChunkType, ColorType};
-use tiff_base::error::{TiffFormatError, TiffResult};
+use tiff_base::error::{TiffFormatError, TiffResult, UsageError};
 use tiff_base::io::{SliceSource, Source};
-use tiff_base::tags::{ByteOrder, Tag};
+use tiff_base::tags::{ByteOrder, IfdPointer, Tag};
 use tiff_decode::decoder::Decoder;
 use tiff_laws::pages::{walk_ends, walk_goes_on, walk_opens};
 use tiff_page::layout::TiffCodingUnit;
+
+// From this number on a page is told by the offset of its directory, counted from here.
+const AT: usize = 1 << 63;
 
 /// The width and the height of a page.
 #[derive(Clone, Copy, Debug, PartialEq, Eq)]
@@ -89,6 +92,29 @@ fn seek(decoder: &mut Decoder<SliceSource<'_>>, page: usize) -> TiffResult<()>
     answer
 }
 
+// Shows the directory at an offset.
+#[tactic(auto, using(crate::proofs::Slices::here, crate::proofs::Slices::gone))]
+fn show(decoder: &mut Decoder<SliceSource<'_>>, offset: u64) -> TiffResult<()>
+    ensures answer { AnswersWithoutSource (λ x. x) result (outcome.show_directory decoder.old (record { 0 = offset })).answer }
+    ensures gone { OnOk result (decoder.new ≡ record decoder.old { state = (outcome.show_directory decoder.old (record { 0 = offset })).next }) }
+{
+    never_failed(decoder);
+    let answer = decoder.show_directory(IfdPointer(offset));
+    never_failed(decoder);
+    answer
+}
+
+// Goes to a page of the chain by its number, or to the directory at an offset.
+fn go_to(decoder: &mut Decoder<SliceSource<'_>>, page: usize) -> TiffResult<()>
+    ensures answer { AnswersWithoutSource (λ x. x) result (calls.page_outcome decoder.old page).answer }
+    ensures gone { OnOk result (decoder.new ≡ record decoder.old { state = (calls.page_outcome decoder.old page).next }) }
+{
+    if page < AT {
+        return seek(decoder, page);
+    }
+    show(decoder, (page - AT) as u64)
+}
+
 // A decoder at a page of a file. It is opened at the first one, whose directory isn't read again.
 fn open_at(alloc: Global, file: &[u8], page: usize) -> TiffResult<Decoder<SliceSource<'_>>>
     ensures { AnswersWithoutSource (λ d. d) result (calls.decoder_at_page file.now page) }
@@ -98,7 +124,7 @@ fn open_at(alloc: Global, file: &[u8], page: usize) -> TiffResult<Decoder<SliceS
     if page == 0 {
         return Ok(decoder);
     }
-    seek(&mut decoder, page)?;
+    go_to(&mut decoder, page)?;
     Ok(decoder)
 }
 
@@ -155,7 +181,8 @@ fn chunk_here(
     chunk: u32,
     buffer: &mut [u8],
 ) -> TiffResult<()>
-    ensures { AnswersWithoutSource (λ _. buffer.new) result (outcome.read_chunk_bytes decoder.old chunk buffer.old).answer }
+    ensures answer { AnswersWithoutSource (λ _. buffer.new) result (outcome.read_chunk_bytes decoder.old chunk buffer.old).answer }
+    ensures stays { OnOk result (decoder.new ≡ decoder.old) }
 {
     never_failed(decoder);
     let answer = decoder.read_chunk_bytes(chunk, buffer);
@@ -174,6 +201,59 @@ pub fn chunk_bytes(
     ensures { AnswersWithoutSource (λ _. buffer.new) result (calls.read_chunk_bytes file.now page chunk buffer.old) }
 {
     chunk_here(&mut open_at(alloc, file, page)?, chunk, buffer)
+}
+
+// How many bytes a chunk of a decoder's page has.
+#[tactic(auto, unfolding(tiff_decode::specs::Outcome::image_chunk_buffer_layout))]
+fn chunk_len(decoder: &mut Decoder<SliceSource<'_>>, chunk: u32) -> TiffResult<usize>
+    ensures answer { AnswersWithoutSource (λ l. l) result (calls.chunk_len decoder.old chunk) }
+    ensures stays { decoder.new ≡ decoder.old }
+{
+    Ok(decoder.image_chunk_buffer_layout(chunk)?.len)
+}
+
+// Reads the chunks of a decoder's page from one up to another into a slice, one behind the other.
+fn range_here(
+    decoder: &mut Decoder<SliceSource<'_>>,
+    first: u32,
+    end: u32,
+    buffer: &mut [u8],
+) -> TiffResult<()>
+    ensures { AnswersWithoutSource (λ _. buffer.new) result (calls.chunks_in decoder.old (end - first) first buffer.old) }
+{
+    let mut at = 0;
+    for chunk in first..end {
+        let len = chunk_len(decoder, chunk)?;
+        let provided = buffer.len() - at;
+        if provided < len {
+            return Err(UsageError::InsufficientOutputBufferSize {
+                needed: len,
+                provided,
+            }
+            .into());
+        }
+        chunk_here(decoder, chunk, &mut buffer[at..at + len])?;
+        at += len;
+    }
+    Ok(())
+}
+
+/// Reads so many chunks of a page from one on into a slice, one behind the other.
+pub fn range_bytes(
+    alloc: Global,
+    file: &[u8],
+    page: usize,
+    first: u32,
+    count: u32,
+    buffer: &mut [u8],
+) -> TiffResult<()>
+    ensures { AnswersWithoutSource (λ _. buffer.new) result (calls.read_chunks file.now page first count buffer.old) }
+{
+    let mut decoder = open_at(alloc, file, page)?;
+    let Some(end) = first.checked_add(count) else {
+        return Err(UsageError::InvalidChunkIndex(u32::MAX).into());
+    };
+    range_here(&mut decoder, first, end, buffer)
 }
 
 // Reads a coding unit of a decoder's page into a slice.

@@ -1,5 +1,6 @@
 //! The calls of a C library in Rust: the pages of a TIFF file that lies in memory are read, and files of one image are written into
-//! memory. Each answers a status: 0 where it is done, else the number of its error. `tiff_c` exports them.
+//! memory. Each answers a status: 0 where it is done, else the number of its error. `tiff_c` exports them. A page is told by its number
+//! in the chain, from 0; or, from 2^63 on, by the offset of its directory, added to that.
 #![tactic(auto)]
 
 ghost use Rattle.std.specs.Prelude.{◌≡◌, ◌⊎◌};
@@ -74,6 +75,21 @@ pub fn read_chunk_bytes(
     ensures { StatusTells (calls.read_chunk_bytes file.now page chunk buffer.old) result buffer.new }
 {
     done(calls::chunk_bytes(alloc, file, page, chunk, buffer))
+}
+
+/// Reads so many chunks of a page from one on into a slice, one behind the other.
+#[tactic(auto, using(crate::proofs::StatusTells::tells_left))]
+pub fn read_chunks(
+    alloc: Global,
+    file: &[u8],
+    page: usize,
+    first: u32,
+    count: u32,
+    buffer: &mut [u8],
+) -> u32
+    ensures { StatusTells (calls.read_chunks file.now page first count buffer.old) result buffer.new }
+{
+    done(calls::range_bytes(alloc, file, page, first, count, buffer))
 }
 
 /// Reads a coding unit of a page into a slice.

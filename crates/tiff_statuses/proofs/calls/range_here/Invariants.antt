@@ -1,0 +1,15 @@
+use Rattle.std.proofs.Common.{◌≡◌, ◌-◌, ◌≤◌, length, take, drop}
+use Rattle.tiff_base.specs.Answers.{◌>>=◌}
+use Rattle.tiff_statuses.specs.Calls.{chunks_in}
+use Rattle.tiff_statuses.proofs.Ranges.{behind}
+use Rattle.tiff_statuses.proofs.calls.range_here.Given as goal
+
+-- the chunks so far are in front, and those that are left are read behind them
+abbrev pub invariant-loop-chunk : goal.invariant-loop-chunk
+invariant-loop-chunk l =
+    record {
+      stays : l.decoder ≡ l.fn.decoder;
+      room : l.at ≤ length l.buffer;
+      left : chunks_in l.fn.decoder (l.fn.end - l.fn.first) l.fn.first l.fn.buffer
+          ≡ behind (take l.at l.buffer) (chunks_in l.fn.decoder (l.fn.end - l.chunk) l.chunk (drop l.at l.buffer));
+    }
