@@ -1,10 +1,9 @@
 """Reads the first page of a TIFF file and writes it as PGM (gray) or PPM (RGB), of 8 bits a sample; or as a TIFF file packed by PackBits.
 
-  cc -shared -o libtiff_c.so -Wl,--whole-archive ../../crates/tiff_c/out/libtiff_c.a -Wl,--no-whole-archive "$KIT/c/liblibc_c.a"
   python3 tiff.py page.tif > page.pgm
   python3 tiff.py page.tif packed.tif
 
-First build the library by `rt lib` in crates/tiff_c; KIT is the folder of the toolchain.
+It calls the shared library by ctypes alone; the package `mangohatch_tiff` of the folder `python` does more. First build the library by `make` at the top.
 """
 import ctypes
 import sys
@@ -16,7 +15,7 @@ try:
 except ImportError:
     numpy = None
 
-LIBRARY = ctypes.CDLL(str(Path(__file__).resolve().parent / "libtiff_c.so"))
+LIBRARY = ctypes.CDLL(str(next((Path(__file__).resolve().parents[2] / "out/c").glob("libmangohatch_tiff.so.*"))))
 GRAY, RGB = 0, 1
 GRAY8, RGB8 = 0, 10
 CLASSIC, BIG = 42, 43

@@ -1,0 +1,24 @@
+"""Reads TIFF files from memory into numpy arrays, and writes them.
+
+    with TiffFile("scan.tif") as tif:
+        for page in tif:
+            print(page.shape, page.dtype, page.tags["XResolution"])
+        image = tif.pages[0].asarray()
+
+Names follow tifffile's where the thing is the same.
+"""
+from ._file import TiffFile, TiffPage, imread, imwrite
+from ._library import ColorKind, Status, TiffError, library_version
+from ._tags import Tags
+
+__all__ = [
+    "ColorKind",
+    "Status",
+    "Tags",
+    "TiffError",
+    "TiffFile",
+    "TiffPage",
+    "imread",
+    "imwrite",
+    "library_version",
+]

@@ -1,0 +1,336 @@
+"""The calls of the C library, declared for ctypes, and the bytes that they are handed."""
+from __future__ import annotations
+
+import ctypes
+import ctypes.util
+import os
+from collections.abc import Iterator, Sequence
+from contextlib import contextmanager
+from ctypes import (
+    POINTER,
+    Structure,
+    byref,
+    c_int,
+    c_size_t,
+    c_ssize_t,
+    c_uint16,
+    c_uint32,
+    c_uint64,
+    c_void_p,
+    py_object,
+)
+from enum import IntEnum
+from pathlib import Path
+from typing import TYPE_CHECKING, Any, TypeVar
+
+if TYPE_CHECKING:
+    from _typeshed import ReadableBuffer
+
+NAME = "mangohatch_tiff"
+VARIABLE = "MANGOHATCH_TIFF_LIBRARY"
+
+
+class Status(IntEnum):
+    """What a call answers: `DONE`, or the number of a fault."""
+
+    DONE = 0
+    LIMITS_EXCEEDED = 1
+    INT_SIZE_ERROR = 2
+    OUT_OF_MEMORY = 3
+    LATER_FAULT = 4
+    UNEXPECTED_EOF = 10
+    INVALID_DATA = 11
+    INVALID_INPUT = 12
+    WRITE_ZERO = 13
+    DEVICE = 14
+    SIGNATURE_NOT_FOUND = 20
+    SIGNATURE_INVALID = 21
+    IMAGE_FILE_DIRECTORY_NOT_FOUND = 22
+    INCONSISTENT_SIZES_ENCOUNTERED = 23
+    INVALID_DIMENSIONS = 24
+    INVALID_TAG = 25
+    INVALID_TAG_VALUE_TYPE = 26
+    REQUIRED_TAG_NOT_FOUND = 27
+    UNKNOWN_PREDICTOR = 28
+    UNKNOWN_PLANAR_CONFIGURATION = 29
+    INVALID_TYPE_FOR_TAG = 30
+    INVALID_COUNT_FOR_TAG = 31
+    STRIP_TILE_TAG_CONFLICT = 32
+    CYCLE_IN_OFFSETS = 33
+    SAMPLES_PER_PIXEL_IS_ZERO = 34
+    COMPRESSED_DATA_CORRUPT = 35
+    FLOATING_POINT_PREDICTOR = 40
+    HORIZONTAL_PREDICTOR = 41
+    INCONSISTENT_BITS_PER_SAMPLE = 42
+    INTERPRETATION_WITH_BITS = 43
+    UNKNOWN_INTERPRETATION = 44
+    UNKNOWN_COMPRESSION_METHOD = 45
+    UNSUPPORTED_COMPRESSION_METHOD = 46
+    UNSUPPORTED_SAMPLE_DEPTH = 47
+    UNSUPPORTED_SAMPLE_FORMAT = 48
+    UNSUPPORTED_COLOR_TYPE = 49
+    UNSUPPORTED_BITS_PER_CHANNEL = 50
+    UNSUPPORTED_PLANAR_CONFIG = 51
+    UNSUPPORTED_DATA_TYPE = 52
+    UNSUPPORTED_INTERPRETATION = 53
+    CHROMA_SUBSAMPLING = 54
+    MISALIGNED_TILE_BOUNDARIES = 55
+    INVALID_CHUNK_TYPE = 60
+    INVALID_CHUNK_INDEX = 61
+    INVALID_PLANE_INDEX = 62
+    INVALID_CODING_UNIT = 63
+    PREDICTOR_COMPRESSION_MISMATCH = 64
+    PREDICTOR_INCOMPATIBLE = 65
+    PREDICTOR_UNAVAILABLE = 66
+    INSUFFICIENT_OUTPUT_BUFFER_SIZE = 67
+    INSUFFICIENT_OUTPUT_ROW_STRIDE = 68
+    ZERO_IFD_POINTER = 69
+    RECONFIGURED_AFTER_IMAGE_WRITE = 70
+    BYTE_ORDER_MISMATCH = 71
+    MISMATCHED_ENTRY_LENGTH = 72
+    PARENT_NOT_WRITTEN = 73
+    WRITER_FAILED = 74
+
+    @classmethod
+    def _missing_(cls, value: object) -> Status:
+        """Gives `LATER_FAULT` for a number that only a later library has."""
+        return cls.LATER_FAULT
+
+
+class ColorKind(IntEnum):
+    """What the samples of a pixel are."""
+
+    GRAY = 0
+    RGB = 1
+    PALETTE = 2
+    GRAY_A = 3
+    RGBA = 4
+    CMYK = 5
+    CMYKA = 6
+    YCBCR = 7
+    LAB = 8
+    MULTIBAND = 9
+
+
+TILES = 1
+BIG_ENDIAN = 1
+# The bytes of a page of a few tags, and how many pages are listed at first.
+SHORT_PAGE = 64
+FIRST_ROOM = 1 << 14
+
+
+class Layout(Structure):
+    """The bytes of an image: of one plane, and of all planes."""
+
+    _fields_ = [("len", c_size_t), ("complete_len", c_size_t)]
+
+
+class Color(Structure):
+    """The kind of a color, the bits of a sample, and how many samples a pixel shows."""
+
+    _fields_ = [("kind", c_uint32), ("bits", c_uint32), ("samples", c_uint32)]
+
+
+class Chunks(Structure):
+    """The kind of a page's chunks, how many there are, and the sides of one."""
+
+    _fields_ = [
+        ("kind", c_uint32),
+        ("count", c_uint32),
+        ("width", c_uint32),
+        ("height", c_uint32),
+    ]
+
+
+class ListedPage(Structure):
+    """A page in the list of a file's pages."""
+
+    _fields_ = [
+        ("offset", c_uint64),
+        ("status", c_uint32),
+        ("width", c_uint32),
+        ("height", c_uint32),
+        ("method", c_uint32),
+        ("color_status", c_uint32),
+        ("color", Color),
+        ("chunk_kind", c_uint32),
+        ("count_status", c_uint32),
+        ("count", c_uint32),
+    ]
+
+
+class Field(Structure):
+    """The type of a tag, and how many values it has."""
+
+    _fields_ = [("kind", c_uint32), ("count", c_uint64)]
+
+
+class Image(Structure):
+    """What an image is written as."""
+
+    _fields_ = [
+        ("color", c_uint32),
+        ("width", c_uint32),
+        ("height", c_uint32),
+        ("version", c_uint16),
+        ("method", c_uint16),
+        ("predictor", c_uint16),
+    ]
+
+
+class _PyBuffer(Structure):
+    """CPython's `Py_buffer`."""
+
+    _fields_ = [
+        ("buf", c_void_p),
+        ("obj", c_void_p),
+        ("len", c_ssize_t),
+        ("itemsize", c_ssize_t),
+        ("readonly", c_int),
+        ("ndim", c_int),
+        ("format", c_void_p),
+        ("shape", c_void_p),
+        ("strides", c_void_p),
+        ("suboffsets", c_void_p),
+        ("internal", c_void_p),
+    ]
+
+
+def _path() -> str:
+    """Finds the shared library: beside this module, by the environment, or on the system."""
+    beside = Path(__file__).with_name(f"lib{NAME}.so")
+    found = str(beside) if beside.is_file() else os.environ.get(VARIABLE)
+    found = found or ctypes.util.find_library(NAME)
+    if not found:
+        raise ImportError(
+            f"The shared library lib{NAME}.so stands neither beside this module nor on the "
+            f"system; name it in the environment variable {VARIABLE}."
+        )
+    return found
+
+
+_LIBRARY = ctypes.CDLL(_path())
+
+
+def _declare(name: str, *parameters: Any, answer: Any = c_uint32) -> Any:
+    """Declares a call of the library."""
+    call = getattr(_LIBRARY, name)
+    call.argtypes = parameters
+    call.restype = answer
+    return call
+
+
+_BYTES = (c_void_p, c_size_t)
+_PAGE = (*_BYTES, c_size_t)
+
+BYTE_ORDER = _declare("tiff_byte_order", *_BYTES, POINTER(c_uint32))
+LIST_PAGES = _declare(
+    "tiff_list_pages", *_BYTES, POINTER(ListedPage), c_size_t, POINTER(c_size_t)
+)
+PAGE_LAYOUT = _declare("tiff_page_layout", *_PAGE, POINTER(Layout))
+PAGE_CHUNKS = _declare("tiff_page_chunks", *_PAGE, POINTER(Chunks))
+READ_IMAGE = _declare("tiff_read_image_bytes", *_PAGE, *_BYTES)
+READ_CHUNK = _declare("tiff_read_chunk_bytes", *_PAGE, c_uint32, *_BYTES)
+TAG_FIELD = _declare("tiff_tag_field", *_PAGE, c_uint16, POINTER(Field))
+TAG_BYTES = _declare(
+    "tiff_tag_bytes", *_PAGE, c_uint16, c_uint64, *_BYTES, POINTER(c_size_t)
+)
+WRITE_IMAGE = _declare(
+    "tiff_write_image", POINTER(Image), *_BYTES, *_BYTES, POINTER(c_size_t)
+)
+FAULT_TEXT = _declare("tiff_fault_text", c_uint32, *_BYTES, answer=c_size_t)
+
+# Prototypes of our own: the attributes of `ctypes.pythonapi` are shared with other modules.
+_GET_BUFFER = ctypes.PYFUNCTYPE(c_int, py_object, POINTER(_PyBuffer), c_int)(
+    ("PyObject_GetBuffer", ctypes.pythonapi)
+)
+_RELEASE_BUFFER = ctypes.PYFUNCTYPE(None, POINTER(_PyBuffer))(
+    ("PyBuffer_Release", ctypes.pythonapi)
+)
+_CONTIGUOUS = 0
+_ANY_BYTE = ctypes.c_ubyte()
+
+
+def fault_text(status: int) -> str:
+    """Returns the library's text of a status."""
+    text = ctypes.create_string_buffer(256)
+    length: int = FAULT_TEXT(status, text, len(text))
+    return text.raw[:length].decode()
+
+
+class TiffError(Exception):
+    """A file or a call that the library refuses, by its `status`."""
+
+    def __init__(self, status: int) -> None:
+        self.status = Status(status)
+        super().__init__(self.status)
+
+    def __str__(self) -> str:
+        return fault_text(self.status)
+
+
+def check(status: int) -> None:
+    """Raises the fault of a status, if it is one."""
+    if status:
+        raise TiffError(status)
+
+
+@contextmanager
+def locked(owner: ReadableBuffer) -> Iterator[tuple[int, int]]:
+    """Gives the address and the length of an object's own bytes, and locks them meanwhile.
+
+    Nothing is copied. The object can be neither resized nor closed while the block runs.
+    """
+    view = _PyBuffer()
+    _GET_BUFFER(owner, byref(view), _CONTIGUOUS)
+    try:
+        yield view.buf or ctypes.addressof(_ANY_BYTE), view.len
+    finally:
+        _RELEASE_BUFFER(byref(view))
+
+
+Answer = TypeVar("Answer", bound=Structure)
+
+
+def ask(call: Any, kind: type[Answer], file: ReadableBuffer, *place: int) -> Answer:
+    """Returns what a call tells of a place in a file: of a page, or of a tag of a page."""
+    answer = kind()
+    with locked(file) as (address, length):
+        check(call(address, length, *place, byref(answer)))
+    return answer
+
+
+def at(offset: int) -> int:
+    """Returns what stands for the page whose directory lies at an offset, as TIFF_AT of the header."""
+    return 1 << 63 | offset
+
+
+def list_pages(file: ReadableBuffer) -> tuple[Sequence[ListedPage], Status]:
+    """Lists the pages of a file, and tells how their chain ends.
+
+    One call does where there is room for all pages. Else a second has the room that is wanted.
+    """
+    count = c_size_t()
+    with locked(file) as (address, length):
+        room = min(length // SHORT_PAGE + 1, FIRST_ROOM)
+        listed = (ListedPage * room)()
+        end = LIST_PAGES(address, length, listed, room, byref(count))
+        if count.value > room:
+            room = count.value
+            listed = (ListedPage * room)()
+            end = LIST_PAGES(address, length, listed, room, byref(count))
+    return (ListedPage * min(count.value, room)).from_buffer_copy(listed), Status(end)
+
+
+def byte_order(file: ReadableBuffer) -> str:
+    """Returns the byte order of a file as `struct` has it: `<` or `>`."""
+    order = c_uint32()
+    with locked(file) as (address, length):
+        check(BYTE_ORDER(address, length, byref(order)))
+    return ">" if order.value == BIG_ENDIAN else "<"
+
+
+def library_version() -> int:
+    """Returns the number of the version of the C library's calls."""
+    version: int = _declare("tiff_version")()
+    return version

@@ -1,0 +1,45 @@
+"""What the tests share: the repository's files, and arrays of samples."""
+from __future__ import annotations
+
+from pathlib import Path
+
+import numpy
+import pytest
+
+DATA = Path(__file__).resolve().parents[2] / "crates" / "tiff_replay" / "data"
+
+
+@pytest.fixture(scope="session")
+def data() -> Path:
+    """The folder of the repository's files."""
+    return DATA
+
+
+def samples(shape: tuple[int, ...], dtype: str) -> numpy.ndarray:
+    """Returns an array of a shape and a number type in which neighbours differ."""
+    count = int(numpy.prod(shape))
+    numbers = numpy.arange(count, dtype="u8") * 2654435761 + 12345
+    kind = numpy.dtype(dtype)
+    if kind.kind == "f":
+        return (numbers % 100_003 / 7).astype(kind).reshape(shape)
+    return numbers.astype(kind).reshape(shape)
+
+
+def gray_file(
+    width: int = 4, height: int = 3, *, data: bytes | None = None, **fields: tuple[int, int]
+) -> bytes:
+    """Returns a little-endian file of one gray page in one strip.
+
+    A field `tN=(type, value)` stands in place of the tag N, or is added to the tags.
+    """
+    data = bytes(range(width * height)) if data is None else data
+    tags = {256: (3, width), 257: (3, height), 258: (3, 8), 259: (3, 1), 262: (3, 1)}
+    tags |= {273: (4, 8), 277: (3, 1), 278: (3, height), 279: (4, len(data))}
+    tags |= {int(name[1:]): field for name, field in fields.items()}
+    even = data + b"\0" * (len(data) % 2)
+    file = b"II*\0" + (8 + len(even)).to_bytes(4, "little") + even
+    file += len(tags).to_bytes(2, "little")
+    for tag, (kind, value) in sorted(tags.items()):
+        file += tag.to_bytes(2, "little") + kind.to_bytes(2, "little")
+        file += (1).to_bytes(4, "little") + value.to_bytes(4, "little")
+    return file + bytes(4)

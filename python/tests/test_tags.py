@@ -1,0 +1,144 @@
+"""Tags are decoded by their type, in the file's byte order."""
+from __future__ import annotations
+
+import io
+import struct
+from fractions import Fraction
+
+import pytest
+import tifffile
+from conftest import gray_file, samples
+
+import mangohatch_tiff as mt
+from mangohatch_tiff import _tags
+
+EXTRA = [
+    (65000, "B", 3, (1, 2, 255), True),
+    (65001, "s", 0, "a text", True),
+    (65002, "H", 2, (1, 65535), True),
+    (65003, "I", 2, (1, 4294967295), True),
+    (65004, "2I", 2, (1, 3, 300, 7), True),
+    (65005, "b", 3, (-1, 2, -128), True),
+    (65007, "h", 2, (-1, 32767), True),
+    (65008, "i", 1, -70000, True),
+    (65009, "2i", 1, (-1, 3), True),
+    (65010, "f", 2, (0.5, -2.25), True),
+    (65011, "d", 1, 3.141592653589793, True),
+]
+EXPECTED = {
+    65000: (1, 2, 255),
+    65001: "a text",
+    65002: (1, 65535),
+    65003: (1, 4294967295),
+    65004: ((1, 3), (300, 7)),
+    65005: (-1, 2, -128),
+    65007: (-1, 32767),
+    65008: -70000,
+    65009: (-1, 3),
+    65010: (0.5, -2.25),
+    65011: 3.141592653589793,
+}
+
+
+def file_of_tags(byteorder: str, bigtiff: bool = False, extra: list = EXTRA) -> bytes:
+    """Returns a file with a tag of each type."""
+    file = io.BytesIO()
+    tifffile.imwrite(
+        file,
+        samples((7, 5, 3), "u2"),
+        photometric="rgb",
+        byteorder=byteorder,
+        bigtiff=bigtiff,
+        metadata=None,
+        description="a scan",
+        software="tests",
+        resolution=(300, 150.5),
+        extratags=extra,
+    )
+    return file.getvalue()
+
+
+@pytest.mark.parametrize("byteorder", "<>")
+@pytest.mark.parametrize("bigtiff", [False, True])
+def test_types(byteorder: str, bigtiff: bool) -> None:
+    tags = mt.TiffFile(file_of_tags(byteorder, bigtiff)).pages[0].tags
+    for number, value in EXPECTED.items():
+        assert tags[number] == value, number
+
+
+@pytest.mark.parametrize("byteorder", "<>")
+def test_long_types(byteorder: str) -> None:
+    extra = [(65016, "Q", 1, 1 << 40, True), (65017, "q", 2, (-1, 1 << 40), True)]
+    tags = mt.TiffFile(file_of_tags(byteorder, True, extra)).pages[0].tags
+    assert tags[65016] == 1 << 40
+    assert tags[65017] == (-1, 1 << 40)
+
+
+@pytest.mark.parametrize("byteorder", "<>")
+def test_common_tags(byteorder: str) -> None:
+    file = file_of_tags(byteorder)
+    tags = mt.TiffFile(file).pages[0].tags
+    assert tags["ImageWidth"] == tags[256] == 5
+    assert tags["BitsPerSample"] == (16, 16, 16)
+    assert tags["ImageDescription"] == "a scan"
+    assert tags["Software"] == "tests"
+    assert tags["XResolution"] == (300, 1)
+    assert Fraction(*tags["YResolution"]) == Fraction(301, 2)
+    others = tifffile.TiffFile(io.BytesIO(file)).pages[0].tags
+    for number in ("StripOffsets", "StripByteCounts", "RowsPerStrip", "SamplesPerPixel"):
+        value = others[number].value
+        assert tags[number] == (value[0] if isinstance(value, tuple) and len(value) == 1 else value)
+
+
+def test_mapping() -> None:
+    file = file_of_tags("<")
+    tags = mt.TiffFile(file).pages[0].tags
+    others = tifffile.TiffFile(io.BytesIO(file)).pages[0].tags
+    assert list(tags) == [tag.code for tag in others if tag.code in _tags.NAMES]
+    assert len(tags) == len(list(tags))
+    assert 65000 in tags and "ImageWidth" in tags
+    assert 65099 not in tags and "NoSuchName" not in tags and None not in tags
+    assert tags.get(65099) is None
+    for key in (65099, "TileWidth", "NoSuchName", -1, 1 << 16, (1 << 16) + 256):
+        with pytest.raises(KeyError):
+            tags[key]
+
+
+def test_names_are_those_of_tifffile() -> None:
+    for number, name in _tags.NAMES.items():
+        assert name in tifffile.TIFF.TAGS.getall(number), number
+
+
+def test_undefined_is_bytes() -> None:
+    tags = mt.TiffFile(gray_file(t65000=(7, 0x41))).pages[0].tags
+    assert tags[65000] == b"A"
+
+
+def test_no_values() -> None:
+    assert _tags.decode(3, b"", "<") == ()
+    assert _tags.decode(2, b"", "<") == ""
+    assert _tags.decode(7, b"", "<") == b""
+
+
+@pytest.mark.parametrize("order", "<>")
+def test_decode(order: str) -> None:
+    assert _tags.decode(4, struct.pack(order + "I", 7), order) == 7
+    assert _tags.decode(5, struct.pack(order + "2I", 1, 3), order) == (1, 3)
+    assert _tags.decode(10, struct.pack(order + "4i", 1, -3, 5, 7), order) == ((1, -3), (5, 7))
+
+
+def test_texts() -> None:
+    assert _tags.decode(2, b"a\0b\0\0", "<") == "a\0b"
+    assert _tags.decode(2, "é".encode(), "<") == "é"
+    assert _tags.decode(2, "é".encode("latin-1"), "<") == "é"
+
+
+@pytest.mark.parametrize("offset", [0, 8])
+def test_values_past_the_end_of_the_file(offset: int) -> None:
+    file = bytearray(gray_file(t65000=(4, offset)))
+    entry = file.index((65000).to_bytes(2, "little") + b"\4\0")
+    file[entry + 4 : entry + 8] = b"\xff\xff\xff\xff"
+    tags = mt.TiffFile(file).pages[0].tags
+    with pytest.raises(mt.TiffError) as fault:
+        tags[65000]
+    assert fault.value.status is mt.Status.UNEXPECTED_EOF
