@@ -37,7 +37,7 @@ class TiffPage:
         self._listed = listed
         self._order = order
         # Calls on the directory's offset don't go along the pages before it.
-        self._place = _library.at(listed.offset)
+        self._at = _library.at(listed.offset)
         self.index = index
 
     def __repr__(self) -> str:
@@ -68,17 +68,17 @@ class TiffPage:
     @cached_property
     def _layout(self) -> Layout:
         """The bytes of the image, of one plane and of all planes."""
-        return _library.ask(_library.PAGE_LAYOUT, Layout, self._file, self._place)
+        return _library.ask(_library.PAGE_LAYOUT, Layout, self._file, self._at)
 
     @cached_property
     def _chunks(self) -> Chunks:
         """The page's strips or tiles."""
-        return _library.ask(_library.PAGE_CHUNKS, Chunks, self._file, self._place)
+        return _library.ask(_library.PAGE_CHUNKS, Chunks, self._file, self._at)
 
     @cached_property
     def tags(self) -> Tags:
         """The tags of the page, by number and by name."""
-        return Tags(self._file, self._place, self._order)
+        return Tags(self._file, self._at, self._order)
 
     @property
     def imagewidth(self) -> int:
@@ -190,7 +190,7 @@ class TiffPage:
         array = numpy.empty(shape, self.dtype)
         with _library.locked(self._file) as (address, length):
             _library.check(
-                call(address, length, self._place, *place, array.ctypes.data, array.nbytes)
+                call(address, length, self._at, *place, array.ctypes.data, array.nbytes)
             )
         return array
 
