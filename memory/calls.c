@@ -76,6 +76,16 @@ static tiff_status chunk_bytes(const struct input *on, struct answer *to) {
     return tiff_read_chunk_bytes(on->file, on->len, on->page, 0, to->bytes, ROOM);
 }
 
+static tiff_status two_chunks(const struct input *on, struct answer *to) {
+    return tiff_read_chunks(on->file, on->len, on->page, 0, 2, to->bytes, ROOM);
+}
+
+/* of the directory at an offset: the last byte of the first one that a classic file tells */
+static tiff_status sides_at(const struct input *on, struct answer *to) {
+    uint64_t offset = on->len < 8 ? 0 : on->file[0] == 'I' ? on->file[4] : on->file[7];
+    return tiff_page_sides(on->file, on->len, TIFF_AT(offset), &to->sides);
+}
+
 static tiff_status unit_bytes(const struct input *on, struct answer *to) {
     return tiff_read_coding_unit_bytes(on->file, on->len, on->page, 0, to->bytes, ROOM);
 }
@@ -115,6 +125,8 @@ static const struct call readers[] = {
     {"tiff_page_chunks", ALL, page_chunks},
     {"tiff_list_pages", BUT_COUNT, list_pages},
     {"tiff_read_chunk_bytes", BUT_BYTES, chunk_bytes},
+    {"tiff_read_chunks", BUT_BYTES, two_chunks},
+    {"tiff_page_sides (of an offset)", ALL, sides_at},
     {"tiff_read_coding_unit_bytes", BUT_BYTES, unit_bytes},
     {"tiff_tag_field", ALL, width_field},
     {"tiff_tag_number (256)", ALL, width_number},
