@@ -257,6 +257,7 @@ class TiffFile:
         except BaseException:
             self.close()
             raise
+        self._file = file
         self.pages = [
             TiffPage(file, index, page, self.byteorder) for index, page in enumerate(listed)
         ]
@@ -297,6 +298,13 @@ class TiffFile:
 
     def __iter__(self) -> Iterator[TiffPage]:
         return iter(self.pages)
+
+    def page_at(self, offset: int) -> TiffPage:
+        """Returns the page whose directory lies at an offset of the file, in the chain or not.
+
+        Such offsets stand in the tag SubIFDs (330). Its `index` is -1.
+        """
+        return TiffPage(self._file, -1, _library.page_at(self._file, offset), self.byteorder)
 
     def asarray(self, page: int = 0) -> NDArray[Any]:
         """Reads the image of a page as an array."""

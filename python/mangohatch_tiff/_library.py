@@ -112,6 +112,7 @@ class ColorKind(IntEnum):
     MULTIBAND = 9
 
 
+COMPRESSION, UNCOMPRESSED = 259, 1
 TILES = 1
 BIG_ENDIAN = 1
 # The bytes of a page of a few tags, and how many pages are listed at first.
@@ -159,6 +160,12 @@ class ListedPage(Structure):
     ]
 
 
+class Sides(Structure):
+    """The width and the height of a page."""
+
+    _fields_ = [("width", c_uint32), ("height", c_uint32)]
+
+
 class Field(Structure):
     """The type of a tag, and how many values it has."""
 
@@ -176,6 +183,12 @@ class Image(Structure):
         ("method", c_uint16),
         ("predictor", c_uint16),
     ]
+
+
+class _Number(Structure):
+    """The number of a tag."""
+
+    _fields_ = [("value", c_uint64)]
 
 
 class _PyBuffer(Structure):
@@ -227,11 +240,14 @@ BYTE_ORDER = _declare("tiff_byte_order", *_BYTES, POINTER(c_uint32))
 LIST_PAGES = _declare(
     "tiff_list_pages", *_BYTES, POINTER(ListedPage), c_size_t, POINTER(c_size_t)
 )
+PAGE_SIDES = _declare("tiff_page_sides", *_PAGE, POINTER(Sides))
+PAGE_COLOR = _declare("tiff_page_color", *_PAGE, POINTER(Color))
 PAGE_LAYOUT = _declare("tiff_page_layout", *_PAGE, POINTER(Layout))
 PAGE_CHUNKS = _declare("tiff_page_chunks", *_PAGE, POINTER(Chunks))
 READ_IMAGE = _declare("tiff_read_image_bytes", *_PAGE, *_BYTES)
 READ_CHUNK = _declare("tiff_read_chunk_bytes", *_PAGE, c_uint32, *_BYTES)
 TAG_FIELD = _declare("tiff_tag_field", *_PAGE, c_uint16, POINTER(Field))
+TAG_NUMBER = _declare("tiff_tag_number", *_PAGE, c_uint16, POINTER(_Number))
 TAG_BYTES = _declare(
     "tiff_tag_bytes", *_PAGE, c_uint16, c_uint64, *_BYTES, POINTER(c_size_t)
 )
@@ -320,6 +336,34 @@ def list_pages(file: ReadableBuffer) -> tuple[Sequence[ListedPage], Status]:
             listed = (ListedPage * room)()
             end = LIST_PAGES(address, length, listed, room, byref(count))
     return (ListedPage * min(count.value, room)).from_buffer_copy(listed), Status(end)
+
+
+def _told(call: Any, kind: type[Answer], file: ReadableBuffer, *place: int) -> tuple[Answer, int]:
+    """Returns what a call tells of a place in a file, with its status; zeros behind a fault."""
+    try:
+        return ask(call, kind, file, *place), Status.DONE
+    except TiffError as fault:
+        return kind(), fault.status
+
+
+def page_at(file: ReadableBuffer, offset: int) -> ListedPage:
+    """Tells of the directory at an offset what a list of pages tells of a page."""
+    place = at(offset)
+    sides = ask(PAGE_SIDES, Sides, file, place)
+    color, color_status = _told(PAGE_COLOR, Color, file, place)
+    chunks, count_status = _told(PAGE_CHUNKS, Chunks, file, place)
+    method, _ = _told(TAG_NUMBER, _Number, file, place, COMPRESSION)
+    return ListedPage(
+        offset=offset,
+        width=sides.width,
+        height=sides.height,
+        method=method.value or UNCOMPRESSED,
+        color_status=color_status,
+        color=color,
+        chunk_kind=chunks.kind,
+        count_status=count_status,
+        count=chunks.count,
+    )
 
 
 def byte_order(file: ReadableBuffer) -> str:

@@ -1,0 +1,21 @@
+"""Writes the image of a SubIFD of a TIFF file's first page as a file of its own. Cameras keep previews there, which no page links to.
+
+  python3 sub_ifd.py raw.dng preview.tif
+
+It wants the package mangohatch_tiff, and numpy.
+"""
+import sys
+
+from mangohatch_tiff import TiffFile, imwrite
+
+
+def main() -> None:
+    with TiffFile(sys.argv[1]) as file:
+        offsets = file[0].tags["SubIFDs"]
+        preview = file.page_at(offsets if isinstance(offsets, int) else offsets[0])
+        print(preview.shape, preview.dtype)
+        imwrite(sys.argv[2], preview.asarray())
+
+
+if __name__ == "__main__":
+    main()
