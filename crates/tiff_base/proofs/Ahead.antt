@@ -1,26 +1,35 @@
 -- What a buffer asks its source for.
-use Rattle.std.proofs.Common.{◌≡◌, ℕ, zero, suc, ◌+◌, ◌≤◌, ◌<◌, Bool, true, false, arith, refl, ⊎_elim, subst}
-use Rattle.std.specs.List.{list_all, range_with_len}
-use Rattle.std.specs.Prelude.{◌&&◌}
-use Rattle.std.proofs.lemmas.Bool.{cases_lt, false≢true}
-use Rattle.tiff_base.specs.Memory.{ahead, buffered}
-use Rattle.tiff_base.specs.SourceAndSink.{SourceRecord, AreReadable}
+use Rattle.std.proofs.Common.{◌≡◌, ℕ, ◌+◌, ◌≤◌, ◌<◌, Bool, true, false, List, [], ◌∷◌, Option, None, Some, arith, refl}
+use Rattle.std.proofs.lemmas.Bool.Decides.{nat_tests}
+use Rattle.std.specs.List.{list_any}
+use Rattle.std.specs.Prelude.{◌&&◌, ◌||◌, map, nat_le, nat_lt, option_map}
+use Rattle.tiff_base.specs.Memory.{buffered, shortened}
+use Rattle.tiff_base.specs.SourceAndSink.{SourceRecord, AreReadable, answers_for}
 
-both : (a b : Bool) → (a && b) ≡ true → (a ≡ true) × (b ≡ true)
-both true b e = (refl, e)
-both false b e = absurd (false≢true e)
+abbrev is_in : ℕ → ℕ × ℕ → Bool
+is_in k s = nat_le s.0 k && nat_lt k (s.0 + s.1)
 
-in_range : (readable : ℕ → Bool) (a n k : ℕ) → list_all readable (range_with_len a n) ≡ true → a ≤ k → k < a + n → readable k ≡ true
-in_range readable a zero k e l h = absurd (omega (arith, l, h))
-in_range readable a (suc n) k e l h =
-    let b = both (readable a) (list_all readable (range_with_len (a + 1) n)) e in
-    ⊎_elim (λ (q : a < k). in_range readable (a + 1) n k b.1 (omega (arith, q)) (omega (arith, h)))
-    (λ (q : k ≤ a). subst (λ (m : ℕ). readable m ≡ true) (omega (arith, q, l)) b.0)
-    (cases_lt a k)
+or_else : (a b c d : Bool) → (a ≡ true → c ≡ true) → (b ≡ true → d ≡ true) → (a || b) ≡ true → (c || d) ≡ true
+or_else true b true d f g e = refl
+or_else true b false d f g e = absurd (let x = f refl in cc)
+or_else false b true d f g e = refl
+or_else false b false d f g e = g e
 
-held_ahead : (readable : ℕ → Bool) (at k : ℕ) → ahead readable at ≡ true → at ≤ k → k < at + 8192 → readable k ≡ true
-unfolding ahead
-held_ahead readable at k e l h = in_range readable at 8192 k e l h
+in_longer : (s : ℕ × ℕ) (at k : ℕ) → at ≤ k → k < at + 8192 → is_in at (shortened s) ≡ true → is_in k s ≡ true
+in_longer s at k l h e = grind (arith, nat_tests)
+
+ahead_in : (stretches : List (ℕ × ℕ)) (at k : ℕ) → at ≤ k → k < at + 8192
+    → list_any (is_in at) (map shortened stretches) ≡ true → list_any (is_in k) stretches ≡ true
+ahead_in [] at k l h e = e
+ahead_in (s ∷ rest) at k l h e =
+    or_else (is_in at (shortened s)) (list_any (is_in at) (map shortened rest)) (is_in k s) (list_any (is_in k) rest)
+    (in_longer s at k l h) (ahead_in rest at k l h) e
+
+held_ahead : (stretches : Option (List (ℕ × ℕ))) (at k : ℕ) → answers_for (option_map (map shortened) stretches) at ≡ true → at ≤ k → k < at + 8192
+    → answers_for stretches k ≡ true
+unfolding answers_for
+held_ahead None at k e l h = refl
+held_ahead (Some stretches) at k e l h = ahead_in stretches at k l h e
 
 -- what the buffer answers for, its source does
 pub through_buffer : (s : SourceRecord) (at n : ℕ) → AreReadable (buffered s) at n → AreReadable s at n

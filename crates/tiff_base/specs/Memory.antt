@@ -1,6 +1,5 @@
 -- The bytes of a source in memory, of one that lies in a slice, and of a sink in memory, and what a buffered source tells.
-use Rattle.std.specs.List.{list_all, range_with_len}
-use Rattle.std.specs.Prelude.{ℕ, Bool, List}
+use Rattle.std.specs.Prelude.{ℕ, ◌-◌, List, map, option_map}
 use Rattle.tiff_base.specs.SourceAndSink.{SourceRecord}
 use Rattle.tiff_base.specs.declared.io.MemorySource.{MemorySource}
 use Rattle.tiff_base.specs.declared.io.SliceSource.{SliceSource}
@@ -15,11 +14,10 @@ slice_bytes s = s.items.now
 abbrev pub sink_bytes : MemorySink → List ℕ
 sink_bytes s = s.items.items
 
--- whether a source answers for a byte and the 8191 behind it
-unfoldable pub ahead : (ℕ → Bool) → ℕ → Bool
-ahead readable k = list_all readable (range_with_len k 8192)
+-- a stretch without its last 8191 bytes
+abbrev pub shortened : ℕ × ℕ → ℕ × ℕ
+shortened s = (s.0, s.1 - 8191)
 
--- A buffer asks for 8192 bytes at once. So it answers for a byte where the source that it reads answers for it and for those
--- behind it.
+-- A buffer asks for 8192 bytes at once. So it answers for the bytes of a stretch that have 8191 others of it behind them.
 abbrev pub buffered : SourceRecord → SourceRecord
-buffered source = record { bytes = source.bytes; readable = ahead source.readable }
+buffered source = record { bytes = source.bytes; readable = option_map (map shortened) source.readable }

@@ -1,20 +1,27 @@
 -- What a source tells, and what a sink takes.
-use Rattle.std.specs.Prelude.{◌≡◌, ℕ, Bool, true, ◌+◌, ◌-◌, ◌≤◌, ◌<◌, List, ◌++◌, length, take, drop, if◌then◌else◌, nat_le, slice_index, Result, Ok, Err}
+use Rattle.std.specs.List.{list_any}
+use Rattle.std.specs.Prelude.{◌≡◌, ℕ, Bool, true, ◌&&◌, ◌+◌, ◌-◌, ◌≤◌, ◌<◌, List, ◌++◌, length, take, drop, if◌then◌else◌, nat_le, nat_lt, slice_index, Option, None, Some, Result, Ok, Err}
 use Rattle.tiff_base.specs.declared.error.TiffError.{TiffError}
 use Rattle.tiff_base.specs.declared.error.TiffError.TheVariants.{IoError, OutOfMemory}
 use Rattle.tiff_base.specs.declared.io.IoKind.TheVariants.{UnexpectedEof, Device}
 use Rattle.tiff_base.specs.declared.io.SinkFault.{SinkFault}
 use Rattle.tiff_base.specs.declared.io.SinkFault.TheVariants as fault
 
--- What a source tells, which never changes: its bytes, and at which offsets it answers for a read. A read that asks for such
--- bytes alone doesn't fail; what any other does is open.
+-- What a source tells, which never changes: its bytes, and the stretches of them that it answers for, each an offset and a
+-- length; none of these is told where it answers for all. A read that asks for such bytes alone doesn't fail; what any other
+-- does is open.
 pub record SourceRecord : Type 0 where
   pub bytes : List ℕ
-  pub readable : ℕ → Bool
+  pub readable : Option (List (ℕ × ℕ))
+
+-- whether the byte at an offset is in one of some stretches
+unfoldable pub answers_for : Option (List (ℕ × ℕ)) → ℕ → Bool
+answers_for None k = true
+answers_for (Some stretches) k = list_any (λ s. nat_le s.0 k && nat_lt k (s.0 + s.1)) stretches
 
 -- So many bytes from an offset on are bytes that a source answers for.
 abbrev pub AreReadable : SourceRecord → ℕ → ℕ → Type 0
-AreReadable source at len = (k : ℕ) → at ≤ k → k < at + len → source.readable k ≡ true
+AreReadable source at len = (k : ℕ) → at ≤ k → k < at + len → answers_for source.readable k ≡ true
 
 -- the bytes from an offset on, or fewer at the end
 abbrev pub bytes_at : List ℕ → ℕ → ℕ → List ℕ

@@ -48,7 +48,8 @@ pub enum SinkFault {
 
 /// Bytes that can be read at any offset.
 pub trait Source: Drop {
-    /// The bytes, and those of them that it answers for: a read that asks for these alone doesn't fail. They never change.
+    /// The bytes, and the stretches of them that it answers for: a read that asks for such bytes alone doesn't fail. They never
+    /// change.
     ghost told: { Self → SourceRecord };
 
     /// How many reads failed so far.
@@ -141,7 +142,7 @@ impl MemorySource {
 impl Source for MemorySource {
     ghost use Rattle.tiff_base.specs.Memory.{source_bytes};
 
-    ghost told = { λ s. record { bytes = source_bytes s; readable = λ _. true } };
+    ghost told = { λ s. record { bytes = source_bytes s; readable = None } };
 
     ghost failures = { λ _. 0 };
 
@@ -177,7 +178,7 @@ impl<'a> SliceSource<'a> {
 impl Source for SliceSource<'_> {
     ghost use Rattle.tiff_base.specs.Memory.{slice_bytes};
 
-    ghost told = { λ s. record { bytes = slice_bytes s; readable = λ _. true } };
+    ghost told = { λ s. record { bytes = slice_bytes s; readable = None } };
 
     ghost failures = { λ _. 0 };
 

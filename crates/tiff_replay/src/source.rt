@@ -44,7 +44,7 @@ impl ScriptedSource {
 }
 
 impl Source for ScriptedSource {
-    ghost told = { λ s. record { bytes = (⟦<MemorySource as Source>⟧.told s.inner).bytes; readable = λ _. false } };
+    ghost told = { λ s. record { bytes = (⟦<MemorySource as Source>⟧.told s.inner).bytes; readable = Some [] } };
 
     ghost failures = { λ s. failed s.failure };
 

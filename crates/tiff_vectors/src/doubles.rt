@@ -89,7 +89,7 @@ impl FailingSource {
 }
 
 impl Source for FailingSource {
-    ghost told = { λ s. record { bytes = (⟦<MemorySource as Source>⟧.told s.inner).bytes; readable = λ _. false } };
+    ghost told = { λ s. record { bytes = (⟦<MemorySource as Source>⟧.told s.inner).bytes; readable = Some [] } };
 
     ghost failures = { λ s. s.failed };
 

@@ -59,7 +59,7 @@ read_past_end =
 
 -- a source that answers for its first six bytes alone
 abbrev pub six : SourceRecord
-six = record { bytes = 1 ∷ 2 ∷ 3 ∷ 4 ∷ 5 ∷ 6 ∷ 7 ∷ 8 ∷ []; readable = λ k. nat_lt k 6 }
+six = record { bytes = 1 ∷ 2 ∷ 3 ∷ 4 ∷ 5 ∷ 6 ∷ 7 ∷ 8 ∷ []; readable = Some ((0, 6) ∷ []) }
 
 -- answers for the two last ones of these, and not for one more
 abbrev pub last_of_six : Type 0

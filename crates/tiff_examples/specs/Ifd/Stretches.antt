@@ -20,8 +20,8 @@ abbrev pub header_of_none : Type 0
 header_of_none = header_len (0x58 ∷ []) ≡ 8
 
 -- a directory of one entry at the front of a source that answers for these bytes
-abbrev pub one_entry : (ℕ → Bool) → SourceRecord
-one_entry readable = record { bytes = 0x01 ∷ 0x00 ∷ []; readable = readable }
+abbrev pub one_entry : List (ℕ × ℕ) → SourceRecord
+one_entry stretches = record { bytes = 0x01 ∷ 0x00 ∷ []; readable = Some stretches }
 
 -- it takes 18 bytes: two of the count, twelve of the entry, four of the link
 abbrev pub whole_directory : Type 0

@@ -11,7 +11,7 @@ use Rattle.tiff_examples.specs.Page.PixelCalls.{two_planes}
 
 -- a source that answers for the bytes from an offset on, before another
 abbrev pub between : ℕ → ℕ → SourceRecord
-between from end = record { bytes = []; readable = λ k. nat_le from k && nat_lt k end }
+between from end = record { bytes = []; readable = Some ((from, end - from) ∷ []) }
 
 -- of a pixel at 24 one byte is needed, however many are counted
 abbrev pub pixel_needs : Type 0
