@@ -1,20 +1,23 @@
 -- A directory on the way is known by its count and its link.
-use Rattle.std.proofs.Common.{◌≡◌, ℕ, ◌+◌, ◌^◌, ◌<◌, ◌≤◌, List, [], ◌∷◌, ◌++◌, length, reverse, Option, Some, Bool, true, false, Result, Ok, Err, refl, ap, sym, ◌∙◌, subst, arith}
+use Rattle.std.proofs.Common.{◌≡◌, ℕ, ◌+◌, ◌^◌, ◌<◌, ◌≤◌, List, [], ◌∷◌, ◌++◌, length, reverse, Option, None, Some, Bool, true, false, Result, Ok, Err, refl, ap, sym, ◌∙◌, subst, arith}
+use Rattle.std.specs.List.{slice_get}
+use Rattle.std.proofs.lemmas.Option.{slice_get_past}
 use Rattle.tiff_base.proofs.Causes.{cause_along}
-use Rattle.tiff_base.specs.Answers.{IsCause, ◌>>=◌}
+use Rattle.tiff_base.specs.Answers.{IsCause, IsNotDevice, ◌>>=◌}
 use Rattle.tiff_base.specs.declared.error.TiffError.{TiffError}
-use Rattle.tiff_base.specs.declared.error.TiffError.TheVariants.{IoError}
-use Rattle.tiff_base.specs.declared.io.IoKind.TheVariants.{UnexpectedEof}
+use Rattle.tiff_base.specs.declared.error.TiffError.TheVariants.{FormatError, UnsupportedError, IoError, LimitsExceeded, IntSizeError, UsageError, OutOfMemory}
+use Rattle.tiff_base.specs.declared.io.IoKind.TheVariants.{UnexpectedEof, InvalidData, InvalidInput, WriteZero, Device}
 use Rattle.tiff_base.specs.declared.tags.ByteOrder.{ByteOrder}
 use Rattle.tiff_base.specs.declared.tags.FileKind.{FileKind}
 use Rattle.tiff_base.specs.Directory.{directory_at, link_offset, count_width, offset_width}
 use Rattle.tiff_base.specs.Field.{DirectoryRecord}
 use Rattle.tiff_base.specs.Number.{number_at}
+use Rattle.tiff_base.specs.SourceAndSink.{SourceRecord}
 use Rattle.tiff_ifd.proofs.Begun.{begins_entered, cut_unread, cut_unentered, grown, one_entered, one_longer, unentered, unread}
 use Rattle.tiff_ifd.proofs.Chain.{IsFalseBit}
 use Rattle.tiff_ifd.proofs.Entries.{number_past, some_bytes}
-use Rattle.tiff_ifd.specs.Chain.{IsLinkOfDirectory, link_of, unless_met}
-use Rattle.tiff_ifd.specs.Walk.{ChainBegins, ChainEnds, NextIsRefused, StepsOver, Walked}
+use Rattle.tiff_ifd.specs.Chain.{Chain, IsLinkOfDirectory, chain, link_of, unless_met}
+use Rattle.tiff_ifd.specs.Walk.{ChainBegins, ChainEnds, NextIsRefused, NextLinkReadable, StepsOver, Walked, WalkSteps, WayReadable}
 
 -- ---- the law
 
@@ -122,3 +125,53 @@ pub longer_over : (kind : FileKind) (order : ByteOrder) (bytes : List ℕ) (befo
     → StepsOver kind order bytes before passed after → length after.offsets ≡ length before.offsets + 1
 longer_over kind order bytes before after false p h = absurd (subst IsFalseBit p tt)
 longer_over kind order bytes before after true p h = one_longer kind order bytes before after (Some h.0) refl h.1
+
+-- the count and the link that a step over the next offset asks for are among those of the whole way
+pub way_asked : (kind : FileKind) (order : ByteOrder) (s t : SourceRecord) (first index : ℕ) (walk : Walked) (e : TiffError) → t ≡ s
+    → ChainBegins kind order s.bytes first walk → length walk.offsets ≤ index
+    → (NextLinkReadable t kind order walk → IsNotDevice e) → WayReadable s kind order first index → IsNotDevice e
+way_asked kind order s t first index walk e same b l asked way =
+    asked (subst (λ (x : SourceRecord). NextLinkReadable x kind order walk) (sym same) (way.link walk b l))
+
+-- where there is no next offset, the walk has no more
+pub none_over : (kind : FileKind) (order : ByteOrder) (bytes : List ℕ) (before after : Walked) (passed : Bool) (index : ℕ) → passed ≡ false
+    → StepsOver kind order bytes before passed after → length before.offsets ≤ index → None ≡ slice_get after.offsets index
+none_over kind order bytes before after true index p h l = absurd (subst IsFalseBit (sym p) tt)
+none_over kind order bytes before after false index p h l =
+    sym (subst (λ (w : Walked). slice_get w.offsets index ≡ None) (sym h.1) (slice_get_past before.offsets index l))
+
+-- and a chain that ends has no more either
+pub none_further : (kind : FileKind) (order : ByteOrder) (bytes seen : List ℕ) (first : ℕ) (walk : Walked) (end : Option TiffError) (index : ℕ) → seen ≡ bytes
+    → ChainEnds kind order seen first walk end → length walk.offsets ≤ index → slice_get (chain kind order bytes first).offsets index ≡ None
+none_further kind order bytes seen first walk end index same h l =
+    subst (λ (bs : List ℕ). slice_get (chain kind order bs first).offsets index ≡ None) same
+    (ap (λ (c : Chain). slice_get c.offsets index) h ∙ slice_get_past walk.offsets index l)
+
+-- a step that is refused leaves the walk as it was
+pub refused_same : (kind : FileKind) (order : ByteOrder) (bytes : List ℕ) (failed : Type 0) (before after : Walked) (e : TiffError)
+    → IsCause (after ≡ before) (failed × (after ≡ before)) e (WalkSteps kind order bytes before (Err e) after) → after ≡ before
+refused_same kind order bytes failed before after OutOfMemory h = h
+refused_same kind order bytes failed before after (IoError Device) h = h.1
+refused_same kind order bytes failed before after (IoError UnexpectedEof) h = h.1
+refused_same kind order bytes failed before after (IoError InvalidData) h = h.1
+refused_same kind order bytes failed before after (IoError InvalidInput) h = h.1
+refused_same kind order bytes failed before after (IoError WriteZero) h = h.1
+refused_same kind order bytes failed before after (FormatError x) h = h.1
+refused_same kind order bytes failed before after (UnsupportedError x) h = h.1
+refused_same kind order bytes failed before after LimitsExceeded h = h.1
+refused_same kind order bytes failed before after IntSizeError h = h.1
+refused_same kind order bytes failed before after (UsageError x) h = h.1
+
+-- a fault on the way is where the chain ends
+pub way_cut : {failed failed' : Type 0} (kind : FileKind) (order : ByteOrder) (bytes seen : List ℕ) (start walk left : Walked) (index : ℕ) (e : TiffError)
+    → seen ≡ bytes → ((first : ℕ) → ChainBegins kind order bytes first start → ChainBegins kind order bytes first walk) → length walk.offsets ≤ index → left ≡ walk
+    → (failed → failed') → IsCause (Unit {0}) failed e ((first : ℕ) → ChainBegins kind order seen first walk → ChainEnds kind order seen first walk (Some e))
+    → IsCause (Unit {0}) failed' e ((first : ℕ) → ChainBegins kind order bytes first start
+    → (slice_get (chain kind order bytes first).offsets index ≡ None) × ChainEnds kind order bytes first left (Some e))
+way_cut kind order bytes seen start walk left index e same begins l stays f c =
+    cause_along e (λ w. w) f
+    (λ g first b.
+        (let ends = g first (subst (λ (bs : List ℕ). ChainBegins kind order bs first walk) (sym same) (begins first b)) in
+        (none_further kind order bytes seen first walk (Some e) index same ends l,
+        subst (λ (bs : List ℕ). ChainEnds kind order bs first left (Some e)) same (subst (λ (w : Walked). ChainEnds kind order seen first w (Some e)) (sym stays) ends))))
+    c

@@ -33,9 +33,13 @@ pub record DirectoryTags : Type 0 where
   pub directory : DirectoryRecord
   pub limits : Limits
 
+-- A source answers for the values of a tag of its directory, if the directory has it.
+abbrev pub ValueReadable : DirectoryTags → Tag → Type 0
+ValueReadable tags tag = TagReadable tags.source tags.kind tags.order tags.directory tag
+
 -- Of the bytes that aren't the directory's, those of the values of a tag alone are asked for.
 abbrev pub AsksForTag : {X : Type 0} → DirectoryTags → Tag → Result X TiffError → Type 0
-AsksForTag tags tag result = AsksOnly (TagReadable tags.source tags.kind tags.order tags.directory tag) result
+AsksForTag tags tag result = AsksOnly (ValueReadable tags tag) result
 
 -- what is found, read or converted or tested
 abbrev pub if_found : {A B : Type 0} → (A → Result B TiffError) → Option A → Result (Option B) TiffError

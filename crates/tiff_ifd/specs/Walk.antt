@@ -1,11 +1,13 @@
 -- How far a file's chain of directories was gone along (this project's).
-use Rattle.std.specs.Prelude.{◌≡◌, ℕ, List, [], ◌∷◌, ◌++◌, reverse, Option, None, Some, Bool, true, false, Result, Ok, Err}
+use Rattle.std.specs.Prelude.{◌≡◌, ℕ, ◌≤◌, List, [], ◌∷◌, ◌++◌, length, reverse, Option, None, Some, Bool, true, false, Result, Ok, Err}
 use Rattle.tiff_base.specs.declared.error.TiffError.{TiffError}
 use Rattle.tiff_base.specs.declared.tags.ByteOrder.{ByteOrder}
 use Rattle.tiff_base.specs.declared.tags.FileKind.{FileKind}
 use Rattle.tiff_base.specs.Field.{DirectoryRecord}
 use Rattle.tiff_base.specs.Directory.{directory_at}
+use Rattle.tiff_base.specs.SourceAndSink.{SourceRecord}
 use Rattle.tiff_ifd.specs.Chain.{link_from, enter_at, IsChain, chain}
+use Rattle.tiff_ifd.specs.Stretches.{DirectoryReadable, LinkReadable}
 
 -- the offsets that were entered one after another, and the link behind the last of them; before the first one, its offset
 pub record Walked : Type 0 where
@@ -49,3 +51,16 @@ module _ (kind : FileKind) (order : ByteOrder) (bytes : List ℕ) where
     -- The chain is these offsets and no more, with this end.
     abbrev pub ChainEnds : Walked → Option TiffError → Type 0
     ChainEnds walk end = chain kind order bytes first ≡ record { offsets = walk.offsets; end = end }
+
+-- A source answers for the whole directory that a walk enters next, if there is one.
+pub record NextReadable (source : SourceRecord) (kind : FileKind) (order : ByteOrder) (walk : Walked) : Type 0 where
+  pub directory : (at : ℕ) → walk.next ≡ Some at → DirectoryReadable source kind order at
+
+-- It answers for the count and the link of that directory.
+pub record NextLinkReadable (source : SourceRecord) (kind : FileKind) (order : ByteOrder) (walk : Walked) : Type 0 where
+  pub link : (at : ℕ) → walk.next ≡ Some at → LinkReadable source kind order at
+
+-- It answers for the count and the link of each directory that a walk along the chain meets after so many offsets at most.
+pub record WayReadable (source : SourceRecord) (kind : FileKind) (order : ByteOrder) (first : ℕ) (index : ℕ) : Type 0 where
+  pub link : (walk : Walked) → ChainBegins kind order source.bytes first walk → length walk.offsets ≤ index
+      → NextLinkReadable source kind order walk

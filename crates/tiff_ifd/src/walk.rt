@@ -2,11 +2,11 @@
 
 ghost use Rattle.std.specs.Prelude.{◌≡◌, ◌==◌, ◌<◌, ◌≤◌, ◌+◌, ◌-◌, ◌++◌, ◌∷◌, ℕ, List, [], reverse, length, IfOk, IfErr, IfNone, OnErr, MatchOption, nat_eq, Ok, Err, None, Some, false, option_map};
 ghost use Rattle.std.specs.List.{list_any, slice_get};
-ghost use Rattle.tiff_base.specs.Answers.{IsCause, IsKept};
+ghost use Rattle.tiff_base.specs.Answers.{AsksOnly, IsCause, IsKept};
 ghost use Rattle.tiff_base.specs.declared.tags.ByteOrder.{ByteOrder};
 ghost use Rattle.tiff_base.specs.declared.tags.FileKind.{FileKind};
 ghost use Rattle.tiff_ifd.specs.Chain.{unless_met, chain};
-ghost use Rattle.tiff_ifd.specs.Walk.{StepsOver, WalkSteps, ChainBegins, ChainEnds};
+ghost use Rattle.tiff_ifd.specs.Walk.{StepsOver, WalkSteps, ChainBegins, ChainEnds, NextLinkReadable, NextReadable, WayReadable};
 
 use crate::decode::{read_directory, read_link_of};
 use crate::offsets::Offsets;
@@ -137,6 +137,7 @@ impl Walk {
             → ChainEnds kind order (R.told source.old).bytes first self.old None)) }
         ensures cut { IfErr result (λ e. IsCause (Unit {0}) (R.failures source.old < R.failures source.new) e
             ((first : ℕ) → ChainBegins kind order (R.told source.old).bytes first self.old → ChainEnds kind order (R.told source.old).bytes first self.old (Some e))) }
+        ensures asked { AsksOnly (NextReadable (R.told source.old) kind order self.old) result }
     {
         let Some(offset) = self.next else {
             return Ok(None);
@@ -164,6 +165,7 @@ impl Walk {
             → ChainEnds kind order (R.told source.old).bytes first self.old None) }
         ensures cut { IfErr result (λ e. IsCause (Unit {0}) (R.failures source.old < R.failures source.new) e
             ((first : ℕ) → ChainBegins kind order (R.told source.old).bytes first self.old → ChainEnds kind order (R.told source.old).bytes first self.old (Some e))) }
+        ensures asked { AsksOnly (NextLinkReadable (R.told source.old) kind order self.old) result }
     {
         let Some(offset) = self.next else {
             return Ok(false);
@@ -197,6 +199,8 @@ impl Walk {
         ensures cut { IfErr result (λ e. IsCause (Unit {0}) (R.failures source.old < R.failures source.new) e
             ((first : ℕ) → ChainBegins kind order (R.told source.old).bytes first self.old
             → (slice_get (chain kind order (R.told source.old).bytes first).offsets index ≡ None) × ChainEnds kind order (R.told source.old).bytes first self.new (Some e))) }
+        ensures asked { (first : ℕ) → ChainBegins kind order (R.told source.old).bytes first self.old
+            → AsksOnly (WayReadable (R.told source.old) kind order first index) result }
     {
         'way: while self.len() <= index {
             if !self.pass_next(source, kind, order)? {
