@@ -1,7 +1,7 @@
 -- Which bytes a source is asked for by reads of a header, of directories and of values (TIFF 6.0 section 2; BigTIFF).
 use Rattle.std.specs.Int.{byte_len, w16}
 use Rattle.std.specs.FinMap.{get}
-use Rattle.std.specs.Prelude.{◌≡◌, ℕ, ◌+◌, ◌*◌, ◌-◌, ◌<◌, ◌==◌, List, Some, Result, Ok, Err, if◌then◌else◌}
+use Rattle.std.specs.Prelude.{◌≡◌, ℕ, ◌+◌, ◌*◌, ◌<◌, ◌==◌, List, Some, Result, Ok, Err, if◌then◌else◌}
 use Rattle.tiff_base.specs.declared.error.TiffError.{TiffError}
 use Rattle.tiff_base.specs.declared.tags.ByteOrder.{ByteOrder}
 use Rattle.tiff_base.specs.declared.tags.FileKind.{FileKind}
