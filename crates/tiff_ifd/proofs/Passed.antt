@@ -171,7 +171,8 @@ pub way_cut : {failed failed' : Type 0} (kind : FileKind) (order : ByteOrder) (b
 way_cut kind order bytes seen start walk left index e same begins l stays f c =
     cause_along e (λ w. w) f
     (λ g first b.
-        (let ends = g first (subst (λ (bs : List ℕ). ChainBegins kind order bs first walk) (sym same) (begins first b)) in
-        (none_further kind order bytes seen first walk (Some e) index same ends l,
-        subst (λ (bs : List ℕ). ChainEnds kind order bs first left (Some e)) same (subst (λ (w : Walked). ChainEnds kind order seen first w (Some e)) (sym stays) ends))))
+    (let ends = g first (subst (λ (bs : List ℕ). ChainBegins kind order bs first walk) (sym same) (begins first b)) in (
+      none_further kind order bytes seen first walk (Some e) index same ends l,
+      subst (λ (bs : List ℕ). ChainEnds kind order bs first left (Some e)) same (subst (λ (w : Walked). ChainEnds kind order seen first w (Some e)) (sym stays) ends),
+    )))
     c
