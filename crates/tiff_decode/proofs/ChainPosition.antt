@@ -14,12 +14,13 @@ use Rattle.tiff_base.specs.declared.tags.IfdPointer.{IfdPointer}
 use Rattle.tiff_base.specs.Answers.{IsCause, NoneSwallowed}
 use Rattle.tiff_base.specs.Directory.{directory_at}
 use Rattle.tiff_base.specs.Field.{DirectoryRecord}
+use Rattle.tiff_base.specs.SourceAndSink.{SourceRecord}
 use Rattle.tiff_ifd.specs.Chain.{Chain, chain}
 use Rattle.tiff_ifd.specs.Walk.{Walked, ChainBegins, ChainEnds}
 use Rattle.tiff_ifd.proofs.Chain.{apart_chain}
 use Rattle.tiff_ifd.proofs.Begun.{offset_begun}
 use Rattle.tiff_decode.specs.ChainPosition.{IsAt, IsInChain}
-use Rattle.tiff_decode.specs.Machine.{State, Decoding, Outcome, GivesOutcome, FollowsBut, Follows, keeps_state}
+use Rattle.tiff_decode.specs.Machine.{State, Decoding, Outcome, GivesOutcome, FollowsBut, Follows, keeps_state, source_of}
 use Rattle.tiff_decode.specs.Outcome.{chain_of, offset_after, next_offset, next_outcome, next_image, enter, entry_outcome, seek_to_image, seek_outcome, end_outcome, end_fault, not_found, show_outcome, show_directory}
 
 -- ---- where the pointer is
@@ -32,7 +33,7 @@ last_more : (x : ℕ) (xs : List ℕ) → last_or (Some x) xs ≡ slice_get (x �
 last_more x [] = refl
 last_more x (y ∷ ys) = last_more y ys
 
-last_of : (offsets : List ℕ) → last_or None offsets ≡ slice_get offsets (length offsets - 1)
+pub last_of : (offsets : List ℕ) → last_or None offsets ≡ slice_get offsets (length offsets - 1)
 last_of [] = refl
 last_of (x ∷ xs) = (let e : length (x ∷ xs) - 1 ≡ length xs = omega arith in last_more x xs ∙ ap (slice_get (x ∷ xs)) (sym e))
 
@@ -193,12 +194,13 @@ none_found e o s old new f h a =
 -- ---- what is seen of a decoder
 
 -- the file tells the same, and no read failed
-pub told_same : (d : Decoding) (told : List ℕ) (failures : ℕ) → told ≡ d.bytes → failures ≡ d.failures → record d { bytes = told; failures = failures } ≡ d
-told_same d told failures e f = λ i. record d { bytes = e i; failures = f i }
+pub told_same : (d : Decoding) (told : SourceRecord) (failures : ℕ) → told ≡ source_of d → failures ≡ d.failures
+    → record d { bytes = told.bytes; readable = told.readable; failures = failures } ≡ d
+told_same d told failures e f = λ i. record d { bytes = (e i).bytes; readable = (e i).readable; failures = f i }
 
-pub stands_told : (s : State) (d : Decoding) (told : List ℕ) (failures : ℕ) → told ≡ d.bytes → failures ≡ d.failures
-    → record d { bytes = told; failures = failures; state = s } ≡ record d { state = s }
-stands_told s d told failures e f = λ i. record d { bytes = e i; failures = f i; state = s }
+pub stands_told : (s : State) (d : Decoding) (told : SourceRecord) (failures : ℕ) → told ≡ source_of d → failures ≡ d.failures
+    → record d { bytes = told.bytes; readable = told.readable; failures = failures; state = s } ≡ record d { state = s }
+stands_told s d told failures e f = λ i. record d { bytes = (e i).bytes; readable = (e i).readable; failures = f i; state = s }
 
 pub shown : (o : Decoding → Call) (r : Result (Unit {0}) TiffError) (seen old new : Decoding) → seen ≡ old → Follows (λ x. x) (o seen) r seen new
     → Follows (λ x. x) (o old) r old new

@@ -3,6 +3,7 @@ pub mod NextState
 pub mod Required
 pub mod Numbers
 pub mod ChainPosition
+pub mod Asked
 pub mod Items
 pub mod TagList
 pub mod Samples

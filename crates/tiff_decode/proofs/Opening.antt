@@ -1,5 +1,5 @@
 -- What opening a file answers, step by step.
-use Rattle.std.specs.Prelude.{◌≡◌, ℕ, List, [], Option, Some, Result, Ok, Err, length}
+use Rattle.std.specs.Prelude.{◌≡◌, ℕ, List, [], Option, None, Some, Result, Ok, Err, length}
 use Rattle.std.specs.List.{slice_get}
 use Rattle.std.proofs.Common.{zero, suc, ap, sym, ◌∙◌, refl, subst}
 use Rattle.tiff_base.specs.declared.error.TiffError.{TiffError}
@@ -60,7 +60,7 @@ headless failed bytes e c =
     (λ h. ap (λ (r : Result Header TiffError). r >>= λ x. rest x bytes (first_of (chain_from x bytes))) h) c
 
 -- a walk that begins at a header's first offset
-abbrev begun_at : Header → Walked
+abbrev pub begun_at : Header → Walked
 begun_at header = record { offsets = []; next = Some header.first }
 
 same_offset : (header : Header) (offset : ℕ) → (begun_at header).next ≡ Some offset → offset ≡ header.first
@@ -108,6 +108,7 @@ page_then bytes failures r =
     r >>= λ found. page_in found.0.kind found.0.order bytes default_limits found.2 >>= λ page.
     Ok (record {
       bytes = bytes;
+      readable = None;
       kind = found.0.kind;
       order = found.0.order;
       first = found.0.first;
@@ -133,6 +134,7 @@ begun_unpaged wanting failed failed' bytes told limits failures header offset di
     (λ h. ap (page_then bytes failures) found
     ∙ ap (λ (r : Result PageRecord TiffError). r >>= λ page. Ok (record {
       bytes = bytes;
+      readable = None;
       kind = header.kind;
       order = header.order;
       first = header.first;
@@ -148,6 +150,7 @@ pub begun_page : (bytes told : List ℕ) (limits : Limits) (failures : ℕ) (hea
     → page_in header.kind header.order told limits directory ≡ Ok page
     → decoder_of bytes failures ≡ Ok (record {
       bytes = bytes;
+      readable = None;
       kind = header.kind;
       order = header.order;
       first = header.first;
@@ -159,6 +162,7 @@ begun_page bytes told limits failures header offset directory page same given fo
     ap (page_then bytes failures) found
     ∙ ap (λ (r : Result PageRecord TiffError). r >>= λ page. Ok (record {
       bytes = bytes;
+      readable = None;
       kind = header.kind;
       order = header.order;
       first = header.first;

@@ -3,6 +3,7 @@ pub mod Result
 pub mod Lending
 pub mod Machine
 pub mod Outcome
+pub mod Asked
 pub mod Failures
 pub mod Promise
 pub mod Sight

@@ -9,6 +9,7 @@ use Rattle.tiff_base.specs.declared.tags.IfdPointer.{IfdPointer}
 use Rattle.tiff_base.specs.Answers.{AnswersBut}
 use Rattle.tiff_base.specs.Sparing.{IsListFault}
 use Rattle.tiff_base.specs.Field.{DirectoryRecord}
+use Rattle.tiff_base.specs.SourceAndSink.{SourceRecord}
 use Rattle.tiff_ifd.specs.declared.limits.Limits.{Limits}
 use Rattle.tiff_page.specs.Page.{PageRecord}
 
@@ -22,10 +23,11 @@ pub record State : Type 0 where
   pub offset : ℕ
   pub limits : Limits
 
--- A decoder: the bytes of its source, the file's kind, byte order and first offset, how many reads failed so far, and where
--- it stands.
+-- A decoder: the bytes of its source and the stretches of them that this answers for, the file's kind, byte order and first
+-- offset, how many reads failed so far, and where it stands.
 pub record Decoding : Type 0 where
   pub bytes : List ℕ
+  pub readable : Option (List (ℕ × ℕ))
   pub kind : FileKind
   pub order : ByteOrder
   pub first : ℕ
@@ -33,15 +35,20 @@ pub record Decoding : Type 0 where
   pub state : State
 
 -- a decoder from what it is made of
-abbrev pub decoding : List ℕ → FileKind → ByteOrder → ℕ → ℕ → Option IfdPointer → Bool → PageRecord → DirectoryRecord → ℕ → Limits → Decoding
-decoding bytes kind order first failures pointer more page directory offset limits = record {
-  bytes = bytes;
+abbrev pub decoding : SourceRecord → FileKind → ByteOrder → ℕ → ℕ → Option IfdPointer → Bool → PageRecord → DirectoryRecord → ℕ → Limits → Decoding
+decoding source kind order first failures pointer more page directory offset limits = record {
+  bytes = source.bytes;
+  readable = source.readable;
   kind = kind;
   order = order;
   first = first;
   failures = failures;
   state = record { pointer = pointer; more = more; page = page; directory = directory; offset = offset; limits = limits };
 }
+
+-- what its source tells
+abbrev pub source_of : Decoding → SourceRecord
+source_of d = record { bytes = d.bytes; readable = d.readable }
 
 -- What a call gives: its answer, and where the decoder stands after it. The answer is never want of memory or a fault of
 -- the device.

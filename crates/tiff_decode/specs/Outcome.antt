@@ -90,13 +90,14 @@ first_state kind offset directory page = record {
   limits = default_limits;
 }
 
--- the decoder of a file, at its first page, where so many reads failed; or the first fault
+-- the decoder of a file all of whose bytes can be read, at its first page, where so many reads failed; or the first fault
 unfoldable pub decoder_of : List ℕ → ℕ → Result Decoding TiffError
 decoder_of bytes failures = do
   found ← first_directory bytes
   page ← page_in found.0.kind found.0.order bytes default_limits found.2
   Ok (record {
     bytes = bytes;
+    readable = None;
     kind = found.0.kind;
     order = found.0.order;
     first = found.0.first;

@@ -2,14 +2,17 @@
 
 ghost use Rattle.std.specs.Prelude.{◌≡◌, ◌<◌, ◌≤◌, ◌+◌, ◌++◌, ℕ, List, [], ◌∷◌, IfOk, IfErr, IfSome, IfNone, OnOk, OnErr, None, Some, Ok, true, false, if◌then◌else◌, is_some, option_map, length, Option, Bool};
 ghost use Rattle.std.specs.List.{last_or, slice_get};
-ghost use Rattle.tiff_base.specs.Answers.{Answers, AnswersBut, FailsFrom, IsCause, IsKept};
+ghost use Rattle.tiff_base.specs.Answers.{Answers, AnswersBut, AsksOnly, FailsFrom, IsCause, IsKept};
 ghost use Rattle.tiff_base.specs.Directory.{directory_at};
 ghost use Rattle.tiff_base.specs.declared.color.ColorType.{ColorType};
 ghost use Rattle.tiff_page.specs.Layout.{color_of};
 ghost use Rattle.tiff_page.specs.PageView.{page as page_record};
-ghost use Rattle.tiff_ifd.specs.Walk.{ChainBegins, ChainEnds};
+ghost use Rattle.tiff_ifd.specs.Stretches.{DirectoryReadable};
+ghost use Rattle.tiff_ifd.specs.Walk.{ChainBegins, ChainEnds, NextReadable};
+ghost use Rattle.tiff_page.specs.Reach.{PageReadable};
+ghost use Rattle.tiff_decode.specs.Asked.{EntryReadable, NextPageReadable, OpenReadable, SeekReadable};
 ghost use Rattle.tiff_decode.specs.ChainPosition.{IsInChain, IsAt};
-ghost use Rattle.tiff_decode.specs.Machine.{Decoding, Follows, FollowsBut, FollowsOrFaults, FollowsWithoutEither, Tells, decoding, keeps_state};
+ghost use Rattle.tiff_decode.specs.Machine.{Decoding, Follows, FollowsBut, FollowsOrFaults, FollowsWithoutEither, Tells, decoding, keeps_state, source_of};
 ghost use Rattle.tiff_decode.specs.Outcome as outcome;
 ghost use Rattle.tiff_decode.specs.Outcome.{decoder_of, first_directory, page_in};
 
@@ -69,6 +72,7 @@ fn read_first_directory<R: Source>(
         (first_directory (R.told source.old).bytes) (R.failures source.old) (R.failures source.new) }
     ensures walk { IfOk result (λ r. IsInChain r.0.kind r.0.order (R.told source.old).bytes r.0.first r.1
         (Some (record { 0 = r.0.first })) 0 (is_some r.2.next)) }
+    ensures asked { AsksOnly (OpenReadable (R.told source.old)) result }
 {
     let header = read_header(source)?;
     let mut walk = Walk::new(alloc, header.first);
@@ -157,6 +161,7 @@ fn replace_directory<R: Source>(
         directory) (R.failures tags.old.source) (R.failures tags.new.source) }
     ensures replaced { OnOk result (tags.new.directory ≡ directory) }
     ensures stays { OnErr result (tags.new.directory ≡ tags.old.directory) }
+    ensures asked { AsksOnly (PageReadable (R.told tags.old.source) tags.old.kind tags.old.order directory) result }
 {
     let former = std::mem::replace(&mut tags.directory, directory);
     match read_page(tags, alloc) {
@@ -184,14 +189,15 @@ fn enter_directory<R: Source>(
     ensures kind { tags.new.kind ≡ tags.old.kind }
     ensures order { tags.new.order ≡ tags.old.order }
     ensures follows { (first here : ℕ) → Follows (λ x. x) (outcome.entry_outcome
-        (decoding (R.told tags.old.source).bytes tags.old.kind tags.old.order first (R.failures tags.old.source) standing.old.pointer
+        (decoding (R.told tags.old.source) tags.old.kind tags.old.order first (R.failures tags.old.source) standing.old.pointer
         standing.old.more (page_record page.old) tags.old.directory here tags.old.limits) offset (Ok directory)) result
-        (decoding (R.told tags.old.source).bytes tags.old.kind tags.old.order first (R.failures tags.old.source) standing.old.pointer
+        (decoding (R.told tags.old.source) tags.old.kind tags.old.order first (R.failures tags.old.source) standing.old.pointer
         standing.old.more (page_record page.old) tags.old.directory here tags.old.limits)
-        (decoding (R.told tags.new.source).bytes tags.new.kind tags.new.order first (R.failures tags.new.source) standing.new.pointer
+        (decoding (R.told tags.new.source) tags.new.kind tags.new.order first (R.failures tags.new.source) standing.new.pointer
         standing.new.more (page_record page.new) tags.new.directory here tags.new.limits) }
     ensures stands { (offsets : List ℕ) → IsAt offsets standing.old.pointer standing.old.at standing.old.more → slice_get offsets
         at ≡ Some offset → IsAt offsets standing.new.pointer standing.new.at standing.new.more }
+    ensures asked { AsksOnly (PageReadable (R.told tags.old.source) tags.old.kind tags.old.order directory) result }
 {
     let to = Standing::at_directory(at, offset, &directory);
     match replace_directory(alloc, tags, directory) {
@@ -224,14 +230,15 @@ fn enter_offset<R: Source>(
     ensures kind { tags.new.kind ≡ tags.old.kind }
     ensures order { tags.new.order ≡ tags.old.order }
     ensures follows { (first here : ℕ) → Follows (λ x. x) (outcome.enter
-        (decoding (R.told tags.old.source).bytes tags.old.kind tags.old.order first (R.failures tags.old.source) standing.old.pointer
+        (decoding (R.told tags.old.source) tags.old.kind tags.old.order first (R.failures tags.old.source) standing.old.pointer
         standing.old.more (page_record page.old) tags.old.directory here tags.old.limits) offset) result
-        (decoding (R.told tags.old.source).bytes tags.old.kind tags.old.order first (R.failures tags.old.source) standing.old.pointer
+        (decoding (R.told tags.old.source) tags.old.kind tags.old.order first (R.failures tags.old.source) standing.old.pointer
         standing.old.more (page_record page.old) tags.old.directory here tags.old.limits)
-        (decoding (R.told tags.new.source).bytes tags.new.kind tags.new.order first (R.failures tags.new.source) standing.new.pointer
+        (decoding (R.told tags.new.source) tags.new.kind tags.new.order first (R.failures tags.new.source) standing.new.pointer
         standing.new.more (page_record page.new) tags.new.directory here tags.new.limits) }
     ensures stands { (offsets : List ℕ) → IsAt offsets standing.old.pointer standing.old.at standing.old.more → slice_get offsets
         at ≡ Some offset → IsAt offsets standing.new.pointer standing.new.at standing.new.more }
+    ensures asked { AsksOnly (EntryReadable (R.told tags.old.source) tags.old.kind tags.old.order offset) result }
 {
     let (kind, order) = (tags.kind, tags.order);
     let directory = read_directory(alloc, &mut tags.source, offset, kind, order)?;
@@ -249,12 +256,13 @@ fn show_read<R: Source>(
     ensures kind { tags.new.kind ≡ tags.old.kind }
     ensures order { tags.new.order ≡ tags.old.order }
     ensures follows { (first here : ℕ) (pointer : Option IfdPointer) (more : Bool) → Follows (λ x. x) (outcome.show_outcome
-        (decoding (R.told tags.old.source).bytes tags.old.kind tags.old.order first (R.failures tags.old.source) pointer more
+        (decoding (R.told tags.old.source) tags.old.kind tags.old.order first (R.failures tags.old.source) pointer more
         (page_record page.old) tags.old.directory here tags.old.limits) (Ok directory)) result
-        (decoding (R.told tags.old.source).bytes tags.old.kind tags.old.order first (R.failures tags.old.source) pointer more
+        (decoding (R.told tags.old.source) tags.old.kind tags.old.order first (R.failures tags.old.source) pointer more
         (page_record page.old) tags.old.directory here tags.old.limits)
-        (decoding (R.told tags.new.source).bytes tags.new.kind tags.new.order first (R.failures tags.new.source) pointer more
+        (decoding (R.told tags.new.source) tags.new.kind tags.new.order first (R.failures tags.new.source) pointer more
         (page_record page.new) tags.new.directory here tags.new.limits) }
+    ensures asked { AsksOnly (PageReadable (R.told tags.old.source) tags.old.kind tags.old.order directory) result }
 {
     match replace_directory(alloc, tags, directory) {
         Ok(found) => {
@@ -277,12 +285,13 @@ fn show_offset<R: Source>(
     ensures kind { tags.new.kind ≡ tags.old.kind }
     ensures order { tags.new.order ≡ tags.old.order }
     ensures follows { (first here : ℕ) (pointer : Option IfdPointer) (more : Bool) → Follows (λ x. x) (outcome.show_directory
-        (decoding (R.told tags.old.source).bytes tags.old.kind tags.old.order first (R.failures tags.old.source) pointer more
+        (decoding (R.told tags.old.source) tags.old.kind tags.old.order first (R.failures tags.old.source) pointer more
         (page_record page.old) tags.old.directory here tags.old.limits) at) result
-        (decoding (R.told tags.old.source).bytes tags.old.kind tags.old.order first (R.failures tags.old.source) pointer more
+        (decoding (R.told tags.old.source) tags.old.kind tags.old.order first (R.failures tags.old.source) pointer more
         (page_record page.old) tags.old.directory here tags.old.limits)
-        (decoding (R.told tags.new.source).bytes tags.new.kind tags.new.order first (R.failures tags.new.source) pointer more
+        (decoding (R.told tags.new.source) tags.new.kind tags.new.order first (R.failures tags.new.source) pointer more
         (page_record page.new) tags.new.directory here tags.new.limits) }
+    ensures asked { AsksOnly (EntryReadable (R.told tags.old.source) tags.old.kind tags.old.order at.0) result }
 {
     let (kind, order) = (tags.kind, tags.order);
     let directory = read_directory(alloc, &mut tags.source, at.0, kind, order)?;
@@ -307,6 +316,7 @@ fn enter_behind<R: Source>(
     ensures stays { OnErr result (walk.new ≡ walk.old) }
     ensures cut { IfErr result (λ e. IsCause (Unit {0}) (R.failures source.old < R.failures source.new) e
         ((first : ℕ) → ChainBegins kind order (R.told source.old).bytes first walk.old → ChainEnds kind order (R.told source.old).bytes first walk.old (Some e))) }
+    ensures asked { AsksOnly (NextReadable (R.told source.old) kind order walk.old) result }
 {
     let Some(offset) = walk.next() else {
         return Ok(None);
@@ -342,6 +352,7 @@ impl<R: Source> Model for Decoder<R> {
 
     ghost view = { λ d. record {
       bytes = (R.told d.tags.source).bytes;
+      readable = (R.told d.tags.source).readable;
       kind = d.tags.kind;
       order = d.tags.order;
       first = d.first;
@@ -378,9 +389,11 @@ impl<R: Source> Decoder<R> {
     /// page is answered.
     pub fn new(alloc: Global, source: R) -> TiffResult<Self>
         ensures answer { AnswersBut (Unit {0}) (FailsFrom R.told R.failures source)
-            (λ (d : Decoding). record d { failures = R.failures source }) result
+            (λ (d : Decoding). record d { readable = None; failures = R.failures source }) result
             (decoder_of (R.told source).bytes (R.failures source)) }
+        ensures readable { IfOk result (λ d. d.readable ≡ (R.told source).readable) }
         ensures count { IfOk result (λ d. d.failures ≡ R.failures source) }
+        ensures asked { AsksOnly (OpenReadable (R.told source)) result }
     {
         let mut source = source;
         let (header, walk, directory) = read_first_directory(alloc, &mut source)?;
@@ -494,7 +507,8 @@ impl<R: Source> Decoder<R> {
     /// `more_images` is true.
     #[tactic(auto, unfolding(crate::specs::Outcome::next_image))]
     pub fn next_image(&mut self) -> TiffResult<()>
-        ensures { FollowsBut (self.old.state.more ≡ true) (λ x. x) (outcome.next_image self.old) result self.old self.new }
+        ensures follows { FollowsBut (self.old.state.more ≡ true) (λ x. x) (outcome.next_image self.old) result self.old self.new }
+        ensures asked { AsksOnly (NextPageReadable self.old) result }
     {
         if !self.standing.more {
             return Err(TiffFormatError::ImageFileDirectoryNotFound.into());
@@ -534,7 +548,8 @@ impl<R: Source> Decoder<R> {
     /// `IoError(Device)` all is as it was.
     #[tactic(auto, unfolding(crate::specs::Outcome::seek_to_image))]
     pub fn seek_to_image(&mut self, ifd_index: usize) -> TiffResult<()>
-        ensures { Follows (λ x. x) (outcome.seek_to_image self.old ifd_index) result self.old self.new }
+        ensures follows { Follows (λ x. x) (outcome.seek_to_image self.old ifd_index) result self.old self.new }
+        ensures asked { AsksOnly (SeekReadable self.old ifd_index) result }
     {
         let (alloc, kind, order) = (self.alloc, self.tags.kind, self.tags.order);
         let source = &mut self.tags.source;
@@ -565,7 +580,8 @@ impl<R: Source> Decoder<R> {
     /// `IoError(UnexpectedEof)`.
     #[tactic(auto, unfolding(crate::specs::Outcome::read_directory))]
     pub fn read_directory(&mut self, pointer: IfdPointer) -> TiffResult<Directory>
-        ensures { Follows (λ d. d) (outcome.read_directory self.old pointer) result self.old self.new }
+        ensures follows { Follows (λ d. d) (outcome.read_directory self.old pointer) result self.old self.new }
+        ensures asked { AsksOnly (DirectoryReadable (source_of self.old) self.old.kind self.old.order pointer.0) result }
     {
         let (kind, order) = (self.tags.kind, self.tags.order);
         read_directory(self.alloc, &mut self.tags.source, pointer.0, kind, order)
@@ -576,7 +592,8 @@ impl<R: Source> Decoder<R> {
     /// bytes: `IoError(UnexpectedEof)`; then the first fault of its page. After an error all is as it was.
     #[tactic(auto, unfolding(crate::specs::Outcome::show_directory))]
     pub fn show_directory(&mut self, pointer: IfdPointer) -> TiffResult<()>
-        ensures { Follows (λ x. x) (outcome.show_directory self.old pointer) result self.old self.new }
+        ensures follows { Follows (λ x. x) (outcome.show_directory self.old pointer) result self.old self.new }
+        ensures asked { AsksOnly (EntryReadable (source_of self.old) self.old.kind self.old.order pointer.0) result }
     {
         show_offset(self.alloc, &mut self.tags, &mut self.page, pointer)
     }

@@ -4,6 +4,7 @@ ghost use Rattle.std.specs.Prelude.{◌≡◌, ◌<◌, ◌≤◌, ◌^◌, None
 ghost use Rattle.tiff_base.specs.Answers.{AnswersWithoutMemory, NoneSwallowed};
 ghost use Rattle.tiff_ifd.specs.Fitted.{fitted_numbers};
 ghost use Rattle.tiff_ifd.specs.View.{datum};
+ghost use Rattle.tiff_decode.specs.Asked.{AsksForTag};
 ghost use Rattle.tiff_decode.specs.Outcome as outcome;
 ghost use Rattle.tiff_decode.specs.Reader.{directory_or, reader_of, reading, KeepsReading, ReadsTags, IsNumber, NumberAs, NumberIfAs, NumbersAs, NumbersIfAs, TagsRead};
 ghost use Rattle.tiff_decode.specs.Sight.{bits_32, bits_64};
@@ -116,6 +117,7 @@ impl<R: Source> Decoder<R> {
         ensures read { TagsRead (outcome.WantsTag (reader_of self.old (option_map (λ d. d.now) other.entry)) tag) (option_map datum)
             (outcome.find_tag (reader_of self.old (option_map (λ d. d.now) other.entry)) tag) result self.old self.new }
         ensures none { outcome.find_entry (reader_of self.old (option_map (λ d. d.now) other.entry)) tag ≡ None → result ≡ Ok None }
+        ensures asked { AsksForTag (reader_of self.old (option_map (λ d. d.now) other.entry)) tag result }
     {
         let tags = &mut self.tags;
         let directory = chosen(&tags.directory, other);
@@ -160,6 +162,7 @@ impl<R: Source> Decoder<R> {
             (λ e. (e, buf.new)) (outcome.find_tag_buf (reader_of self.old (option_map (λ d. d.now) other.entry)) tag buf.old) result self.old self.new }
         ensures left { BufferLeft self.old.order (outcome.find_entry (reader_of self.old (option_map (λ d. d.now) other.entry))
             tag) buf.old result buf.new }
+        ensures asked { AsksForTag (reader_of self.old (option_map (λ d. d.now) other.entry)) tag result }
     {
         let Some(entry) = self.entry_in(other, tag) else {
             return Ok(None);
@@ -201,6 +204,7 @@ impl<R: Source> Decoder<R> {
         ensures state { self.new ≡ record self.old { failures = self.new.failures } }
         ensures count { self.old.failures ≤ self.new.failures }
         ensures swallowed { NoneSwallowed result self.old.failures self.new.failures }
+        ensures asked { AsksForTag (reader_of self.old (option_map (λ d. d.now) other.entry)) tag result }
     {
         let Some(entry) = self.entry_in(other, tag) else {
             return Ok(None);
@@ -216,6 +220,7 @@ impl<R: Source> Decoder<R> {
     pub fn find_tag(&mut self, tag: Tag) -> TiffResult<Option<Value>>
         ensures read { TagsRead (outcome.WantsTag self.old tag) (option_map datum) (outcome.find_tag self.old tag) result self.old self.new }
         ensures none { outcome.find_entry self.old tag ≡ None → result ≡ Ok None }
+        ensures asked { AsksForTag self.old tag result }
     {
         self.value_in(None, tag)
     }
@@ -227,9 +232,10 @@ impl<R: Source> Decoder<R> {
         other: Option<&Directory>,
         tag: Tag,
     ) -> TiffResult<Option<u64>>
-        ensures { TagsRead (outcome.WantsTag (reader_of self.old (option_map (λ d. d.now) other.entry)) tag)
+        ensures read { TagsRead (outcome.WantsTag (reader_of self.old (option_map (λ d. d.now) other.entry)) tag)
             (λ n. n) (outcome.find_tag_unsigned (reader_of self.old (option_map (λ d. d.now) other.entry)) tag)
             result self.old self.new }
+        ensures asked { AsksForTag (reader_of self.old (option_map (λ d. d.now) other.entry)) tag result }
     {
         match self.value_in(other, tag)? {
             None => Ok(None),
@@ -244,9 +250,10 @@ impl<R: Source> Decoder<R> {
         other: Option<&Directory>,
         tag: Tag,
     ) -> TiffResult<Option<Vec<u64>>>
-        ensures { TagsRead (outcome.WantsTag (reader_of self.old (option_map (λ d. d.now) other.entry)) tag) (λ o. option_map (λ v. v.items) o)
+        ensures read { TagsRead (outcome.WantsTag (reader_of self.old (option_map (λ d. d.now) other.entry)) tag) (λ o. option_map (λ v. v.items) o)
             (outcome.find_tag_unsigned_vec (reader_of self.old (option_map (λ d. d.now) other.entry)) tag) result self.old
             self.new }
+        ensures asked { AsksForTag (reader_of self.old (option_map (λ d. d.now) other.entry)) tag result }
     {
         let alloc = self.alloc;
         match self.value_in(other, tag)? {
@@ -262,9 +269,10 @@ impl<R: Source> Decoder<R> {
     // The number of a required tag of the page's directory, or of another one.
     #[tactic(auto, unfolding(crate::specs::Outcome::find_tag_unsigned, crate::specs::Outcome::get_tag_unsigned, tiff_ifd::specs::TagQueries::get_unsigned))]
     pub(crate) fn required_in(&mut self, other: Option<&Directory>, tag: Tag) -> TiffResult<u64>
-        ensures { TagsRead (outcome.WantsTag (reader_of self.old (option_map (λ d. d.now) other.entry)) tag)
+        ensures read { TagsRead (outcome.WantsTag (reader_of self.old (option_map (λ d. d.now) other.entry)) tag)
             (λ n. n) (outcome.get_tag_unsigned (reader_of self.old (option_map (λ d. d.now) other.entry)) tag)
             result self.old self.new }
+        ensures asked { AsksForTag (reader_of self.old (option_map (λ d. d.now) other.entry)) tag result }
     {
         match self.number_in(other, tag)? {
             None => Err(TiffFormatError::RequiredTagNotFound(tag).into()),
@@ -282,6 +290,7 @@ impl<R: Source> Decoder<R> {
         ensures state { self.new ≡ record self.old { failures = self.new.failures } }
         ensures count { self.old.failures ≤ self.new.failures }
         ensures swallowed { NoneSwallowed result self.old.failures self.new.failures }
+        ensures asked { AsksForTag self.old tag result }
     {
         match self.number_in(None, tag)? {
             None => Ok(None),
@@ -303,6 +312,7 @@ impl<R: Source> Decoder<R> {
         ensures state { self.new ≡ record self.old { failures = self.new.failures } }
         ensures count { self.old.failures ≤ self.new.failures }
         ensures swallowed { NoneSwallowed result self.old.failures self.new.failures }
+        ensures asked { AsksForTag self.old tag result }
     {
         let alloc = self.alloc;
         match self.numbers_in(None, tag)? {
@@ -321,6 +331,7 @@ impl<R: Source> Decoder<R> {
         ensures state { self.new ≡ record self.old { failures = self.new.failures } }
         ensures count { self.old.failures ≤ self.new.failures }
         ensures swallowed { NoneSwallowed result self.old.failures self.new.failures }
+        ensures asked { AsksForTag self.old tag result }
     {
         as_type(self.required_in(None, tag)?, tag)
     }
@@ -328,7 +339,8 @@ impl<R: Source> Decoder<R> {
     /// The value of a required tag of the page. No such tag: `RequiredTagNotFound`; then the faults of `find_tag`.
     #[tactic(auto, unfolding(crate::specs::Outcome::get_tag, crate::specs::Outcome::find_tag, tiff_ifd::specs::Look::require, tiff_ifd::specs::Look::find))]
     pub fn get_tag(&mut self, tag: Tag) -> TiffResult<Value>
-        ensures { TagsRead (outcome.WantsTag self.old tag) datum (outcome.get_tag self.old tag) result self.old self.new }
+        ensures read { TagsRead (outcome.WantsTag self.old tag) datum (outcome.get_tag self.old tag) result self.old self.new }
+        ensures asked { AsksForTag self.old tag result }
     {
         match self.find_tag(tag)? {
             None => Err(TiffFormatError::RequiredTagNotFound(tag).into()),
@@ -339,7 +351,8 @@ impl<R: Source> Decoder<R> {
     /// A required tag's number, below 2^32. No such tag: `RequiredTagNotFound`; then the faults of `find_tag` and of `Value::into_u32`.
     #[tactic(auto, using(crate::proofs::Required::unconverted, crate::proofs::Required::required_by, crate::proofs::Required::value_found), unfolding(crate::specs::Outcome::get_tag_u32, crate::specs::Outcome::get_tag))]
     pub fn get_tag_u32(&mut self, tag: Tag) -> TiffResult<u32>
-        ensures { TagsRead (outcome.WantsTag self.old tag) (λ n. n) (outcome.get_tag_u32 self.old tag) result self.old self.new }
+        ensures read { TagsRead (outcome.WantsTag self.old tag) (λ n. n) (outcome.get_tag_u32 self.old tag) result self.old self.new }
+        ensures asked { AsksForTag self.old tag result }
     {
         self.get_tag(tag)?.into_u32()
     }
@@ -347,7 +360,8 @@ impl<R: Source> Decoder<R> {
     /// A required tag's number, below 2^64. No such tag: `RequiredTagNotFound`; then the faults of `find_tag` and of `Value::into_u64`.
     #[tactic(auto, using(crate::proofs::Required::unconverted, crate::proofs::Required::required_by, crate::proofs::Required::value_found), unfolding(crate::specs::Outcome::get_tag_u64, crate::specs::Outcome::get_tag))]
     pub fn get_tag_u64(&mut self, tag: Tag) -> TiffResult<u64>
-        ensures { TagsRead (outcome.WantsTag self.old tag) (λ n. n) (outcome.get_tag_u64 self.old tag) result self.old self.new }
+        ensures read { TagsRead (outcome.WantsTag self.old tag) (λ n. n) (outcome.get_tag_u64 self.old tag) result self.old self.new }
+        ensures asked { AsksForTag self.old tag result }
     {
         self.get_tag(tag)?.into_u64()
     }
@@ -355,7 +369,8 @@ impl<R: Source> Decoder<R> {
     /// The bits of a required tag's floating number of 4 bytes. No such tag: `RequiredTagNotFound`; then the faults of `find_tag` and of `Value::into_f32`.
     #[tactic(auto, using(crate::proofs::Required::unconverted, crate::proofs::Required::required_by, crate::proofs::Required::value_found), unfolding(crate::specs::Outcome::get_tag_f32, crate::specs::Outcome::get_tag))]
     pub fn get_tag_f32(&mut self, tag: Tag) -> TiffResult<Bits32>
-        ensures { TagsRead (outcome.WantsTag self.old tag) (bits_32) (outcome.get_tag_f32 self.old tag) result self.old self.new }
+        ensures read { TagsRead (outcome.WantsTag self.old tag) (bits_32) (outcome.get_tag_f32 self.old tag) result self.old self.new }
+        ensures asked { AsksForTag self.old tag result }
     {
         self.get_tag(tag)?.into_f32()
     }
@@ -363,7 +378,8 @@ impl<R: Source> Decoder<R> {
     /// The bits of a required tag's floating number of 8 bytes. No such tag: `RequiredTagNotFound`; then the faults of `find_tag` and of `Value::into_f64`.
     #[tactic(auto, using(crate::proofs::Required::unconverted, crate::proofs::Required::required_by, crate::proofs::Required::value_found), unfolding(crate::specs::Outcome::get_tag_f64, crate::specs::Outcome::get_tag))]
     pub fn get_tag_f64(&mut self, tag: Tag) -> TiffResult<Bits64>
-        ensures { TagsRead (outcome.WantsTag self.old tag) (bits_64) (outcome.get_tag_f64 self.old tag) result self.old self.new }
+        ensures read { TagsRead (outcome.WantsTag self.old tag) (bits_64) (outcome.get_tag_f64 self.old tag) result self.old self.new }
+        ensures asked { AsksForTag self.old tag result }
     {
         self.get_tag(tag)?.into_f64()
     }
@@ -371,7 +387,8 @@ impl<R: Source> Decoder<R> {
     /// A required tag's numbers, below 2^32. No such tag: `RequiredTagNotFound`; then the faults of `find_tag` and of `Value::into_u32_vec`.
     #[tactic(auto, using(crate::proofs::Required::unconverted, crate::proofs::Required::required_by, crate::proofs::Required::value_found), unfolding(crate::specs::Outcome::get_tag_u32_vec, crate::specs::Outcome::get_tag))]
     pub fn get_tag_u32_vec(&mut self, tag: Tag) -> TiffResult<Vec<u32>>
-        ensures { TagsRead (outcome.WantsTag self.old tag) (λ v. v.items) (outcome.get_tag_u32_vec self.old tag) result self.old self.new }
+        ensures read { TagsRead (outcome.WantsTag self.old tag) (λ v. v.items) (outcome.get_tag_u32_vec self.old tag) result self.old self.new }
+        ensures asked { AsksForTag self.old tag result }
     {
         let alloc = self.alloc;
         self.get_tag(tag)?.into_u32_vec(alloc)
@@ -380,7 +397,8 @@ impl<R: Source> Decoder<R> {
     /// A required tag's numbers, below 2^16. No such tag: `RequiredTagNotFound`; then the faults of `find_tag` and of `Value::into_u16_vec`.
     #[tactic(auto, using(crate::proofs::Required::unconverted, crate::proofs::Required::required_by, crate::proofs::Required::value_found), unfolding(crate::specs::Outcome::get_tag_u16_vec, crate::specs::Outcome::get_tag))]
     pub fn get_tag_u16_vec(&mut self, tag: Tag) -> TiffResult<Vec<u16>>
-        ensures { TagsRead (outcome.WantsTag self.old tag) (λ v. v.items) (outcome.get_tag_u16_vec self.old tag) result self.old self.new }
+        ensures read { TagsRead (outcome.WantsTag self.old tag) (λ v. v.items) (outcome.get_tag_u16_vec self.old tag) result self.old self.new }
+        ensures asked { AsksForTag self.old tag result }
     {
         let alloc = self.alloc;
         self.get_tag(tag)?.into_u16_vec(alloc)
@@ -389,7 +407,8 @@ impl<R: Source> Decoder<R> {
     /// A required tag's numbers, below 2^64. No such tag: `RequiredTagNotFound`; then the faults of `find_tag` and of `Value::into_u64_vec`.
     #[tactic(auto, using(crate::proofs::Required::unconverted, crate::proofs::Required::required_by, crate::proofs::Required::value_found), unfolding(crate::specs::Outcome::get_tag_u64_vec, crate::specs::Outcome::get_tag))]
     pub fn get_tag_u64_vec(&mut self, tag: Tag) -> TiffResult<Vec<u64>>
-        ensures { TagsRead (outcome.WantsTag self.old tag) (λ v. v.items) (outcome.get_tag_u64_vec self.old tag) result self.old self.new }
+        ensures read { TagsRead (outcome.WantsTag self.old tag) (λ v. v.items) (outcome.get_tag_u64_vec self.old tag) result self.old self.new }
+        ensures asked { AsksForTag self.old tag result }
     {
         let alloc = self.alloc;
         self.get_tag(tag)?.into_u64_vec(alloc)
@@ -398,7 +417,8 @@ impl<R: Source> Decoder<R> {
     /// The bits of a required tag's floating numbers of 4 bytes. No such tag: `RequiredTagNotFound`; then the faults of `find_tag` and of `Value::into_f32_vec`.
     #[tactic(auto, using(crate::proofs::Required::unconverted, crate::proofs::Required::required_by, crate::proofs::Required::value_found), unfolding(crate::specs::Outcome::get_tag_f32_vec, crate::specs::Outcome::get_tag))]
     pub fn get_tag_f32_vec(&mut self, tag: Tag) -> TiffResult<Vec<Bits32>>
-        ensures { TagsRead (outcome.WantsTag self.old tag) (λ v. map bits_32 v.items) (outcome.get_tag_f32_vec self.old tag) result self.old self.new }
+        ensures read { TagsRead (outcome.WantsTag self.old tag) (λ v. map bits_32 v.items) (outcome.get_tag_f32_vec self.old tag) result self.old self.new }
+        ensures asked { AsksForTag self.old tag result }
     {
         let alloc = self.alloc;
         self.get_tag(tag)?.into_f32_vec(alloc)
@@ -407,7 +427,8 @@ impl<R: Source> Decoder<R> {
     /// The bits of a required tag's floating numbers of 8 bytes. No such tag: `RequiredTagNotFound`; then the faults of `find_tag` and of `Value::into_f64_vec`.
     #[tactic(auto, using(crate::proofs::Required::unconverted, crate::proofs::Required::required_by, crate::proofs::Required::value_found), unfolding(crate::specs::Outcome::get_tag_f64_vec, crate::specs::Outcome::get_tag))]
     pub fn get_tag_f64_vec(&mut self, tag: Tag) -> TiffResult<Vec<Bits64>>
-        ensures { TagsRead (outcome.WantsTag self.old tag) (λ v. map bits_64 v.items) (outcome.get_tag_f64_vec self.old tag) result self.old self.new }
+        ensures read { TagsRead (outcome.WantsTag self.old tag) (λ v. map bits_64 v.items) (outcome.get_tag_f64_vec self.old tag) result self.old self.new }
+        ensures asked { AsksForTag self.old tag result }
     {
         let alloc = self.alloc;
         self.get_tag(tag)?.into_f64_vec(alloc)
@@ -416,7 +437,8 @@ impl<R: Source> Decoder<R> {
     /// A required tag's bytes. No such tag: `RequiredTagNotFound`; then the faults of `find_tag` and of `Value::into_u8_vec`.
     #[tactic(auto, using(crate::proofs::Required::unconverted, crate::proofs::Required::required_by, crate::proofs::Required::value_found), unfolding(crate::specs::Outcome::get_tag_u8_vec, crate::specs::Outcome::get_tag))]
     pub fn get_tag_u8_vec(&mut self, tag: Tag) -> TiffResult<Vec<u8>>
-        ensures { TagsRead (outcome.WantsTag self.old tag) (λ v. v.items) (outcome.get_tag_u8_vec self.old tag) result self.old self.new }
+        ensures read { TagsRead (outcome.WantsTag self.old tag) (λ v. v.items) (outcome.get_tag_u8_vec self.old tag) result self.old self.new }
+        ensures asked { AsksForTag self.old tag result }
     {
         let alloc = self.alloc;
         self.get_tag(tag)?.into_u8_vec(alloc)
@@ -425,7 +447,8 @@ impl<R: Source> Decoder<R> {
     /// A required tag's text. No such tag: `RequiredTagNotFound`; then the faults of `find_tag` and of `Value::into_string`.
     #[tactic(auto, using(crate::proofs::Required::unconverted, crate::proofs::Required::required_by, crate::proofs::Required::value_found), unfolding(crate::specs::Outcome::get_tag_ascii_string, crate::specs::Outcome::get_tag))]
     pub fn get_tag_ascii_string(&mut self, tag: Tag) -> TiffResult<String>
-        ensures { TagsRead (outcome.WantsTag self.old tag) (string_bytes) (outcome.get_tag_ascii_string self.old tag) result self.old self.new }
+        ensures read { TagsRead (outcome.WantsTag self.old tag) (string_bytes) (outcome.get_tag_ascii_string self.old tag) result self.old self.new }
+        ensures asked { AsksForTag self.old tag result }
     {
         self.get_tag(tag)?.into_string()
     }
@@ -452,6 +475,7 @@ impl<'a, R: Source> IfdDecoder<'a, R> {
     pub fn find_tag_buf(&mut self, tag: Tag, buf: &mut ValueBuffer) -> TiffResult<Option<Entry>>
         ensures read { ReadsTags (outcome.WantsBytes (reading self.old) tag buf.old) (λ e. (e, buf.new)) (outcome.find_tag_buf (reading self.old) tag buf.old) result self.old self.new }
         ensures left { BufferLeft self.old.decoder.now.order (outcome.find_entry (reading self.old) tag) buf.old result buf.new }
+        ensures asked { AsksForTag (reading self.old) tag result }
     {
         self.decoder.buf_in(self.other, tag, buf)
     }
@@ -469,6 +493,7 @@ impl<'a, R: Source> IfdDecoder<'a, R> {
         ensures answer { AnswersWithoutMemory (λ n. (n, buf.new)) result
             (outcome.find_tag_bytes (reading self.old) tag buf.old offset).answer self.old.decoder.now.failures
             self.new.decoder.now.failures }
+        ensures asked { AsksForTag (reading self.old) tag result }
     {
         self.decoder.bytes_in(self.other, tag, buf, offset)
     }
@@ -477,6 +502,7 @@ impl<'a, R: Source> IfdDecoder<'a, R> {
     pub fn find_tag(&mut self, tag: Tag) -> TiffResult<Option<Value>>
         ensures read { ReadsTags (outcome.WantsTag (reading self.old) tag) (option_map datum) (outcome.find_tag (reading self.old) tag) result self.old self.new }
         ensures none { outcome.find_entry (reading self.old) tag ≡ None → result ≡ Ok None }
+        ensures asked { AsksForTag (reading self.old) tag result }
     {
         self.decoder.value_in(self.other, tag)
     }
@@ -490,6 +516,7 @@ impl<'a, R: Source> IfdDecoder<'a, R> {
             (self.old.decoder.now.failures < self.new.decoder.now.failures) tag
             (outcome.find_tag_unsigned (reading self.old) tag).answer result }
         ensures kept { KeepsReading result self.old self.new }
+        ensures asked { AsksForTag (reading self.old) tag result }
     {
         match self.decoder.number_in(self.other, tag)? {
             None => Ok(None),
@@ -510,6 +537,7 @@ impl<'a, R: Source> IfdDecoder<'a, R> {
             (self.old.decoder.now.failures < self.new.decoder.now.failures) tag
             (outcome.find_tag_unsigned_vec (reading self.old) tag).answer result }
         ensures kept { KeepsReading result self.old self.new }
+        ensures asked { AsksForTag (reading self.old) tag result }
     {
         let alloc = self.alloc;
         match self.decoder.numbers_in(self.other, tag)? {
@@ -527,6 +555,7 @@ impl<'a, R: Source> IfdDecoder<'a, R> {
             (self.old.decoder.now.failures < self.new.decoder.now.failures) tag
             (outcome.get_tag_unsigned (reading self.old) tag).answer result }
         ensures kept { KeepsReading result self.old self.new }
+        ensures asked { AsksForTag (reading self.old) tag result }
     {
         as_type(self.decoder.required_in(self.other, tag)?, tag)
     }
@@ -534,7 +563,8 @@ impl<'a, R: Source> IfdDecoder<'a, R> {
     /// The value of a required tag. No such tag: `RequiredTagNotFound`; then the faults of `find_tag`.
     #[tactic(auto, unfolding(crate::specs::Outcome::get_tag, crate::specs::Outcome::find_tag, tiff_ifd::specs::Look::require, tiff_ifd::specs::Look::find))]
     pub fn get_tag(&mut self, tag: Tag) -> TiffResult<Value>
-        ensures { ReadsTags (outcome.WantsTag (reading self.old) tag) datum (outcome.get_tag (reading self.old) tag) result self.old self.new }
+        ensures read { ReadsTags (outcome.WantsTag (reading self.old) tag) datum (outcome.get_tag (reading self.old) tag) result self.old self.new }
+        ensures asked { AsksForTag (reading self.old) tag result }
     {
         match self.find_tag(tag)? {
             None => Err(TiffFormatError::RequiredTagNotFound(tag).into()),
@@ -545,7 +575,8 @@ impl<'a, R: Source> IfdDecoder<'a, R> {
     /// A required tag's number, below 2^32. No such tag: `RequiredTagNotFound`; then the faults of `find_tag` and of `Value::into_u32`.
     #[tactic(auto, using(crate::proofs::Required::unconverted, crate::proofs::Required::required_by, crate::proofs::Required::value_found), unfolding(crate::specs::Outcome::get_tag_u32, crate::specs::Outcome::get_tag))]
     pub fn get_tag_u32(&mut self, tag: Tag) -> TiffResult<u32>
-        ensures { ReadsTags (outcome.WantsTag (reading self.old) tag) (λ n. n) (outcome.get_tag_u32 (reading self.old) tag) result self.old self.new }
+        ensures read { ReadsTags (outcome.WantsTag (reading self.old) tag) (λ n. n) (outcome.get_tag_u32 (reading self.old) tag) result self.old self.new }
+        ensures asked { AsksForTag (reading self.old) tag result }
     {
         self.get_tag(tag)?.into_u32()
     }
@@ -553,7 +584,8 @@ impl<'a, R: Source> IfdDecoder<'a, R> {
     /// A required tag's number, below 2^64. No such tag: `RequiredTagNotFound`; then the faults of `find_tag` and of `Value::into_u64`.
     #[tactic(auto, using(crate::proofs::Required::unconverted, crate::proofs::Required::required_by, crate::proofs::Required::value_found), unfolding(crate::specs::Outcome::get_tag_u64, crate::specs::Outcome::get_tag))]
     pub fn get_tag_u64(&mut self, tag: Tag) -> TiffResult<u64>
-        ensures { ReadsTags (outcome.WantsTag (reading self.old) tag) (λ n. n) (outcome.get_tag_u64 (reading self.old) tag) result self.old self.new }
+        ensures read { ReadsTags (outcome.WantsTag (reading self.old) tag) (λ n. n) (outcome.get_tag_u64 (reading self.old) tag) result self.old self.new }
+        ensures asked { AsksForTag (reading self.old) tag result }
     {
         self.get_tag(tag)?.into_u64()
     }
@@ -561,7 +593,8 @@ impl<'a, R: Source> IfdDecoder<'a, R> {
     /// The bits of a required tag's floating number of 4 bytes. No such tag: `RequiredTagNotFound`; then the faults of `find_tag` and of `Value::into_f32`.
     #[tactic(auto, using(crate::proofs::Required::unconverted, crate::proofs::Required::required_by, crate::proofs::Required::value_found), unfolding(crate::specs::Outcome::get_tag_f32, crate::specs::Outcome::get_tag))]
     pub fn get_tag_f32(&mut self, tag: Tag) -> TiffResult<Bits32>
-        ensures { ReadsTags (outcome.WantsTag (reading self.old) tag) bits_32 (outcome.get_tag_f32 (reading self.old) tag) result self.old self.new }
+        ensures read { ReadsTags (outcome.WantsTag (reading self.old) tag) bits_32 (outcome.get_tag_f32 (reading self.old) tag) result self.old self.new }
+        ensures asked { AsksForTag (reading self.old) tag result }
     {
         self.get_tag(tag)?.into_f32()
     }
@@ -569,7 +602,8 @@ impl<'a, R: Source> IfdDecoder<'a, R> {
     /// The bits of a required tag's floating number of 8 bytes. No such tag: `RequiredTagNotFound`; then the faults of `find_tag` and of `Value::into_f64`.
     #[tactic(auto, using(crate::proofs::Required::unconverted, crate::proofs::Required::required_by, crate::proofs::Required::value_found), unfolding(crate::specs::Outcome::get_tag_f64, crate::specs::Outcome::get_tag))]
     pub fn get_tag_f64(&mut self, tag: Tag) -> TiffResult<Bits64>
-        ensures { ReadsTags (outcome.WantsTag (reading self.old) tag) bits_64 (outcome.get_tag_f64 (reading self.old) tag) result self.old self.new }
+        ensures read { ReadsTags (outcome.WantsTag (reading self.old) tag) bits_64 (outcome.get_tag_f64 (reading self.old) tag) result self.old self.new }
+        ensures asked { AsksForTag (reading self.old) tag result }
     {
         self.get_tag(tag)?.into_f64()
     }
@@ -577,7 +611,8 @@ impl<'a, R: Source> IfdDecoder<'a, R> {
     /// A required tag's numbers, below 2^32. No such tag: `RequiredTagNotFound`; then the faults of `find_tag` and of `Value::into_u32_vec`.
     #[tactic(auto, using(crate::proofs::Required::unconverted, crate::proofs::Required::required_by, crate::proofs::Required::value_found), unfolding(crate::specs::Outcome::get_tag_u32_vec, crate::specs::Outcome::get_tag))]
     pub fn get_tag_u32_vec(&mut self, tag: Tag) -> TiffResult<Vec<u32>>
-        ensures { ReadsTags (outcome.WantsTag (reading self.old) tag) (λ v. v.items) (outcome.get_tag_u32_vec (reading self.old) tag) result self.old self.new }
+        ensures read { ReadsTags (outcome.WantsTag (reading self.old) tag) (λ v. v.items) (outcome.get_tag_u32_vec (reading self.old) tag) result self.old self.new }
+        ensures asked { AsksForTag (reading self.old) tag result }
     {
         let alloc = self.alloc;
         self.get_tag(tag)?.into_u32_vec(alloc)
@@ -586,7 +621,8 @@ impl<'a, R: Source> IfdDecoder<'a, R> {
     /// A required tag's numbers, below 2^16. No such tag: `RequiredTagNotFound`; then the faults of `find_tag` and of `Value::into_u16_vec`.
     #[tactic(auto, using(crate::proofs::Required::unconverted, crate::proofs::Required::required_by, crate::proofs::Required::value_found), unfolding(crate::specs::Outcome::get_tag_u16_vec, crate::specs::Outcome::get_tag))]
     pub fn get_tag_u16_vec(&mut self, tag: Tag) -> TiffResult<Vec<u16>>
-        ensures { ReadsTags (outcome.WantsTag (reading self.old) tag) (λ v. v.items) (outcome.get_tag_u16_vec (reading self.old) tag) result self.old self.new }
+        ensures read { ReadsTags (outcome.WantsTag (reading self.old) tag) (λ v. v.items) (outcome.get_tag_u16_vec (reading self.old) tag) result self.old self.new }
+        ensures asked { AsksForTag (reading self.old) tag result }
     {
         let alloc = self.alloc;
         self.get_tag(tag)?.into_u16_vec(alloc)
@@ -595,7 +631,8 @@ impl<'a, R: Source> IfdDecoder<'a, R> {
     /// A required tag's numbers, below 2^64. No such tag: `RequiredTagNotFound`; then the faults of `find_tag` and of `Value::into_u64_vec`.
     #[tactic(auto, using(crate::proofs::Required::unconverted, crate::proofs::Required::required_by, crate::proofs::Required::value_found), unfolding(crate::specs::Outcome::get_tag_u64_vec, crate::specs::Outcome::get_tag))]
     pub fn get_tag_u64_vec(&mut self, tag: Tag) -> TiffResult<Vec<u64>>
-        ensures { ReadsTags (outcome.WantsTag (reading self.old) tag) (λ v. v.items) (outcome.get_tag_u64_vec (reading self.old) tag) result self.old self.new }
+        ensures read { ReadsTags (outcome.WantsTag (reading self.old) tag) (λ v. v.items) (outcome.get_tag_u64_vec (reading self.old) tag) result self.old self.new }
+        ensures asked { AsksForTag (reading self.old) tag result }
     {
         let alloc = self.alloc;
         self.get_tag(tag)?.into_u64_vec(alloc)
@@ -604,7 +641,8 @@ impl<'a, R: Source> IfdDecoder<'a, R> {
     /// The bits of a required tag's floating numbers of 4 bytes. No such tag: `RequiredTagNotFound`; then the faults of `find_tag` and of `Value::into_f32_vec`.
     #[tactic(auto, using(crate::proofs::Required::unconverted, crate::proofs::Required::required_by, crate::proofs::Required::value_found), unfolding(crate::specs::Outcome::get_tag_f32_vec, crate::specs::Outcome::get_tag))]
     pub fn get_tag_f32_vec(&mut self, tag: Tag) -> TiffResult<Vec<Bits32>>
-        ensures { ReadsTags (outcome.WantsTag (reading self.old) tag) (λ v. map bits_32 v.items) (outcome.get_tag_f32_vec (reading self.old) tag) result self.old self.new }
+        ensures read { ReadsTags (outcome.WantsTag (reading self.old) tag) (λ v. map bits_32 v.items) (outcome.get_tag_f32_vec (reading self.old) tag) result self.old self.new }
+        ensures asked { AsksForTag (reading self.old) tag result }
     {
         let alloc = self.alloc;
         self.get_tag(tag)?.into_f32_vec(alloc)
@@ -613,7 +651,8 @@ impl<'a, R: Source> IfdDecoder<'a, R> {
     /// The bits of a required tag's floating numbers of 8 bytes. No such tag: `RequiredTagNotFound`; then the faults of `find_tag` and of `Value::into_f64_vec`.
     #[tactic(auto, using(crate::proofs::Required::unconverted, crate::proofs::Required::required_by, crate::proofs::Required::value_found), unfolding(crate::specs::Outcome::get_tag_f64_vec, crate::specs::Outcome::get_tag))]
     pub fn get_tag_f64_vec(&mut self, tag: Tag) -> TiffResult<Vec<Bits64>>
-        ensures { ReadsTags (outcome.WantsTag (reading self.old) tag) (λ v. map bits_64 v.items) (outcome.get_tag_f64_vec (reading self.old) tag) result self.old self.new }
+        ensures read { ReadsTags (outcome.WantsTag (reading self.old) tag) (λ v. map bits_64 v.items) (outcome.get_tag_f64_vec (reading self.old) tag) result self.old self.new }
+        ensures asked { AsksForTag (reading self.old) tag result }
     {
         let alloc = self.alloc;
         self.get_tag(tag)?.into_f64_vec(alloc)
@@ -622,7 +661,8 @@ impl<'a, R: Source> IfdDecoder<'a, R> {
     /// A required tag's bytes. No such tag: `RequiredTagNotFound`; then the faults of `find_tag` and of `Value::into_u8_vec`.
     #[tactic(auto, using(crate::proofs::Required::unconverted, crate::proofs::Required::required_by, crate::proofs::Required::value_found), unfolding(crate::specs::Outcome::get_tag_u8_vec, crate::specs::Outcome::get_tag))]
     pub fn get_tag_u8_vec(&mut self, tag: Tag) -> TiffResult<Vec<u8>>
-        ensures { ReadsTags (outcome.WantsTag (reading self.old) tag) (λ v. v.items) (outcome.get_tag_u8_vec (reading self.old) tag) result self.old self.new }
+        ensures read { ReadsTags (outcome.WantsTag (reading self.old) tag) (λ v. v.items) (outcome.get_tag_u8_vec (reading self.old) tag) result self.old self.new }
+        ensures asked { AsksForTag (reading self.old) tag result }
     {
         let alloc = self.alloc;
         self.get_tag(tag)?.into_u8_vec(alloc)
@@ -631,7 +671,8 @@ impl<'a, R: Source> IfdDecoder<'a, R> {
     /// A required tag's text. No such tag: `RequiredTagNotFound`; then the faults of `find_tag` and of `Value::into_string`.
     #[tactic(auto, using(crate::proofs::Required::unconverted, crate::proofs::Required::required_by, crate::proofs::Required::value_found), unfolding(crate::specs::Outcome::get_tag_ascii_string, crate::specs::Outcome::get_tag))]
     pub fn get_tag_ascii_string(&mut self, tag: Tag) -> TiffResult<String>
-        ensures { ReadsTags (outcome.WantsTag (reading self.old) tag) string_bytes (outcome.get_tag_ascii_string (reading self.old) tag) result self.old self.new }
+        ensures read { ReadsTags (outcome.WantsTag (reading self.old) tag) string_bytes (outcome.get_tag_ascii_string (reading self.old) tag) result self.old self.new }
+        ensures asked { AsksForTag (reading self.old) tag result }
     {
         self.get_tag(tag)?.into_string()
     }

@@ -1,10 +1,13 @@
 //! Bytes and numbers are read at an offset of the file, as they stand there.
 
 ghost use Rattle.std.specs.Prelude.{string_bytes};
-ghost use Rattle.std.specs.Int.{w8};
-ghost use Rattle.tiff_base.specs.Answers.{AnswersWithoutMemory, IsKept};
+ghost use Rattle.std.specs.Int.{byte_len, w8};
+ghost use Rattle.tiff_base.specs.Answers.{AnswersWithoutMemory, AsksOnly, IsKept};
+ghost use Rattle.tiff_base.specs.Directory.{offset_width};
 ghost use Rattle.tiff_base.specs.Number.{number_at};
+ghost use Rattle.tiff_base.specs.SourceAndSink.{AreReadable};
 ghost use Rattle.tiff_base.specs.Sparing.{IsWithinLimits};
+ghost use Rattle.tiff_decode.specs.Asked.{AsksHere};
 ghost use Rattle.tiff_decode.specs.Machine.{FollowsBut, FollowsWithoutMemory, FollowsWithoutEither};
 ghost use Rattle.tiff_decode.specs.Outcome as outcome;
 ghost use Rattle.tiff_decode.specs.Sight.{bits_32, bits_64};
@@ -24,6 +27,7 @@ fn read_u8_at<R: Source>(source: &mut R, at: u64, order: ByteOrder) -> TiffResul
     ensures kept { IsKept R.told R.failures result source.old source.new }
     ensures answer { AnswersWithoutMemory (λ n. n) result (number_at order w8 (R.told source.old).bytes at) (R.failures source.old)
         (R.failures source.new) }
+    ensures asked { AsksOnly (AreReadable (R.told source.old) at 1) result }
 {
     let mut bytes = [0u8; 1];
     read_exact_at(source, at, &mut bytes)?;
@@ -57,7 +61,8 @@ impl<R: Source> Decoder<R> {
     /// The next number of 4 bytes, in BigTIFF of 8.
     #[tactic(auto, unfolding(crate::specs::Outcome::read_ifd_offset))]
     pub fn read_ifd_offset(&mut self) -> TiffResult<u64>
-        ensures { FollowsWithoutMemory (λ x. x) (outcome.read_ifd_offset self.old) result self.old self.new }
+        ensures follows { FollowsWithoutMemory (λ x. x) (outcome.read_ifd_offset self.old) result self.old self.new }
+        ensures asked { AsksHere self.old (byte_len (offset_width self.old.kind)) result }
     {
         let kind = self.tags.kind;
         let n = read_link_at(&mut self.tags.source, self.offset, kind, self.tags.order)?;
@@ -68,7 +73,8 @@ impl<R: Source> Decoder<R> {
     /// The next byte.
     #[tactic(auto, unfolding(crate::specs::Outcome::read_byte))]
     pub fn read_byte(&mut self) -> TiffResult<u8>
-        ensures { FollowsWithoutMemory (λ x. x) (outcome.read_byte self.old) result self.old self.new }
+        ensures follows { FollowsWithoutMemory (λ x. x) (outcome.read_byte self.old) result self.old self.new }
+        ensures asked { AsksHere self.old 1 result }
     {
         let n = read_u8_at(&mut self.tags.source, self.offset, self.tags.order)?;
         self.offset += 1;
@@ -78,7 +84,8 @@ impl<R: Source> Decoder<R> {
     /// The next number of two bytes.
     #[tactic(auto, unfolding(crate::specs::Outcome::read_short))]
     pub fn read_short(&mut self) -> TiffResult<u16>
-        ensures { FollowsWithoutMemory (λ x. x) (outcome.read_short self.old) result self.old self.new }
+        ensures follows { FollowsWithoutMemory (λ x. x) (outcome.read_short self.old) result self.old self.new }
+        ensures asked { AsksHere self.old 2 result }
     {
         let n = read_u16_at(&mut self.tags.source, self.offset, self.tags.order)?;
         self.offset += 2;
@@ -88,7 +95,8 @@ impl<R: Source> Decoder<R> {
     /// The next signed number of two bytes.
     #[tactic(auto, unfolding(crate::specs::Outcome::read_short, crate::specs::Outcome::read_sshort))]
     pub fn read_sshort(&mut self) -> TiffResult<i16>
-        ensures { FollowsWithoutMemory (λ x. x) (outcome.read_sshort self.old) result self.old self.new }
+        ensures follows { FollowsWithoutMemory (λ x. x) (outcome.read_sshort self.old) result self.old self.new }
+        ensures asked { AsksHere self.old 2 result }
     {
         Ok(self.read_short()?.cast_signed())
     }
@@ -96,7 +104,8 @@ impl<R: Source> Decoder<R> {
     /// The next number of four bytes.
     #[tactic(auto, unfolding(crate::specs::Outcome::read_long))]
     pub fn read_long(&mut self) -> TiffResult<u32>
-        ensures { FollowsWithoutMemory (λ x. x) (outcome.read_long self.old) result self.old self.new }
+        ensures follows { FollowsWithoutMemory (λ x. x) (outcome.read_long self.old) result self.old self.new }
+        ensures asked { AsksHere self.old 4 result }
     {
         let n = read_u32_at(&mut self.tags.source, self.offset, self.tags.order)?;
         self.offset += 4;
@@ -106,7 +115,8 @@ impl<R: Source> Decoder<R> {
     /// The next signed number of four bytes.
     #[tactic(auto, unfolding(crate::specs::Outcome::read_long, crate::specs::Outcome::read_slong))]
     pub fn read_slong(&mut self) -> TiffResult<i32>
-        ensures { FollowsWithoutMemory (λ x. x) (outcome.read_slong self.old) result self.old self.new }
+        ensures follows { FollowsWithoutMemory (λ x. x) (outcome.read_slong self.old) result self.old self.new }
+        ensures asked { AsksHere self.old 4 result }
     {
         Ok(self.read_long()?.cast_signed())
     }
@@ -114,7 +124,8 @@ impl<R: Source> Decoder<R> {
     /// The next number of eight bytes.
     #[tactic(auto, unfolding(crate::specs::Outcome::read_long8))]
     pub fn read_long8(&mut self) -> TiffResult<u64>
-        ensures { FollowsWithoutMemory (λ x. x) (outcome.read_long8 self.old) result self.old self.new }
+        ensures follows { FollowsWithoutMemory (λ x. x) (outcome.read_long8 self.old) result self.old self.new }
+        ensures asked { AsksHere self.old 8 result }
     {
         let n = read_u64_at(&mut self.tags.source, self.offset, self.tags.order)?;
         self.offset += 8;
@@ -124,7 +135,8 @@ impl<R: Source> Decoder<R> {
     /// The next signed number of eight bytes.
     #[tactic(auto, unfolding(crate::specs::Outcome::read_long8, crate::specs::Outcome::read_slong8))]
     pub fn read_slong8(&mut self) -> TiffResult<i64>
-        ensures { FollowsWithoutMemory (λ x. x) (outcome.read_slong8 self.old) result self.old self.new }
+        ensures follows { FollowsWithoutMemory (λ x. x) (outcome.read_slong8 self.old) result self.old self.new }
+        ensures asked { AsksHere self.old 8 result }
     {
         Ok(self.read_long8()?.cast_signed())
     }
@@ -132,7 +144,8 @@ impl<R: Source> Decoder<R> {
     /// The next floating number of four bytes.
     #[tactic(auto, unfolding(crate::specs::Outcome::read_long, crate::specs::Outcome::read_float))]
     pub fn read_float(&mut self) -> TiffResult<Bits32>
-        ensures { FollowsWithoutMemory bits_32 (outcome.read_float self.old) result self.old self.new }
+        ensures follows { FollowsWithoutMemory bits_32 (outcome.read_float self.old) result self.old self.new }
+        ensures asked { AsksHere self.old 4 result }
     {
         Ok(Bits32(self.read_long()?))
     }
@@ -140,7 +153,8 @@ impl<R: Source> Decoder<R> {
     /// The next floating number of eight bytes.
     #[tactic(auto, unfolding(crate::specs::Outcome::read_long8, crate::specs::Outcome::read_double))]
     pub fn read_double(&mut self) -> TiffResult<Bits64>
-        ensures { FollowsWithoutMemory bits_64 (outcome.read_double self.old) result self.old self.new }
+        ensures follows { FollowsWithoutMemory bits_64 (outcome.read_double self.old) result self.old self.new }
+        ensures asked { AsksHere self.old 8 result }
     {
         Ok(Bits64(self.read_long8()?))
     }
@@ -149,8 +163,9 @@ impl<R: Source> Decoder<R> {
     /// bytes are in the source.
     #[tactic(auto, unfolding(crate::specs::Outcome::read_string))]
     pub fn read_string(&mut self, length: usize) -> TiffResult<String>
-        ensures { let given = outcome.read_string self.old length in
+        ensures follows { let given = outcome.read_string self.old length in
             FollowsBut (IsWithinLimits given.answer) string_bytes given result self.old self.new }
+        ensures asked { AsksHere self.old length result }
     {
         let text = read_text_at(self.alloc, &mut self.tags.source, self.offset, length)?;
         self.offset += length as u64;
@@ -160,7 +175,8 @@ impl<R: Source> Decoder<R> {
     /// The next four bytes as they stand. In BigTIFF: `InconsistentSizesEncountered`.
     #[tactic(auto, unfolding(crate::specs::Outcome::read_offset))]
     pub fn read_offset(&mut self) -> TiffResult<[u8; 4]>
-        ensures { FollowsWithoutMemory (λ x. x) (outcome.read_offset self.old) result self.old self.new }
+        ensures follows { FollowsWithoutMemory (λ x. x) (outcome.read_offset self.old) result self.old self.new }
+        ensures asked { AsksHere self.old 4 result }
     {
         match self.tags.kind {
             FileKind::Classic => (),
@@ -175,7 +191,8 @@ impl<R: Source> Decoder<R> {
     /// The next eight bytes as they stand.
     #[tactic(auto, unfolding(crate::specs::Outcome::read_offset_u64))]
     pub fn read_offset_u64(&mut self) -> TiffResult<[u8; 8]>
-        ensures { FollowsWithoutMemory (λ x. x) (outcome.read_offset_u64 self.old) result self.old self.new }
+        ensures follows { FollowsWithoutMemory (λ x. x) (outcome.read_offset_u64 self.old) result self.old self.new }
+        ensures asked { AsksHere self.old 8 result }
     {
         let mut bytes = [0u8; 8];
         read_exact_at(&mut self.tags.source, self.offset, &mut bytes)?;

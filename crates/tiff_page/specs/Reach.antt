@@ -1,8 +1,15 @@
--- Which bytes a source is asked for by reads of pixels.
+-- Which bytes a source is asked for by the checks of a page and by reads of pixels.
 use Rattle.std.specs.Prelude.{◌≡◌, ℕ, ◌+◌, ◌*◌, ◌<◌, if◌then◌else◌, slice_index, Result, Ok}
 use Rattle.tiff_base.specs.declared.color.ColorType.{ColorType}
 use Rattle.tiff_base.specs.declared.error.TiffError.{TiffError}
+use Rattle.tiff_base.specs.declared.tags.ByteOrder.{ByteOrder}
+use Rattle.tiff_base.specs.declared.tags.FileKind.{FileKind}
+use Rattle.tiff_base.specs.declared.tags.Tag.TheVariants as tag
+use Rattle.tiff_base.specs.Answers.{AsksOnly}
+use Rattle.tiff_base.specs.Field.{DirectoryRecord}
 use Rattle.tiff_base.specs.SourceAndSink.{AreReadable, SourceRecord}
+use Rattle.tiff_ifd.specs.Look.{DirectoryTags}
+use Rattle.tiff_ifd.specs.Stretches.{TagReadable}
 use Rattle.tiff_ifd.specs.Unpacking.{PackedReadable}
 use Rattle.tiff_page.specs.declared.chunk_data.Stored.{Stored}
 use Rattle.tiff_page.specs.declared.chunk_data.Stored.TheVariants.{Plain, Packed, Ended}
@@ -13,6 +20,31 @@ use Rattle.tiff_page.specs.Page.{PageRecord}
 use Rattle.tiff_page.specs.PixelCalls.{Part, image_part, chunk_part}
 use Rattle.tiff_page.specs.Pixels.{needed_bytes}
 use Rattle.tiff_page.specs.Rect.{rect, chunks_of_plane}
+
+-- A source answers for the values of each tag that the checks of a page read, of those that the directory has.
+pub record PageReadable (source : SourceRecord) (kind : FileKind) (order : ByteOrder) (directory : DirectoryRecord) : Type 0 where
+  pub width : TagReadable source kind order directory tag.ImageWidth
+  pub length : TagReadable source kind order directory tag.ImageLength
+  pub interpretation : TagReadable source kind order directory tag.PhotometricInterpretation
+  pub method : TagReadable source kind order directory tag.Compression
+  pub samples : TagReadable source kind order directory tag.SamplesPerPixel
+  pub extra : TagReadable source kind order directory tag.ExtraSamples
+  pub format : TagReadable source kind order directory tag.SampleFormat
+  pub depth : TagReadable source kind order directory tag.BitsPerSample
+  pub predictor : TagReadable source kind order directory tag.Predictor
+  pub planar : TagReadable source kind order directory tag.PlanarConfiguration
+  pub subsampling : TagReadable source kind order directory tag.ChromaSubsampling
+  pub strip_offsets : TagReadable source kind order directory tag.StripOffsets
+  pub strip_byte_counts : TagReadable source kind order directory tag.StripByteCounts
+  pub rows : TagReadable source kind order directory tag.RowsPerStrip
+  pub tile_width : TagReadable source kind order directory tag.TileWidth
+  pub tile_length : TagReadable source kind order directory tag.TileLength
+  pub tile_offsets : TagReadable source kind order directory tag.TileOffsets
+  pub tile_byte_counts : TagReadable source kind order directory tag.TileByteCounts
+
+-- The checks of a page ask for these alone.
+abbrev pub AsksForPage : {X : Type 0} → DirectoryTags → Result X TiffError → Type 0
+AsksForPage tags result = AsksOnly (PageReadable tags.source tags.kind tags.order tags.directory) result
 
 -- A source answers for so many bytes of a chunk's data from a position on; of packed data, for all that are counted.
 abbrev pub StoredReadable : SourceRecord → Stored → ℕ → Type 0

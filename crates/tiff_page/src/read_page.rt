@@ -12,8 +12,9 @@ ghost use Rattle.tiff_base.specs.Sparing.{IsListFault};
 ghost use Rattle.tiff_base.specs.declared.error.TiffError.TheVariants as tiff;
 ghost use Rattle.tiff_base.specs.declared.error.TiffFormatError.TheVariants as format;
 ghost use Rattle.tiff_base.specs.declared.tags.Tag.TheVariants as named;
-ghost use Rattle.tiff_ifd.specs.Look.{AnswersFound};
+ghost use Rattle.tiff_ifd.specs.Look.{AnswersFound, AsksForTag};
 ghost use Rattle.tiff_page.specs.Checks as checks;
+ghost use Rattle.tiff_page.specs.Reach.{AsksForPage};
 
 use crate::lists::{ExtraSampleList, NumberList};
 use crate::page::{ChunkTable, Page};
@@ -44,6 +45,7 @@ pub fn read_size<T: Tags>(tags: &mut T, alloc: Global) -> TiffResult<(u32, u32)>
     ensures kept { IsKept T.told T.failures result tags.old tags.new }
     ensures answer { AnswersFound (λ s. s) result (checks.size_in (T.told tags.old).look)
         (T.told tags.old).look named.ImageWidth (T.failures tags.old) (T.failures tags.new) }
+    ensures asked { AsksForPage (T.told tags.old) result }
     ensures some { IfOk result (λ s. (0 < s.0) × (0 < s.1)) }
 {
     let width = require_u32(tags, alloc, Tag::ImageWidth)?;
@@ -70,6 +72,7 @@ pub fn read_interpretation<T: Tags>(
     ensures kept { IsKept T.told T.failures result tags.old tags.new }
     ensures answer { AnswersFound (λ s. s) result (checks.interpretation_in (T.told tags.old).look)
         (T.told tags.old).look named.PhotometricInterpretation (T.failures tags.old) (T.failures tags.new) }
+    ensures asked { AsksForTag (T.told tags.old) named.PhotometricInterpretation result }
 {
     interpretation_named(find_u16(tags, alloc, Tag::PhotometricInterpretation)?)
 }
@@ -80,6 +83,7 @@ pub fn read_method<T: Tags>(tags: &mut T, alloc: Global) -> TiffResult<Compressi
     ensures kept { IsKept T.told T.failures result tags.old tags.new }
     ensures answer { AnswersFound (λ s. s) result (checks.method_in (T.told tags.old).look)
         (T.told tags.old).look named.Compression (T.failures tags.old) (T.failures tags.new) }
+    ensures asked { AsksForTag (T.told tags.old) named.Compression result }
 {
     let number = find_u16(tags, alloc, Tag::Compression)?.unwrap_or(1);
     Ok(CompressionMethod::from_u16_exhaustive(number))
@@ -102,6 +106,7 @@ pub fn read_samples<T: Tags>(tags: &mut T, alloc: Global) -> TiffResult<u16>
     ensures kept { IsKept T.told T.failures result tags.old tags.new }
     ensures answer { AnswersFound (λ s. s) result (checks.samples_in (T.told tags.old).look)
         (T.told tags.old).look named.SamplesPerPixel (T.failures tags.old) (T.failures tags.new) }
+    ensures asked { AsksForTag (T.told tags.old) named.SamplesPerPixel result }
     ensures some { IfOk result (λ n. 0 < n) }
 {
     some_samples(find_u16(tags, alloc, Tag::SamplesPerPixel)?.unwrap_or(1))
@@ -133,6 +138,7 @@ pub fn read_extra<T: Tags>(tags: &mut T, alloc: Global, samples: u16) -> TiffRes
     ensures kept { IsKept T.told T.failures result tags.old tags.new }
     ensures answer { AnswersFound (λ s. s) result (checks.extra_in (T.told tags.old).look samples)
         (T.told tags.old).look named.ExtraSamples (T.failures tags.old) (T.failures tags.new) }
+    ensures asked { AsksForTag (T.told tags.old) named.ExtraSamples result }
     ensures few { IfOk result (λ e. length e ≤ samples) }
 {
     match find_u16_vec(tags, alloc, Tag::ExtraSamples)? {
@@ -212,6 +218,7 @@ pub fn read_format<T: Tags>(tags: &mut T, alloc: Global) -> TiffResult<SampleFor
     ensures kept { IsKept T.told T.failures result tags.old tags.new }
     ensures answer { AnswersFound (λ s. s) result (checks.format_in (T.told tags.old).look)
         (T.told tags.old).look named.SampleFormat (T.failures tags.old) (T.failures tags.new) }
+    ensures asked { AsksForTag (T.told tags.old) named.SampleFormat result }
 {
     match tags.find_u64_vec(alloc, Tag::SampleFormat)? {
         None => Ok(SampleFormat::Uint),
@@ -246,6 +253,7 @@ pub fn read_depth<T: Tags>(tags: &mut T, alloc: Global, samples: u16) -> TiffRes
     ensures kept { IsKept T.told T.failures result tags.old tags.new }
     ensures answer { AnswersFound (λ s. s) result (checks.depth_in (T.told tags.old).look samples)
         (T.told tags.old).look named.BitsPerSample (T.failures tags.old) (T.failures tags.new) }
+    ensures asked { AsksForTag (T.told tags.old) named.BitsPerSample result }
     ensures some { IfOk result (λ d. 0 < d) }
 {
     match tags.find_u64_vec(alloc, Tag::BitsPerSample)? {
@@ -273,6 +281,7 @@ pub fn read_predictor<T: Tags>(tags: &mut T, alloc: Global) -> TiffResult<Predic
     ensures kept { IsKept T.told T.failures result tags.old tags.new }
     ensures answer { AnswersFound (λ s. s) result (checks.predictor_in (T.told tags.old).look)
         (T.told tags.old).look named.Predictor (T.failures tags.old) (T.failures tags.new) }
+    ensures asked { AsksForTag (T.told tags.old) named.Predictor result }
 {
     predictor_from(find_u16(tags, alloc, Tag::Predictor)?)
 }
@@ -296,6 +305,7 @@ pub fn read_planar<T: Tags>(tags: &mut T, alloc: Global) -> TiffResult<PlanarCon
     ensures kept { IsKept T.told T.failures result tags.old tags.new }
     ensures answer { AnswersFound (λ s. s) result (checks.planar_in (T.told tags.old).look)
         (T.told tags.old).look named.PlanarConfiguration (T.failures tags.old) (T.failures tags.new) }
+    ensures asked { AsksForTag (T.told tags.old) named.PlanarConfiguration result }
 {
     planar_from(find_u16(tags, alloc, Tag::PlanarConfiguration)?)
 }
@@ -315,6 +325,7 @@ pub fn read_subsampling<T: Tags>(tags: &mut T, alloc: Global) -> TiffResult<(u16
     ensures kept { IsKept T.told T.failures result tags.old tags.new }
     ensures answer { AnswersFound (λ s. s) result (checks.subsampling_in (T.told tags.old).look)
         (T.told tags.old).look named.ChromaSubsampling (T.failures tags.old) (T.failures tags.new) }
+    ensures asked { AsksForTag (T.told tags.old) named.ChromaSubsampling result }
 {
     match tags.find_u64_vec(alloc, Tag::ChromaSubsampling)? {
         None => Ok((2, 2)),
@@ -412,6 +423,7 @@ pub fn read_strips<T: Tags>(
     ensures kept { IsKept T.told T.failures result tags.old tags.new }
     ensures answer { AnswersFound view.chunks result (checks.strips_in (T.told tags.old).look width height planes)
         (T.told tags.old).look named.StripOffsets (T.failures tags.old) (T.failures tags.new) }
+    ensures asked { AsksForPage (T.told tags.old) result }
     ensures wide { IfOk result (λ c. 0 < c.chunk_width) }
     ensures high { IfOk result (λ c. 0 < c.chunk_height) }
     ensures same { IfOk result (λ c. length c.byte_counts ≡ length c.offsets) }
@@ -457,6 +469,7 @@ pub fn read_tiles<T: Tags>(
     ensures kept { IsKept T.told T.failures result tags.old tags.new }
     ensures answer { AnswersFound view.chunks result (checks.tiles_in (T.told tags.old).look width height planes)
         (T.told tags.old).look named.TileWidth (T.failures tags.old) (T.failures tags.new) }
+    ensures asked { AsksForPage (T.told tags.old) result }
     ensures wide { IfOk result (λ c. 0 < c.chunk_width) }
     ensures high { IfOk result (λ c. 0 < c.chunk_height) }
     ensures same { IfOk result (λ c. length c.byte_counts ≡ length c.offsets) }
@@ -497,6 +510,7 @@ pub fn read_page<T: Tags>(tags: &mut T, alloc: Global) -> TiffResult<Page>
     ensures kept { IsKept T.told T.failures result tags.old tags.new }
     ensures answer { AnswersFound view.page result (checks.page_of (T.told tags.old).look)
         (T.told tags.old).look named.ImageWidth (T.failures tags.old) (T.failures tags.new) }
+    ensures asked { AsksForPage (T.told tags.old) result }
 {
     let (width, height) = read_size(tags, alloc)?;
     let interpretation = read_interpretation(tags, alloc)?;

@@ -10,4 +10,4 @@ returns c =
     let IsOpened : List ℕ → Type 0 = λ bytes. decoder_of bytes 0 ≡ Ok (record opened { failures = 0 }) in
     let free = c.with_limits-decoder.ensures ∙ ap (λ (l : Limits). record opened { state = (set_limits opened l).next }) c.unlimited.ensures in
     image_is_first c.walk_opens.ensures c.walk_seeks.ensures c.args.file.items opened c.with_limits-decoder.result c.seek_to_image.new.self c.read_image.new.self
-    c.read_image.result (subst IsOpened c.new.ensures c.in_ok-decoder.ensures.answer) free c.in_ok-seek_to_image.ensures c.read_image.ensures.follows
+    c.read_image.result (subst IsOpened c.new.ensures c.in_ok-decoder.ensures.answer) free c.in_ok-seek_to_image.ensures.follows c.read_image.ensures.follows

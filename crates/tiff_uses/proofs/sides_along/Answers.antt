@@ -12,13 +12,13 @@ pub pages-preserved : goal.pages-preserved
 pages-preserved c =
     let more : c.pages.decoder.state.more ≡ true = (let e = c.more_images.ensures in let t = c.pages-test.true in cc) in
     next_listed c.walk_goes_on.ensures (begun c.args.decoder.now) c.pages.decoder c.next_image.new.self c.dimensions-in-pages.new.self c.in_ok-dimensions-2.field-0
-    c.pages.sides.items c.push-in-pages.new.self.items c.pages.invariant more c.in_ok-next_image.ensures c.in_ok-dimensions-2.ensures c.in_ok-push-2.ensures.items
+    c.pages.sides.items c.push-in-pages.new.self.items c.pages.invariant more c.in_ok-next_image.ensures.follows c.in_ok-dimensions-2.ensures c.in_ok-push-2.ensures.items
 
 pub pages-smaller : goal.pages-smaller
 pages-smaller c =
     let more : c.pages.decoder.state.more ≡ true = (let e = c.more_images.ensures in let t = c.pages-test.true in cc) in
     fewer_left c.walk_goes_on.ensures (begun c.args.decoder.now) c.pages.decoder c.next_image.new.self c.dimensions-in-pages.new.self c.in_ok-dimensions-2.field-0
-    c.pages.sides.items c.push-in-pages.new.self.items c.pages.invariant more c.in_ok-next_image.ensures c.in_ok-dimensions-2.ensures c.in_ok-push-2.ensures.items
+    c.pages.sides.items c.push-in-pages.new.self.items c.pages.invariant more c.in_ok-next_image.ensures.follows c.in_ok-dimensions-2.ensures c.in_ok-push-2.ensures.items
 
 pub returns-in_err-dimensions : goal.returns-in_err-dimensions
 returns-in_err-dimensions c =
@@ -30,7 +30,7 @@ pub returns-in_err-next_image : goal.returns-in_err-next_image
 returns-in_err-next_image c =
     let more : c.pages.decoder.state.more ≡ true = (let e = c.more_images.ensures in let t = c.pages-test.true in cc) in
     let told = refused_next c.walk_goes_on.ensures c.args.decoder.now.bytes (begun c.args.decoder.now) c.pages.decoder c.next_image.new.self c.pages.sides.items _
-    c.in_err-next_image.field-0.0 c.requires c.pages.invariant more c.in_err-next_image.ensures in
+    c.in_err-next_image.field-0.0 c.requires c.pages.invariant more c.in_err-next_image.ensures.follows in
     search rules
 
 pub returns-in_err-dimensions-2 : goal.returns-in_err-dimensions-2

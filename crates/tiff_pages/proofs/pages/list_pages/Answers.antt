@@ -8,19 +8,19 @@ use Rattle.tiff_pages.proofs.pages.list_pages.Goals as goal
 pub item_here-requires-clause-place : goal.item_here-requires-clause-place
 item_here-requires-clause-place g c =
     let a = sought_first c.walk_seeks.ensures c.args.decoder.now c.seek_to_image.new.self c.seek_to_image.result c.in_ok-entered.entered c.has_pages.ensures c.in_ok-entered.ensures
-    c.seek_to_image.ensures in
+    c.seek_to_image.ensures.follows in
     some_pointer c.args.decoder.now c.seek_to_image.new.self 0 c.in_ok-entered.entered a.0
 
 pub item_here-requires-clause-page : goal.item_here-requires-clause-page
 item_here-requires-clause-page g c =
     let a = sought_first c.walk_seeks.ensures c.args.decoder.now c.seek_to_image.new.self c.seek_to_image.result c.in_ok-entered.entered c.has_pages.ensures c.in_ok-entered.ensures
-    c.seek_to_image.ensures in
+    c.seek_to_image.ensures.follows in
     has_page c.args.decoder.now c.seek_to_image.new.self 0 c.in_ok-entered.entered a.0
 
 pub pages-init : goal.pages-init
 pages-init g c =
     let a = sought_first c.walk_seeks.ensures c.args.decoder.now c.seek_to_image.new.self c.seek_to_image.result c.in_ok-entered.entered c.has_pages.ensures c.in_ok-entered.ensures
-    c.seek_to_image.ensures in
+    c.seek_to_image.ensures.follows in
     lists_first c.args.decoder.now c.seek_to_image.new.self c.item_here.new.decoder c.in_ok-entered.entered c.in_ok-item_here.field-0 c.args.pages.now.items c.push.new.self.items a
     c.in_ok-item_here.ensures.reads.stays c.in_ok-item_here.ensures.place c.in_ok-item_here.ensures.page c.requires c.in_ok-push.ensures.items
 
@@ -28,7 +28,7 @@ pub returns-in_err-entered-2-clause-way : goal.returns-in_err-entered-2-clause-w
 returns-in_err-entered-2-clause-way g c =
     let l = c.pages.invariant in
     let kept = kept_state (c.pages.decoder.state.more ≡ true) (next_image c.pages.decoder) c.next_image.result c.in_err-entered-2.field-0.0 c.pages.decoder c.next_image.new.self
-    c.in_err-entered-2.ensures (rw c.place_of-here.ensures.stays at c.next_image.ensures) in
+    c.in_err-entered-2.ensures (rw c.place_of-here.ensures.stays at c.next_image.ensures.follows) in
     let way = on_its_way c.args.decoder.now c.pages.decoder l.listed.number (Err c.in_err-entered-2.field-0.0) c.next_image.new.self.state l.listed.along
     (kept ∙ ap (λ (d : Decoding). d.state) l.state) in
     search rules
@@ -37,14 +37,14 @@ pub place_of-requires : goal.place_of-requires
 place_of-requires g c =
     let more : c.pages.decoder.state.more ≡ true = (let e = c.more_images.ensures in let t = c.pages-test.true in cc) in
     let w = went_on c.walk_goes_on.ensures c.args.decoder.now c.pages.decoder c.next_image.new.self c.pages.pages.items c.pages.invariant c.next_image.result
-    c.in_ok-entered-2.entered more c.in_ok-entered-2.ensures (rw c.place_of-here.ensures.stays at c.next_image.ensures) in
+    c.in_ok-entered-2.entered more c.in_ok-entered-2.ensures (rw c.place_of-here.ensures.stays at c.next_image.ensures.follows) in
     some_after c.args.decoder.now c.pages.decoder c.next_image.new.self c.pages.pages.items c.pages.invariant c.in_ok-entered-2.entered w
 
 pub returns-then-place_of-here-clause-pages : goal.returns-then-place_of-here-clause-pages
 returns-then-place_of-here-clause-pages g c =
     let more : c.pages.decoder.state.more ≡ true = (let e = c.more_images.ensures in let t = c.pages-test.true in cc) in
     let w = went_on c.walk_goes_on.ensures c.args.decoder.now c.pages.decoder c.next_image.new.self c.pages.pages.items c.pages.invariant c.next_image.result
-    c.in_ok-entered-2.entered more c.in_ok-entered-2.ensures (rw c.place_of-here.ensures.stays at c.next_image.ensures) in
+    c.in_ok-entered-2.entered more c.in_ok-entered-2.ensures (rw c.place_of-here.ensures.stays at c.next_image.ensures.follows) in
     let end = ended c.walk_moves.ensures c.args.decoder.now c.pages.decoder c.next_image.new.self c.pages.pages.items c.pages.invariant c.in_ok-entered-2.entered
     c.place_of-here.result c.place_of.result w c.place_of-here.ensures.place c.place_of.ensures.place c.if-place_of-here.true in
     all_listed c.args.decoder.now c.pages.decoder c.pages.pages.items c.pages.invariant (Some end.0) c.err.result end.2 (c.err.ensures.value ∙ ap result_err end.1)
@@ -53,7 +53,7 @@ pub returns-then-place_of-here-clause-end : goal.returns-then-place_of-here-clau
 returns-then-place_of-here-clause-end g c =
     let more : c.pages.decoder.state.more ≡ true = (let e = c.more_images.ensures in let t = c.pages-test.true in cc) in
     let w = went_on c.walk_goes_on.ensures c.args.decoder.now c.pages.decoder c.next_image.new.self c.pages.pages.items c.pages.invariant c.next_image.result
-    c.in_ok-entered-2.entered more c.in_ok-entered-2.ensures (rw c.place_of-here.ensures.stays at c.next_image.ensures) in
+    c.in_ok-entered-2.entered more c.in_ok-entered-2.ensures (rw c.place_of-here.ensures.stays at c.next_image.ensures.follows) in
     let end = ended c.walk_moves.ensures c.args.decoder.now c.pages.decoder c.next_image.new.self c.pages.pages.items c.pages.invariant c.in_ok-entered-2.entered
     c.place_of-here.result c.place_of.result w c.place_of-here.ensures.place c.place_of.ensures.place c.if-place_of-here.true in
     c.place_of.ensures.stays
@@ -63,7 +63,7 @@ pub item_here-requires-in-pages-clause-page : goal.item_here-requires-in-pages-c
 item_here-requires-in-pages-clause-page g c =
     let more : c.pages.decoder.state.more ≡ true = (let e = c.more_images.ensures in let t = c.pages-test.true in cc) in
     let w = went_on c.walk_goes_on.ensures c.args.decoder.now c.pages.decoder c.next_image.new.self c.pages.pages.items c.pages.invariant c.next_image.result
-    c.in_ok-entered-2.entered more c.in_ok-entered-2.ensures (rw c.place_of-here.ensures.stays at c.next_image.ensures) in
+    c.in_ok-entered-2.entered more c.in_ok-entered-2.ensures (rw c.place_of-here.ensures.stays at c.next_image.ensures.follows) in
     let a = moved c.args.decoder.now c.pages.decoder c.next_image.new.self c.pages.pages.items c.pages.invariant c.in_ok-entered-2.entered
     c.place_of-here.result c.place_of.result w c.place_of-here.ensures.place c.place_of.ensures.place c.if-place_of-here.false in
     let page = has_page c.args.decoder.now c.next_image.new.self _ c.in_ok-entered-2.entered a in
@@ -73,7 +73,7 @@ pub returns-in_err-item_here-2-clause-way : goal.returns-in_err-item_here-2-clau
 returns-in_err-item_here-2-clause-way g c =
     let more : c.pages.decoder.state.more ≡ true = (let e = c.more_images.ensures in let t = c.pages-test.true in cc) in
     let w = went_on c.walk_goes_on.ensures c.args.decoder.now c.pages.decoder c.next_image.new.self c.pages.pages.items c.pages.invariant c.next_image.result
-    c.in_ok-entered-2.entered more c.in_ok-entered-2.ensures (rw c.place_of-here.ensures.stays at c.next_image.ensures) in
+    c.in_ok-entered-2.entered more c.in_ok-entered-2.ensures (rw c.place_of-here.ensures.stays at c.next_image.ensures.follows) in
     let a = moved c.args.decoder.now c.pages.decoder c.next_image.new.self c.pages.pages.items c.pages.invariant c.in_ok-entered-2.entered
     c.place_of-here.result c.place_of.result w c.place_of-here.ensures.place c.place_of.ensures.place c.if-place_of-here.false in
     let stands = ap (λ (d : Decoding). d.state) (c.in_err-item_here-2.ensures.reads.file.stands ∙ ap (λ (d : Decoding). record d { failures = c.item_here-in-pages.new.decoder.failures }) (c.place_of.ensures.stays ∙ w.state)) in
@@ -84,7 +84,7 @@ pub pages-preserved : goal.pages-preserved
 pages-preserved g c =
     let more : c.pages.decoder.state.more ≡ true = (let e = c.more_images.ensures in let t = c.pages-test.true in cc) in
     let w = went_on c.walk_goes_on.ensures c.args.decoder.now c.pages.decoder c.next_image.new.self c.pages.pages.items c.pages.invariant c.next_image.result
-    c.in_ok-entered-2.entered more c.in_ok-entered-2.ensures (rw c.place_of-here.ensures.stays at c.next_image.ensures) in
+    c.in_ok-entered-2.entered more c.in_ok-entered-2.ensures (rw c.place_of-here.ensures.stays at c.next_image.ensures.follows) in
     let a = moved c.args.decoder.now c.pages.decoder c.next_image.new.self c.pages.pages.items c.pages.invariant c.in_ok-entered-2.entered
     c.place_of-here.result c.place_of.result w c.place_of-here.ensures.place c.place_of.ensures.place c.if-place_of-here.false in
     lists_next c.args.decoder.now c.pages.decoder c.next_image.new.self c.item_here-in-pages.new.decoder c.pages.pages.items c.push-in-pages.new.self.items c.pages.invariant
@@ -100,7 +100,7 @@ pub returns-in_err-push-2-clause-way : goal.returns-in_err-push-2-clause-way
 returns-in_err-push-2-clause-way g c =
     let more : c.pages.decoder.state.more ≡ true = (let e = c.more_images.ensures in let t = c.pages-test.true in cc) in
     let w = went_on c.walk_goes_on.ensures c.args.decoder.now c.pages.decoder c.next_image.new.self c.pages.pages.items c.pages.invariant c.next_image.result
-    c.in_ok-entered-2.entered more c.in_ok-entered-2.ensures (rw c.place_of-here.ensures.stays at c.next_image.ensures) in
+    c.in_ok-entered-2.entered more c.in_ok-entered-2.ensures (rw c.place_of-here.ensures.stays at c.next_image.ensures.follows) in
     let a = moved c.args.decoder.now c.pages.decoder c.next_image.new.self c.pages.pages.items c.pages.invariant c.in_ok-entered-2.entered
     c.place_of-here.result c.place_of.result w c.place_of-here.ensures.place c.place_of.ensures.place c.if-place_of-here.false in
     let stands = ap (λ (d : Decoding). d.state) (c.in_ok-item_here-2.ensures.reads.stays ∙ c.place_of.ensures.stays ∙ w.state) in

@@ -9,7 +9,7 @@ use Rattle.tiff_decode.proofs.decoder.Decoder.next_image.Goals as goal
 pub returns-in-Some : goal.returns-in-Some
 returns-in-Some g c =
     let s = c.self.inside in
-    let d : Decoding = decoding (g.R.Source.told s.tags.source).bytes s.tags.kind s.tags.order s.first (g.R.Source.failures s.tags.source) s.standing.pointer s.standing.more
+    let d : Decoding = decoding (g.R.Source.told s.tags.source) s.tags.kind s.tags.order s.first (g.R.Source.failures s.tags.source) s.standing.pointer s.standing.more
     (view.page s.page) s.tags.directory s.offset s.tags.limits in
     shown_open c.enter_offset.result d _ _ c.self.view_is (cc)
     (next_known c.enter_offset.result d _ s.walk s.standing.at c.following-at.result c.in-Some.offset c.self.invariant (cc) c.following-at.ensures.number
@@ -18,21 +18,21 @@ returns-in-Some g c =
 pub returns-in-Ok-Some : goal.returns-in-Ok-Some
 returns-in-Ok-Some g c =
     let s = c.self.inside in
-    let d : Decoding = decoding (g.R.Source.told s.tags.source).bytes s.tags.kind s.tags.order s.first (g.R.Source.failures s.tags.source) s.standing.pointer s.standing.more
+    let d : Decoding = decoding (g.R.Source.told s.tags.source) s.tags.kind s.tags.order s.first (g.R.Source.failures s.tags.source) s.standing.pointer s.standing.more
     (view.page s.page) s.tags.directory s.offset s.tags.limits in
-    let mid : Decoding = record d { bytes = (g.R.Source.told c.enter_behind.new.source).bytes; failures = g.R.Source.failures c.enter_behind.new.source } in
+    let mid : Decoding = record d { bytes = (g.R.Source.told c.enter_behind.new.source).bytes; readable = (g.R.Source.told c.enter_behind.new.source).readable; failures = g.R.Source.failures c.enter_behind.new.source } in
     let e = rw c.in-Ok-Some.field-0-is at c.in-Ok-Some.ensures.entered in
     shown_open c.enter_directory.result d _ _ c.self.view_is (cc)
     (next_read c.enter_directory.result d mid _ s.walk c.enter_behind.new.walk s.standing.at c.following-at.result c.in-Ok-Some.offset c.in-Ok-Some.directory
     c.self.invariant (cc) c.following-at.ensures.number (c.enter_behind.ensures.begins s.first c.self.invariant.begins)
     (added_at s.walk.offsets c.enter_behind.new.walk.offsets c.following-at.result c.in-Ok-Some.offset e.0 c.following-at.ensures.entered
     (past_end s.walk.offsets c.following-at.result (sym c.get-known.ensures ∙ none_of c.get-known.result c.in_default.not-Some)))
-    e.1 (told_same d _ _ (same_bytes c.enter_behind.ensures.kept.told) c.in-Ok-Some.ensures.kept.swallowed) (c.enter_directory.ensures.follows s.first s.offset))
+    e.1 (told_same d _ _ c.enter_behind.ensures.kept.told c.in-Ok-Some.ensures.kept.swallowed) (c.enter_directory.ensures.follows s.first s.offset))
 
 pub returns-in-Ok-None : goal.returns-in-Ok-None
 returns-in-Ok-None g c =
     let s = c.self.inside in
-    let d : Decoding = decoding (g.R.Source.told s.tags.source).bytes s.tags.kind s.tags.order s.first (g.R.Source.failures s.tags.source) s.standing.pointer s.standing.more
+    let d : Decoding = decoding (g.R.Source.told s.tags.source) s.tags.kind s.tags.order s.first (g.R.Source.failures s.tags.source) s.standing.pointer s.standing.more
     (view.page s.page) s.tags.directory s.offset s.tags.limits in
     let e = rw c.in-Ok-None.field-0-is at c.in-Ok-None.ensures.end in
     shown_open (Err c.into-in-Ok-None.result) d _ _ c.self.view_is (cc)
@@ -40,17 +40,17 @@ returns-in-Ok-None g c =
     (next_closed d s.walk s.standing.at c.following-at.result None c.self.invariant (cc) c.following-at.ensures.number
     (past_end s.walk.offsets c.following-at.result (sym c.get-known.ensures ∙ none_of c.get-known.result c.in_default.not-Some))
     (e.1 s.first c.self.invariant.begins))
-    (stands_told (record d.state { more = false }) d _ _ (same_bytes c.enter_behind.ensures.kept.told) c.in-Ok-None.ensures.kept.swallowed))
+    (stands_told (record d.state { more = false }) d _ _ c.enter_behind.ensures.kept.told c.in-Ok-None.ensures.kept.swallowed))
 
 pub returns-in-Err : goal.returns-in-Err
 returns-in-Err g c =
     let s = c.self.inside in
-    let d : Decoding = decoding (g.R.Source.told s.tags.source).bytes s.tags.kind s.tags.order s.first (g.R.Source.failures s.tags.source) s.standing.pointer s.standing.more
+    let d : Decoding = decoding (g.R.Source.told s.tags.source) s.tags.kind s.tags.order s.first (g.R.Source.failures s.tags.source) s.standing.pointer s.standing.more
     (view.page s.page) s.tags.directory s.offset s.tags.limits in
     shown_open (Err c.in-Err.fault) d _ _ c.self.view_is (cc)
     (answered _ _ _ c.in-Err.fault (next_image d) (record d.state { more = false }) d _ (sym c.keeps_state.ensures ∙ c.if-keeps_state.false) c.in-Err.ensures.cut
     (λ ends. next_closed d s.walk s.standing.at c.following-at.result (Some c.in-Err.fault) c.self.invariant (cc) c.following-at.ensures.number
     (past_end s.walk.offsets c.following-at.result (sym c.get-known.ensures ∙ none_of c.get-known.result c.in_default.not-Some))
     (ends s.first c.self.invariant.begins))
-    (stands_told (record d.state { more = false }) d _ _ (same_bytes c.enter_behind.ensures.kept.told)
+    (stands_told (record d.state { more = false }) d _ _ c.enter_behind.ensures.kept.told
     (unfailed c.in-Err.fault _ _ (sym c.keeps_state.ensures ∙ c.if-keeps_state.false) c.in-Err.ensures.kept.swallowed)))

@@ -29,10 +29,10 @@ invariant_of-self-then-keeps_state g c =
 pub returns-in-Ok-Some : goal.returns-in-Ok-Some
 returns-in-Ok-Some g c =
     let s = c.self.inside in
-    let d : Decoding = decoding (g.R.Source.told s.tags.source).bytes s.tags.kind s.tags.order s.first (g.R.Source.failures s.tags.source) s.standing.pointer s.standing.more
+    let d : Decoding = decoding (g.R.Source.told s.tags.source) s.tags.kind s.tags.order s.first (g.R.Source.failures s.tags.source) s.standing.pointer s.standing.more
     (view.page s.page) s.tags.directory s.offset s.tags.limits in
-    let mid : Decoding = record d { bytes = (g.R.Source.told c.offset_of.new.source).bytes; failures = g.R.Source.failures c.offset_of.new.source } in
+    let mid : Decoding = record d { bytes = (g.R.Source.told c.offset_of.new.source).bytes; readable = (g.R.Source.told c.offset_of.new.source).readable; failures = g.R.Source.failures c.offset_of.new.source } in
     let h = rw c.in-Ok-Some.field-0-is at c.in-Ok-Some.ensures.offset in
     shown (λ x. seek_to_image x c.args.ifd_index) c.enter_offset.result d _ _ c.self.view_is
     (seek_known c.enter_offset.result d mid _ c.args.ifd_index c.in-Ok-Some.offset (h s.first c.self.invariant.begins)
-    (told_same d _ _ (same_bytes c.offset_of.ensures.kept.told) c.in-Ok-Some.ensures.kept.swallowed) (c.enter_offset.ensures.follows s.first s.offset))
+    (told_same d _ _ c.offset_of.ensures.kept.told c.in-Ok-Some.ensures.kept.swallowed) (c.enter_offset.ensures.follows s.first s.offset))

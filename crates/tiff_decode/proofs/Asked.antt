@@ -1,0 +1,105 @@
+-- Which bytes the steps of a decoder's calls ask for.
+use Rattle.std.proofs.Common.{◌≡◌, ℕ, zero, suc, ◌+◌, ◌-◌, ◌≤◌, List, [], ◌∷◌, length, Option, None, Some, Bool, true, false, Result, Ok, Err, refl, ap, sym, ◌∙◌, subst, arith}
+use Rattle.std.proofs.lemmas.Option.{slice_get_within}
+use Rattle.std.specs.Prelude.{option_map}
+use Rattle.std.specs.List.{slice_get, last_or}
+use Rattle.tiff_base.specs.declared.error.TiffError.{TiffError}
+use Rattle.tiff_base.specs.declared.tags.ByteOrder.{ByteOrder}
+use Rattle.tiff_base.specs.declared.tags.FileKind.{FileKind}
+use Rattle.tiff_base.specs.declared.tags.IfdPointer.{IfdPointer}
+use Rattle.tiff_base.specs.Answers.{AsksOnly, IsNotDevice}
+use Rattle.tiff_base.specs.Directory.{directory_at}
+use Rattle.tiff_base.specs.Field.{DirectoryRecord}
+use Rattle.tiff_base.specs.Header.{Header, header_at}
+use Rattle.tiff_base.specs.SourceAndSink.{SourceRecord}
+use Rattle.tiff_base.proofs.Common.{bind_ok}
+use Rattle.tiff_ifd.specs.Look.{ok_or_fault}
+use Rattle.tiff_ifd.specs.Stretches.{DirectoryReadable}
+use Rattle.tiff_ifd.specs.Walk.{ChainBegins, NextReadable, Walked, WayReadable}
+use Rattle.tiff_page.specs.Reach.{PageReadable}
+use Rattle.tiff_page.proofs.Reach.{asks_more}
+use Rattle.tiff_decode.specs.Asked.{EntryReadable, NextPageReadable, OpenReadable, SeekReadable}
+use Rattle.tiff_decode.specs.ChainPosition.{IsAt}
+use Rattle.tiff_decode.specs.Machine.{Decoding, source_of}
+use Rattle.tiff_decode.specs.Outcome.{chain_from, chain_of, end_fault, first_directory, next_offset}
+use Rattle.tiff_decode.proofs.Opening.{begun_at}
+use Rattle.tiff_decode.proofs.ChainPosition.{last_of}
+
+-- ---- opening
+
+-- the first directory
+pub first_asked : (s t : SourceRecord) (header : Header) (walk : Walked) (e : TiffError) → t ≡ s → header_at s.bytes ≡ Ok header → walk ≡ begun_at header
+    → (NextReadable t header.kind header.order walk → IsNotDevice e) → OpenReadable s → IsNotDevice e
+first_asked s t header walk e same h w asked opened =
+    let first : NextReadable s header.kind header.order (begun_at header) = record {
+      directory = λ at n. (let here : header.first ≡ at = cc in subst (λ (p : ℕ). DirectoryReadable s header.kind header.order p) here (opened.first header h).directory);
+    } in
+    asked (subst (λ (x : SourceRecord). NextReadable x header.kind header.order walk) (sym same) (subst (λ (v : Walked). NextReadable s header.kind header.order v) (sym w) first))
+
+-- a file's first directory is that of its header
+first_is : (file : List ℕ) (found : Header × ℕ × DirectoryRecord) → first_directory file ≡ Ok found
+    → (header_at file ≡ Ok found.0) × (directory_at found.0.kind found.0.order file found.1 ≡ Ok found.2)
+unfolding first_directory
+first_is file found h =
+    let header = bind_ok (header_at file) _ found h in
+    let offset = bind_ok (ok_or_fault (slice_get (chain_from header.0 file).offsets 0) (end_fault (chain_from header.0 file).end)) _ found header.1.1 in
+    let directory = bind_ok (directory_at header.0.kind header.0.order file offset.0) _ found offset.1.1 in
+    let P : Header × ℕ × DirectoryRecord → Type 0 = λ x. (header_at file ≡ Ok x.0) × (directory_at x.0.kind x.0.order file x.1 ≡ Ok x.2) in
+    let same : (header.0, offset.0, directory.0) ≡ found = cc in
+    subst P same (header.1.0, directory.1.0)
+
+-- its page
+pub opened_page : (s t : SourceRecord) (header : Header) (directory : DirectoryRecord) (e : TiffError) → t ≡ s
+    → first_directory s.bytes ≡ Ok (header, header.first, directory)
+    → (PageReadable t header.kind header.order directory → IsNotDevice e) → OpenReadable s → IsNotDevice e
+opened_page s t header directory e same h asked opened =
+    let found = first_is s.bytes (header, header.first, directory) h in
+    asked (subst (λ (x : SourceRecord). PageReadable x header.kind header.order directory) (sym same) ((opened.first header found.0).page directory found.1))
+
+-- ---- entering
+
+-- the page of a directory that was read
+pub entered_page : {X : Type 0} (s t : SourceRecord) (kind : FileKind) (order : ByteOrder) (at : ℕ) (directory : DirectoryRecord) (r : Result X TiffError) → t ≡ s
+    → directory_at kind order s.bytes at ≡ Ok directory → AsksOnly (PageReadable t kind order directory) r → AsksOnly (EntryReadable s kind order at) r
+entered_page s t kind order at directory r same h asked =
+    asks_more (PageReadable t kind order directory) (EntryReadable s kind order at) r
+    (λ q. subst (λ (x : SourceRecord). PageReadable x kind order directory) (sym same) (q.page directory h)) asked
+
+-- ---- along the chain
+
+-- the directory of a number
+pub sought_entry : {X : Type 0} (d old : Decoding) (t : SourceRecord) (index at : ℕ) (r : Result X TiffError) → d ≡ old → t ≡ source_of d
+    → slice_get (chain_of d).offsets index ≡ Some at → AsksOnly (EntryReadable t d.kind d.order at) r → AsksOnly (SeekReadable old index) r
+sought_entry d old t index at r seen same h asked =
+    subst (λ (x : Decoding). AsksOnly (SeekReadable x index) r) seen
+    (asks_more (EntryReadable t d.kind d.order at) (SeekReadable d index) r
+    (λ q. subst (λ (x : SourceRecord). EntryReadable x d.kind d.order at) (sym same) (q.entry at h)) asked)
+
+-- the way to it
+pub sought_way : (d old : Decoding) (index : ℕ) (e : TiffError) → d ≡ old
+    → (WayReadable (source_of d) d.kind d.order d.first index → IsNotDevice e) → SeekReadable old index → IsNotDevice e
+sought_way d old index e seen asked q = asked ((subst (λ (x : Decoding). SeekReadable x index) (sym seen) q).way)
+
+-- the next directory of the chain
+pub next_entry : {X : Type 0} (d old : Decoding) (t : SourceRecord) (at : ℕ) (r : Result X TiffError) → d ≡ old → t ≡ source_of d
+    → next_offset d.state.pointer (chain_of d).offsets ≡ Some at → AsksOnly (EntryReadable t d.kind d.order at) r → AsksOnly (NextPageReadable old) r
+next_entry d old t at r seen same h asked =
+    subst (λ (x : Decoding). AsksOnly (NextPageReadable x) r) seen
+    (asks_more (EntryReadable t d.kind d.order at) (NextPageReadable d) r
+    (λ q. subst (λ (x : SourceRecord). EntryReadable x d.kind d.order at) (sym same) (q.entry at h)) asked)
+
+-- the last of some offsets, where no other is behind it
+pub last_is : (offsets : List ℕ) (pointer : Option IfdPointer) (at k : ℕ) (more : Bool) → IsAt offsets pointer at more → more ≡ true → k ≡ at + 1 → length offsets ≤ k
+    → last_or None offsets ≡ option_map (λ p. p.0) pointer
+last_is offsets (Some p) at k more h m e l =
+    let w = slice_get_within offsets at p.0 h in
+    let here : length offsets - 1 ≡ at = omega (arith, w, l, e) in
+    last_of offsets ∙ ap (slice_get offsets) here ∙ h
+last_is offsets None at k more h m e l = (let n : false ≡ true = sym h ∙ m in absurd (cc))
+
+-- the one that the last link leads to
+pub next_behind : (d old : Decoding) (t : SourceRecord) (walk : Walked) (e : TiffError) → d ≡ old → t ≡ source_of d
+    → ChainBegins d.kind d.order d.bytes d.first walk → last_or None walk.offsets ≡ option_map (λ p. p.0) d.state.pointer
+    → (NextReadable t d.kind d.order walk → IsNotDevice e) → NextPageReadable old → IsNotDevice e
+next_behind d old t walk e seen same b h asked q =
+    asked (subst (λ (x : SourceRecord). NextReadable x d.kind d.order walk) (sym same) ((subst (λ (x : Decoding). NextPageReadable x) (sym seen) q).behind walk b h))
