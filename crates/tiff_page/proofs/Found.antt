@@ -10,7 +10,7 @@ use Rattle.tiff_base.specs.Sparing.{IsFoundWithin}
 use Rattle.tiff_ifd.specs.Datum.{Datum}
 use Rattle.tiff_ifd.specs.Into.{into_u32}
 use Rattle.tiff_ifd.specs.Look.{Look, find, if_found, ok_or_fault, require}
-use Rattle.tiff_page.specs.Checks.{sides, size_in}
+use Rattle.tiff_page.specs.Checks.{size_in}
 
 found_of : {A : Type 0} (into : Datum → Result A TiffError) (value : Result (Option Datum) TiffError) (x : A)
     → (value >>= if_found into) ≡ Ok (Some x) → IsFoundWithin value

@@ -1,11 +1,9 @@
-use Rattle.std.proofs.Common.{refl}
 use Rattle.std.proofs.lemmas.Result.{err_from_is_err_and}
 use Rattle.tiff_page.specs.Rect.{rect}
 use Rattle.tiff_page.specs.PageView as view
 use Rattle.tiff_page.specs.Buffers.{planes_layout}
 use Rattle.tiff_page.specs.Layout.{LayoutRecord}
 use Rattle.tiff_page.specs.declared.layout.PlaneLayout.{PlaneLayout}
-use Rattle.tiff_page.specs.PixelCalls.{chunk_part}
 use Rattle.tiff_page.proofs.Wants.{layout_wanted}
 use Rattle.tiff_page.proofs.Reach.{strided_asked}
 use Rattle.tiff_page.proofs.pixels.read_chunk_to_buffer.Goals as goal
