@@ -251,13 +251,16 @@ abbrev Along : Decoding → Walked → ℕ → Type 0
 Along d walk at = IsInChain d.kind d.order d.bytes d.first walk d.state.pointer at d.state.more
 
 -- the offset behind the pointer, once it is entered
+pub offset_behind : (d : Decoding) (walk longer : Walked) (at k offset : ℕ) → Along d walk at → d.state.more ≡ true → k ≡ at + 1 → ChainBegins d.kind d.order d.bytes d.first longer
+    → slice_get longer.offsets k ≡ Some offset → next_offset d.state.pointer (chain_of d).offsets ≡ Some offset
+offset_behind d walk longer at k offset a m e b h =
+    next_is d.kind d.order d.bytes d.first walk d.state.pointer at d.state.more a m
+    ∙ ap (slice_get (chain_of d).offsets) (sym e)
+    ∙ offset_begun d.kind d.order d.bytes d.first longer k (slice_get_within longer.offsets k offset h) b ∙ h
+
 behind : (d : Decoding) (walk longer : Walked) (at k offset : ℕ) → Along d walk at → d.state.more ≡ true → k ≡ at + 1 → ChainBegins d.kind d.order d.bytes d.first longer
     → slice_get longer.offsets k ≡ Some offset → next_image d ≡ enter d offset
-behind d walk longer at k offset a m e b h =
-    next_by d (Some offset) m
-    (next_is d.kind d.order d.bytes d.first walk d.state.pointer at d.state.more a m
-    ∙ ap (slice_get (chain_of d).offsets) (sym e)
-    ∙ offset_begun d.kind d.order d.bytes d.first longer k (slice_get_within longer.offsets k offset h) b ∙ h)
+behind d walk longer at k offset a m e b h = next_by d (Some offset) m (offset_behind d walk longer at k offset a m e b h)
 
 pub next_known : (r : Result (Unit {0}) TiffError) (d new : Decoding) (walk : Walked) (at k offset : ℕ) → Along d walk at → d.state.more ≡ true → k ≡ at + 1
     → slice_get walk.offsets k ≡ Some offset → Follows (λ x. x) (enter d offset) r d new → Follows (λ x. x) (next_image d) r d new

@@ -1,5 +1,4 @@
 use Rattle.std.proofs.Common.{refl}
-use Rattle.tiff_base.proofs.Told.{same_bytes}
 use Rattle.tiff_page.specs.PageView as view
 use Rattle.tiff_decode.specs.Machine.{Decoding, decoding}
 use Rattle.tiff_decode.proofs.ChainPosition.{enters_read, told_same}

@@ -1,4 +1,3 @@
-use Rattle.tiff_base.proofs.Told.{same_bytes}
 use Rattle.tiff_page.specs.PageView as view
 use Rattle.tiff_decode.specs.Machine.{Decoding, decoding}
 use Rattle.tiff_decode.proofs.ChainPosition.{shows_read, told_same}

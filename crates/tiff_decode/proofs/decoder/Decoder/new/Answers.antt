@@ -1,8 +1,10 @@
-use Rattle.std.proofs.Common.{rules, ap, sym, ◌∙◌, arith, Ok, Some}
+use Rattle.std.proofs.Common.{rules, ap, sym, ◌∙◌, arith, Ok, None, Some}
+use Rattle.std.proofs.lemmas.Result.{err_from_is_err_and}
 use Rattle.tiff_base.specs.Answers.{FailsFrom}
 use Rattle.tiff_base.proofs.Told.{same_bytes}
 use Rattle.tiff_base.specs.Header.{Header}
 use Rattle.tiff_page.specs.PageView as view
+use Rattle.tiff_decode.proofs.Asked.{opened_page}
 use Rattle.tiff_decode.proofs.Opening.{begun_unread, begun_unpaged, begun_page}
 use Rattle.tiff_decode.proofs.decoder.Decoder.new.Goals as goal
 
@@ -30,6 +32,7 @@ returns-clause-answer g c =
     (same_bytes c.in_ok-header.ensures.kept.told) c.default.ensures c.in_ok-header.ensures.answer c.in_ok-page.ensures.answer
     ∙ (λ i. Ok (record {
       bytes = (same_bytes (sym c.in_ok-header.ensures.kept.told ∙ ap (λ t. t.source) (sym c.in_ok-page.ensures.kept.told))) i;
+      readable = None;
       kind = (ap (λ t. t.kind) (sym c.in_ok-page.ensures.kept.told)) i;
       order = (ap (λ t. t.order) (sym c.in_ok-page.ensures.kept.told)) i;
       first = c.in_ok-header.header.first;
@@ -43,3 +46,10 @@ returns-clause-answer g c =
         limits = (sym c.default.ensures ∙ ap (λ t. t.limits) (sym c.in_ok-page.ensures.kept.told)) i;
       };
     }))
+
+pub returns-in_err-page-clause-asked : goal.returns-in_err-page-clause-asked
+returns-in_err-page-clause-asked g c =
+    let header : Header = record { order = c.in_ok-header.header.order; kind = c.in_ok-header.header.kind; first = c.in_ok-header.header.first } in
+    let answered = err_from_is_err_and c.from_residual-in_err-page.result c.from_residual-in_err-page.ensures.1 in
+    rw (answered.1, answered.2) (opened_page (g.R.Source.told c.args.source) (g.R.Source.told c.read_first_directory.new.source) header c.in_ok-header.directory c.in_err-page.field-0.0
+    c.in_ok-header.ensures.kept.told c.in_ok-header.ensures.answer c.in_err-page.ensures.asked)

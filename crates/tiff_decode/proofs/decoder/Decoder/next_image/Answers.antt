@@ -1,13 +1,13 @@
-use Rattle.std.proofs.Common.{Some, None, Err, false, sym, ◌∙◌}
-use Rattle.tiff_base.proofs.Told.{same_bytes}
+use Rattle.std.proofs.Common.{Some, None, Err, false, refl, sym, ◌∙◌}
 use Rattle.tiff_page.specs.PageView as view
 use Rattle.tiff_decode.specs.Machine.{Decoding, decoding}
 use Rattle.tiff_decode.specs.Outcome.{next_image}
-use Rattle.tiff_decode.proofs.ChainPosition.{next_known, next_read, next_closed, none_of, past_end, added_at, answered, unfailed, none_found, shown_open, told_same, stands_told}
+use Rattle.tiff_decode.proofs.Asked.{entered_page, last_is, next_behind, next_entry}
+use Rattle.tiff_decode.proofs.ChainPosition.{offset_behind, next_known, next_read, next_closed, none_of, past_end, added_at, answered, unfailed, none_found, shown_open, told_same, stands_told}
 use Rattle.tiff_decode.proofs.decoder.Decoder.next_image.Goals as goal
 
-pub returns-in-Some : goal.returns-in-Some
-returns-in-Some g c =
+pub returns-in-Some-clause-follows : goal.returns-in-Some-clause-follows
+returns-in-Some-clause-follows g c =
     let s = c.self.inside in
     let d : Decoding = decoding (g.R.Source.told s.tags.source) s.tags.kind s.tags.order s.first (g.R.Source.failures s.tags.source) s.standing.pointer s.standing.more
     (view.page s.page) s.tags.directory s.offset s.tags.limits in
@@ -15,8 +15,8 @@ returns-in-Some g c =
     (next_known c.enter_offset.result d _ s.walk s.standing.at c.following-at.result c.in-Some.offset c.self.invariant (cc) c.following-at.ensures.number
     (sym c.get-known.ensures ∙ c.in-Some.is) (c.enter_offset.ensures.follows s.first s.offset))
 
-pub returns-in-Ok-Some : goal.returns-in-Ok-Some
-returns-in-Ok-Some g c =
+pub returns-in-Ok-Some-clause-follows : goal.returns-in-Ok-Some-clause-follows
+returns-in-Ok-Some-clause-follows g c =
     let s = c.self.inside in
     let d : Decoding = decoding (g.R.Source.told s.tags.source) s.tags.kind s.tags.order s.first (g.R.Source.failures s.tags.source) s.standing.pointer s.standing.more
     (view.page s.page) s.tags.directory s.offset s.tags.limits in
@@ -29,8 +29,8 @@ returns-in-Ok-Some g c =
     (past_end s.walk.offsets c.following-at.result (sym c.get-known.ensures ∙ none_of c.get-known.result c.in_default.not-Some)))
     e.1 (told_same d _ _ c.enter_behind.ensures.kept.told c.in-Ok-Some.ensures.kept.swallowed) (c.enter_directory.ensures.follows s.first s.offset))
 
-pub returns-in-Ok-None : goal.returns-in-Ok-None
-returns-in-Ok-None g c =
+pub returns-in-Ok-None-clause-follows : goal.returns-in-Ok-None-clause-follows
+returns-in-Ok-None-clause-follows g c =
     let s = c.self.inside in
     let d : Decoding = decoding (g.R.Source.told s.tags.source) s.tags.kind s.tags.order s.first (g.R.Source.failures s.tags.source) s.standing.pointer s.standing.more
     (view.page s.page) s.tags.directory s.offset s.tags.limits in
@@ -42,8 +42,8 @@ returns-in-Ok-None g c =
     (e.1 s.first c.self.invariant.begins))
     (stands_told (record d.state { more = false }) d _ _ c.enter_behind.ensures.kept.told c.in-Ok-None.ensures.kept.swallowed))
 
-pub returns-in-Err : goal.returns-in-Err
-returns-in-Err g c =
+pub returns-in-Err-clause-follows : goal.returns-in-Err-clause-follows
+returns-in-Err-clause-follows g c =
     let s = c.self.inside in
     let d : Decoding = decoding (g.R.Source.told s.tags.source) s.tags.kind s.tags.order s.first (g.R.Source.failures s.tags.source) s.standing.pointer s.standing.more
     (view.page s.page) s.tags.directory s.offset s.tags.limits in
@@ -54,3 +54,46 @@ returns-in-Err g c =
     (ends s.first c.self.invariant.begins))
     (stands_told (record d.state { more = false }) d _ _ c.enter_behind.ensures.kept.told
     (unfailed c.in-Err.fault _ _ (sym c.keeps_state.ensures ∙ c.if-keeps_state.false) c.in-Err.ensures.kept.swallowed)))
+
+-- ---- what is asked for
+
+pub returns-in-Some-clause-asked : goal.returns-in-Some-clause-asked
+returns-in-Some-clause-asked g c =
+    let s = c.self.inside in
+    let d : Decoding = decoding (g.R.Source.told s.tags.source) s.tags.kind s.tags.order s.first (g.R.Source.failures s.tags.source) s.standing.pointer s.standing.more
+    (view.page s.page) s.tags.directory s.offset s.tags.limits in
+    next_entry d _ (g.R.Source.told s.tags.source) c.in-Some.offset c.enter_offset.result c.self.view_is refl
+    (offset_behind d s.walk s.walk s.standing.at c.following-at.result c.in-Some.offset c.self.invariant (cc) c.following-at.ensures.number c.self.invariant.begins
+    (sym c.get-known.ensures ∙ c.in-Some.is)) c.enter_offset.ensures.asked
+
+pub returns-in-Ok-Some-clause-asked : goal.returns-in-Ok-Some-clause-asked
+returns-in-Ok-Some-clause-asked g c =
+    let s = c.self.inside in
+    let d : Decoding = decoding (g.R.Source.told s.tags.source) s.tags.kind s.tags.order s.first (g.R.Source.failures s.tags.source) s.standing.pointer s.standing.more
+    (view.page s.page) s.tags.directory s.offset s.tags.limits in
+    let e = rw c.in-Ok-Some.field-0-is at c.in-Ok-Some.ensures.entered in
+    next_entry d _ (g.R.Source.told s.tags.source) c.in-Ok-Some.offset c.enter_directory.result c.self.view_is refl
+    (offset_behind d s.walk c.enter_behind.new.walk s.standing.at c.following-at.result c.in-Ok-Some.offset c.self.invariant (cc) c.following-at.ensures.number
+    (c.enter_behind.ensures.begins s.first c.self.invariant.begins)
+    (added_at s.walk.offsets c.enter_behind.new.walk.offsets c.following-at.result c.in-Ok-Some.offset e.0 c.following-at.ensures.entered
+    (past_end s.walk.offsets c.following-at.result (sym c.get-known.ensures ∙ none_of c.get-known.result c.in_default.not-Some))))
+    (entered_page (g.R.Source.told s.tags.source) (g.R.Source.told c.enter_behind.new.source) s.tags.kind s.tags.order c.in-Ok-Some.offset c.in-Ok-Some.directory
+    c.enter_directory.result c.enter_behind.ensures.kept.told e.1 c.enter_directory.ensures.asked)
+
+pub returns-then-keeps_state-clause-asked : goal.returns-then-keeps_state-clause-asked
+returns-then-keeps_state-clause-asked g c =
+    let s = c.self.inside in
+    let d : Decoding = decoding (g.R.Source.told s.tags.source) s.tags.kind s.tags.order s.first (g.R.Source.failures s.tags.source) s.standing.pointer s.standing.more
+    (view.page s.page) s.tags.directory s.offset s.tags.limits in
+    next_behind d _ (g.R.Source.told s.tags.source) s.walk c.in-Err.fault c.self.view_is refl c.self.invariant.begins
+    (last_is s.walk.offsets s.standing.pointer s.standing.at c.following-at.result s.standing.more c.self.invariant.stands (cc) c.following-at.ensures.number
+    (past_end s.walk.offsets c.following-at.result (sym c.get-known.ensures ∙ none_of c.get-known.result c.in_default.not-Some))) c.in-Err.ensures.asked
+
+pub returns-in-Err-clause-asked : goal.returns-in-Err-clause-asked
+returns-in-Err-clause-asked g c =
+    let s = c.self.inside in
+    let d : Decoding = decoding (g.R.Source.told s.tags.source) s.tags.kind s.tags.order s.first (g.R.Source.failures s.tags.source) s.standing.pointer s.standing.more
+    (view.page s.page) s.tags.directory s.offset s.tags.limits in
+    next_behind d _ (g.R.Source.told s.tags.source) s.walk c.in-Err.fault c.self.view_is refl c.self.invariant.begins
+    (last_is s.walk.offsets s.standing.pointer s.standing.at c.following-at.result s.standing.more c.self.invariant.stands (cc) c.following-at.ensures.number
+    (past_end s.walk.offsets c.following-at.result (sym c.get-known.ensures ∙ none_of c.get-known.result c.in_default.not-Some))) c.in-Err.ensures.asked

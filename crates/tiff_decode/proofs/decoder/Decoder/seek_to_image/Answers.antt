@@ -3,6 +3,7 @@ use Rattle.tiff_base.proofs.Told.{same_bytes}
 use Rattle.tiff_page.specs.PageView as view
 use Rattle.tiff_decode.specs.Machine.{Decoding, decoding}
 use Rattle.tiff_decode.specs.Outcome.{seek_to_image}
+use Rattle.tiff_decode.proofs.Asked.{sought_entry, sought_way}
 use Rattle.tiff_decode.proofs.ChainPosition.{seek_known, along_on, some_longer, stands_longer, shown, told_same}
 use Rattle.tiff_decode.proofs.decoder.Decoder.seek_to_image.Goals as goal
 
@@ -26,8 +27,8 @@ invariant_of-self-then-keeps_state g c =
     (some_longer s.walk.offsets c.offset_of.new.self.offsets longer.0 longer.1 c.self.invariant.some)
     (stands_longer s.walk.offsets c.offset_of.new.self.offsets longer.0 s.standing.pointer s.standing.at s.standing.more longer.1 c.self.invariant.stands)
 
-pub returns-in-Ok-Some : goal.returns-in-Ok-Some
-returns-in-Ok-Some g c =
+pub returns-in-Ok-Some-clause-follows : goal.returns-in-Ok-Some-clause-follows
+returns-in-Ok-Some-clause-follows g c =
     let s = c.self.inside in
     let d : Decoding = decoding (g.R.Source.told s.tags.source) s.tags.kind s.tags.order s.first (g.R.Source.failures s.tags.source) s.standing.pointer s.standing.more
     (view.page s.page) s.tags.directory s.offset s.tags.limits in
@@ -36,3 +37,21 @@ returns-in-Ok-Some g c =
     shown (λ x. seek_to_image x c.args.ifd_index) c.enter_offset.result d _ _ c.self.view_is
     (seek_known c.enter_offset.result d mid _ c.args.ifd_index c.in-Ok-Some.offset (h s.first c.self.invariant.begins)
     (told_same d _ _ c.offset_of.ensures.kept.told c.in-Ok-Some.ensures.kept.swallowed) (c.enter_offset.ensures.follows s.first s.offset))
+
+-- ---- what is asked for
+
+pub returns-in-Ok-Some-clause-asked : goal.returns-in-Ok-Some-clause-asked
+returns-in-Ok-Some-clause-asked g c =
+    let s = c.self.inside in
+    let d : Decoding = decoding (g.R.Source.told s.tags.source) s.tags.kind s.tags.order s.first (g.R.Source.failures s.tags.source) s.standing.pointer s.standing.more
+    (view.page s.page) s.tags.directory s.offset s.tags.limits in
+    let h = rw c.in-Ok-Some.field-0-is at c.in-Ok-Some.ensures.offset in
+    sought_entry d _ (g.R.Source.told c.offset_of.new.source) c.args.ifd_index c.in-Ok-Some.offset c.enter_offset.result c.self.view_is c.offset_of.ensures.kept.told
+    (h s.first c.self.invariant.begins) c.enter_offset.ensures.asked
+
+pub returns-then-keeps_state-clause-asked : goal.returns-then-keeps_state-clause-asked
+returns-then-keeps_state-clause-asked g c =
+    let s = c.self.inside in
+    let d : Decoding = decoding (g.R.Source.told s.tags.source) s.tags.kind s.tags.order s.first (g.R.Source.failures s.tags.source) s.standing.pointer s.standing.more
+    (view.page s.page) s.tags.directory s.offset s.tags.limits in
+    sought_way d _ c.args.ifd_index c.in-Err.fault c.self.view_is (c.in-Err.ensures.asked s.first c.self.invariant.begins)
