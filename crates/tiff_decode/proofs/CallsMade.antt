@@ -7,10 +7,12 @@ use Rattle.tiff_base.specs.declared.error.TiffError.TheVariants.{FormatError, Un
 use Rattle.tiff_base.specs.declared.io.IoKind.TheVariants.{UnexpectedEof, InvalidData, InvalidInput, WriteZero, Device}
 use Rattle.tiff_base.specs.declared.tags.Tag.{Tag}
 use Rattle.tiff_base.specs.Answers.{Answers, AnswersWithoutMemory, NoneSwallowed}
+use Rattle.tiff_base.specs.Sparing.{IsOkOrList}
+use Rattle.tiff_page.specs.EarlyFaults.{WantsAfter}
 use Rattle.tiff_decode.specs.declared.script.Call.{Call}
 use Rattle.tiff_decode.specs.declared.script.Reply.{Reply}
 use Rattle.tiff_decode.specs.Failures.{all_failures}
-use Rattle.tiff_decode.specs.Machine.{Decoding, Outcome, StandsAt, Follows}
+use Rattle.tiff_decode.specs.Machine.{Decoding, Outcome, StandsAt, Follows, FollowsBut}
 use Rattle.tiff_decode.specs.Outcome as outcome
 use Rattle.tiff_decode.specs.Reader.{TagsRead}
 use Rattle.tiff_decode.specs.Sight.{items_of}
@@ -21,6 +23,22 @@ use Rattle.tiff_decode.proofs.NextState.{along}
 -- a decoder that is left as it was
 pub stands_here : (d : Decoding) → StandsAt d.state d d
 stands_here d = record { stands = refl; failures = omega arith }
+
+-- a call that wants memory after certain faults alone
+pub wanted_after : {X Y : Type 0} (early : Result (Unit {0}) TiffError) (view : X → Y) (o : Outcome Y) (r : Result X TiffError) (old new : Decoding)
+    → Follows view o r old new → WantsAfter early r → FollowsBut (IsOkOrList early) view o r old new
+wanted_after early view o (Ok x) old new h w = h
+wanted_after early view o (Err OutOfMemory) old new h w = (w refl, h.1)
+wanted_after early view o (Err (IoError Device)) old new h w = h
+wanted_after early view o (Err (IoError UnexpectedEof)) old new h w = h
+wanted_after early view o (Err (IoError InvalidData)) old new h w = h
+wanted_after early view o (Err (IoError InvalidInput)) old new h w = h
+wanted_after early view o (Err (IoError WriteZero)) old new h w = h
+wanted_after early view o (Err (FormatError x)) old new h w = h
+wanted_after early view o (Err (UnsupportedError x)) old new h w = h
+wanted_after early view o (Err LimitsExceeded) old new h w = h
+wanted_after early view o (Err IntSizeError) old new h w = h
+wanted_after early view o (Err (UsageError x)) old new h w = h
 
 -- ---- slices of zeros
 

@@ -2,8 +2,9 @@
 use Rattle.std.specs.Prelude.{◌≡◌, true, Result, Ok, replicate}
 use Rattle.tiff_base.specs.declared.error.TiffError.{TiffError}
 use Rattle.tiff_base.specs.declared.tags.«Type».TheVariants.{BYTE}
-use Rattle.tiff_base.specs.Sparing.{IsListFault, IsWithinLimits}
+use Rattle.tiff_base.specs.Sparing.{IsListFault, IsOkOrList, IsWithinLimits}
 use Rattle.tiff_value.specs.Buffer.{empty_buffer}
+use Rattle.tiff_page.specs.EarlyFaults.{chunk_early, image_early, planes_early, strided_early}
 use Rattle.tiff_decode.specs.declared.script.Call.{Call}
 use Rattle.tiff_decode.specs.declared.script.Call.TheVariants as call
 use Rattle.tiff_decode.specs.Machine.{State, Decoding, Outcome, stays}
@@ -76,12 +77,13 @@ promise d (call.ChunkDataDimensions i) = tells (outcome.chunk_data_dimensions d 
 promise d call.ImageBufferLayout = describes (IsListFault (outcome.image_buffer_layout d).answer) (outcome.image_buffer_layout d).answer
 promise d (call.ImageChunkBufferLayout i) = describes (IsListFault (outcome.image_chunk_buffer_layout d i).answer) (outcome.image_chunk_buffer_layout d i).answer
 promise d (call.ImageCodingUnitLayout unit) = describes (IsListFault (outcome.image_coding_unit_layout d unit.0).answer) (outcome.image_coding_unit_layout d unit.0).answer
-promise d call.ReadImage = reads (Unit {0}) (outcome.read_image d)
-promise d call.ReadImageToBuffer = reads (Unit {0}) (outcome.read_image_to_buffer d)
+promise d call.ReadImage = reads (IsOkOrList (image_early d.bytes d.state.page d.state.limits)) (outcome.read_image d)
+promise d call.ReadImageToBuffer = reads (IsOkOrList (planes_early d.bytes d.state.page d.state.limits)) (outcome.read_image_to_buffer d)
 promise d (call.ReadImageBytes len) = reads (Unit {0}) (outcome.read_image_bytes d (replicate len 0))
-promise d (call.ReadChunk i) = reads (Unit {0}) (outcome.read_chunk d i)
+promise d (call.ReadChunk i) = reads (IsOkOrList (chunk_early d.bytes d.state.page d.state.limits i)) (outcome.read_chunk d i)
 promise d (call.ReadChunkBytes i len) = reads (Unit {0}) (outcome.read_chunk_bytes d i (replicate len 0))
-promise d (call.ReadChunkToBuffer i stride) = reads (Unit {0}) (outcome.read_chunk_to_buffer d i stride)
+promise d (call.ReadChunkToBuffer i stride) =
+    reads (IsOkOrList (strided_early d.bytes d.state.page d.state.limits i stride)) (outcome.read_chunk_to_buffer d i stride)
 promise d (call.ReadCodingUnitBytes unit len) = reads (Unit {0}) (outcome.read_coding_unit_bytes d unit.0 (replicate len 0))
 promise d (call.FindTag tag) = reads_tags (outcome.WantsTag d tag) (outcome.find_tag d tag)
 promise d (call.FindTagUnsigned tag) = reads_tags (outcome.WantsTag d tag) (outcome.find_tag_unsigned d tag)

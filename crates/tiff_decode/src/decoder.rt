@@ -495,6 +495,7 @@ impl<R: Source> Decoder<R> {
     /// The source.
     pub fn inner(&self) -> &R
         ensures bytes { (R.told result.now).bytes ≡ self.now.bytes }
+        ensures readable { (R.told result.now).readable ≡ self.now.readable }
         ensures failures { R.failures result.now ≡ self.now.failures }
     {
         &self.tags.source

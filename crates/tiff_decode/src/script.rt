@@ -4,7 +4,9 @@ ghost use Rattle.std.specs.Prelude.{◌≡◌, ◌+◌, ◌++◌, ◌∷◌, [],
 ghost use Rattle.tiff_base.specs.declared.error.TiffError.TheVariants.{OutOfMemory};
 ghost use Rattle.tiff_base.specs.declared.tags.«Type».TheVariants.{BYTE};
 ghost use Rattle.tiff_value.specs.Buffer.{empty_buffer};
-ghost use Rattle.tiff_decode.specs.Machine.{Follows};
+ghost use Rattle.tiff_base.specs.Sparing.{IsOkOrList};
+ghost use Rattle.tiff_page.specs.EarlyFaults.{planes_early, strided_early};
+ghost use Rattle.tiff_decode.specs.Machine.{Follows, FollowsBut};
 ghost use Rattle.tiff_decode.specs.Outcome as outcome;
 ghost use Rattle.tiff_decode.specs.Reader.{TagsRead};
 ghost use Rattle.tiff_decode.specs.Result.{decoded_as};
@@ -174,10 +176,12 @@ fn zeros(alloc: Global, len: usize) -> TiffResult<Vec<u8>>
 }
 
 // The image into an empty list of samples.
+#[tactic(auto, using(crate::proofs::CallsMade::wanted_after))]
 fn image_samples<R: Source>(
     decoder: &mut Decoder<R>,
 ) -> (TiffResult<BufferLayoutPreference>, DecodingResult)
-    ensures { Follows (λ x. (x, decoded_as result.1)) (outcome.read_image_to_buffer decoder.old) result.0 decoder.old decoder.new }
+    ensures { FollowsBut (IsOkOrList (planes_early decoder.old.bytes decoder.old.state.page decoder.old.state.limits)) (λ x. (x, decoded_as result.1))
+        (outcome.read_image_to_buffer decoder.old) result.0 decoder.old decoder.new }
 {
     let mut samples = DecodingResult::U8(Vec::new(decoder.alloc));
     let result = decoder.read_image_to_buffer(&mut samples);
@@ -185,12 +189,14 @@ fn image_samples<R: Source>(
 }
 
 // A chunk into an empty list of samples.
+#[tactic(auto, using(crate::proofs::CallsMade::wanted_after))]
 fn chunk_samples<R: Source>(
     decoder: &mut Decoder<R>,
     chunk: u32,
     stride: usize,
 ) -> (TiffResult<()>, DecodingResult)
-    ensures { Follows (λ _. decoded_as result.1) (outcome.read_chunk_to_buffer decoder.old chunk stride) result.0 decoder.old decoder.new }
+    ensures { FollowsBut (IsOkOrList (strided_early decoder.old.bytes decoder.old.state.page decoder.old.state.limits chunk stride)) (λ _. decoded_as result.1)
+        (outcome.read_chunk_to_buffer decoder.old chunk stride) result.0 decoder.old decoder.new }
 {
     let mut samples = DecodingResult::U8(Vec::new(decoder.alloc));
     let result = decoder.read_chunk_to_buffer(&mut samples, chunk, stride);
@@ -280,7 +286,7 @@ fn tag_bytes<R: Source>(
 }
 
 /// Makes one call.
-#[tactic(auto, unfolding(crate::specs::Outcome::colortype, crate::specs::Outcome::image_buffer_layout, crate::specs::Outcome::image_chunk_buffer_layout, crate::specs::Outcome::image_coding_unit_layout))]
+#[tactic(auto, using(crate::proofs::CallsMade::wanted_after), unfolding(crate::specs::Outcome::colortype, crate::specs::Outcome::image_buffer_layout, crate::specs::Outcome::image_chunk_buffer_layout, crate::specs::Outcome::image_coding_unit_layout))]
 pub fn run_call<R: Source>(decoder: &mut Decoder<R>, call: &Call) -> Reply
     ensures { Step decoder.old call.now result decoder.new }
 {

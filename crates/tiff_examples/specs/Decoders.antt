@@ -32,7 +32,7 @@ gray_state = record {
 -- the decoder of some bytes of a classic little-endian file whose first directory stands at an offset
 abbrev pub decoder_at : List ℕ → ℕ → State → Decoding
 decoder_at bytes first state =
-    record { bytes = bytes; kind = Classic; order = LittleEndian; first = first; failures = 0; state = state }
+    record { bytes = bytes; readable = None; kind = Classic; order = LittleEndian; first = first; failures = 0; state = state }
 
 abbrev pub gray_decoder : Decoding
 gray_decoder = decoder_at gray_file 25 gray_state

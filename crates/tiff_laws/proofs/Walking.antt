@@ -332,6 +332,7 @@ is_known (Some x) e a h = cc
 abbrev first_decoding : List ℕ → ℕ → Header → ℕ → DirectoryRecord → PageRecord → Decoding
 first_decoding file failures header offset directory page = record {
   bytes = file;
+  readable = None;
   kind = header.kind;
   order = header.order;
   first = header.first;

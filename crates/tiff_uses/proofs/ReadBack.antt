@@ -1,5 +1,5 @@
 -- An image that was written behind a header, and read back.
-use Rattle.std.proofs.Common.{◌≡◌, ℕ, ◌<◌, List, length, Option, Some, Result, Ok, Err, IfOk, refl, ap, sym, ◌∙◌, subst}
+use Rattle.std.proofs.Common.{◌≡◌, ℕ, ◌<◌, List, length, Option, None, Some, Result, Ok, Err, IfOk, refl, ap, sym, ◌∙◌, subst}
 use Rattle.std.proofs.lemmas.Option.{slice_get_within}
 use Rattle.std.specs.List.{slice_get}
 use Rattle.tiff_base.specs.declared.error.TiffError.{TiffError}
@@ -36,12 +36,12 @@ same_some : (x y : ℕ) → (let a : Option ℕ = Some x in let b : Option ℕ =
 same_some x y e = cc
 
 -- a file was opened, its first page was sought without limits, and its image was read
-first_read : WalkOpens → WalkSeeks → (file : List ℕ) (opened free at : Decoding) (image : Decoded) → decoder_of file 0 ≡ Ok (record opened { failures = 0 })
+first_read : WalkOpens → WalkSeeks → (file : List ℕ) (opened free at : Decoding) (image : Decoded) → decoder_of file 0 ≡ Ok (record opened { readable = None; failures = 0 })
     → free ≡ record opened { state = (set_limits opened unlimited).next } → GivesOutcome (Ok tt) (seek_to_image free 0) free at
     → (read_image at).answer ≡ Ok image → IsFirstImage file image
 unfolding read_image set_limits
 first_read opens seeks file opened free at image h e s r =
-    let o = opens file 0 (record opened { failures = 0 }) h in
+    let o = opens file 0 (record opened { readable = None; failures = 0 }) h in
     let bytes : free.bytes ≡ file = ap (λ (d : Decoding). d.bytes) e ∙ o.bytes in
     let kind : free.kind ≡ opened.kind = ap (λ (d : Decoding). d.kind) e in
     let order : free.order ≡ opened.order = ap (λ (d : Decoding). d.order) e in
@@ -69,7 +69,7 @@ first_read opens seeks file opened free at image h e s r =
 
 -- so is what the call that reads it answers
 pub image_is_first : WalkOpens → WalkSeeks → (file : List ℕ) (opened free at new : Decoding) (result : Result DecodingResult TiffError)
-    → decoder_of file 0 ≡ Ok (record opened { failures = 0 }) → free ≡ record opened { state = (set_limits opened unlimited).next }
+    → decoder_of file 0 ≡ Ok (record opened { readable = None; failures = 0 }) → free ≡ record opened { state = (set_limits opened unlimited).next }
     → GivesOutcome (Ok tt) (seek_to_image free 0) free at → Follows decoded_as (read_image at) result at new
     → IfOk result (λ image. IsFirstImage file (decoded_as image))
 image_is_first opens seeks file opened free at new (Ok image) h e s f = first_read opens seeks file opened free at (decoded_as image) h e s f.answer

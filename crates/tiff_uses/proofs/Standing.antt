@@ -21,7 +21,7 @@ ok s = Ok s
 
 -- the decoder as it was opened, of which no read had failed
 abbrev pub begun : Decoding → Decoding
-begun d = record d { failures = 0 }
+begun d = record d { readable = None; failures = 0 }
 
 -- the sides of the pages from the first one up to that of a decoder
 abbrev pub Standing : Decoding → List (ℕ × ℕ) → Decoding → Type 0

@@ -1,7 +1,7 @@
 //! Nine uses of `tiff`, as a caller writes them.
 #![tactic(auto)]
 
-ghost use Rattle.std.specs.Prelude.{◌≡◌, ◌≤◌, length, map, IfOk, Ok, OnOk};
+ghost use Rattle.std.specs.Prelude.{◌≡◌, ◌≤◌, length, map, IfOk, None, Ok, OnOk};
 ghost use Rattle.tiff.specs.Answers.{Answers};
 ghost use Rattle.tiff.specs.Machine.{Follows};
 ghost use Rattle.tiff.specs.Outcome.{decoder_of, read_image_bytes};
@@ -64,7 +64,7 @@ pub fn strips_of(alloc: Global, file: Vec<u8>, page: usize) -> TiffResult<(u32, 
 // The width and the height of each page, from a decoder at its file's first page on.
 fn sides_along(alloc: Global, decoder: &mut Decoder<MemorySource>) -> TiffResult<Vec<(u32, u32)>>
     // It was opened on its file, and no call moved it since.
-    requires { decoder_of decoder.old.bytes 0 ≡ Ok (record decoder.old { failures = 0 }) }
+    requires { decoder_of decoder.old.bytes 0 ≡ Ok (record decoder.old { readable = None; failures = 0 }) }
     ensures { FileAnswers (λ v. v.items) result (pages.page_sides decoder.old.bytes) }
 {
     walk_opens();

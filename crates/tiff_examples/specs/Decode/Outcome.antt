@@ -130,6 +130,7 @@ big_endian_entries =
 abbrev pub big_endian_decoder : Decoding
 big_endian_decoder = record {
   bytes = big_endian_file;
+  readable = None;
   kind = Classic;
   order = BigEndian;
   first = 8;
@@ -173,6 +174,7 @@ big_entries =
 abbrev pub big_decoder : Decoding
 big_decoder = record {
   bytes = big_file;
+  readable = None;
   kind = Big;
   order = LittleEndian;
   first = 16;
