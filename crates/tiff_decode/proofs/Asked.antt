@@ -25,6 +25,10 @@ use Rattle.tiff_decode.specs.Outcome.{chain_from, chain_of, end_fault, first_dir
 use Rattle.tiff_decode.proofs.Opening.{begun_at}
 use Rattle.tiff_decode.proofs.ChainPosition.{last_of}
 
+-- of a decoder as it is seen
+pub asked_of : (P : Decoding → Type 0) (d old : Decoding) (e : TiffError) → d ≡ old → (P d → IsNotDevice e) → P old → IsNotDevice e
+asked_of P d old e seen asked q = asked (subst P (sym seen) q)
+
 -- ---- opening
 
 -- the first directory
