@@ -17,8 +17,9 @@ DESCRIPTION
     A call that answers TIFF_DONE has written its answer. One that answers anything else has left a struct or a number as it was; what it leaves
     in a buffer of bytes isn't told. tiff_write_image tells more.
 
-    A file may claim any size: ask for the layout, and judge it, before you take memory for an image. A file whose chunks are past
-    128 MiB in the file answers TIFF_LIMITS_EXCEEDED.
+    A file may claim any size: ask for the layout, and judge it, before you take memory for an image. The calls that read pixels are under no limit,
+    whatever the size of a chunk in the file: they write into BUFFER, and take memory for rows alone, after the first chunk's data were found in FILE.
+    A page may have 8,388,608 chunks, and a tag that tiff_tag_number reads as many values; more answers TIFF_LIMITS_EXCEEDED.
 
 POINTERS
     No pointer may be null, not even with a length of 0: hand the address of any byte. FILE with a length of 0 is no TIFF file

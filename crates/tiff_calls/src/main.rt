@@ -19,6 +19,9 @@ const IMAGE: NewImage = NewImage {
 
 const SAMPLES: [u8; 12] = [1, 2, 3, 4, 5, 6, 7, 8, 9, 10, 11, 12];
 
+// Where the entry of the page that is written counts the bytes of its strip.
+const BYTE_COUNT: usize = 154;
+
 // A page that is the directory at an offset: this is added to it. The one that is written stands at 48.
 const AT: usize = 1 << 63;
 
@@ -157,6 +160,10 @@ fn main(rt: HostRuntime) -> io::Result<()> {
     print_chunks(&rt, file, 0, 1)?;
     print_chunks(&rt, file, 0, 2)?;
     print_chunks(&rt, file, 1, u32::MAX)?;
+    let mut claims = buffer;
+    claims[BYTE_COUNT..BYTE_COUNT + 4].copy_from_slice(&[1, 0, 0, 8]);
+    println!(rt; "a strip of 134217729 bytes")?;
+    print_pixels(&rt, &claims[..file.len()], 0)?;
     print_file(&rt, file)?;
     print_file(&rt, cut)?;
     print_list(&rt, file)?;

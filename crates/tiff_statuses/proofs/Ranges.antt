@@ -11,7 +11,7 @@ use Rattle.tiff_base.specs.declared.error.UsageError.TheVariants.{InsufficientOu
 use Rattle.tiff_base.specs.Answers.{◌>>=◌}
 use Rattle.tiff_decode.specs.Machine.{Decoding}
 use Rattle.tiff_decode.specs.Outcome.{read_chunk_bytes}
-use Rattle.tiff_statuses.specs.Calls.{chunk_len, chunks_in, decoder_at_page, read_chunks, room_for}
+use Rattle.tiff_statuses.specs.Calls.{chunk_len, chunks_in, free_at_page, read_chunks, room_for}
 
 -- an answer behind some bytes
 abbrev pub behind : List ℕ → Result (List ℕ) TiffError → Result (List ℕ) TiffError
@@ -100,7 +100,7 @@ all_read d first end chunk at old buf l left =
     left ∙ ap (λ (k : ℕ). behind (take at buf) (chunks_in d k chunk (drop at buf))) none ∙ ap (λ (x : List ℕ). Ok x) (take-append-drop at buf)
 
 -- the chunks of an open page
-pub of_page : (file slice : List ℕ) (page first count end : ℕ) (d : Decoding) → decoder_at_page file page ≡ Ok d → end ≡ first + count → first + count < 2 ^ 32
+pub of_page : (file slice : List ℕ) (page first count end : ℕ) (d : Decoding) → free_at_page file page ≡ Ok d → end ≡ first + count → first + count < 2 ^ 32
     → chunks_in d (end - first) first slice ≡ read_chunks file page first count slice
 of_page file slice page first count end d h e l =
     let counted : end - first ≡ count = omega (arith, e) in

@@ -16,6 +16,7 @@ use Rattle.tiff_base.specs.declared.tags.ByteOrder.{ByteOrder}
 use Rattle.tiff_base.specs.declared.tags.ByteOrder.TheVariants.{LittleEndian, BigEndian}
 use Rattle.tiff_base.specs.declared.tags.Tag.{Tag}
 use Rattle.tiff_base.specs.Tags.{tag_of, type_number}
+use Rattle.tiff_ifd.specs.Limits.{unlimited}
 use Rattle.tiff_ifd.specs.Look.{ok_or_fault}
 use Rattle.tiff_page.specs.PixelFault.{each_below}
 use Rattle.tiff_statuses.specs.declared.calls.FieldSize.{FieldSize}
@@ -37,6 +38,12 @@ decoder_at_page file page = do
   _ ← (page_outcome d page).answer
   Ok (record d { state = (page_outcome d page).next })
 
+-- the same under no limits: what is read into a caller's slice takes no memory by what a file claims
+abbrev pub free_at_page : List ℕ → ℕ → Result Decoding TiffError
+free_at_page file page = do
+  d ← decoder_at_page file page
+  Ok (record d { state = (outcome.set_limits d unlimited).next })
+
 -- the sides of a page
 abbrev pub page_sides : List ℕ → ℕ → Result Sides TiffError
 page_sides file page = do
@@ -47,7 +54,7 @@ page_sides file page = do
 -- the bytes of an image in a slice
 abbrev pub read_image_bytes : List ℕ → ℕ → List ℕ → Result (List ℕ) TiffError
 read_image_bytes file page slice = do
-  d ← decoder_at_page file page
+  d ← free_at_page file page
   (outcome.read_image_bytes d slice).answer
 
 -- the bytes of an image: of one plane, and of all
@@ -62,7 +69,7 @@ page_layout file page = decoder_at_page file page >>= image_layout
 -- the bytes of a chunk in a slice
 abbrev pub read_chunk_bytes : List ℕ → ℕ → ℕ → List ℕ → Result (List ℕ) TiffError
 read_chunk_bytes file page chunk slice = do
-  d ← decoder_at_page file page
+  d ← free_at_page file page
   (outcome.read_chunk_bytes d chunk slice).answer
 
 -- how many bytes a chunk has
@@ -89,13 +96,13 @@ chunks_in d (suc count) i slice = do
 -- so many chunks of a page, where the numbers of all are below 2^32
 abbrev pub read_chunks : List ℕ → ℕ → ℕ → ℕ → List ℕ → Result (List ℕ) TiffError
 read_chunks file page first count slice = do
-  d ← decoder_at_page file page
+  d ← free_at_page file page
   if nat_lt (first + count) (2 ^ 32) then chunks_in d count first slice else Err (UsageError (InvalidChunkIndex (2 ^ 32 - 1)))
 
 -- the bytes of a coding unit in a slice
 abbrev pub read_unit_bytes : List ℕ → ℕ → ℕ → List ℕ → Result (List ℕ) TiffError
 read_unit_bytes file page unit slice = do
-  d ← decoder_at_page file page
+  d ← free_at_page file page
   (outcome.read_coding_unit_bytes d unit slice).answer
 
 -- the kind of a color, as a number

@@ -15,6 +15,7 @@ use tiff_base::error::{TiffFormatError, TiffResult, UsageError};
 use tiff_base::io::{SliceSource, Source};
 use tiff_base::tags::{ByteOrder, IfdPointer, Tag};
 use tiff_decode::decoder::Decoder;
+use tiff_ifd::limits::Limits;
 use tiff_laws::pages::{walk_ends, walk_goes_on, walk_opens};
 use tiff_page::layout::TiffCodingUnit;
 
@@ -128,6 +129,13 @@ fn open_at(alloc: Global, file: &[u8], page: usize) -> TiffResult<Decoder<SliceS
     Ok(decoder)
 }
 
+// The same under no limits: what is read into a caller's slice takes no memory by what a file claims.
+fn open_free(alloc: Global, file: &[u8], page: usize) -> TiffResult<Decoder<SliceSource<'_>>>
+    ensures { AnswersWithoutSource (λ d. d) result (calls.free_at_page file.now page) }
+{
+    Ok(open_at(alloc, file, page)?.with_limits(Limits::unlimited()))
+}
+
 /// The width and the height of a page.
 #[tactic(auto, unfolding(tiff_decode::specs::Outcome::dimensions))]
 pub fn page_sides(alloc: Global, file: &[u8], page: usize) -> TiffResult<Sides>
@@ -148,11 +156,11 @@ fn image_here(decoder: &mut Decoder<SliceSource<'_>>, buffer: &mut [u8]) -> Tiff
     answer
 }
 
-/// Reads the image of a page into a slice.
+/// Reads the image of a page into a slice, under no limits.
 pub fn image_bytes(alloc: Global, file: &[u8], page: usize, buffer: &mut [u8]) -> TiffResult<()>
     ensures { AnswersWithoutSource (λ _. buffer.new) result (calls.read_image_bytes file.now page buffer.old) }
 {
-    image_here(&mut open_at(alloc, file, page)?, buffer)
+    image_here(&mut open_free(alloc, file, page)?, buffer)
 }
 
 // The layout of a decoder's page.
@@ -190,7 +198,7 @@ fn chunk_here(
     answer
 }
 
-/// Reads a chunk of a page into a slice.
+/// Reads a chunk of a page into a slice, under no limits.
 pub fn chunk_bytes(
     alloc: Global,
     file: &[u8],
@@ -200,7 +208,7 @@ pub fn chunk_bytes(
 ) -> TiffResult<()>
     ensures { AnswersWithoutSource (λ _. buffer.new) result (calls.read_chunk_bytes file.now page chunk buffer.old) }
 {
-    chunk_here(&mut open_at(alloc, file, page)?, chunk, buffer)
+    chunk_here(&mut open_free(alloc, file, page)?, chunk, buffer)
 }
 
 // How many bytes a chunk of a decoder's page has.
@@ -238,7 +246,7 @@ fn range_here(
     Ok(())
 }
 
-/// Reads so many chunks of a page from one on into a slice, one behind the other.
+/// Reads so many chunks of a page from one on into a slice, one behind the other, under no limits.
 pub fn range_bytes(
     alloc: Global,
     file: &[u8],
@@ -249,7 +257,7 @@ pub fn range_bytes(
 ) -> TiffResult<()>
     ensures { AnswersWithoutSource (λ _. buffer.new) result (calls.read_chunks file.now page first count buffer.old) }
 {
-    let mut decoder = open_at(alloc, file, page)?;
+    let mut decoder = open_free(alloc, file, page)?;
     let Some(end) = first.checked_add(count) else {
         return Err(UsageError::InvalidChunkIndex(u32::MAX).into());
     };
@@ -267,7 +275,7 @@ fn unit_here(decoder: &mut Decoder<SliceSource<'_>>, unit: u32, buffer: &mut [u8
     answer
 }
 
-/// Reads a coding unit of a page into a slice.
+/// Reads a coding unit of a page into a slice, under no limits.
 pub fn unit_bytes(
     alloc: Global,
     file: &[u8],
@@ -277,7 +285,7 @@ pub fn unit_bytes(
 ) -> TiffResult<()>
     ensures { AnswersWithoutSource (λ _. buffer.new) result (calls.read_unit_bytes file.now page unit buffer.old) }
 {
-    unit_here(&mut open_at(alloc, file, page)?, unit, buffer)
+    unit_here(&mut open_free(alloc, file, page)?, unit, buffer)
 }
 
 // The kind of a color, as C is told of it.
