@@ -1,4 +1,6 @@
 pub mod Maps
+pub mod Stretches
+pub mod TagsHeld
 pub mod OfBase
 pub mod OfIfd
 pub mod OfPage

@@ -4,3 +4,4 @@ pub mod Machine
 pub mod OutcomeQueries
 pub mod Steps
 pub mod Reader
+pub mod Asked

@@ -1,5 +1,6 @@
 //! What the definitions of `tiff_decode` give: outcomes of calls, and lists of them.
 
+pub mod asked;
 pub mod machine;
 pub mod outcome;
 pub mod outcome_queries;

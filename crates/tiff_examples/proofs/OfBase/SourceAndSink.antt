@@ -1,7 +1,7 @@
 -- The worked examples of ShortAnswers compute.
 use Rattle.std.specs.Prelude.{refl, ◌≡◌, ℕ, zero, suc, ◌<◌, List, [], ◌∷◌, reverse, get_or, slice_index}
 use Rattle.std.proofs.Common.{ap, arith}
-use Rattle.std.proofs.lemmas.Bool.{false≢true, lt-ltb}
+use Rattle.std.proofs.lemmas.Bool.{false≢true}
 use Rattle.std.specs.Ordering.{nat_cmp}
 use Rattle.std.specs.Cmp.{nat_cmp_total}
 use Rattle.std.specs.FinMap.{find, get, from_entries, get-from_entries}
@@ -11,11 +11,13 @@ use Rattle.tiff_base.specs.Directory.{entry_of, last_of_each}
 use Rattle.tiff_base.specs.Field.{Field}
 use Rattle.tiff_base.specs.FieldBytes.{field_bytes}
 use Rattle.tiff_base.specs.Number.{number}
+use Rattle.tiff_base.specs.SourceAndSink.{answers_for}
 use Rattle.tiff_base.specs.Tags.{type_of}
 use Rattle.tiff_ifd.specs.Limits.{unlimited}
 use Rattle.tiff_ifd.specs.FieldValue.{field_value}
 use Rattle.tiff_ifd.specs.Look.{look_in, if_found}
 use Rattle.tiff_examples.specs.Base.SourceAndSink as s
+use Rattle.tiff_examples.proofs.Stretches.{in_first, in_later}
 
 -- the look-up in fields that are made of a list
 by_list : (fields : List (ℕ × Field)) (q : ℕ) → get (from_entries {R = nat_cmp} fields) q ≡ find nat_cmp q fields
@@ -48,9 +50,10 @@ pub read_elsewhere : s.read_elsewhere
 read_elsewhere = λ r. (let e = ap (λ l. get_or l 0 0) r.next in omega (arith, e))
 
 pub last_of_six : s.last_of_six
-last_of_six = λ k l h. lt-ltb k 6 (omega (arith, h))
+last_of_six = λ k l h. in_first 0 6 [] k (omega arith) (omega (arith, h))
 
 pub one_more_than_six : s.one_more_than_six
+unfolding answers_for
 one_more_than_six = λ r. false≢true (r 6 (omega arith) (omega arith))
 
 pub nothing_readable : s.nothing_readable
@@ -94,6 +97,36 @@ over_none = λ r. omega (arith, r.some (omega arith))
 
 pub over_elsewhere : s.over_elsewhere
 over_elsewhere = λ r. (let e = ap (λ l. get_or l 0 0) r.next in omega (arith, e))
+
+pub second_stretch : s.second_stretch
+second_stretch = λ k l h. in_later (0, 2) ((4, 2) ∷ []) k (in_first 4 2 [] k l h)
+
+pub within_gap : s.within_gap
+unfolding answers_for
+within_gap = λ r. false≢true (r 2 (omega arith) (omega arith))
+
+pub no_stretch : s.no_stretch
+unfolding answers_for
+no_stretch = λ r. false≢true (r 0 (omega arith) (omega arith))
+
+pub all_readable : s.all_readable
+unfolding answers_for
+all_readable = λ at len k l h. refl
+
+pub nine_buffered : s.nine_buffered
+nine_buffered = λ k l h. in_first 0 9 [] k l h
+
+pub ten_buffered : s.ten_buffered
+unfolding answers_for
+ten_buffered = λ r. false≢true (r 9 (omega arith) (omega arith))
+
+pub short_buffered : s.short_buffered
+unfolding answers_for
+short_buffered = λ r. false≢true (r 4 (omega arith) (omega arith))
+
+pub all_buffered : s.all_buffered
+unfolding answers_for
+all_buffered = λ at len k l h. refl
 
 pub signed_byte_alone : s.signed_byte_alone
 unfolding field_value number

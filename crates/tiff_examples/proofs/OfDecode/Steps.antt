@@ -11,7 +11,9 @@ use Rattle.tiff_base.specs.Directory.{directory_at, entries_from, last_of_each, 
 use Rattle.tiff_base.specs.Number.{number}
 use Rattle.tiff_base.specs.Tags.{type_of}
 use Rattle.tiff_ifd.specs.Chain.{chain}
-use Rattle.tiff_page.specs.Layout.{color_of}
+use Rattle.tiff_page.specs.Buffers.{planes_layout}
+use Rattle.tiff_page.specs.Layout.{color_of, layout_of, row_bits, sample_type_of}
+use Rattle.tiff_page.specs.PixelFault.{depth_fault, form_fault, predictor_fault, white_fault}
 use Rattle.tiff_page.specs.Rect.{rect}
 use Rattle.tiff_decode.specs.Machine.{Decoding}
 use Rattle.tiff_decode.specs.Outcome as outcome
@@ -78,6 +80,38 @@ color_told = (refl, refl)
 pub color_wanting : s.color_wanting
 unfolding outcome.colortype color_of
 color_wanting = λ h. h.0
+
+pub image_wanting : s.image_wanting
+unfolding planes_layout layout_of color_of row_bits sample_type_of rect form_fault depth_fault predictor_fault white_fault
+image_wanting = (tt, refl)
+
+pub image_not_wanting : s.image_not_wanting
+unfolding planes_layout layout_of color_of row_bits sample_type_of rect form_fault depth_fault predictor_fault white_fault
+image_not_wanting h = h.0
+
+pub buffer_wanting : s.buffer_wanting
+unfolding planes_layout layout_of color_of row_bits sample_type_of rect form_fault depth_fault predictor_fault white_fault
+buffer_wanting held = (tt, refl)
+
+pub buffer_not_wanting : s.buffer_not_wanting
+unfolding planes_layout layout_of color_of row_bits sample_type_of rect form_fault depth_fault predictor_fault white_fault
+buffer_not_wanting held h = h.0
+
+pub chunk_wanting : s.chunk_wanting
+unfolding planes_layout layout_of color_of row_bits sample_type_of rect form_fault depth_fault predictor_fault white_fault
+chunk_wanting = (tt, refl)
+
+pub chunk_not_wanting : s.chunk_not_wanting
+unfolding planes_layout layout_of color_of row_bits sample_type_of rect form_fault depth_fault predictor_fault white_fault
+chunk_not_wanting h = h.0
+
+pub strided_wanting : s.strided_wanting
+unfolding planes_layout layout_of color_of row_bits sample_type_of rect form_fault depth_fault predictor_fault white_fault
+strided_wanting held = (tt, refl)
+
+pub strided_not_wanting : s.strided_not_wanting
+unfolding planes_layout layout_of color_of row_bits sample_type_of rect form_fault depth_fault predictor_fault white_fault
+strided_not_wanting held h = h.0
 
 pub gray_read : s.gray_read
 unfolding outcome.dimensions outcome.next_image outcome.goto_offset outcome.read_byte number

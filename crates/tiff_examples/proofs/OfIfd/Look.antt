@@ -1,22 +1,28 @@
 -- The worked examples of Conversions compute.
 use Rattle.std.specs.Prelude.{refl}
 use Rattle.std.specs.Str.{chars}
-use Rattle.std.specs.Prelude.{◌≡◌, ℕ, List, [], reverse, is_some}
-use Rattle.std.proofs.Common.{ap}
+use Rattle.std.specs.Prelude.{◌≡◌, ℕ, List, [], ◌∷◌, None, reverse, is_some}
+use Rattle.std.proofs.Common.{ap, arith}
+use Rattle.std.proofs.lemmas.Bool.{false≢true}
 use Rattle.std.specs.Ordering.{nat_cmp}
 use Rattle.std.specs.Cmp.{nat_cmp_total}
 use Rattle.std.specs.FinMap.{find, get, from_entries, get-from_entries}
 use Rattle.tiff_base.specs.declared.tags.ByteOrder.TheVariants.{LittleEndian}
 use Rattle.tiff_base.specs.declared.tags.FileKind.TheVariants.{Classic}
+use Rattle.tiff_base.specs.declared.tags.Tag.TheVariants as tag
 use Rattle.tiff_base.specs.Directory.{last_of_each}
 use Rattle.tiff_base.specs.Field.{Field}
 use Rattle.tiff_base.specs.FieldBytes.{field_bytes}
 use Rattle.tiff_base.specs.Number.{number}
+use Rattle.tiff_base.specs.SourceAndSink.{answers_for}
 use Rattle.tiff_ifd.specs.Limits.{unlimited}
 use Rattle.tiff_ifd.specs.FieldValue.{field_value}
 use Rattle.tiff_ifd.specs.Look as look
 use Rattle.tiff_ifd.specs.Look.{look_in, require, if_found}
+use Rattle.tiff_examples.specs.Ifd.Stretches.{one_entry, shorts}
 use Rattle.tiff_examples.specs.Ifd.Look as s
+use Rattle.tiff_examples.proofs.Stretches.{in_first}
+use Rattle.tiff_examples.proofs.TagsHeld.{tag_held, tag_unheld}
 
 -- the look-ups in a directory's fields, by what the fields are made of
 by_list : (fields : List (ℕ × Field)) (q : ℕ) → get (from_entries {R = nat_cmp} fields) q ≡ find nat_cmp q fields
@@ -141,3 +147,23 @@ has_width = ap is_some (looks 256)
 pub has_length : s.has_length
 unfolding look_in last_of_each
 has_length = ap is_some (looks 257)
+
+pub value_readable : s.value_readable
+unfolding number
+value_readable =
+    tag_held (one_entry ((8, 6) ∷ [])) ((258, shorts 3) ∷ []) None tag.BitsPerSample (record { placed = λ w k l h. in_first 8 6 [] k l h })
+
+pub value_unreadable : s.value_unreadable
+unfolding answers_for number
+value_unreadable =
+    tag_unheld (one_entry ((8, 5) ∷ [])) ((258, shorts 3) ∷ []) None tag.BitsPerSample (shorts 3) refl
+    (λ r. false≢true (r.placed (omega arith) 13 (omega arith) (omega arith)))
+
+pub other_readable : s.other_readable
+other_readable = tag_held (one_entry []) ((258, shorts 3) ∷ []) None tag.ImageWidth tt
+
+pub value_asked : s.value_asked
+value_asked = value_unreadable
+
+pub value_asked_alone : s.value_asked_alone
+value_asked_alone = λ h. h value_readable

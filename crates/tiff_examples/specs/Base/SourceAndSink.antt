@@ -1,5 +1,5 @@
 -- Worked answers of sources and sinks, and values looked up in a directory.
-use Rattle.std.specs.Prelude.{◌≡◌, ℕ, negsuc, List, [], ◌∷◌, Some, Ok, Err, nat_lt}
+use Rattle.std.specs.Prelude.{◌≡◌, ℕ, negsuc, List, [], ◌∷◌, None, Some, Ok, Err}
 use Rattle.tiff_base.specs.declared.error.TiffError.TheVariants.{IoError, LimitsExceeded}
 use Rattle.tiff_base.specs.declared.io.IoKind.TheVariants.{UnexpectedEof}
 use Rattle.tiff_base.specs.declared.tags.ByteOrder.TheVariants.{LittleEndian, BigEndian}
@@ -10,6 +10,7 @@ use Rattle.tiff_base.specs.SourceAndSink.{SourceRecord, AreReadable, bytes_at, A
 use Rattle.tiff_base.specs.Directory.{entry_of, last_of_each}
 use Rattle.tiff_base.specs.Field.{Field}
 use Rattle.tiff_base.specs.FieldBytes.{field_bytes}
+use Rattle.tiff_base.specs.Memory.{buffered}
 use Rattle.tiff_ifd.specs.declared.limits.Limits.{Limits}
 use Rattle.tiff_ifd.specs.Limits.{unlimited}
 use Rattle.tiff_ifd.specs.Datum.{none, more, list, short, signed_byte}
@@ -136,6 +137,46 @@ over_none =
 abbrev pub over_elsewhere : Type 0
 over_elsewhere =
     Overwrites (0x0a ∷ 0x0b ∷ 0x0c ∷ []) 1 (0xfe ∷ 0xff ∷ []) 1 (0xfe ∷ 0x0b ∷ 0x0c ∷ []) → ⊥
+
+-- a source that answers for two bytes, and for two more behind a gap
+abbrev pub apart : SourceRecord
+apart = record six { readable = Some ((0, 2) ∷ (4, 2) ∷ []) }
+
+-- answers for those behind the gap, and not for one within it
+abbrev pub second_stretch : Type 0
+second_stretch = AreReadable apart 4 2
+
+abbrev pub within_gap : Type 0
+within_gap = AreReadable apart 0 3 → ⊥
+
+-- a source that answers for no stretch does for no byte
+abbrev pub no_stretch : Type 0
+no_stretch = AreReadable (record six { readable = Some [] }) 0 1 → ⊥
+
+-- one that tells no stretches answers for any bytes, past its end too
+abbrev pub everywhere : SourceRecord
+everywhere = record six { readable = None }
+
+abbrev pub all_readable : Type 0
+all_readable = (at len : ℕ) → AreReadable everywhere at len
+
+-- of 8200 bytes a buffer answers for the first nine, and not for a tenth
+abbrev pub long : SourceRecord
+long = record six { readable = Some ((0, 8200) ∷ []) }
+
+abbrev pub nine_buffered : Type 0
+nine_buffered = AreReadable (buffered long) 0 9
+
+abbrev pub ten_buffered : Type 0
+ten_buffered = AreReadable (buffered long) 0 10 → ⊥
+
+-- of a second stretch that is too short, for no byte
+abbrev pub short_buffered : Type 0
+short_buffered = AreReadable (buffered apart) 4 1 → ⊥
+
+-- and of all bytes for all
+abbrev pub all_buffered : Type 0
+all_buffered = (at len : ℕ) → AreReadable (buffered everywhere) at len
 
 -- a signed byte in its entry
 abbrev pub signed_byte_alone : Type 0

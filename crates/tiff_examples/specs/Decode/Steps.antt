@@ -13,16 +13,20 @@ use Rattle.tiff_value.specs.Buffer.{empty_buffer}
 use Rattle.tiff_ifd.specs.Datum as d
 use Rattle.tiff_ifd.specs.declared.value.Value.TheVariants as v
 use Rattle.tiff_ifd.specs.Limits.{unlimited}
+use Rattle.tiff_decode.specs.declared.result.DecodingResult.{DecodingResult}
 use Rattle.tiff_decode.specs.declared.script.Call.{Call}
 use Rattle.tiff_decode.specs.declared.script.Call.TheVariants as call
 use Rattle.tiff_decode.specs.declared.script.Reply.{Reply}
 use Rattle.tiff_decode.specs.declared.script.Reply.TheVariants as reply
+use Rattle.tiff_decode.specs.Machine.{Decoding}
 use Rattle.tiff_decode.specs.Outcome as outcome
 use Rattle.tiff_decode.specs.Failures.{all_failures, fault_in}
 use Rattle.tiff_decode.specs.NextState.{next_state, IsNamed}
 use Rattle.tiff_laws.specs.OneAnswer.{SameAnswer}
 use Rattle.tiff_decode.specs.Step.{Step, ItemsAre, Items, BufferLeft}
 use Rattle.tiff_decode.specs.Steps.{Steps, Ran}
+use Rattle.tiff_examples.specs.Page.EarlyFaults.{claiming_page}
+use Rattle.tiff_examples.specs.Page.PixelCalls.{tiles, two_faults}
 use Rattle.tiff_examples.specs.Page.Pixels.{pixel_page}
 use Rattle.tiff_examples.specs.Decoders.{at, gray_state, gray_fields, gray_decoder, two_decoder}
 
@@ -88,6 +92,46 @@ color_told = Step gray_decoder call.Colortype (reply.Colortype (Ok (Gray 8))) gr
 
 abbrev pub color_wanting : Type 0
 color_wanting = Never (Step gray_decoder call.Colortype (reply.Colortype (Err OutOfMemory)) gray_decoder)
+
+-- want of memory for the samples of an image, and none where the file ends before them
+abbrev pub image_wanting : Type 0
+image_wanting = Step gray_decoder call.ReadImage (reply.ReadImage (Err OutOfMemory)) gray_decoder
+
+abbrev pub image_not_wanting : Type 0
+image_not_wanting =
+    let d = record gray_decoder { state = record gray_state { page = claiming_page } } in
+    Never (Step d call.ReadImage (reply.ReadImage (Err OutOfMemory)) d)
+
+-- the same of a buffer that is given, whatever it holds
+abbrev pub buffer_wanting : Type 0
+buffer_wanting =
+    (held : DecodingResult) → Step gray_decoder call.ReadImageToBuffer (reply.ReadImageToBuffer (Err OutOfMemory) held) gray_decoder
+
+abbrev pub buffer_not_wanting : Type 0
+buffer_not_wanting =
+    let d = record gray_decoder { state = record gray_state { page = claiming_page } } in
+    (held : DecodingResult) → Never (Step d call.ReadImageToBuffer (reply.ReadImageToBuffer (Err OutOfMemory) held) d)
+
+-- of a page's first chunk, and none of its second, which stands past the end of the file
+abbrev pub faults_decoder : Decoding
+faults_decoder = record gray_decoder { bytes = tiles; state = record gray_state { page = two_faults } }
+
+abbrev pub chunk_wanting : Type 0
+chunk_wanting = Step faults_decoder (call.ReadChunk 0) (reply.ReadChunk (Err OutOfMemory)) faults_decoder
+
+abbrev pub chunk_not_wanting : Type 0
+chunk_not_wanting = Never (Step faults_decoder (call.ReadChunk 1) (reply.ReadChunk (Err OutOfMemory)) faults_decoder)
+
+-- of rows 2 bytes apart, and none of rows that a stride of 1 doesn't hold
+abbrev pub strided_wanting : Type 0
+strided_wanting =
+    (held : DecodingResult)
+    → Step faults_decoder (call.ReadChunkToBuffer 0 2) (reply.ReadChunkToBuffer (Err OutOfMemory) held) faults_decoder
+
+abbrev pub strided_not_wanting : Type 0
+strided_not_wanting =
+    (held : DecodingResult)
+    → Never (Step faults_decoder (call.ReadChunkToBuffer 0 1) (reply.ReadChunkToBuffer (Err OutOfMemory) held) faults_decoder)
 
 -- ---- several calls
 

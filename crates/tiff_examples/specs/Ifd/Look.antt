@@ -1,8 +1,9 @@
 -- Worked conversions of values, and look-ups of tags.
 use Rattle.std.specs.Prelude.{◌≡◌, ℕ, ◌==◌, true, false, pos, List, [], ◌∷◌, Option, Some, None, Ok, Err, if◌then◌else◌, is_some}
+use Rattle.std.specs.FinMap.{from_entries}
 use Rattle.tiff_base.specs.declared.error.TiffError.TheVariants.{FormatError, IoError, IntSizeError}
 use Rattle.tiff_base.specs.declared.error.TiffFormatError.TheVariants.{InvalidTypeForTag, RequiredTagNotFound}
-use Rattle.tiff_base.specs.declared.io.IoKind.TheVariants.{UnexpectedEof}
+use Rattle.tiff_base.specs.declared.io.IoKind.TheVariants.{Device, UnexpectedEof}
 use Rattle.tiff_base.specs.declared.tags.ByteOrder.TheVariants.{LittleEndian}
 use Rattle.tiff_base.specs.declared.tags.FileKind.TheVariants.{Classic}
 use Rattle.tiff_base.specs.declared.tags.Tag.TheVariants as tag
@@ -13,8 +14,9 @@ use Rattle.tiff_base.specs.Tags.{tag_number}
 use Rattle.tiff_ifd.specs.Limits.{unlimited}
 use Rattle.tiff_ifd.specs.Datum.{Datum, none, more, list, short, unsigned, unsigned_big, signed, rational, ascii, ifd, ifd_big}
 use Rattle.tiff_ifd.specs.Into.{into_u16, into_u32, into_u64, into_u16_vec, into_u64_vec}
-use Rattle.tiff_ifd.specs.Look.{Look, find, find_or, look_in, require}
+use Rattle.tiff_ifd.specs.Look.{AsksForTag, DirectoryTags, Look, ValueReadable, find, find_or, look_in, require}
 use Rattle.tiff_examples.specs.Base.FieldBytes.{of}
+use Rattle.tiff_examples.specs.Ifd.Stretches.{one_entry, shorts}
 
 -- numbers that fit into two bytes, and one that doesn't
 abbrev pub u16_short : Type 0
@@ -163,3 +165,34 @@ has_width = (look_in Classic LittleEndian [] unlimited (last_of_each some_fields
 
 abbrev pub has_length : Type 0
 has_length = (look_in Classic LittleEndian [] unlimited (last_of_each some_fields)).has tag.ImageLength ≡ false
+
+-- ---- bytes that a look-up takes
+
+-- the tags of a directory of BitsPerSample, three shorts at the offset 8, of a source that answers for these stretches
+abbrev pub three_shorts : List (ℕ × ℕ) → DirectoryTags
+three_shorts stretches = record {
+  look = told [];
+  source = one_entry stretches;
+  kind = Classic;
+  order = LittleEndian;
+  directory = record { entries = from_entries ((258, shorts 3) ∷ []); next = None };
+  limits = unlimited;
+}
+
+-- its values take six bytes, and not five
+abbrev pub value_readable : Type 0
+value_readable = ValueReadable (three_shorts ((8, 6) ∷ [])) tag.BitsPerSample
+
+abbrev pub value_unreadable : Type 0
+value_unreadable = ValueReadable (three_shorts ((8, 5) ∷ [])) tag.BitsPerSample → ⊥
+
+-- another tag takes none of them
+abbrev pub other_readable : Type 0
+other_readable = ValueReadable (three_shorts []) tag.ImageWidth
+
+-- only where they aren't readable a look-up may answer a fault of the device
+abbrev pub value_asked : Type 0
+value_asked = AsksForTag {X = ℕ} (three_shorts ((8, 5) ∷ [])) tag.BitsPerSample (Err (IoError Device))
+
+abbrev pub value_asked_alone : Type 0
+value_asked_alone = AsksForTag {X = ℕ} (three_shorts ((8, 6) ∷ [])) tag.BitsPerSample (Err (IoError Device)) → ⊥

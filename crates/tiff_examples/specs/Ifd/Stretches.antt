@@ -1,11 +1,11 @@
 -- Worked stretches: the bytes that headers, directories and values take of a source.
-use Rattle.std.specs.Prelude.{◌≡◌, ℕ, Bool, false, ◌&&◌, ◌||◌, List, [], ◌∷◌, None, nat_le, nat_lt}
+use Rattle.std.specs.Prelude.{◌≡◌, ℕ, List, [], ◌∷◌, None, Some}
 use Rattle.std.specs.FinMap.{empty}
 use Rattle.tiff_base.specs.declared.tags.ByteOrder.TheVariants.{LittleEndian}
 use Rattle.tiff_base.specs.declared.tags.FileKind.TheVariants.{Classic}
 use Rattle.tiff_base.specs.declared.tags.Tag.TheVariants as tag
 use Rattle.tiff_base.specs.declared.tags.«Type».TheVariants.{SHORT}
-use Rattle.tiff_base.specs.Field.{Field, DirectoryRecord}
+use Rattle.tiff_base.specs.Field.{Field}
 use Rattle.tiff_base.specs.SourceAndSink.{SourceRecord}
 use Rattle.tiff_ifd.specs.Stretches.{header_len, LinkReadable, DirectoryReadable, FieldReadable, TagReadable}
 
@@ -19,20 +19,20 @@ header_of_big = header_len (0x4d ∷ 0x4d ∷ 0x00 ∷ 0x2b ∷ []) ≡ 16
 abbrev pub header_of_none : Type 0
 header_of_none = header_len (0x58 ∷ []) ≡ 8
 
--- a directory of one entry at the front of a source that answers for these bytes
+-- a directory of one entry at the front of a source that answers for these stretches
 abbrev pub one_entry : List (ℕ × ℕ) → SourceRecord
 one_entry stretches = record { bytes = 0x01 ∷ 0x00 ∷ []; readable = Some stretches }
 
 -- it takes 18 bytes: two of the count, twelve of the entry, four of the link
 abbrev pub whole_directory : Type 0
-whole_directory = DirectoryReadable (one_entry (λ k. nat_lt k 18)) Classic LittleEndian 0
+whole_directory = DirectoryReadable (one_entry ((0, 18) ∷ [])) Classic LittleEndian 0
 
 abbrev pub directory_with_link : Type 0
-directory_with_link = DirectoryReadable (one_entry (λ k. nat_lt k 14)) Classic LittleEndian 0 → ⊥
+directory_with_link = DirectoryReadable (one_entry ((0, 14) ∷ [])) Classic LittleEndian 0 → ⊥
 
 -- going along the chain takes the count and the link, and no byte between them
 abbrev pub link_alone : Type 0
-link_alone = LinkReadable (one_entry (λ k. nat_lt k 2 || nat_le 14 k)) Classic LittleEndian 0
+link_alone = LinkReadable (one_entry ((0, 2) ∷ (14, 4) ∷ [])) Classic LittleEndian 0
 
 -- so many shorts at the offset 8, or in the entry where they fit
 abbrev pub shorts : ℕ → Field
@@ -40,7 +40,7 @@ shorts count = record { field_type = SHORT; count = count; value = 0x08 ∷ 0x00
 
 -- a source that answers for no byte
 abbrev pub nothing : SourceRecord
-nothing = one_entry (λ k. false)
+nothing = one_entry []
 
 -- two of them stand in the entry, three elsewhere
 abbrev pub value_in_entry : Type 0
@@ -50,7 +50,7 @@ abbrev pub value_elsewhere : Type 0
 value_elsewhere = FieldReadable nothing Classic LittleEndian (shorts 3) → ⊥
 
 abbrev pub value_there : Type 0
-value_there = FieldReadable (one_entry (λ k. nat_le 8 k && nat_lt k 14)) Classic LittleEndian (shorts 3)
+value_there = FieldReadable (one_entry ((8, 6) ∷ [])) Classic LittleEndian (shorts 3)
 
 -- a tag that a directory doesn't have takes nothing
 abbrev pub tag_missing : Type 0

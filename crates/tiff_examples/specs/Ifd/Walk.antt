@@ -8,10 +8,11 @@ use Rattle.tiff_base.specs.declared.io.IoKind.TheVariants.{UnexpectedEof}
 use Rattle.tiff_base.specs.declared.tags.ByteOrder.TheVariants.{LittleEndian}
 use Rattle.tiff_base.specs.declared.tags.FileKind.TheVariants.{Classic}
 use Rattle.tiff_base.specs.Field.{DirectoryRecord}
-use Rattle.tiff_base.specs.SourceAndSink.{put}
+use Rattle.tiff_base.specs.SourceAndSink.{put, SourceRecord}
 use Rattle.tiff_ifd.specs.Walk as walk
 use Rattle.tiff_ifd.specs.Walk.{Walked}
 use Rattle.tiff_examples.specs.Decoders.{three_file}
+use Rattle.tiff_examples.specs.Ifd.Stretches.{nothing, one_entry}
 
 -- the walk along three directories at 8, 14 and 20, as far as so many were entered
 abbrev pub none_entered : Walked
@@ -139,3 +140,44 @@ ends_back = Ends back_file one_entered (Some (FormatError CycleInOffsets))
 
 abbrev pub ends_plain : Type 0
 ends_plain = Ends back_file one_entered None → ⊥
+
+-- ---- bytes that walks take
+
+-- the walk before a directory of one entry at the front
+abbrev pub before_entry : Walked
+before_entry = record { offsets = []; next = Some 0 }
+
+-- where there is no next offset, no bytes are needed
+abbrev pub none_needed : Type 0
+none_needed = walk.NextReadable nothing Classic LittleEndian all_entered
+
+-- to enter the next one its 18 bytes are: its link, and its entry
+abbrev pub whole_needed : Type 0
+whole_needed = walk.NextReadable (one_entry ((0, 18) ∷ [])) Classic LittleEndian before_entry
+
+abbrev pub whole_needed_link : Type 0
+whole_needed_link = walk.NextReadable (one_entry ((0, 14) ∷ [])) Classic LittleEndian before_entry → ⊥
+
+abbrev pub whole_needed_entry : Type 0
+whole_needed_entry = walk.NextReadable (one_entry ((0, 2) ∷ (14, 4) ∷ [])) Classic LittleEndian before_entry → ⊥
+
+-- to go over it its count and its link are, and not its entry
+abbrev pub link_needed : Type 0
+link_needed = walk.NextLinkReadable (one_entry ((0, 2) ∷ (14, 4) ∷ [])) Classic LittleEndian before_entry
+
+abbrev pub link_needed_all : Type 0
+link_needed_all = walk.NextLinkReadable (one_entry ((0, 14) ∷ [])) Classic LittleEndian before_entry → ⊥
+
+abbrev pub no_link_needed : Type 0
+no_link_needed = walk.NextLinkReadable nothing Classic LittleEndian all_entered
+
+-- three directories of six bytes, of which a source answers for the first two
+abbrev pub two_of_three : SourceRecord
+two_of_three = record { bytes = three_file; readable = Some ((8, 12) ∷ []) }
+
+-- they are needed on the way to the second, and the third isn't; on the way to the third it is
+abbrev pub way_to_second : Type 0
+way_to_second = walk.WayReadable two_of_three Classic LittleEndian 8 1
+
+abbrev pub way_to_third : Type 0
+way_to_third = walk.WayReadable two_of_three Classic LittleEndian 8 2 → ⊥

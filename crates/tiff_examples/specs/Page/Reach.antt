@@ -1,12 +1,26 @@
--- Worked reads: which bytes a source is asked for, for the data of chunks.
-use Rattle.std.specs.Prelude.{◌≡◌, ℕ, ◌&&◌, [], ◌∷◌, nat_le, nat_lt}
+-- Worked reads: which bytes a source is asked for, for the data of chunks and the checks of a page.
+use Rattle.std.specs.Prelude.{ℕ, ◌-◌, List, [], ◌∷◌, None, Some, Err}
+use Rattle.std.specs.FinMap.{from_entries}
 use Rattle.tiff_base.specs.declared.color.ColorType.TheVariants as color
+use Rattle.tiff_base.specs.declared.error.TiffError.TheVariants.{IoError}
+use Rattle.tiff_base.specs.declared.io.IoKind.TheVariants.{Device}
+use Rattle.tiff_base.specs.declared.tags.ByteOrder.TheVariants.{LittleEndian}
 use Rattle.tiff_base.specs.declared.tags.CompressionMethod.TheVariants as method
+use Rattle.tiff_base.specs.declared.tags.FileKind.TheVariants.{Classic}
+use Rattle.tiff_base.specs.declared.tags.Tag.{Tag}
+use Rattle.tiff_base.specs.declared.tags.Tag.TheVariants as tag
+use Rattle.tiff_base.specs.declared.tags.«Type».TheVariants.{ASCII, LONG, UNDEFINED}
+use Rattle.tiff_base.specs.Field.{Field, DirectoryRecord}
 use Rattle.tiff_base.specs.SourceAndSink.{SourceRecord}
-use Rattle.tiff_page.specs.declared.chunk_data.Stored.TheVariants.{Plain, Packed, Ended}
+use Rattle.tiff_base.specs.Tags.{tag_number}
+use Rattle.tiff_ifd.specs.Limits.{unlimited}
+use Rattle.tiff_ifd.specs.Look.{DirectoryTags, look_in}
+use Rattle.tiff_page.specs.declared.chunk_data.Stored.TheVariants.{Plain, Ended}
 use Rattle.tiff_page.specs.PixelCalls.{image_part, chunk_part}
-use Rattle.tiff_page.specs.Reach.{StoredReadable, ChunkReadable, PartReadable}
-use Rattle.tiff_examples.specs.Page.Pixels.{pixel_page, tiled_page}
+use Rattle.tiff_page.specs.Reach.{AsksForPage, StoredReadable, ChunkReadable, PageReadable, PartReadable}
+use Rattle.tiff_examples.specs.Base.FieldBytes.{of}
+use Rattle.tiff_examples.specs.Files.{one_long}
+use Rattle.tiff_examples.specs.Page.Pixels.{pixel_page}
 use Rattle.tiff_examples.specs.Page.PixelCalls.{two_planes}
 
 -- a source that answers for the bytes from an offset on, before another
@@ -55,3 +69,81 @@ not_two_of_three = StoredReadable (between 5 7) (Plain 5) 3 → ⊥
 -- behind the end nothing is asked for
 abbrev pub nothing_behind : Type 0
 nothing_behind = StoredReadable (between 0 0) Ended 3
+
+-- ---- the checks of a page
+
+-- the eight bytes of a value field that holds 8
+abbrev pub eight : List ℕ
+eight = 0x08 ∷ 0x00 ∷ 0x00 ∷ 0x00 ∷ 0x00 ∷ 0x00 ∷ 0x00 ∷ 0x00 ∷ []
+
+-- a directory of fields
+abbrev pub directory_of : List (ℕ × Field) → DirectoryRecord
+directory_of fields = record { entries = from_entries fields; next = None }
+
+-- a source answers for what the checks of its page read
+abbrev pub Checks : SourceRecord → List (ℕ × Field) → Type 0
+Checks source fields = PageReadable source Classic LittleEndian (directory_of fields)
+
+-- a width, a length and an offset, each in its entry
+abbrev pub entry_fields : List (ℕ × Field)
+entry_fields = (256, one_long eight) ∷ (257, one_long eight) ∷ (273, one_long eight) ∷ []
+
+-- three offsets elsewhere, at 8
+abbrev pub placed_fields : List (ℕ × Field)
+placed_fields = (256, one_long eight) ∷ (257, one_long eight) ∷ (273, of LONG 3 eight) ∷ []
+
+-- a text and a profile elsewhere, which the checks don't read
+abbrev pub profile_fields : List (ℕ × Field)
+profile_fields = (270, of ASCII 99 eight) ∷ (34675, of UNDEFINED 99 eight) ∷ entry_fields
+
+-- values in their entries take no bytes
+abbrev pub checks_entries : Type 0
+checks_entries = Checks (between 0 0) entry_fields
+
+-- three offsets take twelve, and not eleven
+abbrev pub checks_placed : Type 0
+checks_placed = Checks (between 8 20) placed_fields
+
+abbrev pub checks_placed_all : Type 0
+checks_placed_all = Checks (between 8 19) placed_fields → ⊥
+
+-- a profile takes none
+abbrev pub checks_profile : Type 0
+checks_profile = Checks (between 0 0) profile_fields
+
+-- the values of each of these tags are among those that are read
+abbrev pub AreChecked : List Tag → Type 0
+AreChecked [] = Unit {0}
+AreChecked (t ∷ ts) = (Checks (between 0 0) ((tag_number t, of LONG 3 eight) ∷ []) → ⊥) × AreChecked ts
+
+abbrev pub checks_sides : Type 0
+checks_sides =
+    AreChecked (tag.ImageWidth ∷ tag.ImageLength ∷ tag.RowsPerStrip ∷ tag.TileWidth ∷ tag.TileLength ∷ [])
+
+abbrev pub checks_samples : Type 0
+checks_samples =
+    AreChecked (tag.PhotometricInterpretation ∷ tag.SamplesPerPixel ∷ tag.ExtraSamples ∷ tag.SampleFormat ∷ tag.BitsPerSample
+    ∷ tag.ChromaSubsampling ∷ [])
+
+abbrev pub checks_chunks : Type 0
+checks_chunks =
+    AreChecked (tag.Compression ∷ tag.Predictor ∷ tag.PlanarConfiguration ∷ tag.StripOffsets ∷ tag.StripByteCounts
+    ∷ tag.TileOffsets ∷ tag.TileByteCounts ∷ [])
+
+-- what the tags of a directory of these fields tell
+abbrev pub tags_of : SourceRecord → List (ℕ × Field) → DirectoryTags
+tags_of source fields = record {
+  look = look_in Classic LittleEndian source.bytes unlimited (directory_of fields).entries;
+  source = source;
+  kind = Classic;
+  order = LittleEndian;
+  directory = directory_of fields;
+  limits = unlimited;
+}
+
+-- only where their values aren't readable the checks may answer a fault of the device
+abbrev pub checks_asked : Type 0
+checks_asked = AsksForPage {X = ℕ} (tags_of (between 8 19) placed_fields) (Err (IoError Device))
+
+abbrev pub checks_asked_alone : Type 0
+checks_asked_alone = AsksForPage {X = ℕ} (tags_of (between 8 20) placed_fields) (Err (IoError Device)) → ⊥

@@ -9,6 +9,12 @@ pub fn reads()
         s.nothing_readable }
 {}
 
+/// Bytes that a source answers for, and a buffer over it.
+pub fn stretches()
+    ensures { s.second_stretch × s.within_gap × s.no_stretch × s.all_readable × s.nine_buffered × s.ten_buffered ×
+        s.short_buffered × s.all_buffered }
+{}
+
 /// Answers of a sink.
 pub fn writes()
     ensures { s.append_two × s.append_one × s.append_none × s.append_nothing × s.append_too_many × s.over_one ×

@@ -8,6 +8,12 @@ pub fn one_call()
         s.swallowed × s.moved_by_failure × s.wanting × s.none_to_enter × s.not_wanting × s.color_told × s.color_wanting }
 {}
 
+/// Want of memory for samples.
+pub fn samples()
+    ensures { s.image_wanting × s.image_not_wanting × s.buffer_wanting × s.buffer_not_wanting × s.chunk_wanting ×
+        s.chunk_not_wanting × s.strided_wanting × s.strided_not_wanting }
+{}
+
 /// Several calls with their replies.
 pub fn several_calls()
     ensures { s.gray_read × s.none_called × s.one_unanswered × s.one_unasked × s.cycle_steps × s.two_failures × s.no_failures ×

@@ -20,3 +20,8 @@ pub fn look_ups()
 pub fn directories()
     ensures { s.list_read × s.list_past_end × s.single_read × s.single_missing × s.has_width × s.has_length }
 {}
+
+/// Bytes that a look-up takes.
+pub fn needs()
+    ensures { s.value_readable × s.value_unreadable × s.other_readable × s.value_asked × s.value_asked_alone }
+{}

@@ -14,3 +14,9 @@ pub fn chains()
     ensures { s.begins_none × s.begins_one × s.begins_all × s.begins_back × s.begins_second × s.begins_ended ×
         s.ends_all × s.ends_early × s.ends_back × s.ends_plain }
 {}
+
+/// Bytes that a walk takes.
+pub fn needs()
+    ensures { s.none_needed × s.whole_needed × s.whole_needed_link × s.whole_needed_entry × s.link_needed × s.link_needed_all ×
+        s.no_link_needed × s.way_to_second × s.way_to_third }
+{}

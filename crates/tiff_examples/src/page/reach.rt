@@ -1,4 +1,4 @@
-//! Worked reads: which bytes a source is asked for, for the data of chunks.
+//! Worked reads: which bytes a source is asked for, for the data of chunks and the checks of a page.
 
 ghost use Rattle.tiff_examples.specs.Page.Reach as s;
 
@@ -11,4 +11,10 @@ pub fn chunks()
 /// From a position in a chunk's data on.
 pub fn positions()
     ensures { s.three_from_five × s.not_two_of_three × s.nothing_behind }
+{}
+
+/// For the checks of a page.
+pub fn checks()
+    ensures { s.checks_entries × s.checks_placed × s.checks_placed_all × s.checks_profile × s.checks_sides ×
+        s.checks_samples × s.checks_chunks × s.checks_asked × s.checks_asked_alone }
 {}

@@ -1,0 +1,286 @@
+-- The worked examples of Asked hold.
+use Rattle.std.specs.Prelude.{drop, get_or, length, reverse}
+use Rattle.std.specs.List.{last_or}
+use Rattle.std.proofs.Common.{◌≡◌, ℕ, ◌≤◌, List, [], ◌∷◌, Option, Some, None, Result, Ok, Err, refl, ap, sym, ◌∙◌, subst, arith}
+use Rattle.std.proofs.lemmas.Bool.{false≢true}
+use Rattle.std.proofs.lemmas.Option.{none-some}
+use Rattle.tiff_base.specs.declared.error.TiffError.{TiffError}
+use Rattle.tiff_base.specs.declared.error.TiffError.TheVariants.{FormatError}
+use Rattle.tiff_base.specs.declared.error.TiffFormatError.TheVariants.{CycleInOffsets}
+use Rattle.tiff_base.specs.declared.tags.ByteOrder.TheVariants.{LittleEndian}
+use Rattle.tiff_base.specs.declared.tags.FileKind.TheVariants.{Classic}
+use Rattle.tiff_base.specs.declared.tags.Tag.TheVariants as tag
+use Rattle.tiff_base.specs.declared.tags.«Type».TheVariants.{LONG}
+use Rattle.tiff_base.specs.Directory.{directory_at, entries_from, entry_of, last_of_each}
+use Rattle.tiff_base.specs.Field.{DirectoryRecord, Field}
+use Rattle.tiff_base.specs.Header.{Header, header_at}
+use Rattle.tiff_base.specs.Number.{number}
+use Rattle.tiff_base.specs.SourceAndSink.{SourceRecord, answers_for}
+use Rattle.tiff_base.specs.Tags.{type_of}
+use Rattle.tiff_ifd.specs.Chain.{IsChain, chain, link_from}
+use Rattle.tiff_ifd.specs.Stretches.{DirectoryReadable, LinkReadable}
+use Rattle.tiff_ifd.specs.Walk.{ChainBegins, Walked}
+use Rattle.tiff_page.specs.Reach.{PageReadable}
+use Rattle.tiff_decode.specs.Asked.{EntryReadable}
+use Rattle.tiff_examples.specs.Base.FieldBytes.{of}
+use Rattle.tiff_examples.specs.Decoders.{gray_fields, two_file}
+use Rattle.tiff_examples.specs.Files.{gray_entries, gray_file, one_rational}
+use Rattle.tiff_examples.specs.Decode.Asked as s
+use Rattle.tiff_examples.proofs.OfIfd.Stretches.{count_in}
+use Rattle.tiff_examples.proofs.OfIfd.Walk.{ends_there, goes_on, offset_of}
+use Rattle.tiff_examples.proofs.Stretches.{in_first, in_later}
+use Rattle.tiff_examples.proofs.TagsHeld.{page_held, tag_held, tag_unheld}
+
+abbrev header_in : Result Header TiffError → Header
+header_in (Ok header) = header
+header_in (Err e) = record { order = LittleEndian; kind = Classic; first = 0 }
+
+abbrev directory_in : Result DirectoryRecord TiffError → DirectoryRecord
+directory_in (Ok directory) = directory
+directory_in (Err e) = gray_fields
+
+-- ---- opening
+
+-- the checks of the page of one gray pixel read nothing outside its directory
+gray_page : (source : SourceRecord) → PageReadable source Classic LittleEndian gray_fields
+gray_page source = page_held source (reverse gray_entries) None (record { placed = λ w. absurd (omega (arith, w)) }) refl
+
+gray_entry : (stretches : List (ℕ × ℕ)) → DirectoryReadable (s.gray_source stretches) Classic LittleEndian 25 → EntryReadable (s.gray_source stretches) Classic LittleEndian 25
+unfolding directory_at number entries_from entry_of type_of last_of_each
+gray_entry stretches d = record {
+  directory = d;
+  page = λ directory e.
+      subst (λ (x : DirectoryRecord). PageReadable (s.gray_source stretches) Classic LittleEndian x) (ap directory_in e) (gray_page (s.gray_source stretches));
+}
+
+-- its directory has 174 bytes
+gray_directory : DirectoryReadable (s.gray_source ((0, 8) ∷ (25, 174) ∷ [])) Classic LittleEndian 25
+unfolding number
+gray_directory = record {
+  count = λ k l h. in_later (0, 8) ((25, 174) ∷ []) k (in_first 25 174 [] k l (omega (arith, h)));
+  entries = λ n e k l h.
+      let many : 14 ≡ n = ap count_in e in
+      in_later (0, 8) ((25, 174) ∷ []) k (in_first 25 174 [] k (omega (arith, l)) (omega (arith, h, many)));
+}
+
+pub opens : s.opens
+unfolding header_at number
+opens = record {
+  header = λ k l h. in_first 0 8 ((25, 174) ∷ []) k l h;
+  first = λ header e.
+      subst (λ (x : Header). EntryReadable (s.gray_source ((0, 8) ∷ (25, 174) ∷ [])) x.kind x.order x.first) (ap header_in e)
+      (gray_entry ((0, 8) ∷ (25, 174) ∷ []) gray_directory);
+}
+
+pub opens_cut : s.opens_cut
+unfolding answers_for header_at number
+opens_cut = λ r.
+    let header : Header = record { order = LittleEndian; kind = Classic; first = 25 } in
+    false≢true ((r.first header refl).directory.entries 14 refl 198 (omega arith) (omega arith))
+
+pub opens_headless : s.opens_headless
+unfolding answers_for number
+opens_headless = λ r. false≢true (r.header 7 (omega arith) (omega arith))
+
+abbrev offsets : Field
+offsets = of LONG 3 (0x20 ∷ 0x00 ∷ 0x00 ∷ 0x00 ∷ 0x00 ∷ 0x00 ∷ 0x00 ∷ 0x00 ∷ [])
+
+abbrev placed : SourceRecord
+placed = s.placed_source ((14, 30) ∷ [])
+
+-- a directory of one entry
+placed_directory : DirectoryReadable placed Classic LittleEndian 14
+unfolding number
+placed_directory = record {
+  count = λ k l h. in_first 14 30 [] k l (omega (arith, h));
+  entries = λ n e k l h.
+      let one : 1 ≡ n = ap count_in e in
+      in_first 14 30 [] k (omega (arith, l)) (omega (arith, h, one));
+}
+
+pub enters : s.enters
+unfolding directory_at number entries_from entry_of type_of last_of_each
+enters = record {
+  directory = placed_directory;
+  page = λ directory e.
+      subst (λ (x : DirectoryRecord). PageReadable placed Classic LittleEndian x) (ap directory_in e)
+      (page_held placed ((273, offsets) ∷ []) None (record { placed = λ w k l h. in_first 14 30 [] k (omega (arith, l)) (omega (arith, h)) }) refl);
+}
+
+pub enters_cut : s.enters_cut
+unfolding answers_for directory_at number entries_from entry_of type_of last_of_each
+enters_cut = λ r.
+    let source : SourceRecord = s.placed_source ((14, 29) ∷ []) in
+    let directory : DirectoryRecord = directory_in (directory_at Classic LittleEndian s.placed_file 14) in
+    tag_unheld source ((273, offsets) ∷ []) None tag.StripOffsets offsets refl
+    (λ f. false≢true (f.placed (omega arith) 43 (omega arith) (omega arith))) (r.page directory refl).strip_offsets
+
+-- ---- the page of a number
+
+-- the count and the link of the only directory
+gray_link : LinkReadable (s.gray_source ((25, 2) ∷ (195, 4) ∷ [])) Classic LittleEndian 25
+unfolding number
+gray_link = record {
+  count = λ k l h. in_first 25 2 ((195, 4) ∷ []) k l h;
+  link = λ n e k l h.
+      let many : 14 ≡ n = ap count_in e in
+      in_later (25, 2) ((195, 4) ∷ []) k (in_first 195 4 [] k (omega (arith, l, many)) (omega (arith, h, many)));
+}
+
+-- a walk has it before it, or nothing
+on_gray : (offsets : List ℕ) (next : Option ℕ) → ChainBegins Classic LittleEndian gray_file 25 (record { offsets = offsets; next = next }) → length offsets ≤ 1
+    → (at : ℕ) → next ≡ Some at → 25 ≡ at
+unfolding chain directory_at number
+on_gray [] next b l at n =
+    let link = link_from Classic LittleEndian gray_file in
+    let on : IsChain link [] next (25 ∷ []) None = subst (λ rest. IsChain link [] next rest None) (sym b.offsets) b.goes_on in
+    ap offset_of (sym (goes_on link [] next 25 [] None on) ∙ n)
+on_gray (x ∷ []) next b l at n =
+    let link = link_from Classic LittleEndian gray_file in
+    let on : IsChain link (x ∷ []) next [] None = subst (λ rest. IsChain link (x ∷ []) next rest None) (sym (ap (drop 1) b.offsets)) b.goes_on in
+    absurd (none-some at (sym (ends_there link (x ∷ []) next on) ∙ n))
+on_gray (x ∷ y ∷ zs) next b l at n = absurd (omega (arith, l))
+
+pub seeks_1 : s.seeks_1
+unfolding chain directory_at number
+seeks_1 = record {
+  way = record {
+    link = λ w b l. record {
+      link = λ at n. subst (λ p. LinkReadable (s.gray_source ((25, 2) ∷ (195, 4) ∷ [])) Classic LittleEndian p) (on_gray w.offsets w.next b l at n) gray_link;
+    };
+  };
+  entry = λ at e. absurd (none-some at e);
+}
+
+-- the walk that begins at it
+begins_gray : ChainBegins Classic LittleEndian gray_file 25 (record { offsets = []; next = Some 25 })
+unfolding chain directory_at number
+begins_gray = record { rest = 25 ∷ []; offsets = refl; goes_on = (refl, None, refl, refl) }
+
+pub seeks_1_cut : s.seeks_1_cut
+unfolding answers_for number
+seeks_1_cut = λ r.
+    let walk : Walked = record { offsets = []; next = Some 25 } in
+    false≢true (((r.way.link walk begins_gray (omega arith)).link 25 refl).link 14 refl 198 (omega arith) (omega arith))
+
+-- all bytes of the directory
+gray_alone : DirectoryReadable (s.gray_source ((25, 174) ∷ [])) Classic LittleEndian 25
+unfolding number
+gray_alone = record {
+  count = λ k l h. in_first 25 174 [] k l (omega (arith, h));
+  entries = λ n e k l h.
+      let many : 14 ≡ n = ap count_in e in
+      in_first 25 174 [] k (omega (arith, l)) (omega (arith, h, many));
+}
+
+link_alone : LinkReadable (s.gray_source ((25, 174) ∷ [])) Classic LittleEndian 25
+unfolding number
+link_alone = record {
+  count = λ k l h. in_first 25 174 [] k l (omega (arith, h));
+  link = λ n e k l h.
+      let many : 14 ≡ n = ap count_in e in
+      in_first 25 174 [] k (omega (arith, l, many)) (omega (arith, h, many));
+}
+
+pub seeks_0 : s.seeks_0
+unfolding chain directory_at number
+seeks_0 = record {
+  way = record {
+    link = λ w b l. record {
+      link = λ at n. subst (λ p. LinkReadable (s.gray_source ((25, 174) ∷ [])) Classic LittleEndian p) (on_gray w.offsets w.next b (omega (arith, l)) at n) link_alone;
+    };
+  };
+  entry = λ at e. subst (λ p. EntryReadable (s.gray_source ((25, 174) ∷ [])) Classic LittleEndian p) (ap offset_of e) (gray_entry ((25, 174) ∷ []) gray_alone);
+}
+
+pub seeks_0_cut : s.seeks_0_cut
+unfolding answers_for chain directory_at number
+seeks_0_cut = λ r. false≢true ((r.entry 25 refl).directory.entries 14 refl 27 (omega arith) (omega arith))
+
+-- ---- the next page
+
+-- behind the only directory a walk has no next offset
+gray_ends : (offsets : List ℕ) (next : Option ℕ) → ChainBegins Classic LittleEndian gray_file 25 (record { offsets = offsets; next = next }) → last_or None offsets ≡ Some 25
+    → (at : ℕ) → next ≡ Some at → ⊥
+unfolding chain directory_at number
+gray_ends [] next b last at n = none-some 25 last
+gray_ends (x ∷ []) next b last at n =
+    let link = link_from Classic LittleEndian gray_file in
+    let on : IsChain link (x ∷ []) next [] None = subst (λ rest. IsChain link (x ∷ []) next rest None) (sym (ap (drop 1) b.offsets)) b.goes_on in
+    none-some at (sym (ends_there link (x ∷ []) next on) ∙ n)
+gray_ends (x ∷ y ∷ zs) next b last at n = omega (arith, ap length b.offsets)
+
+pub none_behind : s.none_behind
+unfolding chain directory_at number
+none_behind = record {
+  entry = λ at e. absurd (none-some at e);
+  behind = λ w b last. record { directory = λ at n. absurd (gray_ends w.offsets w.next b last at n) };
+}
+
+-- behind the first of two the second is next
+second_next : (offsets : List ℕ) (next : Option ℕ) → ChainBegins Classic LittleEndian s.placed_file 8 (record { offsets = offsets; next = next }) → last_or None offsets ≡ Some 8
+    → (at : ℕ) → next ≡ Some at → 14 ≡ at
+unfolding chain directory_at number
+second_next [] next b last at n = absurd (none-some 8 last)
+second_next (x ∷ []) next b last at n =
+    let link = link_from Classic LittleEndian s.placed_file in
+    let on : IsChain link (x ∷ []) next (14 ∷ []) None = subst (λ rest. IsChain link (x ∷ []) next rest None) (sym (ap (drop 1) b.offsets)) b.goes_on in
+    ap offset_of (sym (goes_on link (x ∷ []) next 14 [] None on) ∙ n)
+second_next (x ∷ y ∷ []) next b last at n =
+    let second : 14 ≡ y = ap (λ xs. get_or xs 1 0) b.offsets in
+    let first : y ≡ 8 = ap offset_of last in
+    absurd (omega (arith, second, first))
+second_next (x ∷ y ∷ z ∷ zs) next b last at n = absurd (omega (arith, ap length b.offsets))
+
+pub second_behind : s.second_behind
+unfolding chain directory_at number
+second_behind = record {
+  entry = λ at e. subst (λ p. EntryReadable placed Classic LittleEndian p) (ap offset_of e) enters;
+  behind = λ w b last. record {
+    directory = λ at n. subst (λ p. DirectoryReadable placed Classic LittleEndian p) (second_next w.offsets w.next b last at n) placed_directory;
+  };
+}
+
+pub second_behind_cut : s.second_behind_cut
+unfolding chain directory_at number
+second_behind_cut = λ r. enters_cut (r.entry 14 refl)
+
+-- a file whose second directory links back to the first
+abbrev back : List ℕ
+back = two_file (0x19 ∷ 0x00 ∷ 0x00 ∷ 0x00 ∷ [])
+
+-- the fault at the end of its chain
+abbrev cycle : TiffError
+cycle = FormatError CycleInOffsets
+
+pub back_behind : s.back_behind
+unfolding answers_for chain directory_at number
+back_behind = λ r.
+    let walk : Walked = record { offsets = 25 ∷ []; next = Some 199 } in
+    let begins : ChainBegins Classic LittleEndian back 25 walk = record { rest = []; offsets = refl; goes_on = (cycle, refl, refl) } in
+    false≢true (((r.behind walk begins refl).directory 199 refl).entries 0 refl 204 (omega arith) (omega arith))
+
+-- ---- reads at the offset, and of tags
+
+pub here_readable : s.here_readable
+here_readable = λ h. h (λ k l m. in_first 8 2 [] k l m)
+
+pub here_unreadable : s.here_unreadable
+unfolding answers_for
+here_unreadable = λ r. false≢true (r 10 (omega arith) (omega arith))
+
+pub tag_readable : s.tag_readable
+unfolding number
+tag_readable = λ h.
+    h (tag_held (s.gray_source ((8, 8) ∷ [])) (reverse gray_entries) None tag.XResolution (record { placed = λ w k l m. in_first 8 8 [] k l m }))
+
+pub tag_unreadable : s.tag_unreadable
+unfolding answers_for number
+tag_unreadable =
+    tag_unheld (s.gray_source ((8, 7) ∷ [])) (reverse gray_entries) None tag.XResolution
+    (one_rational (0x08 ∷ 0x00 ∷ 0x00 ∷ 0x00 ∷ 0x00 ∷ 0x00 ∷ 0x00 ∷ 0x00 ∷ [])) refl
+    (λ f. false≢true (f.placed (omega arith) 15 (omega arith) (omega arith)))
+
+pub tag_in_entry : s.tag_in_entry
+tag_in_entry = λ h.
+    h (tag_held (s.gray_source []) (reverse gray_entries) None tag.ImageWidth (record { placed = λ w. absurd (omega (arith, w)) }))
