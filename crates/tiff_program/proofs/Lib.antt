@@ -7,3 +7,4 @@ mod CallsMade
 mod Checked
 mod Sums
 mod Visits
+mod Words

@@ -6,14 +6,16 @@ use Rattle.tiff_base.specs.declared.error.TiffError.TheVariants.{FormatError, Un
 use Rattle.tiff_base.specs.declared.io.IoKind.TheVariants.{UnexpectedEof, InvalidData, InvalidInput, WriteZero, Device}
 use Rattle.tiff_base.specs.declared.tags.IfdPointer.{IfdPointer}
 use Rattle.tiff_base.proofs.Causes.{cause_along}
+use Rattle.tiff_base.specs.Sparing.{IsOkOrList}
 use Rattle.tiff_base.specs.Field.{DirectoryRecord}
+use Rattle.tiff_page.specs.EarlyFaults.{image_early}
 use Rattle.tiff_decode.specs.declared.result.DecodingResult.{DecodingResult}
 use Rattle.tiff_decode.specs.declared.script.Call.TheVariants as call
 use Rattle.tiff_decode.specs.declared.script.Reply.{Reply}
 use Rattle.tiff_decode.specs.declared.script.Reply.TheVariants as reply
 use Rattle.tiff_decode.specs.NextState.{IsNamedFault}
 use Rattle.tiff_decode.specs.Failures.{fault_of, device_count}
-use Rattle.tiff_decode.specs.Machine.{State, Decoding, Outcome, Follows}
+use Rattle.tiff_decode.specs.Machine.{State, Decoding, Outcome, Follows, FollowsBut}
 use Rattle.tiff_decode.specs.Outcome as outcome
 use Rattle.tiff_decode.specs.Result.{decoded_as}
 use Rattle.tiff_decode.specs.Step.{Step}
@@ -80,10 +82,10 @@ state_told view o r old new same t =
     elim (named_or_not (fault_of r)) [ inl n ↦ (t.next n).1 ∙ same | inr n ↦ t.stays n ]
 
 -- a call that leaves the decoder where it stands
-pub stays_there : {X Y : Type 0} (view : X → Y) (o : Outcome Y) (r : Result X TiffError) (old new : Decoding)
-    → o.next ≡ old.state → Follows view o r old new → Moves view o.answer r old new
-stays_there view o r old new same f =
-    let t : IsTold view o r old new = told (Unit {0}) view o r old new f in
+pub stays_there : {X Y : Type 0} (wanting : Type 0) (view : X → Y) (o : Outcome Y) (r : Result X TiffError) (old new : Decoding)
+    → o.next ≡ old.state → FollowsBut wanting view o r old new → Moves view o.answer r old new
+stays_there wanting view o r old new same f =
+    let t : IsTold view o r old new = told wanting view o r old new f in
     record {
       answer = answer_told view o r old new t;
       kept = t.file ∙ ap (λ (s : State). record old { failures = new.failures; state = s }) (state_told view o r old new same t);
@@ -138,9 +140,10 @@ image_visit old new k a b x y s p q =
     let P : Reply → Type 0 = λ r. Step old (call.SeekToImage k) r s.0 in
     let Q : Reply → Type 0 = λ r. Step s.0 call.ReadImage r s.2.0 in
     let R : Decoding → Type 0 = λ d. Step s.0 call.ReadImage (reply.ReadImage y) d in
-    let read : Follows decoded_as (outcome.read_image s.0) y s.0 new = subst R (sym s.2.2) (subst Q q s.2.1) in
+    let wanting : Type 0 = IsOkOrList (image_early s.0.bytes s.0.state.page s.0.state.limits) in
+    let read : FollowsBut wanting decoded_as (outcome.read_image s.0) y s.0 new = subst R (sym s.2.2) (subst Q q s.2.1) in
     visit decoded_as page_image old s.0 new k x y (λ d n. refl) (subst P p s.1)
-    (stays_there decoded_as (outcome.read_image s.0) y s.0 new refl read)
+    (stays_there wanting decoded_as (outcome.read_image s.0) y s.0 new refl read)
 
 -- The pointer of a page, by two calls.
 pub pointer_visit : (old new : Decoding) (k : ℕ) (a b : Reply) (x : Result (Unit {0}) TiffError) (p : Option IfdPointer)
@@ -199,7 +202,7 @@ unfolding outcome.read_directory
 directory_moves old new p a r s e =
     let P : Reply → Type 0 = λ r. Step old (call.ReadDirectory p) r s.0 in
     let Q : Decoding → Type 0 = λ d. Step old (call.ReadDirectory p) (reply.ReadDirectory r) d in
-    stays_there (λ d. d) (outcome.read_directory old p) r old new refl (subst Q (sym s.2) (subst P e s.1))
+    stays_there (Unit {0}) (λ d. d) (outcome.read_directory old p) r old new refl (subst Q (sym s.2) (subst P e s.1))
 
 -- The lines of a page, from its pointer on.
 pub listing_visit : {X : Type 0} (view : X → List ℕ) (old mid new : Decoding) (k : ℕ) (p : Option IfdPointer) (r : Result X TiffError)

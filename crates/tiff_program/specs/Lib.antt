@@ -5,4 +5,5 @@ pub mod Gray
 pub mod Listing
 pub mod Replied
 pub mod Samples
+pub mod Words
 pub mod Wrote

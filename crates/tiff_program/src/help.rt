@@ -1,4 +1,4 @@
-//! What the program's commands are.
+//! What the program's commands are, and its version.
 
 /// Each command with its words, and what it does.
 pub const HELP: &str = "tiffpage: TIFF and BigTIFF pages
@@ -9,6 +9,12 @@ pub const HELP: &str = "tiffpage: TIFF and BigTIFF pages
   list IN                prints a line for each page: number, offset, sides, color, method, kind and number of chunks
   check IN               reads each page whole, and prints a line for each: number, offset, ok, bytes, Adler-32
   calls IN < LIST        makes the calls of a decoder that LIST has, and prints the reply to each
-  jobs OUT [big] < LIST  writes the file of the jobs that LIST has, a BigTIFF one with big, and prints the reply to each
-  help                   prints these lines
+  jobs OUT [big] [--keep-going] < LIST
+                         prints the reply to each of the jobs that LIST has, and writes their file, a BigTIFF one with big,
+                         where none of them is refused; with --keep-going in each case
+  help, --help           prints these lines
+  --version              prints the version
 ";
+
+/// The line of the version, which is that of the calls for C, `MANGOHATCH_TIFF_VERSION` of their header.
+pub const VERSION: &str = "tiffpage 1\n";

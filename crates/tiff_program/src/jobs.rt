@@ -1,43 +1,92 @@
 //! Lists of jobs, and the files that they write.
 
-ghost use Rattle.std.specs.Prelude.{◌≡◌, MatchResult};
-ghost use Rattle.tiff_program.specs.Wrote.{Wrote};
+ghost use Rattle.std.specs.Prelude.{◌≡◌, None, MatchResult, is_ok, option_map};
+ghost use Rattle.std.specs.List.{list_all};
+ghost use Rattle.tiff_program.specs.Wrote.{Wrote, is_well};
 
+use crate::calls::let_go;
+use crate::job_lines::lines_of_jobs;
+use crate::list::PageLines;
 use std::alloc::Global;
-use tiff::encoder::script::Job;
+use tiff::encoder::script::{Job, JobReply, StepReply, run_jobs};
 use tiff::encoder::{TiffKind, TiffKindBig, TiffKindStandard};
 use tiff::io::MemorySink;
 use tiff::tags::FileKind;
 use tiff::{TiffError, TiffResult};
-use tiff_lists::replies::run_told;
 
-/// A file that jobs wrote, and the lines of what they were answered.
+/// What jobs left: their file, where it is to be written, and the lines of what they were answered, which are well where no step and
+/// no end of a job was refused.
 #[derive(Drop)]
 pub struct Written {
-    pub file: Vec<u8>,
-    pub lines: String,
+    pub file: Option<Vec<u8>>,
+    pub lines: PageLines,
+}
+
+// Whether no step was refused.
+fn are_answered(steps: &[TiffResult<StepReply>]) -> bool
+    ensures { result ≡ list_all is_ok steps.now }
+{
+    steps.iter().all(|step| step.is_ok())
+}
+
+// Whether no reply of a job is a fault.
+fn is_well(reply: &JobReply) -> bool
+    ensures { result ≡ is_well reply.now }
+{
+    are_answered(&reply.steps) && reply.last.is_ok()
+}
+
+// Whether no reply of all jobs is a fault.
+fn are_well(replies: &[JobReply]) -> bool
+    ensures { result ≡ list_all is_well replies.now }
+{
+    replies.iter().all(|reply| is_well(reply))
+}
+
+// The lines of what jobs were answered.
+fn told(alloc: Global, replies: Vec<JobReply>) -> TiffResult<PageLines>
+    ensures { MatchResult result (λ lines. (lines.well ≡ list_all is_well replies.items) × (lines.end ≡ None)) (λ e. e ≡ TiffError.OutOfMemory) }
+{
+    let text = lines_of_jobs(alloc, &replies);
+    let well = are_well(&replies);
+    let_go(replies);
+    Ok(PageLines {
+        text: text?,
+        end: None,
+        well,
+    })
 }
 
 // Runs jobs over a sink that holds nothing.
 #[tactic(auto, using(tiff_base::proofs::MemoryFaults::header_refused))]
-fn run_kind<K: TiffKind>(alloc: Global, jobs: &[Job]) -> TiffResult<Written>
-    ensures { MatchResult result (λ written. Wrote K.kind jobs.now written.file.items) (λ e. e ≡ TiffError.OutOfMemory) }
+fn run_kind<K: TiffKind>(alloc: Global, keep_going: bool, jobs: &[Job]) -> TiffResult<Written>
+    ensures { MatchResult result
+        (λ written. Wrote K.kind keep_going jobs.now (option_map (λ file. file.items) written.file) written.lines.well × (written.lines.end ≡ None))
+        (λ e. e ≡ TiffError.OutOfMemory) }
 {
+    let mut replies = Vec::new(alloc);
     let sink = MemorySink::new(Vec::new(alloc));
-    let (sink, lines) = run_told::<MemorySink, K>(alloc, sink, jobs)?;
-    Ok(Written {
-        file: sink.into_vec(),
-        lines,
-    })
+    let sink = run_jobs::<MemorySink, K>(alloc, sink, jobs, &mut replies)?;
+    let lines = told(alloc, replies)?;
+    let file = (lines.well || keep_going).then_some(sink.into_vec());
+    Ok(Written { file, lines })
 }
 
 /// Runs jobs one after another, and answers the file of this kind that they write, with the text of their replies, a refusal
-/// too, a line for each. Its only error is `OutOfMemory`: for the replies, the header or the lines.
-pub fn write_by(alloc: Global, kind: FileKind, jobs: &[Job]) -> TiffResult<Written>
-    ensures { MatchResult result (λ written. Wrote kind jobs.now written.file.items) (λ e. e ≡ TiffError.OutOfMemory) }
+/// too, a line for each. There is a file where no reply is a fault, and in each case where it is to keep going. Its only error is
+/// `OutOfMemory`: for the replies, the header or the lines.
+pub fn write_by(
+    alloc: Global,
+    kind: FileKind,
+    keep_going: bool,
+    jobs: &[Job],
+) -> TiffResult<Written>
+    ensures { MatchResult result
+        (λ written. Wrote kind keep_going jobs.now (option_map (λ file. file.items) written.file) written.lines.well × (written.lines.end ≡ None))
+        (λ e. e ≡ TiffError.OutOfMemory) }
 {
     match kind {
-        FileKind::Classic => run_kind::<TiffKindStandard>(alloc, jobs),
-        FileKind::Big => run_kind::<TiffKindBig>(alloc, jobs),
+        FileKind::Classic => run_kind::<TiffKindStandard>(alloc, keep_going, jobs),
+        FileKind::Big => run_kind::<TiffKindBig>(alloc, keep_going, jobs),
     }
 }

@@ -9,7 +9,7 @@ use tiff::{ColorType, TiffError, TiffResult};
 use tiff_pages::pages::{PageFacts, PageItem, PageList, pages};
 
 /// What a command tells of the pages of a file: a line for each, the fault by which their chain ends, if it ends by one, and whether
-/// each of them is well.
+/// each of them is well. Or what it tells of jobs: a line for each reply, and whether none of them is a fault.
 #[derive(Debug, Drop)]
 pub struct PageLines {
     pub text: String,

@@ -1,12 +1,12 @@
 //! What the program does.
 
-ghost use Rattle.std.specs.Prelude.{◌≡◌, ◌≤◌};
+ghost use Rattle.std.specs.Prelude.{◌≡◌, ◌≤◌, IfOk, MatchOption, None, Ok, true};
 
 use crate::calls::replies_to;
 use crate::command::{Command, parse};
 use crate::files::Files;
 use crate::gray::gray_file;
-use crate::help::HELP;
+use crate::help::{HELP, VERSION};
 use crate::jobs::{Written, write_by};
 use crate::list::{PageLines, file_check, file_list};
 use crate::listing::page_tags;
@@ -120,17 +120,33 @@ fn call_replies<'a, F: Files>(
     Ok(replies_to(alloc, file, &calls)?)
 }
 
-// Writes the file that the jobs write that standard input lists, and answers their replies, a line for each.
+// Writes the file that jobs left, where there is one, and answers their lines.
+fn write_kept<'a, F: Files>(
+    output: &'a str,
+    written: Written,
+    files: &mut F,
+) -> Result<PageLines, Failure<'a>>
+    ensures { MatchOption written.file
+        ((result ≡ Ok written.lines) × (files.new ≡ files.old))
+        (λ _. IfOk result (λ lines. lines ≡ written.lines)) }
+{
+    let Written { file, lines } = written;
+    if let Some(file) = file {
+        write(files, output, &file)?;
+    }
+    Ok(lines)
+}
+
+// Runs the jobs that standard input lists, writes their file, where it is to be written, and answers their replies, a line for each.
 fn job_replies<'a, F: Files>(
     alloc: Global,
     output: &'a str,
-    kind: FileKind,
+    (kind, keep_going): (FileKind, bool),
     files: &mut F,
-) -> Result<String, Failure<'a>> {
+) -> Result<PageLines, Failure<'a>> {
     let jobs = listed_jobs(alloc, files)?;
-    let Written { file, lines } = write_by(alloc, kind, &jobs)?;
-    write(files, output, &file)?;
-    Ok(lines)
+    let written = write_by(alloc, kind, keep_going, &jobs)?;
+    write_kept(output, written, files)
 }
 
 // Writes the file of a gray page, whose samples are the bytes of the input.
@@ -190,13 +206,18 @@ fn check_pages<'a, F: Files>(
     Ok(file_check(alloc, file)?)
 }
 
-// Lines of which each is well.
+// Lines that are well.
 fn told(text: String) -> PageLines {
     PageLines {
         text,
         end: None,
         well: true,
     }
+}
+
+// The lines of a text.
+fn told_text<'a>(alloc: Global, text: &str) -> Result<PageLines, Failure<'a>> {
+    Ok(told(String::from_str(alloc, text).map_err(TiffError::from)?))
 }
 
 // Does what a command asks for, and answers what is to be printed.
@@ -227,8 +248,13 @@ fn execute<'a, F: Files>(
         Command::List { input } => list_pages(alloc, input, files),
         Command::Check { input } => check_pages(alloc, input, files),
         Command::Calls { input } => Ok(told(call_replies(alloc, input, files)?)),
-        Command::Jobs { output, kind } => Ok(told(job_replies(alloc, output, kind, files)?)),
-        Command::Help => Ok(told(String::from_str(alloc, HELP).map_err(TiffError::from)?)),
+        Command::Jobs {
+            output,
+            kind,
+            keep_going,
+        } => job_replies(alloc, output, (kind, keep_going), files),
+        Command::Help => told_text(alloc, HELP),
+        Command::Version => told_text(alloc, VERSION),
     }
 }
 
@@ -244,7 +270,8 @@ fn print_failure<E: Write>(alloc: Global, failure: &Failure<'_>, err: &mut E) {
 
 // Prints lines, and the line of the fault behind them, if there is one; and answers the status.
 fn print_lines<O: Write, E: Write>(alloc: Global, lines: PageLines, out: &mut O, err: &mut E) -> u8
-    ensures { result ≤ 1 }
+    ensures status { result ≤ 1 }
+    ensures well { result ≡ 0 → (lines.well ≡ true) × (lines.end ≡ None) }
 {
     let PageLines { text, end, well } = lines;
     if out.write_all(text.as_bytes()).is_err() {
@@ -260,11 +287,12 @@ fn print_lines<O: Write, E: Write>(alloc: Global, lines: PageLines, out: &mut O,
 }
 
 /// Does what the words of a command line ask for, and answers the status: 0; 1 for a fault, with a line `error: ..` on `err`, where a
-/// write to `out` or `err` fails, and where a page that is checked has a fault; 2 for a wrong command line, with the usage line on
-/// `err`, and for a line of standard input that is no call or no job, with a line `error: ..` that has its number, before any is
-/// called. No words give the usage line on `out`. Faults are found in this order: the command line, reading the input, reading
-/// standard input, its lines, the decoder's or the encoder's, writing the output. On a fault nothing is written to `out`, but where
-/// the chain of a file whose pages are listed or checked ends by it: then their lines are.
+/// write to `out` or `err` fails, where a page that is checked has a fault, and where a job or a step of one is refused; 2 for a wrong
+/// command line, with the usage line on `err`, and for a line of standard input that is no call or no job, with a line `error: ..` that
+/// has its number, before any is called. No words give the usage line on `out`. Faults are found in this order: the command line,
+/// reading the input, reading standard input, its lines, the decoder's or the encoder's, writing the output. On a fault nothing is
+/// written to `out`, but where the chain of a file whose pages are listed or checked ends by it: then their lines are. The replies to
+/// all jobs are written there, also where one is refused; their file is made where none is, or where the words have `--keep-going`.
 pub fn run<F: Files, O: Write, E: Write>(
     alloc: Global,
     words: &[String],

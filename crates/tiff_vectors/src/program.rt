@@ -161,7 +161,7 @@ fn samples_of_two_bytes_are_written_lowest_first(rt: HostRuntime) -> Result<(), 
 
 // A command line, its status and its line on the error stream; IN has three bytes, ONE the file of one sample, CUT that file without
 // its last byte, and standard input NO_CALL.
-const FAULTS: [(&[&str], u8, &[u8]); 38] = [
+const FAULTS: [(&[&str], u8, &[u8]); 46] = [
     (
         &["gray", "OUT", "0", "5", "IN"],
         1,
@@ -253,13 +253,25 @@ const FAULTS: [(&[&str], u8, &[u8]); 38] = [
     ),
     (&["check"], 2, USAGE),
     (&["help", "list"], 2, USAGE),
+    (&["--help", "list"], 2, USAGE),
+    (&["--version", "1"], 2, USAGE),
+    (&["version"], 2, USAGE),
     (&["calls"], 2, USAGE),
     (&["calls", "ONE", "0"], 2, USAGE),
     (&["calls", "NONE"], 1, b"error: cannot read NONE\n"),
     (&["calls", "IN"], 2, b"error: line 3 is no call\n"),
     (&["jobs"], 2, USAGE),
     (&["jobs", "OUT", "small"], 2, USAGE),
+    (&["jobs", "OUT", "big", "big"], 2, USAGE),
+    (&["jobs", "OUT", "--keep-going", "--keep-going"], 2, USAGE),
+    (&["jobs", "--keep-going", "OUT"], 2, USAGE),
+    (&["jobs", "OUT", "big", "--keep-going", "1"], 2, USAGE),
     (&["jobs", "FULL"], 2, b"error: line 1 is no job\n"),
+    (
+        &["jobs", "FULL", "--keep-going"],
+        2,
+        b"error: line 1 is no job\n",
+    ),
 ];
 
 const NO_CALL: &str = "dimensions\n\nread_images\nread_image 0\n";
@@ -368,12 +380,24 @@ fn no_words_give_the_usage(rt: HostRuntime) -> Result<(), Fail> {
 #[test]
 fn help_tells_each_command(rt: HostRuntime) -> Result<(), Fail> {
     let mut files = MemoryFiles::with(rt.alloc(), "IN", &[7])?;
-    let run = run_words(rt.alloc(), &mut files, &["help"])?;
+    for word in ["help", "--help"] {
+        let run = run_words(rt.alloc(), &mut files, &[word])?;
+        assert_eq!(rt; run.status, 0);
+        assert_eq!(rt; run.err.len(), 0);
+        let told = run.out.as_slice();
+        assert!(rt; told.starts_with(b"tiffpage: TIFF and BigTIFF pages\n\n  gray OUT W H IN "));
+        assert!(rt; told.ends_with(b"\n  --version              prints the version\n"));
+    }
+    Ok(())
+}
+
+#[test]
+fn the_version_is_told(rt: HostRuntime) -> Result<(), Fail> {
+    let mut files = MemoryFiles::with(rt.alloc(), "IN", &[7])?;
+    let run = run_words(rt.alloc(), &mut files, &["--version"])?;
     assert_eq!(rt; run.status, 0);
+    assert_eq!(rt; run.out.as_slice(), b"tiffpage 1\n".as_slice());
     assert_eq!(rt; run.err.len(), 0);
-    let told = run.out.as_slice();
-    assert!(rt; told.starts_with(b"tiffpage: TIFF and BigTIFF pages\n\n  gray OUT W H IN "));
-    assert!(rt; told.ends_with(b"\n  help                   prints these lines\n"));
     Ok(())
 }
 
@@ -477,8 +501,35 @@ fn listed_calls_are_made(rt: HostRuntime) -> Result<(), Fail> {
     Ok(())
 }
 
-// The page of ONE, behind a refused image; a directory is left open in UNENDED.
-const JOBS: &str = "# A refused job is a reply too.
+// The page of ONE.
+const JOBS: &str = "# The sample stands in one strip.
+image Gray8 1 1
+
+next_strip_sample_count
+write_data 7";
+
+const JOB_REPLIES: &[u8] = b"1\nnothing\n";
+
+#[test]
+fn listed_jobs_are_written(rt: HostRuntime) -> Result<(), Fail> {
+    let mut files = MemoryFiles::with(rt.alloc(), "-", JOBS.as_bytes())?;
+    let done = run_words(rt.alloc(), &mut files, &["jobs", "OUT"])?;
+    assert_eq!(rt; done.status, 0);
+    assert_eq!(rt; done.out.as_slice(), JOB_REPLIES);
+    assert_eq!(rt; done.err.len(), 0);
+    assert_eq!(rt; files.read("OUT")?.as_slice(), ONE.as_slice());
+    let kept = run_words(rt.alloc(), &mut files, &["jobs", "KEPT", "--keep-going"])?;
+    assert_eq!(rt; kept.status, 0);
+    assert_eq!(rt; kept.out.as_slice(), JOB_REPLIES);
+    assert_eq!(rt; files.read("KEPT")?.as_slice(), ONE.as_slice());
+    let big = run_words(rt.alloc(), &mut files, &["jobs", "BIG", "big"])?;
+    assert_eq!(rt; big.status, 0);
+    assert!(rt; files.read("BIG")?.as_slice().starts_with(b"II+\x00"));
+    Ok(())
+}
+
+// The page of ONE, behind an image that isn't begun.
+const REFUSED_JOB: &str = "# A refused job is a reply too.
 image Gray8 0 5
 finish
 
@@ -486,37 +537,90 @@ image Gray8 1 1
 next_strip_sample_count
 write_data 7";
 
-const JOB_REPLIES: &[u8] =
+const REFUSED_JOB_REPLIES: &[u8] =
     b"refused: format error: invalid dimensions: 0x5 (FormatError(InvalidDimensions(0, 5)))
 1
 nothing
 ";
 
+// The page of ONE, one of whose steps is refused.
+const REFUSED_STEP: &str = "image Gray8 1 1
+write_strip 1 2
+write_data 7";
+
+const REFUSED_STEP_REPLIES: &[u8] = b"refused: invalid data (IoError(InvalidData))
+nothing
+";
+
+// Lists of jobs that would leave ONE, of whose replies one is a fault.
+const REFUSED: [(&str, &[u8]); 2] = [
+    (REFUSED_JOB, REFUSED_JOB_REPLIES),
+    (REFUSED_STEP, REFUSED_STEP_REPLIES),
+];
+
+#[test]
+fn refused_jobs_write_nothing(rt: HostRuntime) -> Result<(), Fail> {
+    for (list, replies) in REFUSED {
+        let mut files = MemoryFiles::with(rt.alloc(), "-", list.as_bytes())?;
+        // Nothing is written, so it is no fault that this name can't be.
+        for words in [["jobs", "OUT"], ["jobs", UNWRITABLE]] {
+            let run = run_words(rt.alloc(), &mut files, &words)?;
+            assert_eq!(rt; run.status, 1);
+            assert_eq!(rt; run.out.as_slice(), replies);
+            assert_eq!(rt; run.err.len(), 0);
+        }
+        assert_eq!(rt; files.files.len(), 1);
+    }
+    Ok(())
+}
+
+#[test]
+fn refused_jobs_keep_going(rt: HostRuntime) -> Result<(), Fail> {
+    for (list, replies) in REFUSED {
+        let mut files = MemoryFiles::with(rt.alloc(), "-", list.as_bytes())?;
+        let kept = run_words(rt.alloc(), &mut files, &["jobs", "OUT", "--keep-going"])?;
+        assert_eq!(rt; kept.status, 1);
+        assert_eq!(rt; kept.out.as_slice(), replies);
+        assert_eq!(rt; kept.err.len(), 0);
+        assert_eq!(rt; files.read("OUT")?.as_slice(), ONE.as_slice());
+    }
+    Ok(())
+}
+
+#[test]
+fn refused_jobs_keep_going_in_a_big_file(rt: HostRuntime) -> Result<(), Fail> {
+    for options in [["big", "--keep-going"], ["--keep-going", "big"]] {
+        let mut files = MemoryFiles::with(rt.alloc(), "-", REFUSED_JOB.as_bytes())?;
+        let [first, second] = options;
+        let big = run_words(rt.alloc(), &mut files, &["jobs", "OUT", first, second])?;
+        assert_eq!(rt; big.status, 1);
+        assert_eq!(rt; big.out.as_slice(), REFUSED_JOB_REPLIES);
+        assert!(rt; files.read("OUT")?.as_slice().starts_with(b"II+\x00"));
+    }
+    Ok(())
+}
+
+const FULL: &[u8] = b"error: cannot write FULL\n";
+
+#[test]
+fn a_file_that_jobs_cannot_write_is_a_fault(rt: HostRuntime) -> Result<(), Fail> {
+    for (list, words) in [
+        (JOBS, ["jobs", "FULL"].as_slice()),
+        (REFUSED_JOB, ["jobs", "FULL", "--keep-going"].as_slice()),
+    ] {
+        let mut files = MemoryFiles::with(rt.alloc(), "-", list.as_bytes())?;
+        let full = run_words(rt.alloc(), &mut files, words)?;
+        assert_eq!(rt; full.status, 1);
+        assert_eq!(rt; full.out.len(), 0);
+        assert_eq!(rt; full.err.as_slice(), FULL);
+    }
+    Ok(())
+}
+
+// A directory is left open.
 const UNENDED: &str = "directory
 write_tag 65000 u8 1
 ";
-
-#[test]
-fn listed_jobs_are_written(rt: HostRuntime) -> Result<(), Fail> {
-    let mut files = MemoryFiles::with(rt.alloc(), "ONE", ONE.as_slice())?;
-    files.write("-", JOBS.as_bytes())?;
-    let done = run_words(rt.alloc(), &mut files, &["jobs", "OUT"])?;
-    assert_eq!(rt; done.status, 0);
-    assert_eq!(rt; done.out.as_slice(), JOB_REPLIES);
-    assert_eq!(rt; done.err.len(), 0);
-    assert_eq!(rt; files.read("OUT")?.as_slice(), ONE.as_slice());
-    let full = run_words(rt.alloc(), &mut files, &["jobs", "FULL"])?;
-    assert_eq!(rt; full.status, 1);
-    assert_eq!(rt; full.out.len(), 0);
-    assert_eq!(rt;
-        full.err.as_slice(),
-        b"error: cannot write FULL\n".as_slice()
-    );
-    let big = run_words(rt.alloc(), &mut files, &["jobs", "BIG", "big"])?;
-    assert_eq!(rt; big.status, 0);
-    assert!(rt; files.read("BIG")?.as_slice().starts_with(b"II+\x00"));
-    Ok(())
-}
 
 #[test]
 fn jobs_that_end_within_one_are_not_run(rt: HostRuntime) -> Result<(), Fail> {
@@ -559,8 +663,9 @@ fn a_second_page_is_taken(rt: HostRuntime) -> Result<(), Fail> {
 }
 
 // A command line, and its status where standard output and the error stream take five bytes each.
-const CUT: [(&[&str], u8); 4] = [
+const CUT: [(&[&str], u8); 5] = [
     (&[], 1),
+    (&["--version"], 1),
     (&["tags", "ONE", "0"], 1),
     (&["tags", "ONE"], 1),
     (&["tags", "NONE", "0"], 1),
