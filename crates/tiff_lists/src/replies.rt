@@ -81,6 +81,11 @@ fn all_lines<T: Lines>(alloc: Global, replies: &[T]) -> Result<String, AllocErro
     Ok(lines)
 }
 
+/// What jobs were answered: a line for each step of each, and one for its end.
+pub fn lines_of_jobs(alloc: Global, replies: &[JobReply]) -> Result<String, AllocError> {
+    all_lines(alloc, replies)
+}
+
 // Lets a value go. A list of replies is let go here: where a function isn't generic, that is long to prove.
 fn let_go<T: Drop>(_value: T) {}
 

@@ -5,7 +5,6 @@ ghost use Rattle.std.specs.List.{list_all};
 ghost use Rattle.tiff_program.specs.Wrote.{Wrote, is_well};
 
 use crate::calls::let_go;
-use crate::job_lines::lines_of_jobs;
 use crate::list::PageLines;
 use std::alloc::Global;
 use tiff::encoder::script::{Job, JobReply, StepReply, run_jobs};
@@ -13,6 +12,7 @@ use tiff::encoder::{TiffKind, TiffKindBig, TiffKindStandard};
 use tiff::io::MemorySink;
 use tiff::tags::FileKind;
 use tiff::{TiffError, TiffResult};
+use tiff_lists::replies::lines_of_jobs;
 
 /// What jobs left: their file, where it is to be written, and the lines of what they were answered, which are well where no step and
 /// no end of a job was refused.

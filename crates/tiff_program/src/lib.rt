@@ -9,7 +9,6 @@ mod command;
 pub mod files;
 pub mod gray;
 mod help;
-mod job_lines;
 pub mod jobs;
 pub mod list;
 pub mod listing;
