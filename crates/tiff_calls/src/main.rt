@@ -138,6 +138,16 @@ fn print_text(rt: &HostRuntime, status: u32) -> io::Result<()> {
     println!(rt; "fault_text {status}: {len}, {text:?}")
 }
 
+// The pixels of the page, whose strip claims 128 MiB and a byte.
+fn print_claim(rt: &HostRuntime) -> io::Result<()> {
+    let mut file = [0u8; 300];
+    let mut len = 0;
+    let status = tiff_statuses::write_image(rt.alloc(), &IMAGE, &SAMPLES, &mut file, &mut len);
+    file[BYTE_COUNT..BYTE_COUNT + 4].copy_from_slice(&[1, 0, 0, 8]);
+    println!(rt; "a strip of 134217729 bytes: {status}, {len}")?;
+    print_pixels(rt, &file[..len.min(300)], 0)
+}
+
 fn main(rt: HostRuntime) -> io::Result<()> {
     let mut buffer = [0u8; 300];
     let mut len = 0;
@@ -160,10 +170,7 @@ fn main(rt: HostRuntime) -> io::Result<()> {
     print_chunks(&rt, file, 0, 1)?;
     print_chunks(&rt, file, 0, 2)?;
     print_chunks(&rt, file, 1, u32::MAX)?;
-    let mut claims = buffer;
-    claims[BYTE_COUNT..BYTE_COUNT + 4].copy_from_slice(&[1, 0, 0, 8]);
-    println!(rt; "a strip of 134217729 bytes")?;
-    print_pixels(&rt, &claims[..file.len()], 0)?;
+    print_claim(&rt)?;
     print_file(&rt, file)?;
     print_file(&rt, cut)?;
     print_list(&rt, file)?;
