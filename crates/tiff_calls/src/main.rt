@@ -143,7 +143,8 @@ fn print_claim(rt: &HostRuntime) -> io::Result<()> {
     let mut file = [0u8; 300];
     let mut len = 0;
     let status = tiff_statuses::write_image(rt.alloc(), &IMAGE, &SAMPLES, &mut file, &mut len);
-    file[BYTE_COUNT..BYTE_COUNT + 4].copy_from_slice(&[1, 0, 0, 8]);
+    file[BYTE_COUNT] = 1;
+    file[BYTE_COUNT + 3] = 8;
     println!(rt; "a strip of 134217729 bytes: {status}, {len}")?;
     print_pixels(rt, &file[..len.min(300)], 0)
 }
