@@ -1,6 +1,6 @@
 //! A source in memory that may give one byte at a time, may fail once, and knows which bytes it was asked for.
 
-ghost use Rattle.std.specs.Prelude.{false};
+ghost use Rattle.std.specs.Prelude.{Some, []};
 ghost use Rattle.tiff_replay.specs.Failed.{failed};
 
 use crate::asked::Asked;

@@ -1,7 +1,7 @@
 //! Sources and sinks that answer a byte at a time, and that fail once: a call that is made again is answered. A source that
 //! keeps how far it was asked.
 
-ghost use Rattle.std.specs.Prelude.{◌≡◌, ◌+◌, false};
+ghost use Rattle.std.specs.Prelude.{◌≡◌, ◌+◌, Some, []};
 
 use std::marker::Model;
 use std::snapshot::Snapshot;
