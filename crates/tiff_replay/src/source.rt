@@ -52,6 +52,7 @@ impl Source for ScriptedSource {
 
     ghost octets = { λ s. s.inner.octets };
 
+    #[tactic(auto, unfolding(tiff_base::specs::SourceAndSink::answers_for))]
     fn read_at(&mut self, at: u64, buf: &mut [u8]) -> Result<usize, DeviceFault> {
         // A read of no bytes doesn't fail.
         if buf.is_empty() {

@@ -97,6 +97,7 @@ impl Source for FailingSource {
 
     ghost octets = { λ s. s.inner.octets };
 
+    #[tactic(auto, unfolding(tiff_base::specs::SourceAndSink::answers_for))]
     fn read_at(&mut self, at: u64, buf: &mut [u8]) -> Result<usize, DeviceFault> {
         if buf.is_empty() {
             return Ok(0);
