@@ -18,7 +18,8 @@ DESCRIPTION
     in a buffer of bytes isn't told. tiff_write_image tells more.
 
     A file may claim any size: ask for the layout, and judge it, before you take memory for an image. The calls that read pixels are under no limit,
-    whatever the size of a chunk in the file: they write into BUFFER, and take memory for rows alone, after the first chunk's data were found in FILE.
+    whatever the size of a chunk in the file: they write into BUFFER, and allocate for a row alone, as long as a row in BUFFER or as the bytes of it that
+    FILE was found to have.
     A page may have 8,388,608 chunks, and a tag that tiff_tag_number reads as many values; more answers TIFF_LIMITS_EXCEEDED.
 
 POINTERS
