@@ -4,7 +4,7 @@ use Rattle.std.proofs.lemmas.List.{append-nil, length-append, reverse-append}
 use Rattle.std.proofs.lemmas.List.Sorted.{IsPermutation-reverse, list_any-IsPermutation}
 use Rattle.std.proofs.lemmas.Bool.Decides.{nat_tests}
 use Rattle.std.specs.Prelude.{is_some, IfNone}
-use Rattle.std.specs.List.{list_any, slice_get}
+use Rattle.std.specs.List.{last_or, list_any, slice_get}
 use Rattle.std.proofs.lemmas.Option.{slice_get-get_or}
 use Rattle.tiff_base.specs.declared.error.TiffError.{TiffError}
 use Rattle.tiff_base.specs.declared.error.TiffError.TheVariants.{FormatError}
@@ -16,7 +16,7 @@ use Rattle.tiff_base.specs.Field.{DirectoryRecord}
 use Rattle.tiff_base.specs.Directory.{directory_at, link}
 use Rattle.tiff_base.proofs.Causes.{cause_along}
 use Rattle.tiff_ifd.specs.Chain.{link_from, unless_met, enter_at, IsChain, Chain, chain}
-use Rattle.tiff_ifd.specs.Walk.{Walked, Enters, NextIsRefused, WalkSteps, ChainBegins, ChainEnds}
+use Rattle.tiff_ifd.specs.Walk.{Walked, Enters, NextIsRefused, WalkSteps, ChainBegins, ChainEnds, link_behind}
 use Rattle.tiff_ifd.proofs.Chain.{IsFalseBit, not_both, same_ok, same_err, the_chain}
 use Rattle.tiff_ifd.proofs.Links.{here}
 
@@ -59,7 +59,7 @@ module _ (offsets : List ℕ) (next : Option ℕ) where
 -- ---- the chain
 
 pub none_begun : (kind : FileKind) (order : ByteOrder) (bytes : List ℕ) (first : ℕ) → ChainBegins kind order bytes first (record { offsets = []; next = Some first })
-none_begun kind order bytes first = record { rest = (chain kind order bytes first).offsets; offsets = refl; goes_on = the_chain kind order bytes first }
+none_begun kind order bytes first = record { linked = refl; rest = (chain kind order bytes first).offsets; offsets = refl; goes_on = the_chain kind order bytes first }
 
 module _ (kind : FileKind) (order : ByteOrder) (bytes : List ℕ) where
   -- why an offset isn't entered, or that it is
@@ -100,13 +100,18 @@ module _ (kind : FileKind) (order : ByteOrder) (bytes : List ℕ) where
   rest_none met [] end c = (refl, c)
   rest_none met (q ∷ rest) end c = absurd c
 
+  last_added : (before : Option ℕ) (offsets : List ℕ) (offset : ℕ) → last_or before (offsets ++ offset ∷ []) ≡ Some offset
+  last_added before [] offset = refl
+  last_added before (p ∷ offsets) offset = last_added (Some p) offsets offset
+
   module _ (first : ℕ) where
-    begins_by : (offsets : List ℕ) (offset : ℕ) (after : Option ℕ) (rest left : List ℕ) → (chain kind order bytes first).offsets ≡ offsets ++ rest → rest ≡ offset ∷ left
+    begins_by : (offsets : List ℕ) (offset : ℕ) (after : Option ℕ) (rest left : List ℕ) → link_from kind order bytes offset ≡ Ok after → (chain kind order bytes first).offsets ≡ offsets ++ rest → rest ≡ offset ∷ left
         → IsChain (link_from kind order bytes) (offset ∷ reverse offsets) after left (chain kind order bytes first).end
         → ChainBegins kind order bytes first (record { offsets = offsets ++ offset ∷ []; next = after })
-    begins_by offsets offset after rest left e f c =
+    begins_by offsets offset after rest left l e f c =
         let P : List ℕ → Type 0 = λ met. IsChain (link_from kind order bytes) met after left (chain kind order bytes first).end in
         record {
+          linked = ap (link_behind kind order bytes first) (last_added None offsets offset) ∙ l;
           rest = left;
           offsets = e ∙ ap (λ (xs : List ℕ). offsets ++ xs) f ∙ sym (append_assoc offsets (offset ∷ []) left);
           goes_on = subst P (sym (reverse-append offsets (offset ∷ []))) c;
@@ -116,8 +121,9 @@ module _ (kind : FileKind) (order : ByteOrder) (bytes : List ℕ) where
     begins_on before after d h b =
         let P : Option ℕ → Type 0 = λ n. IsChain (link_from kind order bytes) (reverse before.offsets) n b.rest (chain kind order bytes first).end in
         let r = rest_on (reverse before.offsets) h.offset d.next b.rest (chain kind order bytes first).end h.entered (subst P h.next b.goes_on) in
+        let l = ap (λ (x : Result DirectoryRecord TiffError). x >>= λ y. Ok y.next) h.read in
         let Q : Walked → Type 0 = λ w. ChainBegins kind order bytes first w in
-        subst Q (sym h.walked) (begins_by before.offsets h.offset d.next b.rest r.0 b.offsets r.1 r.2)
+        subst Q (sym h.walked) (begins_by before.offsets h.offset d.next b.rest r.0 l b.offsets r.1 r.2)
 
     ends_by : (walk : Walked) (rest : List ℕ) (end : Option TiffError) → (chain kind order bytes first).offsets ≡ walk.offsets ++ rest → rest ≡ []
         → (chain kind order bytes first).end ≡ end → ChainEnds kind order bytes first walk end
@@ -148,6 +154,12 @@ begins_entered kind order bytes first before after offset d next n h e m w b =
     let P : Option ℕ → Type 0 = λ x. unless_met (offset ∷ reverse before.offsets) x ≡ Ok x in
     let Q : Option ℕ → Type 0 = λ x. after ≡ record { offsets = before.offsets ++ offset ∷ []; next = x } in
     begins_on kind order bytes first before after d (one_entered kind order bytes before after offset d n h (subst P e m) (subst Q e w)) b
+
+-- what is begun of a file is begun of the same bytes
+pub begun_same : {seen bytes : List ℕ} (kind : FileKind) (order : ByteOrder) (first : ℕ) (before after : Walked) → seen ≡ bytes → ChainBegins kind order bytes first before
+    → (ChainBegins kind order seen first before → ChainBegins kind order seen first after) → ChainBegins kind order bytes first after
+begun_same kind order first before after same b on =
+    subst (λ (bs : List ℕ). ChainBegins kind order bs first after) same (on (subst (λ (bs : List ℕ). ChainBegins kind order bs first before) (sym same) b))
 
 pub cut_unread : (kind : FileKind) (order : ByteOrder) (bytes : List ℕ) (failed : Type 0) (walk : Walked) (offset : ℕ) (e : TiffError) → walk.next ≡ Some offset
     → IsCause (Unit {0}) failed e (directory_at kind order bytes offset ≡ Err e)

@@ -1,5 +1,6 @@
 -- How far a file's chain of directories was gone along (this project's).
 use Rattle.std.specs.Prelude.{◌≡◌, ℕ, ◌≤◌, List, [], ◌∷◌, ◌++◌, length, reverse, Option, None, Some, Bool, true, false, Result, Ok, Err}
+use Rattle.std.specs.List.{last_or}
 use Rattle.tiff_base.specs.declared.error.TiffError.{TiffError}
 use Rattle.tiff_base.specs.declared.tags.ByteOrder.{ByteOrder}
 use Rattle.tiff_base.specs.declared.tags.FileKind.{FileKind}
@@ -42,8 +43,14 @@ module _ (kind : FileKind) (order : ByteOrder) (bytes : List ℕ) where
   StepsOver before false after = (before.next ≡ None) × (after ≡ before)
 
   module _ (first : ℕ) where
+    -- The link behind the last offset that was entered: before the first one, that to it.
+    abbrev pub link_behind : Option ℕ → Result (Option ℕ) TiffError
+    link_behind None = Ok (Some first)
+    link_behind (Some offset) = link_from kind order bytes offset
+
     -- The chain from a first offset begins with these offsets, and goes on from the link behind them.
     pub record ChainBegins (walk : Walked) : Type 0 where
+      pub linked : link_behind (last_or None walk.offsets) ≡ Ok walk.next
       pub rest : List ℕ
       pub offsets : (chain kind order bytes first).offsets ≡ walk.offsets ++ rest
       pub goes_on : IsChain (link_from kind order bytes) (reverse walk.offsets) walk.next rest (chain kind order bytes first).end

@@ -19,7 +19,7 @@ use Rattle.tiff_base.specs.SourceAndSink.{SourceRecord, answers_for}
 use Rattle.tiff_base.specs.Tags.{type_of}
 use Rattle.tiff_ifd.specs.Chain.{IsChain, chain, link_from}
 use Rattle.tiff_ifd.specs.Stretches.{DirectoryReadable, LinkReadable}
-use Rattle.tiff_ifd.specs.Walk.{ChainBegins, Walked}
+use Rattle.tiff_ifd.specs.Walk.{ChainBegins, Walked, link_behind}
 use Rattle.tiff_page.specs.Reach.{PageReadable}
 use Rattle.tiff_decode.specs.Asked.{EntryReadable}
 use Rattle.tiff_examples.specs.Base.FieldBytes.{of}
@@ -155,7 +155,7 @@ seeks_1 = record {
 -- the walk that begins at it
 begins_gray : ChainBegins Classic LittleEndian gray_file 25 (record { offsets = []; next = Some 25 })
 unfolding chain directory_at number
-begins_gray = record { rest = 25 ∷ []; offsets = refl; goes_on = (refl, None, refl, refl) }
+begins_gray = record { linked = refl; rest = 25 ∷ []; offsets = refl; goes_on = (refl, None, refl, refl) }
 
 pub seeks_1_cut : s.seeks_1_cut
 unfolding answers_for number
@@ -199,45 +199,38 @@ seeks_0_cut = λ r. false≢true ((r.entry 25 refl).directory.entries 14 refl 27
 
 -- ---- the next page
 
+-- behind the last directory that a walk entered its link stands
+link_of : (bytes : List ℕ) (first last : ℕ) (walk : Walked) → ChainBegins Classic LittleEndian bytes first walk → last_or None walk.offsets ≡ Some last
+    → link_from Classic LittleEndian bytes last ≡ Ok walk.next
+link_of bytes first last walk b l = ap (link_behind Classic LittleEndian bytes first) (sym l) ∙ b.linked
+
+abbrev next_in : Result (Option ℕ) TiffError → Option ℕ
+next_in (Ok next) = next
+next_in (Err e) = None
+
 -- behind the only directory a walk has no next offset
-gray_ends : (offsets : List ℕ) (next : Option ℕ) → ChainBegins Classic LittleEndian gray_file 25 (record { offsets = offsets; next = next }) → last_or None offsets ≡ Some 25
-    → (at : ℕ) → next ≡ Some at → ⊥
-unfolding chain directory_at number
-gray_ends [] next b last at n = none-some 25 last
-gray_ends (x ∷ []) next b last at n =
-    let link = link_from Classic LittleEndian gray_file in
-    let on : IsChain link (x ∷ []) next [] None = subst (λ rest. IsChain link (x ∷ []) next rest None) (sym (ap (drop 1) b.offsets)) b.goes_on in
-    none-some at (sym (ends_there link (x ∷ []) next on) ∙ n)
-gray_ends (x ∷ y ∷ zs) next b last at n = omega (arith, ap length b.offsets)
+gray_ends : (walk : Walked) → ChainBegins Classic LittleEndian gray_file 25 walk → last_or None walk.offsets ≡ Some 25 → (at : ℕ) → walk.next ≡ Some at → ⊥
+unfolding directory_at number entries_from last_of_each
+gray_ends walk b last at n = none-some at (ap next_in (link_of gray_file 25 25 walk b last) ∙ n)
 
 pub none_behind : s.none_behind
 unfolding chain directory_at number
 none_behind = record {
   entry = λ at e. absurd (none-some at e);
-  behind = λ w b last. record { directory = λ at n. absurd (gray_ends w.offsets w.next b last at n) };
+  behind = λ w b last. record { directory = λ at n. absurd (gray_ends w b last at n) };
 }
 
 -- behind the first of two the second is next
-second_next : (offsets : List ℕ) (next : Option ℕ) → ChainBegins Classic LittleEndian s.placed_file 8 (record { offsets = offsets; next = next }) → last_or None offsets ≡ Some 8
-    → (at : ℕ) → next ≡ Some at → 14 ≡ at
-unfolding chain directory_at number
-second_next [] next b last at n = absurd (none-some 8 last)
-second_next (x ∷ []) next b last at n =
-    let link = link_from Classic LittleEndian s.placed_file in
-    let on : IsChain link (x ∷ []) next (14 ∷ []) None = subst (λ rest. IsChain link (x ∷ []) next rest None) (sym (ap (drop 1) b.offsets)) b.goes_on in
-    ap offset_of (sym (goes_on link (x ∷ []) next 14 [] None on) ∙ n)
-second_next (x ∷ y ∷ []) next b last at n =
-    let second : 14 ≡ y = ap (λ xs. get_or xs 1 0) b.offsets in
-    let first : y ≡ 8 = ap offset_of last in
-    absurd (omega (arith, second, first))
-second_next (x ∷ y ∷ z ∷ zs) next b last at n = absurd (omega (arith, ap length b.offsets))
+second_next : (walk : Walked) → ChainBegins Classic LittleEndian s.placed_file 8 walk → last_or None walk.offsets ≡ Some 8 → (at : ℕ) → walk.next ≡ Some at → 14 ≡ at
+unfolding directory_at number entries_from last_of_each
+second_next walk b last at n = ap offset_of (ap next_in (link_of s.placed_file 8 8 walk b last) ∙ n)
 
 pub second_behind : s.second_behind
 unfolding chain directory_at number
 second_behind = record {
   entry = λ at e. subst (λ p. EntryReadable placed Classic LittleEndian p) (ap offset_of e) enters;
   behind = λ w b last. record {
-    directory = λ at n. subst (λ p. DirectoryReadable placed Classic LittleEndian p) (second_next w.offsets w.next b last at n) placed_directory;
+    directory = λ at n. subst (λ p. DirectoryReadable placed Classic LittleEndian p) (second_next w b last at n) placed_directory;
   };
 }
 
@@ -253,12 +246,86 @@ back = two_file (0x19 ∷ 0x00 ∷ 0x00 ∷ 0x00 ∷ [])
 abbrev cycle : TiffError
 cycle = FormatError CycleInOffsets
 
+-- behind its first directory the second is next
+back_next : (walk : Walked) → ChainBegins Classic LittleEndian back 25 walk → last_or None walk.offsets ≡ Some 25 → (at : ℕ) → walk.next ≡ Some at → 199 ≡ at
+unfolding directory_at number entries_from last_of_each
+back_next walk b last at n = ap offset_of (ap next_in (link_of back 25 25 walk b last) ∙ n)
+
+abbrev back_source : List (ℕ × ℕ) → SourceRecord
+back_source stretches = record { bytes = back; readable = Some stretches }
+
+-- the second directory is its count and its link
+back_directory : DirectoryReadable (back_source ((199, 6) ∷ [])) Classic LittleEndian 199
+unfolding number
+back_directory = record {
+  count = λ k l h. in_first 199 6 [] k l (omega (arith, h));
+  entries = λ n e k l h.
+      let none : 0 ≡ n = ap count_in e in
+      in_first 199 6 [] k (omega (arith, l)) (omega (arith, h, none));
+}
+
 pub back_behind : s.back_behind
+unfolding chain directory_at number
+back_behind = record {
+  entry = λ at e. absurd (none-some at e);
+  behind = λ w b last. record {
+    directory = λ at n. subst (λ p. DirectoryReadable (back_source ((199, 6) ∷ [])) Classic LittleEndian p) (back_next w b last at n) back_directory;
+  };
+}
+
+pub back_behind_cut : s.back_behind_cut
 unfolding answers_for chain directory_at number
-back_behind = λ r.
+back_behind_cut = λ r.
     let walk : Walked = record { offsets = 25 ∷ []; next = Some 199 } in
-    let begins : ChainBegins Classic LittleEndian back 25 walk = record { rest = []; offsets = refl; goes_on = (cycle, refl, refl) } in
+    let begins : ChainBegins Classic LittleEndian back 25 walk = record { linked = refl; rest = []; offsets = refl; goes_on = (cycle, refl, refl) } in
     false≢true (((r.behind walk begins refl).directory 199 refl).entries 0 refl 204 (omega arith) (omega arith))
+
+-- the counts and the links of both
+abbrev both : List (ℕ × ℕ)
+both = (25, 2) ∷ (195, 4) ∷ (199, 6) ∷ []
+
+back_first : LinkReadable (back_source both) Classic LittleEndian 25
+unfolding number
+back_first = record {
+  count = λ k l h. in_first 25 2 ((195, 4) ∷ (199, 6) ∷ []) k l h;
+  link = λ n e k l h.
+      let many : 14 ≡ n = ap count_in e in
+      in_later (25, 2) ((195, 4) ∷ (199, 6) ∷ []) k (in_first 195 4 ((199, 6) ∷ []) k (omega (arith, l, many)) (omega (arith, h, many)));
+}
+
+back_second : LinkReadable (back_source both) Classic LittleEndian 199
+unfolding number
+back_second = record {
+  count = λ k l h. in_later (25, 2) ((195, 4) ∷ (199, 6) ∷ []) k (in_later (195, 4) ((199, 6) ∷ []) k (in_first 199 6 [] k l (omega (arith, h))));
+  link = λ n e k l h.
+      let none : 0 ≡ n = ap count_in e in
+      in_later (25, 2) ((195, 4) ∷ (199, 6) ∷ []) k (in_later (195, 4) ((199, 6) ∷ []) k (in_first 199 6 [] k (omega (arith, l, none)) (omega (arith, h, none))));
+}
+
+-- a walk has one of them before it
+back_way : (offsets : List ℕ) (next : Option ℕ) → ChainBegins Classic LittleEndian back 25 (record { offsets = offsets; next = next })
+    → (at : ℕ) → next ≡ Some at → LinkReadable (back_source both) Classic LittleEndian at
+unfolding chain directory_at number entries_from last_of_each
+back_way [] next b at n = subst (λ p. LinkReadable (back_source both) Classic LittleEndian p) (ap offset_of (ap next_in b.linked ∙ n)) back_first
+back_way (x ∷ []) next b at n =
+    let first : Some x ≡ Some 25 = ap Some (sym (ap (λ xs. get_or xs 0 0) b.offsets)) in
+    let at_second = back_next (record { offsets = x ∷ []; next = next }) b first at n in
+    subst (λ p. LinkReadable (back_source both) Classic LittleEndian p) at_second back_second
+back_way (x ∷ y ∷ zs) next b at n = absurd (omega (arith, ap length b.offsets))
+
+pub seeks_back : s.seeks_back
+unfolding chain directory_at number
+seeks_back = record {
+  way = record { link = λ w b l. record { link = back_way w.offsets w.next b } };
+  entry = λ at e. absurd (none-some at e);
+}
+
+pub seeks_back_cut : s.seeks_back_cut
+unfolding answers_for chain directory_at number
+seeks_back_cut = λ r.
+    let walk : Walked = record { offsets = 25 ∷ []; next = Some 199 } in
+    let begins : ChainBegins Classic LittleEndian back 25 walk = record { linked = refl; rest = []; offsets = refl; goes_on = (cycle, refl, refl) } in
+    false≢true (((r.way.link walk begins (omega arith)).link 199 refl).link 0 refl 204 (omega arith) (omega arith))
 
 -- ---- reads at the offset, and of tags
 

@@ -90,19 +90,19 @@ step_back_ends = λ h. omega (arith, ap (λ w. offset_of w.next) h.1)
 
 pub begins_none : s.begins_none
 unfolding chain directory_at number entries_from last_of_each
-begins_none = record { rest = 8 ∷ 14 ∷ 20 ∷ []; offsets = refl; goes_on = (refl, Some 14, refl, (refl, Some 20, refl, (refl, None, refl, refl))) }
+begins_none = record { linked = refl; rest = 8 ∷ 14 ∷ 20 ∷ []; offsets = refl; goes_on = (refl, Some 14, refl, (refl, Some 20, refl, (refl, None, refl, refl))) }
 
 pub begins_one : s.begins_one
 unfolding chain directory_at number entries_from last_of_each
-begins_one = record { rest = 14 ∷ 20 ∷ []; offsets = refl; goes_on = (refl, Some 20, refl, (refl, None, refl, refl)) }
+begins_one = record { linked = refl; rest = 14 ∷ 20 ∷ []; offsets = refl; goes_on = (refl, Some 20, refl, (refl, None, refl, refl)) }
 
 pub begins_all : s.begins_all
 unfolding chain directory_at number entries_from last_of_each
-begins_all = record { rest = []; offsets = refl; goes_on = refl }
+begins_all = record { linked = refl; rest = []; offsets = refl; goes_on = refl }
 
 pub begins_back : s.begins_back
 unfolding chain directory_at number entries_from last_of_each
-begins_back = record { rest = []; offsets = refl; goes_on = (FormatError CycleInOffsets, refl, refl) }
+begins_back = record { linked = refl; rest = []; offsets = refl; goes_on = (FormatError CycleInOffsets, refl, refl) }
 
 pub begins_second : s.begins_second
 unfolding chain directory_at number entries_from last_of_each
@@ -207,5 +207,5 @@ way_to_second = record { link = λ w b l. record { link = first_two w.offsets w.
 pub way_to_third : s.way_to_third
 unfolding answers_for chain directory_at number entries_from last_of_each
 way_to_third = λ r.
-    let begins : ChainBegins Classic LittleEndian three_file 8 s.two_entered = record { rest = 20 ∷ []; offsets = refl; goes_on = (refl, None, refl, refl) } in
+    let begins : ChainBegins Classic LittleEndian three_file 8 s.two_entered = record { linked = refl; rest = 20 ∷ []; offsets = refl; goes_on = (refl, None, refl, refl) } in
     false≢true (((r.link s.two_entered begins (omega arith)).link 20 refl).count 20 (omega arith) (omega arith))

@@ -86,7 +86,17 @@ abbrev pub back_reader : List (ℕ × ℕ) → Decoding
 back_reader stretches = record (two_decoder (0x19 ∷ 0x00 ∷ 0x00 ∷ 0x00 ∷ [])) { readable = Some stretches }
 
 abbrev pub back_behind : Type 0
-back_behind = NextPageReadable (back_reader ((199, 5) ∷ [])) → ⊥
+back_behind = NextPageReadable (back_reader ((199, 6) ∷ []))
+
+abbrev pub back_behind_cut : Type 0
+back_behind_cut = NextPageReadable (back_reader ((199, 5) ∷ [])) → ⊥
+
+-- that there is no page 1 is told by the counts and the links of both
+abbrev pub seeks_back : Type 0
+seeks_back = SeekReadable (back_reader ((25, 2) ∷ (195, 4) ∷ (199, 6) ∷ [])) 1
+
+abbrev pub seeks_back_cut : Type 0
+seeks_back_cut = SeekReadable (back_reader ((25, 2) ∷ (195, 4) ∷ (199, 5) ∷ [])) 1 → ⊥
 
 -- ---- reads at the offset, and of tags
 

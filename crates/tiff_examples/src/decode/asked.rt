@@ -10,7 +10,7 @@ pub fn openings()
 /// The page of a number, and the next page.
 pub fn pages()
     ensures { s.seeks_1 × s.seeks_1_cut × s.seeks_0 × s.seeks_0_cut × s.none_behind × s.second_behind ×
-        s.second_behind_cut × s.back_behind }
+        s.second_behind_cut × s.back_behind × s.back_behind_cut × s.seeks_back × s.seeks_back_cut }
 {}
 
 /// Reads at the offset, and of tags.

@@ -1,6 +1,7 @@
-use Rattle.std.proofs.Common.{refl, sym, ◌∙◌}
+use Rattle.std.proofs.Common.{Bool, refl, subst, sym, ◌∙◌}
 use Rattle.tiff_base.proofs.Told.{same_bytes}
 use Rattle.tiff_page.specs.PageView as view
+use Rattle.tiff_decode.specs.ChainPosition.{IsAt}
 use Rattle.tiff_decode.specs.Machine.{Decoding, decoding}
 use Rattle.tiff_decode.specs.Outcome.{seek_to_image}
 use Rattle.tiff_decode.proofs.Asked.{sought_entry, sought_way}
@@ -26,6 +27,26 @@ invariant_of-self-then-keeps_state g c =
     refl refl (same_bytes c.offset_of.ensures.kept.told) (c.offset_of.ensures.begins s.first c.self.invariant.begins)
     (some_longer s.walk.offsets c.offset_of.new.self.offsets longer.0 longer.1 c.self.invariant.some)
     (stands_longer s.walk.offsets c.offset_of.new.self.offsets longer.0 s.standing.pointer s.standing.at s.standing.more longer.1 c.self.invariant.stands)
+
+pub invariant_of-self-then-was_open : goal.invariant_of-self-then-was_open
+invariant_of-self-then-was_open g c =
+    let s = c.self.inside in
+    let longer = c.offset_of.ensures.longer in
+    let past = c.past-self-inside-in-Err in
+    along_on s.tags.kind _ s.tags.order _ (g.R.Source.told s.tags.source).bytes _ s.first c.offset_of.new.self past.result.pointer past.result.at past.result.more
+    refl refl (same_bytes c.offset_of.ensures.kept.told) (c.offset_of.ensures.begins s.first c.self.invariant.begins)
+    (some_longer s.walk.offsets c.offset_of.new.self.offsets longer.0 longer.1 c.self.invariant.some)
+    (subst (λ (more : Bool). IsAt c.offset_of.new.self.offsets past.result.pointer past.result.at more) (sym past.ensures.more) past.ensures.stands)
+
+pub invariant_of-self-in-Err : goal.invariant_of-self-in-Err
+invariant_of-self-in-Err g c =
+    let s = c.self.inside in
+    let longer = c.offset_of.ensures.longer in
+    let past = c.past-self-inside-in-Err in
+    along_on s.tags.kind _ s.tags.order _ (g.R.Source.told s.tags.source).bytes _ s.first c.offset_of.new.self past.result.pointer past.result.at past.result.more
+    refl refl (same_bytes c.offset_of.ensures.kept.told) (c.offset_of.ensures.begins s.first c.self.invariant.begins)
+    (some_longer s.walk.offsets c.offset_of.new.self.offsets longer.0 longer.1 c.self.invariant.some)
+    (subst (λ (more : Bool). IsAt c.offset_of.new.self.offsets past.result.pointer past.result.at more) (sym past.ensures.more) past.ensures.stands)
 
 pub returns-in-Ok-Some-clause-follows : goal.returns-in-Ok-Some-clause-follows
 returns-in-Ok-Some-clause-follows g c =

@@ -12,4 +12,7 @@ returns c = (
   p.second_behind,
   p.second_behind_cut,
   p.back_behind,
+  p.back_behind_cut,
+  p.seeks_back,
+  p.seeks_back_cut,
 )

@@ -3,7 +3,7 @@ use Rattle.std.proofs.lemmas.List.{length-append}
 use Rattle.std.proofs.lemmas.Result.{err_from_is_err_and}
 use Rattle.tiff_base.proofs.Told.{same_bytes}
 use Rattle.tiff_ifd.specs.Walk.{ChainBegins}
-use Rattle.tiff_ifd.proofs.Begun.{offset_begun, is_there}
+use Rattle.tiff_ifd.proofs.Begun.{begun_same, offset_begun, is_there}
 use Rattle.tiff_ifd.proofs.Passed.{grown_over, longer_over, none_further, none_over, refused_same, way_asked, way_cut}
 use Rattle.tiff_ifd.proofs.walk.Walk.offset_of.Goals as goal
 
@@ -22,10 +22,7 @@ way-preserved g c =
           c.in_ok-pass_next.field-0 c.if-not-branch.false c.in_ok-pass_next.ensures.ok in
           omega (arith, one, c.way-test.true, c.len.ensures));
       known = λ h. absurd (omega (arith, h, longer, both, c.way-test.true, c.len.ensures));
-      begins = λ first b.
-          (let P : List ℕ → Type 0 = λ bytes. ChainBegins c.args.kind c.args.order bytes first c.pass_next.new.self in
-          let Q : List ℕ → Type 0 = λ bytes. ChainBegins c.args.kind c.args.order bytes first c.way.self in
-          subst P (same_bytes i.same) (c.pass_next.ensures.begins first (subst Q (sym (same_bytes i.same)) (i.begins first b))));
+      begins = λ first b. begun_same c.args.kind c.args.order first c.way.self c.pass_next.new.self (same_bytes i.same) (i.begins first b) (c.pass_next.ensures.begins first);
     }
 
 pub returns-clause-offset : goal.returns-clause-offset
@@ -35,6 +32,11 @@ returns-clause-offset g c = λ first b.
 
 pub returns-clause-end : goal.returns-clause-end
 returns-clause-end g c = is_there _ c.way.self.offsets c.args.index c.get.result c.get.ensures (omega (arith, c.way-test.false, c.len.ensures))
+
+pub returns-in_err-pass_next-clause-begins : goal.returns-in_err-pass_next-clause-begins
+returns-in_err-pass_next-clause-begins g c = λ first b.
+    let i = c.way.invariant in
+    begun_same c.args.kind c.args.order first c.way.self c.pass_next.new.self (same_bytes i.same) (i.begins first b) (c.pass_next.ensures.begins first)
 
 pub returns-in_err-pass_next-clause-asked : goal.returns-in_err-pass_next-clause-asked
 returns-in_err-pass_next-clause-asked g c = λ first b.
