@@ -11,6 +11,7 @@ pub mod ChunkRead
 pub mod RowRead
 pub mod Bands
 pub mod Filling
+mod Growing
 pub mod Rows
 pub mod RowLaws
 pub mod RowReads

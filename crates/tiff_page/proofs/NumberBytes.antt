@@ -1,14 +1,14 @@
 -- Rows of bytes that are put into lists of numbers.
-use Rattle.std.proofs.Common.{◌≡◌, ℕ, zero, suc, ◌+◌, ◌-◌, ◌*◌, ◌/◌, ◌%◌, ◌^◌, ◌<◌, ◌≤◌, true, false, inl, inr, ⊎_elim, List, [], ◌∷◌, length, map, take, drop, get_or, refl, ap, sym, subst, ◌∙◌, arith}
-use Rattle.std.specs.Prelude.{◌==◌, slice_index, replicate}
+use Rattle.std.proofs.Common.{◌≡◌, ℕ, zero, suc, ◌+◌, ◌-◌, ◌*◌, ◌/◌, ◌%◌, ◌^◌, ◌<◌, ◌≤◌, true, false, inl, inr, ⊎_elim, List, [], ◌∷◌, ◌++◌, length, map, take, drop, get_or, refl, ap, sym, subst, ◌∙◌, arith}
+use Rattle.std.specs.Prelude.{◌==◌, slice_index, replicate, Result, Ok, Err, OnOk}
 use Rattle.std.specs.Int.{div_ceil, w8, w16, w32, w64, to_le_bytes}
 use Rattle.std.specs.Simd.{first_chunks}
 use Rattle.std.proofs.lemmas.Bool.{cases_Bool, cases_eq, cases_lt, eqb-true}
-use Rattle.std.proofs.lemmas.List.{ext_get_or, map-set, length-set, get_or-set_same, get_or-set_other, length-replicate, get_or-replicate, drop-drop, length-map, take_all, get_or-map}
+use Rattle.std.proofs.lemmas.List.{append-nil, ext_get_or, map-append, map-id, map-set, length-append, length-set, get_or-append_right, get_or_append_left, get_or-set_same, get_or-set_other, length-replicate, get_or-replicate, drop-drop, length-map, take_all, get_or-map}
 use Rattle.std.proofs.lemmas.List.FromFn.{length-map-range_with_len, get_or-map-range_with_len}
 use Rattle.std.proofs.lemmas.Nat.{div-add-mod', div_below, mod_below, le-div, div-mul-add, mod-mul-add, row_fits}
 use Rattle.std.proofs.Math.ListN.{set}
-use Rattle.std.proofs.Math.Nat.{div-one, div-div-eq-div-mul, pow-suc, mod-eq_of_lt, mul-le-mul_right, mul_comm, mul-div_cancel, zero-div}
+use Rattle.std.proofs.Math.Nat.{add-mul, div-one, div-div-eq-div-mul, pow-suc, mod-eq_of_lt, mul-le-mul_right, mul_comm, mul-div_cancel, zero-div}
 use Rattle.tiff_base.specs.declared.tags.ByteOrder.{ByteOrder}
 use Rattle.tiff_base.specs.declared.tags.ByteOrder.TheVariants.{LittleEndian, BigEndian}
 use Rattle.tiff_base.specs.Number.{number}
@@ -314,6 +314,85 @@ map_replicate f x (suc n) = ap (λ (ys : List ℕ). f x ∷ ys) (map_replicate f
 -- numbers that are all 0
 pub zeros_mapped : {A : Type 0} (f : A → ℕ) (x : A) (xs : List A) (n : ℕ) → f x ≡ 0 → xs ≡ replicate n x → map f xs ≡ replicate n 0
 zeros_mapped f x xs n z e = ap (map f) e ∙ map_replicate f x n ∙ ap (replicate n) z
+
+-- ---- zeros behind a list
+
+pub zeros_behind : {A : Type 0} (f : A → ℕ) (x : A) (old new : List A) (n : ℕ) → f x ≡ 0 → new ≡ old ++ replicate n x → map f new ≡ map f old ++ replicate n 0
+zeros_behind f x old new n z e = ap (map f) e ∙ map-append f old (replicate n x) ∙ ap (λ ys. map f old ++ ys) (zeros_mapped f x (replicate n x) n z refl)
+
+pub no_zeros_behind : {A : Type 0} (f : A → ℕ) (old new : List A) (n : ℕ) → new ≡ old → n ≡ 0 → map f new ≡ map f old ++ replicate n 0
+no_zeros_behind f old new n e z = ap (map f) e ∙ sym (append-nil (map f old)) ∙ ap (λ k. map f old ++ replicate k 0) (sym z)
+
+zero_in : (n i : ℕ) → get_or {A = ℕ} (replicate n 0) i 0 ≡ 0
+zero_in zero i = refl
+zero_in (suc n) zero = refl
+zero_in (suc n) (suc i) = zero_in n i
+
+no_byte : (size i : ℕ) → byte_of size 0 (i % size) ≡ 0
+no_byte size i = byte_is size 0 (i % size) (power_pos size) ∙ ap (λ (m : ℕ). m % 256) (zero-div (256 ^ (i % size)))
+
+-- the bytes of zeros behind a list stand behind its bytes
+pub bytes_behind : (size : ℕ) (ns : List ℕ) (n : ℕ) → IsSize size → bytes_in size (ns ++ replicate n 0) ≡ bytes_in size ns ++ replicate (n * size) 0
+bytes_behind size ns n z =
+    let s : 0 < size = some_size size z in
+    let all : List ℕ = ns ++ replicate n 0 in
+    let long : length all ≡ length ns + n = length-append ns (replicate n 0) ∙ ap (λ (m : ℕ). length ns + m) (length-replicate n 0) in
+    let parts : (length ns + n) * size ≡ length ns * size + n * size = add-mul (length ns) n size in
+    let whole : length (bytes_in size all) ≡ length ns * size + n * size = length_bytes size all ∙ ap (λ (m : ℕ). m * size) long ∙ parts in
+    let front : length (bytes_in size ns) ≡ length ns * size = length_bytes size ns in
+    let behind : List ℕ = replicate (n * size) 0 in
+    let both : length (bytes_in size ns ++ behind) ≡ length ns * size + n * size =
+    length-append (bytes_in size ns) behind ∙ (λ t. front t + length-replicate {A = ℕ} (n * size) 0 t) in
+    ext_get_or 0 (bytes_in size all) (bytes_in size ns ++ behind) (whole ∙ sym both)
+    (λ i b.
+    let h : i < length all * size = omega (arith, b, length_bytes size all) in
+    byte_at size all i h
+    ∙ ⊎_elim
+    (λ (l : i < length ns * size).
+    let k : i / size < length ns = div_below i size (length ns) s l in
+    ap (λ (x : ℕ). byte_of size x (i % size)) (get_or_append_left ns (replicate n 0) 0 (i / size) k)
+    ∙ sym (byte_at size ns i l)
+    ∙ sym (get_or_append_left (bytes_in size ns) behind 0 i (omega (arith, l, front))))
+    (λ (l : length ns * size ≤ i).
+    let k : length ns ≤ i / size = le-div (length ns) i size s l in
+    ap (λ (x : ℕ). byte_of size x (i % size)) (get_or-append_right ns (replicate n 0) (length ns) (i / size) 0 refl k ∙ zero_in n (i / size - length ns))
+    ∙ no_byte size i
+    ∙ sym (get_or-append_right (bytes_in size ns) behind (length ns * size) i 0 front l ∙ zero_in (n * size) (i - length ns * size)))
+    (cases_lt i (length ns * size)))
+
+less-times : (m n size : ℕ) → (m - n) * size ≡ m * size - n * size
+less-times m n size =
+    ⊎_elim
+    (λ (l : m < n).
+    let a : m - n ≡ 0 = omega (arith, l) in
+    let b : m * size ≤ n * size = mul-le-mul_right size (omega (arith, l)) in
+    let c : m * size - n * size ≡ 0 = omega (arith, b) in
+    let z : 0 * size ≡ 0 = omega arith in
+    ap (λ (k : ℕ). k * size) a ∙ z ∙ sym c)
+    (λ (l : n ≤ m).
+    let a : m ≡ n + (m - n) = omega (arith, l) in
+    let b : m * size ≡ n * size + (m - n) * size = ap (λ (k : ℕ). k * size) a ∙ add-mul n (m - n) size in
+    omega (arith, b))
+    (cases_lt m n)
+
+-- a list that has grown by zeros, seen as bytes
+pub zero_bytes_behind : (size : ℕ) (old new : List ℕ) (count : ℕ) → IsSize size → new ≡ old ++ replicate (count - length old) 0
+    → bytes_in size new ≡ bytes_in size old ++ replicate (count * size - length (bytes_in size old)) 0
+zero_bytes_behind size old new count z e =
+    ap (bytes_in size) e ∙ bytes_behind size old (count - length old) z
+    ∙ ap (λ (k : ℕ). bytes_in size old ++ replicate k 0) (less-times count (length old) size ∙ ap (λ (k : ℕ). count * size - k) (sym (length_bytes size old)))
+
+-- the same of what a call answers
+pub grown_bytes : {X E T : Type 0} (r : Result X E) (size : ℕ) (bits : T → ℕ) (old new : List T) (count len : ℕ) → IsSize size → count ≡ div_ceil len size
+    → OnOk r (map bits new ≡ map bits old ++ replicate (count - length old) 0)
+    → OnOk r (bytes_in size (map bits new) ≡ bytes_in size (map bits old) ++ replicate (div_ceil len size * size - length (bytes_in size (map bits old))) 0)
+grown_bytes (Err e) size bits old new count len z c h = tt
+grown_bytes (Ok x) size bits old new count len z c h =
+    zero_bytes_behind size (map bits old) (map bits new) count z (h ∙ ap (λ (k : ℕ). map bits old ++ replicate (count - k) 0) (sym (length-map old bits)))
+    ∙ ap (λ (k : ℕ). bytes_in size (map bits old) ++ replicate (k * size - length (bytes_in size (map bits old))) 0) c
+
+pub plain_zeros_behind : (old new : List ℕ) (n : ℕ) → map (λ (x : ℕ). x) new ≡ map (λ (x : ℕ). x) old ++ replicate n 0 → new ≡ old ++ replicate n 0
+plain_zeros_behind old new n e = sym (map-id new) ∙ e ∙ ap (λ (xs : List ℕ). xs ++ replicate n 0) (map-id old)
 
 -- ---- numbers of one byte
 

@@ -1,14 +1,13 @@
 -- The samples of an image or a chunk, whose bytes are put into a list of numbers.
-use Rattle.std.proofs.Common.{◌≡◌, ℕ, zero, suc, ◌+◌, ◌*◌, ◌/◌, ◌%◌, ◌<◌, ◌≤◌, true, false, List, ◌++◌, map, take, drop, length, get_or, None, Ok, Err, refl, ap, sym, subst, ◌∙◌, arith, ⊎_elim}
+use Rattle.std.proofs.Common.{◌≡◌, ℕ, zero, suc, ◌+◌, ◌*◌, ◌/◌, ◌%◌, ◌<◌, ◌≤◌, true, false, List, length, get_or, None, Ok, Err, refl, ap, sym, subst, ◌∙◌, arith, ⊎_elim}
 use Rattle.std.specs.Prelude.{replicate, unwrap_or, nat_lt}
 use Rattle.std.specs.Int.{div_ceil}
 use Rattle.std.proofs.lemmas.Bool.{cases_Bool, cases_lt, le-ltb}
 use Rattle.std.proofs.lemmas.Grind.{div_ceil_times}
-use Rattle.std.proofs.lemmas.List.{length-replicate, get_or_past, map-id}
+use Rattle.std.proofs.lemmas.List.{length-replicate, get_or_past}
 use Rattle.std.proofs.lemmas.List.FromFn.{length-map-range_with_len, get_or-map-range_with_len}
 use Rattle.std.proofs.lemmas.Nat.{le-div}
 use Rattle.std.proofs.Math.Nat.{mul_comm, one-le-mul}
-use Rattle.std.proofs.Math.Seq.{take-append_seam}
 use Rattle.tiff_base.specs.declared.color.ColorType.{ColorType}
 use Rattle.tiff_base.specs.declared.error.TiffError.{TiffError}
 use Rattle.tiff_base.specs.declared.tags.ByteOrder.{ByteOrder}
@@ -185,6 +184,16 @@ module _ (file : List ℕ) (order : ByteOrder) (p : PageRecord) (limits : Limits
       rw (typed, within_limit file p limits color type first len early, f.0)
       (ap Ok (λ i. record { sample_type = type; numbers = ((λ t. numbers_in (sized t) (bytes_with_region file order p (color_in portion) part.region part.stride part.planes (replicate len 0))) ∙ numbers) i }))
 
+  -- the same of the bytes of these zeros
+  pub zeros_filled : (color : ColorType) (type : DecodingSampleType) (size first len : ℕ) (after : List ℕ) → IsSize size → size_of type ≡ size → sample_type_of p ≡ Ok type
+      → early_fault file p limits color type first len ≡ Ok tt → room_of p portion ≤ len
+      → fill_buffer file order p limits (color_in portion) part (replicate (div_ceil len size * size) 0) ≡ Ok (bytes_in size after)
+      → samples file order p limits (color_in portion) part len ≡ Ok (record { sample_type = type; numbers = after })
+  zeros_filled color type size first len after z sized typed early room h =
+      let zeros : List ℕ = replicate (div_ceil len size) 0 in
+      numbers_given color type size first len zeros after z sized typed early room refl
+      (ap (fill_buffer file order p limits (color_in portion) part) (zeros_in size (div_ceil len size) zeros z refl) ∙ h)
+
   -- and the bytes, where these are the numbers
   pub bytes_given : (color : ColorType) (type : DecodingSampleType) (first len : ℕ) (before after : List ℕ) → size_of type ≡ 1 → sample_type_of p ≡ Ok type
       → early_fault file p limits color type first len ≡ Ok tt → before ≡ replicate len 0
@@ -209,19 +218,3 @@ module _ (file : List ℕ) (order : ByteOrder) (p : PageRecord) (limits : Limits
       cause_along e (λ w. w) grew
       (λ h. rw (typed, within_limit file p limits color type first len early, filled_fault zeros e h) refl)
       c
-
--- ---- the room of numbers
-
-pub room_in : (size len need : ℕ) (ns : List ℕ) → IsSize size → need ≤ len → ns ≡ replicate (div_ceil len size) 0 → need ≤ length (bytes_in size ns)
-room_in size len need ns z h e =
-    let m : len ≤ div_ceil len size * size = (div_ceil_times len size (some_size size z)).0 in
-    let l : length (bytes_in size ns) ≡ div_ceil len size * size = ap (λ (xs : List ℕ). length xs) (zeros_in size (div_ceil len size) ns z e) ∙ length-replicate (div_ceil len size * size) 0 in
-    omega (arith, h, m, l)
-
--- a list whose elements were all written
-pub all_written : {X : Type 0} (xs ys : List X) (n : ℕ) → length xs ≡ n → xs ≡ take n (xs ++ drop (length xs) ys)
-all_written xs ys n e = sym (ap (λ m. take m (xs ++ drop (length xs) ys)) (sym e) ∙ take-append_seam xs (drop (length xs) ys))
-
--- zeros that are their own numbers
-pub plain_zeros : (bytes : List ℕ) (len : ℕ) → map (λ (n : ℕ). n) bytes ≡ replicate (div_ceil len 1) 0 → bytes ≡ replicate len 0
-plain_zeros bytes len h = let e : div_ceil len 1 ≡ len = omega arith in sym (map-id bytes) ∙ (h ∙ ap (λ (k : ℕ). replicate k 0) e)

@@ -1,11 +1,16 @@
 -- Numbers as the bytes that they stand for, the lowest first.
-use Rattle.std.proofs.Common.{ap, sym, ◌∙◌}
+use Rattle.std.proofs.Common.{ap, arith, inl, inr, sym, ◌∙◌, ⊎_elim}
+use Rattle.std.proofs.lemmas.Bool.{cases_lt}
+use Rattle.std.proofs.lemmas.Grind.{div_ceil_times}
 use Rattle.std.proofs.lemmas.List.{length-map}
 use Rattle.std.proofs.lemmas.List.FromFn.{length-map-range_with_len}
-use Rattle.std.specs.Prelude.{◌≡◌, map, ℕ, ◌+◌, ◌-◌, ◌*◌, ◌/◌, ◌%◌, ◌^◌, ◌<◌, ◌≤◌, ◌==◌, if◌then◌else◌, List, length, slice_index}
+use Rattle.std.proofs.Math.Nat.{add-mul, mul-le-mul_right}
+use Rattle.std.specs.Int.{div_ceil}
+use Rattle.std.specs.Prelude.{◌≡◌, map, ℕ, [], ◌+◌, ◌-◌, ◌*◌, ◌/◌, ◌%◌, ◌^◌, ◌<◌, ◌≤◌, ◌==◌, if◌then◌else◌, List, length, slice_index}
 use Rattle.tiff_base.specs.declared.tags.ByteOrder.TheVariants.{LittleEndian}
 use Rattle.tiff_page.specs.Pixels.{each_to, row_number}
 use Rattle.tiff_page.specs.BufferPositions.{Writes}
+use Rattle.tiff_page.specs.Row.{IsSize}
 
 -- byte j of a number of so many bytes: the last is what is left
 abbrev pub byte_of : ℕ → ℕ → ℕ → ℕ
@@ -34,3 +39,33 @@ same_bytes size bits xs ys e =
     let count : length (map bits xs) * size ≡ length (map bits ys) * size = ap (λ (n : ℕ). n * size) (length-map xs bits ∙ (e ∙ sym (length-map ys bits))) in
     let f : List ℕ → ℕ → ℕ = λ ns i. byte_of size (slice_index ns (i / size)) (i % size) in
     length-map-range_with_len (f (map bits xs)) 0 (length (map bits xs) * size) ∙ (count ∙ sym (length-map-range_with_len (f (map bits ys)) 0 (length (map bits ys) * size)))
+
+-- no numbers have none
+pub no_bytes : (size : ℕ) → bytes_in size [] ≡ []
+unfolding bytes_in
+no_bytes size = let z : 0 * size ≡ 0 = omega arith in ap (λ (k : ℕ). each_to k (λ i. byte_of size (slice_index [] (i / size)) (i % size))) z
+
+some_size : (size : ℕ) → IsSize size → 0 < size
+some_size size (inl e) = omega (arith, e)
+some_size size (inr (inl e)) = omega (arith, e)
+some_size size (inr (inr (inl e))) = omega (arith, e)
+some_size size (inr (inr (inr e))) = omega (arith, e)
+
+-- whole numbers for so many bytes
+pub whole_enough : (size : ℕ) → IsSize size → (m n : ℕ) → m ≤ n → (m ≤ div_ceil m size * size) × (div_ceil m size * size ≤ div_ceil n size * size)
+whole_enough size z m n l =
+    let s : 0 < size = some_size size z in
+    let c : div_ceil m size * size < m + size = (div_ceil_times m size s).1 in
+    let d : n ≤ div_ceil n size * size = (div_ceil_times n size s).0 in (
+      (div_ceil_times m size s).0,
+      ⊎_elim
+          (λ (h : div_ceil n size < div_ceil m size).
+          let a : (div_ceil n size + 1) * size ≤ div_ceil m size * size = mul-le-mul_right size (omega (arith, h)) in
+          let b : (div_ceil n size + 1) * size ≡ div_ceil n size * size + 1 * size = add-mul (div_ceil n size) 1 size in
+          Prim.absurd (omega (arith, a, b, c, d, l)))
+          (λ (h : div_ceil m size ≤ div_ceil n size). mul-le-mul_right size h)
+          (cases_lt (div_ceil n size) (div_ceil m size)),
+    )
+
+pub plain_enough : (m n : ℕ) → m ≤ n → (m ≤ m) × (m ≤ n)
+plain_enough m n l = (omega arith, l)

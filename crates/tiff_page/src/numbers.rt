@@ -2,14 +2,14 @@
 
 ghost use Rattle.std.proofs.Common.{refl, inl, inr};
 ghost use Rattle.std.specs.Int.{w8, w16, w32, w64, cast_unsigned};
-ghost use Rattle.std.specs.Prelude.{◌≡◌, ℕ, ◌+◌, ◌*◌, ◌/◌, ◌^◌, ◌≤◌, ◌<◌, length, map, replicate, ◌∷◌, [], IfOk};
+ghost use Rattle.std.specs.Prelude.{◌≡◌, ℕ, ◌+◌, ◌-◌, ◌*◌, ◌/◌, ◌^◌, ◌≤◌, ◌<◌, ◌++◌, length, map, replicate, ◌∷◌, [], OnOk};
 ghost use Rattle.tiff_base.specs.Number.{number};
 ghost use Rattle.tiff_base.specs.declared.tags.ByteOrder.TheVariants.{LittleEndian};
 ghost use Rattle.tiff_page.specs.NumberBytes.{all_bytes, bytes_in, IsPut, NumbersArePut};
 ghost use Rattle.tiff_page.specs.Pixels.{width_of};
 ghost use Rattle.tiff_page.specs.Row.{IsSize};
 
-use std::alloc::{AllocError, Global};
+use std::alloc::AllocError;
 use tiff_base::tags::{Bits16, Bits32, Bits64};
 
 /// A number of so many bytes.
@@ -17,9 +17,9 @@ pub trait Number<const N: usize>: Copy {
     /// Its bits.
     ghost bits: { Self → ℕ };
 
-    /// So many zeros.
-    fn zeros(alloc: Global, count: usize) -> Result<Vec<Self>, AllocError>
-        ensures { IfOk result (λ v. map bits v.items ≡ replicate count 0) };
+    /// Zero.
+    fn zero() -> Self
+        ensures { bits result ≡ 0 };
 
     /// The number of some bytes, the lowest first.
     fn of(bytes: [u8; N]) -> Self
@@ -36,9 +36,8 @@ pub trait Number<const N: usize>: Copy {
 impl Number<1> for u8 {
     ghost bits = { λ n. n };
 
-    #[tactic(auto, using(crate::proofs::NumberBytes::zeros_mapped))]
-    fn zeros(alloc: Global, count: usize) -> Result<Vec<u8>, AllocError> {
-        vec![in alloc; 0; count]
+    fn zero() -> u8 {
+        0
     }
 
     #[tactic(auto, unfolding(tiff_base::specs::Number::number))]
@@ -59,9 +58,8 @@ impl Number<1> for u8 {
 impl Number<2> for u16 {
     ghost bits = { λ n. n };
 
-    #[tactic(auto, using(crate::proofs::NumberBytes::zeros_mapped))]
-    fn zeros(alloc: Global, count: usize) -> Result<Vec<u16>, AllocError> {
-        vec![in alloc; 0; count]
+    fn zero() -> u16 {
+        0
     }
 
     #[tactic(auto, unfolding(tiff_base::specs::Number::number))]
@@ -82,9 +80,8 @@ impl Number<2> for u16 {
 impl Number<4> for u32 {
     ghost bits = { λ n. n };
 
-    #[tactic(auto, using(crate::proofs::NumberBytes::zeros_mapped))]
-    fn zeros(alloc: Global, count: usize) -> Result<Vec<u32>, AllocError> {
-        vec![in alloc; 0; count]
+    fn zero() -> u32 {
+        0
     }
 
     #[tactic(auto, unfolding(tiff_base::specs::Number::number))]
@@ -105,9 +102,8 @@ impl Number<4> for u32 {
 impl Number<8> for u64 {
     ghost bits = { λ n. n };
 
-    #[tactic(auto, using(crate::proofs::NumberBytes::zeros_mapped))]
-    fn zeros(alloc: Global, count: usize) -> Result<Vec<u64>, AllocError> {
-        vec![in alloc; 0; count]
+    fn zero() -> u64 {
+        0
     }
 
     #[tactic(auto, unfolding(tiff_base::specs::Number::number))]
@@ -128,9 +124,8 @@ impl Number<8> for u64 {
 impl Number<2> for Bits16 {
     ghost bits = { λ b. b.0 };
 
-    #[tactic(auto, using(crate::proofs::NumberBytes::zeros_mapped))]
-    fn zeros(alloc: Global, count: usize) -> Result<Vec<Bits16>, AllocError> {
-        vec![in alloc; Bits16(0); count]
+    fn zero() -> Bits16 {
+        Bits16(0)
     }
 
     #[tactic(auto, unfolding(tiff_base::specs::Number::number))]
@@ -151,9 +146,8 @@ impl Number<2> for Bits16 {
 impl Number<4> for Bits32 {
     ghost bits = { λ b. b.0 };
 
-    #[tactic(auto, using(crate::proofs::NumberBytes::zeros_mapped))]
-    fn zeros(alloc: Global, count: usize) -> Result<Vec<Bits32>, AllocError> {
-        vec![in alloc; Bits32(0); count]
+    fn zero() -> Bits32 {
+        Bits32(0)
     }
 
     #[tactic(auto, unfolding(tiff_base::specs::Number::number))]
@@ -174,9 +168,8 @@ impl Number<4> for Bits32 {
 impl Number<8> for Bits64 {
     ghost bits = { λ b. b.0 };
 
-    #[tactic(auto, using(crate::proofs::NumberBytes::zeros_mapped))]
-    fn zeros(alloc: Global, count: usize) -> Result<Vec<Bits64>, AllocError> {
-        vec![in alloc; Bits64(0); count]
+    fn zero() -> Bits64 {
+        Bits64(0)
     }
 
     #[tactic(auto, unfolding(tiff_base::specs::Number::number))]
@@ -197,9 +190,8 @@ impl Number<8> for Bits64 {
 impl Number<1> for i8 {
     ghost bits = { cast_unsigned w8 };
 
-    #[tactic(auto, using(crate::proofs::NumberBytes::zeros_mapped))]
-    fn zeros(alloc: Global, count: usize) -> Result<Vec<i8>, AllocError> {
-        vec![in alloc; 0; count]
+    fn zero() -> i8 {
+        0
     }
 
     #[tactic(auto, unfolding(tiff_base::specs::Number::number))]
@@ -220,9 +212,8 @@ impl Number<1> for i8 {
 impl Number<2> for i16 {
     ghost bits = { cast_unsigned w16 };
 
-    #[tactic(auto, using(crate::proofs::NumberBytes::zeros_mapped))]
-    fn zeros(alloc: Global, count: usize) -> Result<Vec<i16>, AllocError> {
-        vec![in alloc; 0; count]
+    fn zero() -> i16 {
+        0
     }
 
     #[tactic(auto, unfolding(tiff_base::specs::Number::number))]
@@ -243,9 +234,8 @@ impl Number<2> for i16 {
 impl Number<4> for i32 {
     ghost bits = { cast_unsigned w32 };
 
-    #[tactic(auto, using(crate::proofs::NumberBytes::zeros_mapped))]
-    fn zeros(alloc: Global, count: usize) -> Result<Vec<i32>, AllocError> {
-        vec![in alloc; 0; count]
+    fn zero() -> i32 {
+        0
     }
 
     #[tactic(auto, unfolding(tiff_base::specs::Number::number))]
@@ -266,9 +256,8 @@ impl Number<4> for i32 {
 impl Number<8> for i64 {
     ghost bits = { cast_unsigned w64 };
 
-    #[tactic(auto, using(crate::proofs::NumberBytes::zeros_mapped))]
-    fn zeros(alloc: Global, count: usize) -> Result<Vec<i64>, AllocError> {
-        vec![in alloc; 0; count]
+    fn zero() -> i64 {
+        0
     }
 
     #[tactic(auto, unfolding(tiff_base::specs::Number::number))]
@@ -284,6 +273,20 @@ impl Number<8> for i64 {
     }
 
     ghost sized = { inr (inr (inr refl)) };
+}
+
+/// Makes a list so many numbers long by zeros, where it is shorter.
+#[tactic(auto, using(crate::proofs::NumberBytes::zeros_behind, crate::proofs::NumberBytes::no_zeros_behind))]
+pub(crate) fn grow<T: Number<N>, const N: usize>(
+    numbers: &mut Vec<T>,
+    count: usize,
+) -> Result<(), AllocError>
+    ensures { OnOk result (map T.bits numbers.new.items ≡ map T.bits numbers.old.items ++ replicate (count - length numbers.old.items) 0) }
+{
+    if numbers.len() < count {
+        numbers.resize(count, T::zero())?;
+    }
+    Ok(())
 }
 
 // Puts the numbers of a row of whole numbers from number `first` on.

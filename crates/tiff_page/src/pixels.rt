@@ -9,7 +9,7 @@
 //! data all bytes that are counted may be asked for.
 
 ghost use Rattle.std.specs.Int.{div_ceil};
-ghost use Rattle.std.specs.Prelude.{◌≡◌, ◌*◌, ◌<◌, ◌≤◌, ◌^◌, Ok, IfOk, length, map, replicate, if◌then◌else◌, nat_le};
+ghost use Rattle.std.specs.Prelude.{◌≡◌, ◌*◌, ◌<◌, ◌≤◌, ◌^◌, Ok, IfOk, [], length, map, replicate, if◌then◌else◌, nat_le};
 ghost use Rattle.tiff_base.specs.Answers.{Answers, AnswersWithoutSource, AsksOnly, Gives, IsKept};
 ghost use Rattle.tiff_base.specs.Sparing.{AnswersSparingly, IsListFault};
 ghost use Rattle.tiff_page.specs.Buffers as buffers;
@@ -154,9 +154,9 @@ impl Portion {
 }
 
 impl PageReader<'_> {
-    // Zeros for the samples of an image or a chunk in so many bytes, if these are within the limit, and no fault of its first
+    // Room for the samples of an image or a chunk in so many bytes, if these are within the limit, and no fault of its first
     // chunk is found before memory is taken.
-    fn zeros<R: Source, T: Number<N>, const N: usize>(
+    fn room<R: Source, T: Number<N>, const N: usize>(
         &self,
         source: &mut R,
         portion: Portion,
@@ -169,28 +169,29 @@ impl PageReader<'_> {
             self.now.limits.now (color_in portion) sample_type (first_in portion) len) (R.failures source.old)
             (R.failures source.new) }
         ensures asked { AsksOnly (ChunkReadable (R.told source.old) (view.page self.now.page.now) (color_in portion) (first_in portion)) result }
-        ensures zeros { IfOk result (λ v. map T.bits v.items ≡ replicate (div_ceil len N) 0) }
+        ensures none { IfOk result (λ v. v.items ≡ []) }
     {
         samples_fault(self.limits, size_of(sample_type), len)?;
         self.early_fault(source, portion.color(), portion.first())?;
-        Ok(T::zeros(self.alloc, len.div_ceil(N))?)
+        Ok(Vec::with_capacity(self.alloc, len.div_ceil(N))?)
     }
 
-    // Reads an image or a chunk into the bytes of a list.
+    // Reads an image or a chunk into a list that holds nothing, which becomes so many bytes long, in whole items.
     fn fill<R: Source, T, W: RowWriter<T>>(
         &self,
         source: &mut R,
         portion: Portion,
         writer: &mut W,
-        out: &mut [T],
+        list: &mut Vec<T>,
+        len: usize,
     ) -> TiffResult<()>
         requires laid { IsLaid (view.page self.now.page.now) portion }
-        requires room { room_of (view.page self.now.page.now) portion ≤ length (W.bytes out.old) }
-        requires few { room_of (view.page self.now.page.now) portion < 2 ^ 64 }
+        requires room { room_of (view.page self.now.page.now) portion ≤ len }
+        requires none { list.old.items ≡ [] }
         ensures kept { IsKept R.told R.failures result source.old source.new }
-        ensures answer { Answers (λ _. W.bytes out.new) result (fill_buffer (R.told source.old).bytes self.now.order
+        ensures answer { Answers (λ _. W.bytes list.new.items) result (fill_buffer (R.told source.old).bytes self.now.order
             (view.page self.now.page.now) self.now.limits.now (color_in portion)
-            (part_of (R.told source.old).bytes self.now.order (view.page self.now.page.now) portion) (W.bytes out.old))
+            (part_of (R.told source.old).bytes self.now.order (view.page self.now.page.now) portion) (replicate (W.whole len) 0))
             (R.failures source.old) (R.failures source.new) }
         ensures asked { AsksOnly (PartReadable (R.told source.old) (view.page self.now.page.now) (color_in portion) (part_of (R.told source.old).bytes self.now.order
             (view.page self.now.page.now) portion)) result }
@@ -198,7 +199,7 @@ impl PageReader<'_> {
         match portion {
             Portion::Image(layout, planes) => {
                 let part = ImagePart { layout, planes };
-                self.fill_image(source, part, writer, out)
+                self.grow_image(source, part, writer, list, len)
             }
             Portion::Chunk(color, index, stride) => {
                 let unit = UnitPart {
@@ -207,7 +208,7 @@ impl PageReader<'_> {
                     planes: 1,
                     stride,
                 };
-                self.fill_unit(source, unit, writer, out)
+                self.grow_unit(source, unit, writer, list, len)
             }
         }
     }
@@ -232,14 +233,14 @@ impl PageReader<'_> {
         ensures asked { AsksOnly (PartReadable (R.told source.old) (view.page self.now.page.now) (color_in portion) (part_of (R.told source.old).bytes self.now.order
             (view.page self.now.page.now) portion)) result }
     {
-        let mut bytes: Vec<u8> = self.zeros(source, portion, DecodingSampleType::U8, len)?;
+        let mut bytes: Vec<u8> = self.room(source, portion, DecodingSampleType::U8, len)?;
         let mut writer = InPlace::new(self.alloc);
-        self.fill(source, portion, &mut writer, &mut bytes)?;
+        self.fill(source, portion, &mut writer, &mut bytes, len)?;
         Ok(bytes)
     }
 
     // The numbers of an image or a chunk whose samples are of a number type.
-    #[tactic(auto, using(crate::proofs::Portions::portion_early, crate::proofs::Portions::numbers_given, crate::proofs::Portions::filling_cause, crate::proofs::Portions::room_in))]
+    #[tactic(auto, using(crate::proofs::Portions::portion_early, crate::proofs::Portions::numbers_given, crate::proofs::Portions::filling_cause))]
     fn numbers_of<R: Source, T: Number<N>, const N: usize>(
         &self,
         source: &mut R,
@@ -262,9 +263,9 @@ impl PageReader<'_> {
         ensures asked { AsksOnly (PartReadable (R.told source.old) (view.page self.now.page.now) (color_in portion) (part_of (R.told source.old).bytes self.now.order
             (view.page self.now.page.now) portion)) result }
     {
-        let mut numbers: Vec<T> = self.zeros(source, portion, sample_type, len)?;
+        let mut numbers: Vec<T> = self.room(source, portion, sample_type, len)?;
         let mut writer = NumberRoom::<N>::new(self.alloc);
-        self.fill(source, portion, &mut writer, &mut numbers)?;
+        self.fill(source, portion, &mut writer, &mut numbers, len)?;
         Ok(numbers)
     }
 

@@ -1,12 +1,12 @@
 //! The chunks of an image are read into a list of bytes or of numbers, in one plane or in several.
 
-ghost use Rattle.std.specs.Prelude.{◌≡◌, ◌+◌, ◌*◌, ◌<◌, ◌≤◌, ◌^◌, ◌⊎◌, List, ℕ, Ok, length, OnOk};
+ghost use Rattle.std.specs.Prelude.{◌≡◌, ◌+◌, ◌*◌, ◌<◌, ◌≤◌, ◌^◌, ◌⊎◌, List, [], ℕ, Ok, length, replicate, OnOk};
 ghost use Rattle.tiff_base.specs.Answers.{Answers, AsksOnly, IsKept};
 ghost use Rattle.tiff_page.specs.Layout.{color_of, layout_of, row_bytes};
 ghost use Rattle.tiff_page.specs.PixelCalls.{fill_buffer, image_part, chunk_part};
 ghost use Rattle.tiff_page.specs.PixelFault.{chunk_fault, each_below};
 ghost use Rattle.tiff_page.specs.Pixels.{is_short};
-ghost use Rattle.tiff_page.specs.BufferPositions.{WritesNext, top_of, left_of};
+ghost use Rattle.tiff_page.specs.BufferPositions.{HoldsChunk, WritesNext, top_of, left_of};
 ghost use Rattle.tiff_page.specs.Reach.{PartReadable};
 ghost use Rattle.tiff_page.specs.Rect.{rect, chunks_of_plane};
 ghost use Rattle.tiff_page.specs.PageView as view;
@@ -71,6 +71,23 @@ fn image_corner(page: &Page, layout: PlaneLayout, plane: u16, chunk: u32) -> Cor
     }
 }
 
+// So many bytes from a buffer's first on hold the rows of a chunk of an image in one plane, or all planes of it.
+fn bytes_up_to(page: &Page, part: ImagePart, chunk: u32) -> usize
+    requires laid { layout_of (view.page page.now) page.now.width page.now.height ≡ Ok
+        (record { color = part.layout.color; row_bytes = part.layout.row_bytes; plane_stride = part.layout.plane_stride }) }
+    requires few { part.planes * part.layout.plane_stride < 2 ^ 64 }
+    requires some { 0 < part.planes }
+    requires chunk { chunk < chunks_of_plane (view.page page.now) }
+    ensures holds { HoldsChunk (view.page page.now) part.layout.color part.layout.row_bytes part.planes chunk result }
+    ensures within { result ≤ part.planes * part.layout.plane_stride }
+{
+    if part.planes > 1 {
+        return usize::from(part.planes) * part.layout.plane_stride;
+    }
+    let rect = rect(page, chunk);
+    (rect.y as usize + rect.height as usize) * part.layout.row_bytes
+}
+
 impl PageReader<'_> {
     // Reads a chunk of an image in all planes that are asked for.
     fn fill_chunk<R: Source, T, W: RowWriter<T>>(
@@ -85,7 +102,7 @@ impl PageReader<'_> {
           row_bytes = next.part.layout.row_bytes;
           plane_stride = next.part.layout.plane_stride;
         }) }
-        requires room { next.part.planes * next.part.layout.plane_stride ≤ length (W.bytes buf.old) }
+        requires room { HoldsChunk (view.page self.now.page.now) next.part.layout.color next.part.layout.row_bytes next.part.planes next.chunk (length (W.bytes buf.old)) }
         requires few { next.part.planes * next.part.layout.plane_stride < 2 ^ 64 }
         requires chunk { next.chunk < chunks_of_plane (view.page self.now.page.now) }
         ensures kept { IsKept R.told R.failures result source.old source.new }
@@ -148,6 +165,37 @@ impl PageReader<'_> {
         Ok(())
     }
 
+    /// The same of a list that holds nothing, which becomes so many bytes long, in whole items: it grows by zeros before each chunk,
+    /// and behind the last.
+    pub(crate) fn grow_image<R: Source, T, W: RowWriter<T>>(
+        &self,
+        source: &mut R,
+        part: ImagePart,
+        writer: &mut W,
+        list: &mut Vec<T>,
+        len: usize,
+    ) -> TiffResult<()>
+        requires laid { layout_of (view.page self.now.page.now) self.now.page.now.width self.now.page.now.height ≡ Ok
+            (record { color = part.layout.color; row_bytes = part.layout.row_bytes; plane_stride = part.layout.plane_stride }) }
+        requires some { 0 < part.planes }
+        requires room { part.planes * part.layout.plane_stride ≤ len }
+        requires none { list.old.items ≡ [] }
+        ensures kept { IsKept R.told R.failures result source.old source.new }
+        ensures answer { Answers (λ _. W.bytes list.new.items) result (fill_buffer (R.told source.old).bytes self.now.order
+            (view.page self.now.page.now) self.now.limits.now part.layout.color
+            (image_part (view.page self.now.page.now) part.planes part.layout.row_bytes)
+            (replicate (W.whole len) 0)) (R.failures source.old) (R.failures source.new) }
+        ensures asked { AsksOnly (PartReadable (R.told source.old) (view.page self.now.page.now) part.layout.color (image_part (view.page self.now.page.now)
+            part.planes part.layout.row_bytes)) result }
+    {
+        for chunk in 0..chunks_of_plane(self.page) {
+            W::grow(list, bytes_up_to(self.page, part, chunk))?;
+            self.fill_chunk(source, ImageChunk { part, chunk }, writer, list)?;
+        }
+        W::grow(list, len)?;
+        Ok(())
+    }
+
     /// Reads a chunk into the bytes of a list, its rows a stride apart, or that of each of so many planes one behind the
     /// other; or answers the first fault.
     pub(crate) fn fill_unit<R: Source, T, W: RowWriter<T>>(
@@ -196,5 +244,33 @@ impl PageReader<'_> {
             reader.read_rows(source, corner, writer, buf)?;
         }
         Ok(())
+    }
+
+    /// The same of a list that holds nothing, which becomes so many bytes long, in whole items.
+    pub(crate) fn grow_unit<R: Source, T, W: RowWriter<T>>(
+        &self,
+        source: &mut R,
+        unit: UnitPart,
+        writer: &mut W,
+        list: &mut Vec<T>,
+        len: usize,
+    ) -> TiffResult<()>
+        requires colored { color_of (view.page self.now.page.now) ≡ Ok unit.color }
+        requires columns { row_bytes (view.page self.now.page.now) unit.color
+            (rect (view.page self.now.page.now) unit.index).width ≤ unit.stride }
+        requires some { 0 < unit.planes }
+        requires room { unit.planes * ((rect (view.page self.now.page.now) unit.index).height * unit.stride) ≤ len }
+        requires which { (unit.planes ≡ 1) ⊎ (unit.index < chunks_of_plane (view.page self.now.page.now)) }
+        requires none { list.old.items ≡ [] }
+        ensures kept { IsKept R.told R.failures result source.old source.new }
+        ensures answer { Answers (λ _. W.bytes list.new.items) result (fill_buffer (R.told source.old).bytes self.now.order
+            (view.page self.now.page.now) self.now.limits.now unit.color
+            (chunk_part (view.page self.now.page.now) unit.index unit.planes unit.stride)
+            (replicate (W.whole len) 0)) (R.failures source.old) (R.failures source.new) }
+        ensures asked { AsksOnly (PartReadable (R.told source.old) (view.page self.now.page.now) unit.color (chunk_part (view.page self.now.page.now)
+            unit.index unit.planes unit.stride)) result }
+    {
+        W::grow(list, len)?;
+        self.fill_unit(source, unit, writer, list)
     }
 }

@@ -1,9 +1,10 @@
 //! Rows of a chunk go into a list of bytes or of numbers.
 
-ghost use Rattle.std.specs.Prelude.{◌≡◌, ℕ, ◌+◌, ◌*◌, ◌/◌, ◌^◌, ◌<◌, ◌≤◌, ◌⊎◌, List, length, map, false, IfOk};
+ghost use Rattle.std.specs.Prelude.{◌≡◌, ℕ, ◌+◌, ◌-◌, ◌*◌, ◌/◌, ◌^◌, ◌<◌, ◌≤◌, ◌⊎◌, ◌++◌, List, [], length, map, replicate, false, IfOk, OnOk, refl};
+ghost use Rattle.std.specs.Int.{div_ceil};
 ghost use Rattle.tiff_base.specs.Answers.{AsksOnly, IsKept};
 ghost use Rattle.tiff_page.specs.Layout.{row_bytes};
-ghost use Rattle.tiff_page.specs.NumberBytes.{bytes_in};
+ghost use Rattle.tiff_page.specs.NumberBytes.{bytes_in, plain_enough};
 ghost use Rattle.tiff_page.specs.Pixels.{needed_of_row, needs_whole_rows};
 ghost use Rattle.tiff_page.specs.ReadablePage.{IsRead};
 ghost use Rattle.tiff_page.specs.RowReads.{RowPut};
@@ -12,8 +13,8 @@ ghost use Rattle.tiff_page.specs.PageView as view;
 
 use crate::chunk_data::Stored;
 use crate::chunk_rows::{ChunkReader, NextBytes, RowRoom};
-use crate::numbers::{Number, put_row};
-use std::alloc::Global;
+use crate::numbers::{Number, grow, put_row};
+use std::alloc::{AllocError, Global};
 use tiff_base::error::TiffResult;
 use tiff_base::io::Source;
 
@@ -21,6 +22,9 @@ use tiff_base::io::Source;
 pub trait RowWriter<T> {
     /// The bytes of a list.
     ghost bytes: { List T → List ℕ };
+
+    /// So many bytes, in whole items.
+    ghost whole: { ℕ → ℕ };
 
     /// Reads the next row of a chunk into the bytes of a list.
     fn read_row<R: Source>(
@@ -64,8 +68,18 @@ pub trait RowWriter<T> {
         ensures asked { AsksOnly (StoredReadable (R.told source.old) next.position next.len) result }
         ensures moves { IfOk result (λ rest. Moves next.position next.len rest) };
 
+    /// Makes a list so many bytes long, in whole items, by zeros, where it is shorter.
+    fn grow(list: &mut Vec<T>, len: usize) -> Result<(), AllocError>
+        ensures { OnOk result (bytes list.new.items ≡ bytes list.old.items ++ replicate (whole len - length (bytes list.old.items)) 0) };
+
     /// Lists of one length have as many bytes.
     ghost same_length: { (xs ys : List T) → length xs ≡ length ys → length (bytes xs) ≡ length (bytes ys) };
+
+    /// Whole items have as many bytes, and more where more are asked for.
+    ghost enough: { (m n : ℕ) → m ≤ n → (m ≤ whole m) × (whole m ≤ whole n) };
+
+    /// Nothing has none.
+    ghost none: { bytes [] ≡ [] };
 }
 
 /// Rows are read into the position of a list of bytes where they stand.
@@ -85,6 +99,8 @@ impl InPlace {
 
 impl RowWriter<u8> for InPlace {
     ghost bytes = { λ bytes. bytes };
+
+    ghost whole = { λ n. n };
 
     #[tactic(auto, using(crate::proofs::PositionsPut::put_in_place))]
     fn read_row<R: Source>(
@@ -110,7 +126,16 @@ impl RowWriter<u8> for InPlace {
         reader.read_handed(source, next.position, &mut self.room, row)
     }
 
+    #[tactic(auto, using(crate::proofs::NumberBytes::plain_zeros_behind))]
+    fn grow(list: &mut Vec<u8>, len: usize) -> Result<(), AllocError> {
+        grow::<u8, 1>(list, len)
+    }
+
     ghost same_length = { λ xs ys same. same };
+
+    ghost enough = { plain_enough };
+
+    ghost none = { refl };
 }
 
 /// Rows are read into a room, and their numbers are put from there into a list.
@@ -131,9 +156,11 @@ impl<const N: usize> NumberRoom<N> {
 }
 
 impl<T: Number<N>, const N: usize> RowWriter<T> for NumberRoom<N> {
-    ghost use Rattle.tiff_page.specs.NumberBytes.{same_bytes};
+    ghost use Rattle.tiff_page.specs.NumberBytes.{no_bytes, same_bytes, whole_enough};
 
     ghost bytes = { λ numbers. bytes_in N (map T.bits numbers) };
+
+    ghost whole = { λ n. div_ceil n N * N };
 
     #[tactic(auto, using(crate::proofs::PositionsPut::put_from_room, crate::proofs::NumberBytes::some_size))]
     fn read_row<R: Source>(
@@ -163,5 +190,14 @@ impl<T: Number<N>, const N: usize> RowWriter<T> for NumberRoom<N> {
         Ok(rest)
     }
 
+    #[tactic(auto, using(crate::proofs::NumberBytes::some_size))]
+    fn grow(list: &mut Vec<T>, len: usize) -> Result<(), AllocError> {
+        grow(list, len.div_ceil(N))
+    }
+
     ghost same_length = { λ xs ys same. same_bytes N T.bits xs ys same };
+
+    ghost enough = { whole_enough N T.sized };
+
+    ghost none = { no_bytes N };
 }

@@ -1,4 +1,5 @@
-use Rattle.std.proofs.Common.{rules, arith, Ok, ◌≡◌, ◌∙◌, ◌++◌, take, drop, length, refl}
+use Rattle.std.proofs.Common.{arith, refl}
+use Rattle.std.specs.Prelude.{replicate}
 use Rattle.std.proofs.lemmas.Result.{err_from_is_err_and}
 use Rattle.tiff_base.proofs.Told.{same_bytes}
 use Rattle.tiff_page.specs.Laws.{HasSides}
@@ -6,7 +7,7 @@ use Rattle.tiff_page.specs.Samples.{color_in, first_in}
 use Rattle.tiff_page.specs.PageView as view
 use Rattle.tiff_page.specs.declared.layout.DecodingSampleType.TheVariants as type
 use Rattle.tiff_page.specs.declared.page.Page.{Page}
-use Rattle.tiff_page.proofs.Portions.{portion_early, bytes_given, filling_cause, all_written, plain_zeros}
+use Rattle.tiff_page.proofs.Portions.{portion_early, bytes_given, filling_cause}
 use Rattle.tiff_page.proofs.Reach.{first_readable, portion_filled}
 use Rattle.tiff_page.proofs.read_chunks.PageReader.bytes_of.Goals as goal
 
@@ -23,18 +24,15 @@ returns-in_err-bytes-clause-answer g c =
 pub returns-clause-answer : goal.returns-clause-answer
 returns-clause-answer g c =
     let p = c.args.self.now.page.now in
-    let back : c.fill.new.out ≡ take c.in_ok-bytes.bytes.len (c.fill.new.out ++ drop (length c.fill.new.out) c.in_ok-bytes.bytes.items) = all_written c.fill.new.out c.in_ok-bytes.bytes.items c.in_ok-bytes.bytes.len (search rules) in
     bytes_given (g.R.Source.told c.args.source.now).bytes c.args.self.now.order (view.page p) c.args.self.now.limits.now c.args.portion (sides_of p) c.requires.laid (color_in c.args.portion) type.U8 (first_in c.args.portion) c.args.len
-    c.deref_mut.result.now c.fill.new.out refl c.requires.typed c.in_ok-bytes.ensures.answer
-    (c.deref_mut.ensures.value ∙ plain_zeros c.in_ok-bytes.bytes.items c.args.len c.in_ok-bytes.ensures.zeros) (rw (same_bytes c.in_ok-bytes.ensures.kept.told) at c.in_ok-fill.ensures.answer)
-    ∙ (λ i. Ok (record { sample_type = type.U8; numbers = back i }))
+    (replicate c.args.len 0) c.fill.new.list.items refl c.requires.typed c.in_ok-bytes.ensures.answer refl (rw (same_bytes c.in_ok-bytes.ensures.kept.told) at c.in_ok-fill.ensures.answer)
 
 pub returns-in_err-fill-clause-answer : goal.returns-in_err-fill-clause-answer
 returns-in_err-fill-clause-answer g c =
     let p = c.args.self.now.page.now in
     let answered = err_from_is_err_and c.from_residual-in_err-fill.result c.from_residual-in_err-fill.ensures.1 in
     rw (answered.1, answered.2) (filling_cause (g.R.Source.told c.args.source.now).bytes c.args.self.now.order (view.page p) c.args.self.now.limits.now c.args.portion (sides_of p) c.requires.laid _ _ (color_in c.args.portion) type.U8 (first_in c.args.portion) c.args.len
-    c.deref_mut.result.now c.in_err-fill.field-0.0 (λ f. omega (arith, f, c.in_ok-bytes.ensures.kept.failures)) c.requires.typed c.in_ok-bytes.ensures.answer (rw (same_bytes c.in_ok-bytes.ensures.kept.told) at c.in_err-fill.ensures.answer))
+    (replicate c.args.len 0) c.in_err-fill.field-0.0 (λ f. omega (arith, f, c.in_ok-bytes.ensures.kept.failures)) c.requires.typed c.in_ok-bytes.ensures.answer (rw (same_bytes c.in_ok-bytes.ensures.kept.told) at c.in_err-fill.ensures.answer))
 
 pub returns-in_err-bytes-clause-asked : goal.returns-in_err-bytes-clause-asked
 returns-in_err-bytes-clause-asked g c =
@@ -46,4 +44,4 @@ pub returns-in_err-fill-clause-asked : goal.returns-in_err-fill-clause-asked
 returns-in_err-fill-clause-asked g c =
     let p = c.args.self.now.page.now in
     let answered = err_from_is_err_and c.from_residual-in_err-fill.result c.from_residual-in_err-fill.ensures.1 in
-    rw (answered.1, answered.2) (portion_filled c.args.self.now.order (view.page p) c.args.portion _ (g.R.Source.told c.args.source.now) (g.R.Source.told c.zeros.new.source) c.in_ok-bytes.ensures.kept.told c.in_err-fill.ensures.asked)
+    rw (answered.1, answered.2) (portion_filled c.args.self.now.order (view.page p) c.args.portion _ (g.R.Source.told c.args.source.now) (g.R.Source.told c.room.new.source) c.in_ok-bytes.ensures.kept.told c.in_err-fill.ensures.asked)

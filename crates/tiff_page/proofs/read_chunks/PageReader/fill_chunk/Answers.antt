@@ -1,4 +1,4 @@
-use Rattle.std.proofs.Common.{arith, Ok, Err, ◌≡◌, ℕ, List, ◌∙◌, ◌+◌, ◌*◌, ◌<◌, subst}
+use Rattle.std.proofs.Common.{arith, Ok, Err, ◌≡◌, ℕ, List, ◌∙◌, ◌+◌, ◌*◌, ◌<◌, ◌≤◌, length, subst, sym}
 use Rattle.std.proofs.lemmas.Result.{err_from_is_err_and}
 use Rattle.tiff_base.specs.Answers.{IsCause}
 use Rattle.tiff_base.specs.declared.error.TiffError.TheVariants.{IoError}
@@ -67,10 +67,12 @@ read_rows-requires-clause-rows g c =
     let p = c.args.self.now.page.now in
     let i = c.from.result * c.chunks_of_plane-chunks.result + c.args.next.chunk in
     let q : i ≡ c.loop-plane.plane * chunks_of_plane (view.page p) + c.args.next.chunk = λ t. c.from.ensures t * c.chunks_of_plane-chunks.ensures.count t + c.args.next.chunk in
-    let size = c.args.next.part.planes * c.args.next.part.layout.plane_stride in
-    let l = rows_in (g.R.Source.told c.args.source.now).bytes c.args.self.now.order (view.page p) c.args.self.now.limits.now (layout c.args.next.part.layout) (sides_of p) p.sampled p.deep c.requires.laid c.args.next.part.planes c.args.next.chunk c.requires.chunk c.loop-plane.plane i size q c.loop-plane-test.true (omega arith) in
+    let l = subst
+    (λ (m : ℕ).
+    (top_of (view.page p) c.args.next.part.layout.color c.args.next.part.layout.row_bytes c.loop-plane.plane c.args.next.chunk + (rect (view.page p) m).height) * c.args.next.part.layout.row_bytes ≤ length (g.W.RowWriter.bytes c.args.buf.now))
+    (sym q) (c.requires.room c.loop-plane.plane c.loop-plane-test.true) in
     let same = g.met.W.RowWriter.same_length c.loop-plane.buf c.args.buf.now c.loop-plane.auto.buf in
-    rw (c.image_corner-corner.ensures.top, c.image_corner-corner.ensures.stride) (omega (arith, l, same, c.requires.room))
+    rw (c.image_corner-corner.ensures.top, c.image_corner-corner.ensures.stride) (omega (arith, l, same))
 
 pub read_rows-requires-clause-few : goal.read_rows-requires-clause-few
 read_rows-requires-clause-few g c =

@@ -1,4 +1,4 @@
-use Rattle.std.proofs.Common.{arith, Ok, Err, ◌≡◌, ℕ, List, ◌∙◌, ◌+◌, ◌*◌, ◌<◌, subst}
+use Rattle.std.proofs.Common.{arith, Ok, Err, ◌≡◌, ℕ, List, ◌∙◌, ◌+◌, ◌*◌, ◌<◌, refl, subst}
 use Rattle.std.proofs.lemmas.Result.{err_from_is_err_and}
 use Rattle.tiff_base.specs.Answers.{IsCause}
 use Rattle.tiff_base.proofs.Told.{same_bytes}
@@ -12,7 +12,7 @@ use Rattle.tiff_page.specs.PageView as view
 use Rattle.tiff_page.specs.declared.page.Page.{Page}
 use Rattle.tiff_page.specs.declared.layout.PlaneLayout.{PlaneLayout}
 use Rattle.tiff_page.proofs.Covering.{planes_written}
-use Rattle.tiff_page.proofs.Filling.{chunk_cause, image_filled, of_chunk, one_more}
+use Rattle.tiff_page.proofs.Filling.{chunk_cause, image_filled, of_chunk, one_more, rows_in}
 use Rattle.tiff_page.proofs.Reach.{image_asked}
 use Rattle.tiff_page.proofs.read_chunks.PageReader.fill_image.Goals as goal
 
@@ -70,8 +70,12 @@ returns-clause-answer g c =
 
 pub fill_chunk-requires-clause-room : goal.fill_chunk-requires-clause-room
 fill_chunk-requires-clause-room g c =
+    let p = c.args.self.now.page.now in
     let same = g.met.W.RowWriter.same_length c.loop-chunk.buf c.args.buf.now c.loop-chunk.auto.buf in
-    omega (arith, same, c.requires.room)
+    let in_plane : c.loop-chunk.chunk < chunks_of_plane (view.page p) = omega (arith, c.loop-chunk-test.true, c.chunks_of_plane-chunk-end.ensures.count) in
+    λ plane below.
+    rows_in (g.R.Source.told c.args.source.now).bytes c.args.self.now.order (view.page p) c.args.self.now.limits.now (layout c.args.part.layout) (sides_of p) p.sampled p.deep c.requires.laid c.args.part.planes c.loop-chunk.chunk in_plane plane
+    (plane * chunks_of_plane (view.page p) + c.loop-chunk.chunk) _ refl below (omega (arith, same, c.requires.room))
 
 pub returns-in_err-fill_chunk-clause-asked : goal.returns-in_err-fill_chunk-clause-asked
 returns-in_err-fill_chunk-clause-asked g c =

@@ -1,30 +1,23 @@
-use Rattle.std.proofs.Common.{rules, arith, Ok, ◌≡◌, ◌∙◌, ◌++◌, map, take, drop, length, ap}
+use Rattle.std.proofs.Common.{arith, map}
 use Rattle.std.proofs.lemmas.Result.{err_from_is_err_and}
 use Rattle.tiff_base.proofs.Told.{same_bytes}
 use Rattle.tiff_page.specs.Laws.{HasSides}
-use Rattle.tiff_page.specs.Samples.{color_in, first_in, room_of}
+use Rattle.tiff_page.specs.Samples.{color_in, first_in}
 use Rattle.tiff_page.specs.PageView as view
 use Rattle.tiff_page.specs.declared.page.Page.{Page}
-use Rattle.tiff_page.proofs.Portions.{filling_cause, numbers_given, room_in, all_written}
+use Rattle.tiff_page.proofs.Portions.{filling_cause, zeros_filled}
 use Rattle.tiff_page.proofs.Reach.{first_readable, portion_filled}
 use Rattle.tiff_page.proofs.read_chunks.PageReader.numbers_of.Goals as goal
 
 abbrev pub sides_of : (p : Page) → HasSides (view.page p)
 sides_of p = record { wide = p.wide; high = p.high; chunk_wide = p.chunk_wide; chunk_high = p.chunk_high }
 
-pub fill-requires-clause-room : goal.fill-requires-clause-room
-fill-requires-clause-room g c =
-    room_in g.row.N c.args.len (room_of (view.page c.args.self.now.page.now) c.args.portion) (map g.T.Number.bits c.deref_mut.result.now) g.met.T.Number.sized c.requires.room
-    (ap (map g.T.Number.bits) c.deref_mut.ensures.value ∙ c.in_ok-numbers.ensures.zeros)
-
 pub returns-clause-answer : goal.returns-clause-answer
 returns-clause-answer g c =
     let p = c.args.self.now.page.now in
-    let back : c.fill.new.out ≡ take c.in_ok-numbers.numbers.len (c.fill.new.out ++ drop (length c.fill.new.out) c.in_ok-numbers.numbers.items) = all_written c.fill.new.out c.in_ok-numbers.numbers.items c.in_ok-numbers.numbers.len (search rules) in
-    numbers_given (g.R.Source.told c.args.source.now).bytes c.args.self.now.order (view.page p) c.args.self.now.limits.now c.args.portion (sides_of p) c.requires.laid (color_in c.args.portion) c.args.sample_type g.row.N (first_in c.args.portion) c.args.len
-    (map g.T.Number.bits c.deref_mut.result.now) (map g.T.Number.bits c.fill.new.out) g.met.T.Number.sized c.requires.size c.requires.typed c.in_ok-numbers.ensures.answer c.requires.room
-    (ap (map g.T.Number.bits) c.deref_mut.ensures.value ∙ c.in_ok-numbers.ensures.zeros) (rw (same_bytes c.in_ok-numbers.ensures.kept.told) at c.in_ok-fill.ensures.answer)
-    ∙ (λ i. Ok (record { sample_type = c.args.sample_type; numbers = map g.T.Number.bits (back i) }))
+    zeros_filled (g.R.Source.told c.args.source.now).bytes c.args.self.now.order (view.page p) c.args.self.now.limits.now c.args.portion (sides_of p) c.requires.laid (color_in c.args.portion) c.args.sample_type g.row.N (first_in c.args.portion) c.args.len
+    (map g.T.Number.bits c.fill.new.list.items) g.met.T.Number.sized c.requires.size c.requires.typed c.in_ok-numbers.ensures.answer c.requires.room
+    (rw (same_bytes c.in_ok-numbers.ensures.kept.told) at c.in_ok-fill.ensures.answer)
 
 pub returns-in_err-fill-clause-answer : goal.returns-in_err-fill-clause-answer
 returns-in_err-fill-clause-answer g c =
@@ -43,4 +36,4 @@ pub returns-in_err-fill-clause-asked : goal.returns-in_err-fill-clause-asked
 returns-in_err-fill-clause-asked g c =
     let p = c.args.self.now.page.now in
     let answered = err_from_is_err_and c.from_residual-in_err-fill.result c.from_residual-in_err-fill.ensures.1 in
-    rw (answered.1, answered.2) (portion_filled c.args.self.now.order (view.page p) c.args.portion _ (g.R.Source.told c.args.source.now) (g.R.Source.told c.zeros.new.source) c.in_ok-numbers.ensures.kept.told c.in_err-fill.ensures.asked)
+    rw (answered.1, answered.2) (portion_filled c.args.self.now.order (view.page p) c.args.portion _ (g.R.Source.told c.args.source.now) (g.R.Source.told c.room.new.source) c.in_ok-numbers.ensures.kept.told c.in_err-fill.ensures.asked)

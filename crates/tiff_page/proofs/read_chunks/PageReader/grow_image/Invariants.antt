@@ -1,0 +1,25 @@
+use Rattle.std.proofs.Common.{◌≡◌, ◌+◌, ◌*◌, ◌≤◌, Ok, length}
+use Rattle.std.specs.Prelude.{replicate}
+use Rattle.tiff_page.specs.Pixels.{is_short}
+use Rattle.tiff_page.specs.PixelFault.{chunk_fault, each_below}
+use Rattle.tiff_page.specs.BufferPositions.{Writes, IsBefore, image_byte}
+use Rattle.tiff_page.specs.Rect.{chunks_of_plane}
+use Rattle.tiff_page.specs.PageView as view
+use Rattle.tiff_page.proofs.Growing.{filled_to}
+use Rattle.tiff_page.proofs.read_chunks.PageReader.grow_image.Given as goal
+
+-- the chunks so far have no fault, and are in the list, filled up with zeros
+abbrev pub invariant-loop-chunk : goal.invariant-loop-chunk
+invariant-loop-chunk g l =
+    let bytes = (g.R.Source.told l.fn.source).bytes in
+    let p = view.page l.self.page.now in
+    let color = l.part.layout.color in
+    let stride = l.part.layout.row_bytes in
+    let total = g.W.RowWriter.whole l.len in
+    record {
+      same : g.R.Source.told l.source ≡ g.R.Source.told l.fn.source;
+      count : g.R.Source.failures l.source ≡ g.R.Source.failures l.fn.source;
+      none : each_below (λ j. each_below (λ plane. chunk_fault p l.self.limits.now (is_short bytes l.self.order p color) color (plane * chunks_of_plane p + (0 + j))) l.part.planes) l.chunk ≡ Ok tt;
+      within : length (g.W.RowWriter.bytes l.list.items) ≤ total;
+      written : Writes (IsBefore p color stride l.part.planes l.chunk 0) (image_byte p color stride bytes l.self.order) (replicate total 0) (filled_to total (g.W.RowWriter.bytes l.list.items));
+    }
