@@ -13,4 +13,5 @@ mod SampleChunks
 mod UnitChunks
 mod UnitBytes
 mod Walking
+mod OnTheWay
 pub mod Listed

@@ -5,3 +5,4 @@ pub mod Bytes
 pub mod Samples
 pub mod Units
 pub mod Pages
+pub mod Costs
