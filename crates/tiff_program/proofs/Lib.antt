@@ -1,8 +1,10 @@
 mod Digits
 mod Found
-mod GrayJob
 mod Lines
+mod Pieces
+mod Remainders
 mod Replied
+mod Shown
 mod CallsMade
 mod Checked
 mod Sums

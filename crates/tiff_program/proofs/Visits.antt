@@ -214,3 +214,20 @@ listing_visit view old mid new k p r same v m =
     (λ e. (let P : Option IfdPointer → Type 0 = λ o. Moves view (listing_at mid o) r mid new in
     let q : mid.state.pointer ≡ p = cc e in subst P (sym q) m))
     (λ d n. refl)
+
+-- A seek that is answered, and an answer at the page.
+pub seek_then : {X Y : Type 0} (view : X → Y) (given : Decoding → Result Y TiffError) (old mid : Decoding) (k : ℕ) (u : Unit {0}) (r : Result X TiffError) (failures : ℕ)
+    → ((d : Decoding) (n : ℕ) → given (record d { failures = n }) ≡ given d)
+    → Follows (λ u. u) (outcome.seek_to_image old k) (Ok u) old mid → Answers view r (given mid) mid.failures failures
+    → Answers view r (at_page given old k) old.failures failures
+seek_then view given old mid k u r failures same f a =
+    let t : IsTold (λ u. u) (outcome.seek_to_image old k) (Ok u) old mid = told (Unit {0}) (λ u. u) (outcome.seek_to_image old k) (Ok u) old mid f in
+    let there : given mid ≡ at_page given old k = given_there given old mid k same t.file (t.next tt).1 ∙ ap (λ (a : Result (Unit {0}) TiffError). a >>= λ _. given (page_decoder old k)) (t.next tt).0 in
+    answers_along view r (given mid) (at_page given old k) old.failures mid.failures failures there (omega (arith, t.failed)) a
+
+-- A seek that is refused.
+pub seek_refused : {X Y : Type 0} (view : X → Y) (given : Decoding → Result Y TiffError) (old new : Decoding) (k : ℕ) (e : TiffError)
+    → Follows (λ u. u) (outcome.seek_to_image old k) (Err e) old new → Answers {X = X} view (Err e) (at_page given old k) old.failures new.failures
+seek_refused view given old new k e f =
+    let t : IsTold (λ u. u) (outcome.seek_to_image old k) (Err e) old new = told (Unit {0}) (λ u. u) (outcome.seek_to_image old k) (Err e) old new f in
+    fault_cause e old.failures new.failures (λ n. ap (λ (a : Result (Unit {0}) TiffError). a >>= λ _. given (page_decoder old k)) (sym (t.next n).0)) (omega (arith, t.failed))

@@ -1,19 +1,21 @@
 -- What reading each page of a file whole gives (this project's).
-use Rattle.std.specs.Prelude.{◌≡◌, ℕ, List, length, map, nat_lt, Option, Some, Result, Ok, Err, if◌then◌else◌}
-use Rattle.std.specs.List.{slice_get}
+use Rattle.std.specs.Prelude.{◌≡◌, ℕ, Bool, List, length, map, nat_lt, is_ok, Option, Some, Result, Ok, Err, if◌then◌else◌}
+use Rattle.std.specs.List.{list_all, slice_get}
 use Rattle.tiff_base.specs.declared.error.TiffError.{TiffError}
 use Rattle.tiff_base.specs.declared.error.TiffError.TheVariants.{LimitsExceeded}
 use Rattle.tiff.specs.Answers.{◌>>=◌, Answers}
 use Rattle.tiff.specs.Image.{Decoded}
 use Rattle.tiff.specs.PixelCalls as pixels
 use Rattle.tiff.specs.Machine.{Decoding}
-use Rattle.tiff.specs.Outcome.{chain_of}
+use Rattle.tiff.specs.Outcome.{chain_of, decoder_of}
 use Rattle.tiff.specs.Result.{bytes_of}
 use Rattle.tiff_page.specs.Page.{PageRecord}
 use Rattle.tiff_page.specs.declared.layout.BufferLayoutPreference.{BufferLayoutPreference}
 use Rattle.tiff_laws.specs.Pages.{page_at}
 use Rattle.tiff_pages.specs.Pages.{IsOfFile}
+use Rattle.tiff_ifd.specs.declared.limits.Limits.{Limits}
 use Rattle.tiff_program.specs.Adler.{adler_32}
+use Rattle.tiff_program.specs.AtPage.{under}
 use Rattle.tiff_program.specs.declared.check.ImageSum.{ImageSum}
 use Rattle.tiff_program.specs.declared.check.PageCheck.{PageCheck}
 use Rattle.tiff_program.specs.declared.check.FileCheck.{FileCheck}
@@ -59,6 +61,22 @@ checks_in check = record { items = check.pages.items; end = check.end }
 
 abbrev pub checks_of : Decoding → Checks
 checks_of d = record { items = map (check_at d) (chain_of d).offsets; end = (chain_of d).end }
+
+-- the checks under limits of the pages of a file, which is opened under the limits by default; or the first fault
+abbrev pub checks_under : Limits → List ℕ → Result Checks TiffError
+checks_under limits file = do
+  d ← decoder_of file 0
+  Ok (checks_of (under limits d))
+
+-- whether the image of each page was read
+abbrev pub are_well : List PageCheck → Bool
+are_well checks = list_all (λ check. is_ok check.image) checks
+
+-- that, and how the chain ends
+abbrev pub told_under : Limits → List ℕ → Result (Bool × Option TiffError) TiffError
+told_under limits file = do
+  checks ← checks_under limits file
+  Ok (are_well checks.items, checks.end)
 
 -- ---- a read of the decoder's page
 

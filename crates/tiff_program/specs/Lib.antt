@@ -1,9 +1,10 @@
 pub mod Adler
 pub mod AtPage
 pub mod Check
-pub mod Gray
 pub mod Listing
 pub mod Replied
+pub mod Png
 pub mod Samples
+pub mod View
 pub mod Words
 pub mod Wrote

@@ -1,9 +1,50 @@
 -- What words of a command line ask for.
-use Rattle.std.specs.Prelude.{◌≡◌, ◌⊎◌, ℕ, Bool, true, false, List, [], ◌∷◌, codes, ⊤}
+use Rattle.std.specs.Prelude.{◌≡◌, ◌⊎◌, ℕ, ◌<◌, ◌^◌, Bool, true, false, List, [], ◌∷◌, Option, None, Some, codes, ⊤}
+use Rattle.std.specs.Str.Parse.{IsNumeral, digits_value, without_leading_plus}
 use Rattle.tiff_base.specs.declared.tags.FileKind.{FileKind}
 use Rattle.tiff_base.specs.declared.tags.FileKind.TheVariants.{Classic, Big}
 use Rattle.tiff_program.specs.declared.command.Command.{Command}
 use Rattle.tiff_program.specs.declared.command.Command.TheVariants as command
+
+-- This text is a number of so many bits, in decimal digits, of which the first may stand behind a plus.
+abbrev pub IsNumber : ℕ → List ℕ → ℕ → Type 0
+IsNumber bits text n =
+    IsNumeral 10 (without_leading_plus text) × (digits_value 10 (without_leading_plus text) < 2 ^ bits) × (n ≡ digits_value 10 (without_leading_plus text))
+
+-- These words, behind those of a command, ask for this limit, or for none.
+abbrev pub AskForLimit : List (List ℕ) → Option ℕ → Type 0
+AskForLimit words None = words ≡ []
+AskForLimit words (Some limit) = (count : List ℕ) × (words ≡ codes "--limit" ∷ count ∷ []) × IsNumber 64 count limit
+
+-- These words ask for the samples of the page of this number of a file, for an output, and for a limit, or for none.
+abbrev pub AskForSamples : List (List ℕ) → List ℕ → ℕ → List ℕ → Option ℕ → Type 0
+AskForSamples (input ∷ page ∷ output ∷ options) from number to limit = (from ≡ input) × IsNumber 32 page number × (to ≡ output) × AskForLimit options limit
+AskForSamples _ from number to limit = ⊥
+
+-- This command is the `raw` that these words ask for.
+abbrev pub IsRaw : List (List ℕ) → Command → Type 0
+IsRaw words (command.Raw input page output limit) = AskForSamples words input.now page output.now limit
+IsRaw words _ = ⊥
+
+-- These words ask for the picture of the page of this number of a file, and for an output.
+abbrev pub AskForPicture : List (List ℕ) → List ℕ → ℕ → List ℕ → Type 0
+AskForPicture (input ∷ page ∷ output ∷ options) from number to = (from ≡ input) × IsNumber 32 page number × (to ≡ output) × (options ≡ [])
+AskForPicture _ from number to = ⊥
+
+-- This command is the `view` that these words ask for.
+abbrev pub IsView : List (List ℕ) → Command → Type 0
+IsView words (command.View input page output) = AskForPicture words input.now page output.now
+IsView words _ = ⊥
+
+-- These words ask for the check of a file, and for a limit, or for none.
+abbrev pub AskForCheck : List (List ℕ) → List ℕ → Option ℕ → Type 0
+AskForCheck (input ∷ options) from limit = (from ≡ input) × AskForLimit options limit
+AskForCheck [] from limit = ⊥
+
+-- This command is the `check` that these words ask for.
+abbrev pub IsCheck : List (List ℕ) → Command → Type 0
+IsCheck words (command.Check input limit) = AskForCheck words input.now limit
+IsCheck words _ = ⊥
 
 -- These words, behind the output of `jobs`, ask for a file of this kind, and for keeping going or not: each at most once, in
 -- any order.
@@ -13,15 +54,47 @@ AskForJobs words Classic true = words ≡ codes "--keep-going" ∷ []
 AskForJobs words Big false = words ≡ codes "big" ∷ []
 AskForJobs words Big true = (words ≡ codes "big" ∷ codes "--keep-going" ∷ []) ⊎ (words ≡ codes "--keep-going" ∷ codes "big" ∷ [])
 
--- This command is the `jobs` that these words ask for: the first names its output.
-abbrev pub IsJobs : List (List ℕ) → Command → Type 0
-IsJobs (output ∷ options) (command.Jobs name kind keep_going) = (name.now ≡ output) × AskForJobs options kind keep_going
-IsJobs _ _ = ⊥
+-- These words ask for jobs, whose file has this name: the first is its output.
+abbrev pub AskForFile : List (List ℕ) → List ℕ → FileKind → Bool → Type 0
+AskForFile (output ∷ options) name kind keep_going = (name ≡ output) × AskForJobs options kind keep_going
+AskForFile [] name kind keep_going = ⊥
 
--- These words ask for this command: of `jobs`, of the help and of the version.
+-- This command is the `jobs` that these words ask for.
+abbrev pub IsJobs : List (List ℕ) → Command → Type 0
+IsJobs words (command.Jobs output kind keep_going) = AskForFile words output.now kind keep_going
+IsJobs words _ = ⊥
+
+-- This name asks for the help.
+abbrev pub IsHelp : List ℕ → Type 0
+IsHelp name = (name ≡ codes "help") ⊎ (name ≡ codes "--help")
+
+-- This name, with these words behind it, asks for this command, which takes no options: of the help and of the version.
+abbrev pub IsPlain : List ℕ → List (List ℕ) → Command → Type 0
+IsPlain name words command.Help = IsHelp name × (words ≡ [])
+IsPlain name words command.Version = (name ≡ codes "--version") × (words ≡ [])
+IsPlain name words (command.Raw input page output limit) = ⊥
+IsPlain name words (command.View input page output) = ⊥
+IsPlain name words (command.Check input limit) = ⊥
+IsPlain name words (command.Jobs output kind keep_going) = ⊥
+IsPlain name words _ = ⊤
+
+-- This name, with these words behind it, asks for this command.
+abbrev pub IsAsked : List ℕ → List (List ℕ) → Command → Type 0
+IsAsked name words (command.Raw input page output limit) = (name ≡ codes "raw") × IsRaw words (command.Raw input page output limit)
+IsAsked name words (command.View input page output) = (name ≡ codes "view") × IsView words (command.View input page output)
+IsAsked name words (command.Check input limit) = (name ≡ codes "check") × IsCheck words (command.Check input limit)
+IsAsked name words (command.Jobs output kind keep_going) = (name ≡ codes "jobs") × IsJobs words (command.Jobs output kind keep_going)
+IsAsked name words command = IsPlain name words command
+
+-- These words ask for this command.
 abbrev pub AskFor : List (List ℕ) → Command → Type 0
-AskFor (name ∷ words) (command.Jobs output kind keep_going) = (name ≡ codes "jobs") × IsJobs words (command.Jobs output kind keep_going)
-AskFor words (command.Jobs output kind keep_going) = ⊥
-AskFor words command.Help = (words ≡ codes "help" ∷ []) ⊎ (words ≡ codes "--help" ∷ [])
-AskFor words command.Version = words ≡ codes "--version" ∷ []
-AskFor words _ = ⊤
+AskFor [] command = ⊥
+AskFor (name ∷ words) command = IsAsked name words command
+
+-- It is told exactly which words ask for this command.
+abbrev pub IsExact : Command → Type 0
+IsExact (command.Raw input page output limit) = Unit {0}
+IsExact (command.View input page output) = Unit {0}
+IsExact (command.Check input limit) = Unit {0}
+IsExact (command.Jobs output kind keep_going) = Unit {0}
+IsExact command = ⊥

@@ -1,16 +1,16 @@
 //! Every page of a file is read whole.
 
 ghost use Rattle.std.specs.Prelude.{◌≡◌, ◌<◌, [], IfErr, IfOk, IsSome, OnOk, Ok, Some, length, map};
-ghost use Rattle.tiff.specs.Answers.{Answers, AnswersWithoutSource, IsCause};
+ghost use Rattle.tiff.specs.Answers.{Answers, AnswersBut, AnswersWithoutSource, IsCause};
 ghost use Rattle.tiff.specs.Outcome.{chain_of};
 ghost use Rattle.tiff.specs.Result.{decoded_as};
 ghost use Rattle.tiff_laws.specs.Pages.{SameFile};
-ghost use Rattle.tiff_program.specs.Check.{IsCheckOf, ReadsPage, all_bytes, check_at, checks_in, checks_of, image_sum, planes_read, sum_of, whole_image};
+ghost use Rattle.tiff_program.specs.Check.{IsCheckOf, ReadsPage, all_bytes, check_at, checks_in, checks_of, checks_under, image_sum, planes_read, sum_of, whole_image};
 
 use crate::adler::adler_32;
 use std::alloc::Global;
-use tiff::decoder::{BufferLayoutPreference, Decoder, DecodingResult};
-use tiff::io::Source;
+use tiff::decoder::{BufferLayoutPreference, Decoder, DecodingResult, Limits};
+use tiff::io::{MemorySource, Source};
 use tiff::tags::IfdPointer;
 use tiff::{TiffError, TiffResult};
 use tiff_laws::pages::walk_seeks;
@@ -149,4 +149,14 @@ pub fn check_pages<R: Source>(alloc: Global, decoder: &mut Decoder<R>) -> TiffRe
         pages: checks,
         end: listed.end,
     })
+}
+
+/// The pages of a file, as [`check_pages`] checks them under limits; or the fault of the file's header, or of its first page, first.
+/// The file is opened under the limits by default.
+#[tactic(auto, unfolding(tiff_decode::specs::Outcome::set_limits))]
+pub fn check_file(alloc: Global, file: Vec<u8>, limits: Limits) -> TiffResult<FileCheck>
+    ensures { AnswersBut (Unit {0}) (Unit {0}) checks_in result (checks_under limits file.items) }
+{
+    let mut decoder = Decoder::new(alloc, MemorySource::new(file))?.with_limits(limits);
+    check_pages(alloc, &mut decoder)
 }

@@ -1,7 +1,7 @@
 //! The command line.
 
 ghost use Rattle.std.specs.Prelude.{◌≡◌, ◌⊎◌, [], ◌∷◌, IfNone, IfSome, Some, codes, map, string_bytes};
-ghost use Rattle.tiff_program.specs.Words.{AskFor, AskForJobs, IsJobs};
+ghost use Rattle.tiff_program.specs.Words.{AskFor, AskForJobs, AskForLimit, IsAsked, IsCheck, IsExact, IsHelp, IsJobs, IsNumber, IsPlain, IsRaw, IsView};
 
 use tiff::tags::FileKind;
 
@@ -15,8 +15,15 @@ pub enum Command<'a> {
         height: u32,
         input: &'a str,
     },
-    /// The samples of a page as bytes.
+    /// The samples of a page as bytes; no buffer is larger than the limit, where there is one.
     Raw {
+        input: &'a str,
+        page: u32,
+        output: &'a str,
+        limit: Option<usize>,
+    },
+    /// A page as a PNG file.
+    View {
         input: &'a str,
         page: u32,
         output: &'a str,
@@ -30,9 +37,10 @@ pub enum Command<'a> {
     List {
         input: &'a str,
     },
-    /// A line for each page, which is read whole.
+    /// A line for each page, which is read whole; no buffer is larger than the limit, where there is one.
     Check {
         input: &'a str,
+        limit: Option<usize>,
     },
     /// What the commands are.
     Help,
@@ -82,25 +90,96 @@ fn parse_jobs(words: &[String]) -> Option<Command<'_>>
     })
 }
 
-/// The command that the words are, if they are one.
-pub fn parse(words: &[String]) -> Option<Command<'_>>
-    ensures asked { IfSome result (AskFor (map string_bytes words.now)) }
-    ensures none { IfNone result ((output : _) → (kind : _) → (keep_going : _) → ¬ AskFor (map string_bytes words.now) (Command.Jobs output kind keep_going)) }
-    ensures help { (map string_bytes words.now ≡ codes "help" ∷ []) ⊎ (map string_bytes words.now ≡ codes "--help" ∷ []) → result ≡ Some Command.Help }
-    ensures version { map string_bytes words.now ≡ codes "--version" ∷ [] → result ≡ Some Command.Version }
+// The number of a page.
+fn page_number(word: &str) -> Option<u32>
+    ensures some { IfSome result (IsNumber 32 word.now) }
+    ensures none { IfNone result ((number : _) → ¬ IsNumber 32 word.now number) }
 {
-    let (name, rest) = words.split_first()?;
-    match (name.as_str(), rest) {
+    word.parse::<u32>().ok()
+}
+
+// A number of bytes.
+fn byte_count(word: &str) -> Option<usize>
+    ensures some { IfSome result (IsNumber 64 word.now) }
+    ensures none { IfNone result ((number : _) → ¬ IsNumber 64 word.now number) }
+{
+    word.parse::<usize>().ok()
+}
+
+// The limit, if there is one, as the words behind those of a command tell.
+fn limit_words(words: &[String]) -> Option<Option<usize>>
+    ensures some { IfSome result (AskForLimit (map string_bytes words.now)) }
+    ensures none { IfNone result ((limit : _) → ¬ AskForLimit (map string_bytes words.now) limit) }
+{
+    match words {
+        [] => Some(None),
+        [word, count] if word.as_str() == "--limit" => Some(Some(byte_count(count.as_str())?)),
+        _ => None,
+    }
+}
+
+// The samples that the words behind the command's name ask for.
+fn parse_raw(words: &[String]) -> Option<Command<'_>>
+    ensures some { IfSome result (IsRaw (map string_bytes words.now)) }
+    ensures none { IfNone result ((command : _) → ¬ IsRaw (map string_bytes words.now) command) }
+{
+    let (input, rest) = words.split_first()?;
+    let (number, rest) = rest.split_first()?;
+    let page = page_number(number.as_str())?;
+    let (output, options) = rest.split_first()?;
+    let limit = limit_words(options)?;
+    Some(Command::Raw {
+        input: input.as_str(),
+        page,
+        output: output.as_str(),
+        limit,
+    })
+}
+
+// The picture that the words behind the command's name ask for.
+fn parse_view(words: &[String]) -> Option<Command<'_>>
+    ensures some { IfSome result (IsView (map string_bytes words.now)) }
+    ensures none { IfNone result ((command : _) → ¬ IsView (map string_bytes words.now) command) }
+{
+    let (input, rest) = words.split_first()?;
+    let (number, rest) = rest.split_first()?;
+    let page = page_number(number.as_str())?;
+    let (output, rest) = rest.split_first()?;
+    if !rest.is_empty() {
+        return None;
+    }
+    Some(Command::View {
+        input: input.as_str(),
+        page,
+        output: output.as_str(),
+    })
+}
+
+// The check that the words behind the command's name ask for.
+fn parse_check(words: &[String]) -> Option<Command<'_>>
+    ensures some { IfSome result (IsCheck (map string_bytes words.now)) }
+    ensures none { IfNone result ((command : _) → ¬ IsCheck (map string_bytes words.now) command) }
+{
+    let (input, options) = words.split_first()?;
+    let limit = limit_words(options)?;
+    Some(Command::Check {
+        input: input.as_str(),
+        limit,
+    })
+}
+
+// The command of a name that takes no options.
+fn parse_plain<'a>(name: &str, words: &'a [String]) -> Option<Command<'a>>
+    ensures asked { IfSome result (IsPlain name.now (map string_bytes words.now)) }
+    ensures help { IsHelp name.now → words.now ≡ [] → result ≡ Some Command.Help }
+    ensures version { name.now ≡ codes "--version" → words.now ≡ [] → result ≡ Some Command.Version }
+{
+    match (name, words) {
         ("gray", [output, width, height, input]) => Some(Command::Gray {
             output: output.as_str(),
             width: width.as_str().parse::<u32>().ok()?,
             height: height.as_str().parse::<u32>().ok()?,
             input: input.as_str(),
-        }),
-        ("raw", [input, page, output]) => Some(Command::Raw {
-            input: input.as_str(),
-            page: page.as_str().parse::<u32>().ok()?,
-            output: output.as_str(),
         }),
         ("tags", [input, page]) => Some(Command::Tags {
             input: input.as_str(),
@@ -109,15 +188,38 @@ pub fn parse(words: &[String]) -> Option<Command<'_>>
         ("list", [input]) => Some(Command::List {
             input: input.as_str(),
         }),
-        ("check", [input]) => Some(Command::Check {
-            input: input.as_str(),
-        }),
         ("help" | "--help", []) => Some(Command::Help),
         ("--version", []) => Some(Command::Version),
         ("calls", [input]) => Some(Command::Calls {
             input: input.as_str(),
         }),
-        ("jobs", rest) => parse_jobs(rest),
         _ => None,
     }
+}
+
+// The command of a name, as the words behind it ask for it.
+fn parse_named<'a>(name: &str, words: &'a [String]) -> Option<Command<'a>>
+    ensures asked { IfSome result (IsAsked name.now (map string_bytes words.now)) }
+    ensures none { IfNone result ((command : _) → IsExact command → ¬ IsAsked name.now (map string_bytes words.now) command) }
+    ensures help { IsHelp name.now → words.now ≡ [] → result ≡ Some Command.Help }
+    ensures version { name.now ≡ codes "--version" → words.now ≡ [] → result ≡ Some Command.Version }
+{
+    match name {
+        "raw" => parse_raw(words),
+        "view" => parse_view(words),
+        "check" => parse_check(words),
+        "jobs" => parse_jobs(words),
+        _ => parse_plain(name, words),
+    }
+}
+
+/// The command that the words are, if they are one.
+pub fn parse(words: &[String]) -> Option<Command<'_>>
+    ensures asked { IfSome result (AskFor (map string_bytes words.now)) }
+    ensures none { IfNone result ((command : _) → IsExact command → ¬ AskFor (map string_bytes words.now) command) }
+    ensures help { (map string_bytes words.now ≡ codes "help" ∷ []) ⊎ (map string_bytes words.now ≡ codes "--help" ∷ []) → result ≡ Some Command.Help }
+    ensures version { map string_bytes words.now ≡ codes "--version" ∷ [] → result ≡ Some Command.Version }
+{
+    let (name, rest) = words.split_first()?;
+    parse_named(name.as_str(), rest)
 }

@@ -1,9 +1,13 @@
 //! The pages of a file as lines.
 
-use crate::check::{FileCheck, ImageSum, PageCheck, check_pages};
+ghost use Rattle.std.specs.Prelude.{◌≡◌, MatchResult};
+ghost use Rattle.tiff.specs.Answers.{AnswersBut};
+ghost use Rattle.tiff_program.specs.Check.{are_well, told_under};
+
+use crate::check::{FileCheck, ImageSum, PageCheck, check_file, check_pages};
 use std::alloc::{AllocError, Global};
 use std::fmt::Write;
-use tiff::decoder::{ChunkType, Decoder};
+use tiff::decoder::{ChunkType, Decoder, Limits};
 use tiff::io::{MemorySource, Source};
 use tiff::{ColorType, TiffError, TiffResult};
 use tiff_pages::pages::{PageFacts, PageItem, PageList, pages};
@@ -112,16 +116,38 @@ fn push_check(text: &mut String, number: usize, check: &PageCheck) -> Result<(),
     text.push_str("\n")
 }
 
+// Whether the image of each page was read.
+fn are_well(checks: &[PageCheck]) -> bool
+    ensures { result ≡ are_well checks.now }
+{
+    checks.iter().all(|check| check.image.is_ok())
+}
+
+// A line for each page that was read whole.
+fn check_text(alloc: Global, checks: &[PageCheck]) -> Result<String, AllocError> {
+    let mut text = String::new(alloc);
+    for (number, check) in checks.iter().enumerate() {
+        push_check(&mut text, number, check)?;
+    }
+    Ok(text)
+}
+
+// What is told of pages that were read whole.
+fn told(alloc: Global, checked: FileCheck) -> TiffResult<PageLines>
+    ensures { MatchResult result (λ lines. (lines.well ≡ are_well checked.pages.items) × (lines.end ≡ checked.end)) (λ e. e ≡ TiffError.OutOfMemory) }
+{
+    let text = check_text(alloc, &checked.pages)?;
+    let well = are_well(&checked.pages);
+    Ok(PageLines {
+        text,
+        end: checked.end,
+        well,
+    })
+}
+
 /// The pages of a decoder's file, each read whole, a line for each.
 pub fn check_lines<R: Source>(alloc: Global, decoder: &mut Decoder<R>) -> TiffResult<PageLines> {
-    let FileCheck { pages, end } = check_pages(alloc, decoder)?;
-    let mut text = String::new(alloc);
-    let mut well = true;
-    for (number, check) in pages.iter().enumerate() {
-        push_check(&mut text, number, check)?;
-        well = well && check.image.is_ok();
-    }
-    Ok(PageLines { text, end, well })
+    told(alloc, check_pages(alloc, decoder)?)
 }
 
 /// The pages of a file, as [`list_lines`] tells them; or the fault of the file's header, or of its first page, first.
@@ -130,8 +156,10 @@ pub fn file_list(alloc: Global, file: Vec<u8>) -> TiffResult<PageLines> {
     list_lines(alloc, &mut decoder)
 }
 
-/// The pages of a file, as [`check_lines`] tells them; or the fault of the file's header, or of its first page, first.
-pub fn file_check(alloc: Global, file: Vec<u8>) -> TiffResult<PageLines> {
-    let mut decoder = Decoder::new(alloc, MemorySource::new(file))?;
-    check_lines(alloc, &mut decoder)
+/// The pages of a file, as [`check_lines`] tells them under limits; or the fault of the file's header, or of its first page, first. It
+/// is well where each page was read.
+pub fn file_check(alloc: Global, file: Vec<u8>, limits: Limits) -> TiffResult<PageLines>
+    ensures { AnswersBut (Unit {0}) (Unit {0}) (λ lines. (lines.well, lines.end)) result (told_under limits file.items) }
+{
+    told(alloc, check_file(alloc, file, limits)?)
 }

@@ -1,25 +1,28 @@
 //! What the program does.
 
 ghost use Rattle.std.specs.Prelude.{◌≡◌, ◌≤◌, IfOk, MatchOption, None, Ok, true};
+ghost use Rattle.tiff_program.specs.AtPage.{limits_for};
 
 use crate::calls::replies_to;
 use crate::command::{Command, parse};
 use crate::files::Files;
-use crate::gray::gray_file;
 use crate::help::{HELP, VERSION};
 use crate::jobs::{Written, write_by};
 use crate::list::{PageLines, file_check, file_list};
 use crate::listing::page_tags;
 use crate::samples::page_samples;
+use crate::view::page_picture;
 use std::alloc::Global;
 use std::fmt;
 use std::io::Write;
 use tiff::TiffError;
+use tiff::decoder::Limits;
 use tiff::decoder::script::Call;
 use tiff::encoder::script::Job;
 use tiff::tags::FileKind;
 use tiff_lists::call::calls_of;
 use tiff_lists::jobs::jobs_of;
+use tiff_uses::gray_file;
 
 /// Why a command was not done.
 #[derive(Drop)]
@@ -149,6 +152,17 @@ fn job_replies<'a, F: Files>(
     write_kept(output, written, files)
 }
 
+// Writes bytes, and tells nothing.
+fn write_alone<'a, F: Files>(
+    alloc: Global,
+    files: &mut F,
+    name: &'a str,
+    bytes: &[u8],
+) -> Result<PageLines, Failure<'a>> {
+    write(files, name, bytes)?;
+    Ok(told(String::new(alloc)))
+}
+
 // Writes the file of a gray page, whose samples are the bytes of the input.
 fn write_gray<'a, F: Files>(
     alloc: Global,
@@ -156,23 +170,48 @@ fn write_gray<'a, F: Files>(
     (width, height): (u32, u32),
     input: &'a str,
     files: &mut F,
-) -> Result<(), Failure<'a>> {
+) -> Result<PageLines, Failure<'a>> {
     let samples = read(files, input)?;
     let file = gray_file(alloc, width, height, &samples)?;
-    write(files, output, &file)
+    write_alone(alloc, files, output, &file)
+}
+
+// The limits that a command asks for.
+fn limits_for(limit: Option<usize>) -> Limits
+    ensures { result ≡ limits_for limit }
+{
+    let mut limits = Limits::default();
+    if let Some(bytes) = limit {
+        limits.decoding_buffer_size = bytes;
+        limits.intermediate_buffer_size = bytes;
+    }
+    limits
 }
 
 // Writes the samples of a page.
 fn write_samples<'a, F: Files>(
     alloc: Global,
     input: &'a str,
+    (page, limit): (u32, Option<usize>),
+    output: &'a str,
+    files: &mut F,
+) -> Result<PageLines, Failure<'a>> {
+    let file = read(files, input)?;
+    let samples = page_samples(alloc, file, page, limits_for(limit))?;
+    write_alone(alloc, files, output, &samples)
+}
+
+// Writes the picture of a page.
+fn write_picture<'a, F: Files>(
+    alloc: Global,
+    input: &'a str,
     page: u32,
     output: &'a str,
     files: &mut F,
-) -> Result<(), Failure<'a>> {
+) -> Result<PageLines, Failure<'a>> {
     let file = read(files, input)?;
-    let samples = page_samples(alloc, file, page)?;
-    write(files, output, &samples)
+    let picture = page_picture(alloc, file, page)?;
+    write_alone(alloc, files, output, &picture)
 }
 
 // The entries of a page of a file, a line for each.
@@ -200,10 +239,11 @@ fn list_pages<'a, F: Files>(
 fn check_pages<'a, F: Files>(
     alloc: Global,
     input: &'a str,
+    limit: Option<usize>,
     files: &mut F,
 ) -> Result<PageLines, Failure<'a>> {
     let file = read(files, input)?;
-    Ok(file_check(alloc, file)?)
+    Ok(file_check(alloc, file, limits_for(limit))?)
 }
 
 // Lines that are well.
@@ -232,21 +272,21 @@ fn execute<'a, F: Files>(
             width,
             height,
             input,
-        } => {
-            write_gray(alloc, output, (width, height), input, files)?;
-            Ok(told(String::new(alloc)))
-        }
+        } => write_gray(alloc, output, (width, height), input, files),
         Command::Raw {
             input,
             page,
             output,
-        } => {
-            write_samples(alloc, input, page, output, files)?;
-            Ok(told(String::new(alloc)))
-        }
+            limit,
+        } => write_samples(alloc, input, (page, limit), output, files),
+        Command::View {
+            input,
+            page,
+            output,
+        } => write_picture(alloc, input, page, output, files),
         Command::Tags { input, page } => Ok(told(list_page(alloc, input, page, files)?)),
         Command::List { input } => list_pages(alloc, input, files),
-        Command::Check { input } => check_pages(alloc, input, files),
+        Command::Check { input, limit } => check_pages(alloc, input, limit, files),
         Command::Calls { input } => Ok(told(call_replies(alloc, input, files)?)),
         Command::Jobs {
             output,

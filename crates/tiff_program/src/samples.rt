@@ -1,7 +1,7 @@
 //! The samples of a page.
 
 ghost use Rattle.tiff.specs.Result.{decoded_as};
-ghost use Rattle.tiff_program.specs.AtPage.{AnswersIn, VisitsPage};
+ghost use Rattle.tiff_program.specs.AtPage.{AnswersUnder, VisitsPage};
 ghost use Rattle.tiff_program.specs.Samples.{page_image, sample_bytes};
 
 use crate::calls::replies_to_both;
@@ -9,7 +9,7 @@ use crate::replies::{image_read, sought};
 use std::alloc::Global;
 use tiff::TiffResult;
 use tiff::decoder::script::Call;
-use tiff::decoder::{Decoder, DecodingResult};
+use tiff::decoder::{Decoder, DecodingResult, Limits};
 use tiff::io::{MemorySource, Source};
 
 // The image of a page.
@@ -37,11 +37,12 @@ pub fn image_bytes<R: Source>(
     samples.as_buffer(0).as_bytes(alloc)
 }
 
-/// The samples of the image of a page of a file as bytes, the lowest of each first; or the fault of the file's header, of the seek
-/// to the page, or of the image.
-pub fn page_samples(alloc: Global, file: Vec<u8>, page: u32) -> TiffResult<Vec<u8>>
-    ensures { AnswersIn (λ v. v.items) sample_bytes result file.items page }
+/// The samples of the image of a page of a file as bytes, the lowest of each first, under limits; or the fault of the file's header,
+/// or of its first page, of the seek to the page, or of the image. The file is opened under the limits by default.
+#[tactic(auto, unfolding(tiff_decode::specs::Outcome::set_limits))]
+pub fn page_samples(alloc: Global, file: Vec<u8>, page: u32, limits: Limits) -> TiffResult<Vec<u8>>
+    ensures { AnswersUnder (λ v. v.items) sample_bytes limits result file.items page }
 {
-    let mut decoder = Decoder::new(alloc, MemorySource::new(file))?;
+    let mut decoder = Decoder::new(alloc, MemorySource::new(file))?.with_limits(limits);
     image_bytes(alloc, &mut decoder, page as usize)
 }

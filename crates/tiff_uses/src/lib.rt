@@ -132,13 +132,17 @@ pub fn image_of_chunks<R: Source>(decoder: &mut Decoder<R>, buffer: &mut [u8]) -
     decoder.read_image_bytes(buffer)
 }
 
+// Room for what a file has beside its samples; one of many strips takes more as it grows.
+const FRAME: usize = 4096;
+
 /// A file of one gray page, which shows the samples; or the first cause that refuses it, as `write_image` tells it.
 #[tactic(auto, using(tiff_base::proofs::MemoryFaults::header_refused))]
 pub fn gray_file(alloc: Global, width: u32, height: u32, samples: &[u8]) -> TiffResult<Vec<u8>>
     ensures answer { AnswersGray width height samples.now (view_of_result (λ v. v.items) result) }
     ensures shows { IfOk result (λ file. ShowsGray file.items width height samples.now) }
 {
-    let mut encoder = TiffEncoder::new(alloc, MemorySink::new(Vec::new(alloc)))?;
+    let room = Vec::with_capacity(alloc, samples.len().saturating_add(FRAME))?;
+    let mut encoder = TiffEncoder::new(alloc, MemorySink::new(room))?;
     let written = encoder.write_image::<Gray8>(width, height, samples);
     let file = encoder.into_inner().into_vec();
     written?;

@@ -161,7 +161,7 @@ fn samples_of_two_bytes_are_written_lowest_first(rt: HostRuntime) -> Result<(), 
 
 // A command line, its status and its line on the error stream; IN has three bytes, ONE the file of one sample, CUT that file without
 // its last byte, and standard input NO_CALL.
-const FAULTS: [(&[&str], u8, &[u8]); 46] = [
+const FAULTS: [(&[&str], u8, &[u8]); 60] = [
     (
         &["gray", "OUT", "0", "5", "IN"],
         1,
@@ -271,6 +271,36 @@ const FAULTS: [(&[&str], u8, &[u8]); 46] = [
         &["jobs", "FULL", "--keep-going"],
         2,
         b"error: line 1 is no job\n",
+    ),
+    (
+        &["raw", "ONE", "0", "OUT", "--limit", "0"],
+        1,
+        b"error: decoder limits exceeded\n",
+    ),
+    (&["raw", "ONE", "0", "OUT", "--limit"], 2, USAGE),
+    (&["raw", "ONE", "0", "OUT", "--limit", "-1"], 2, USAGE),
+    (&["raw", "ONE", "0", "OUT", "--limit", "0x10"], 2, USAGE),
+    (
+        &["raw", "ONE", "0", "OUT", "--limit", "18446744073709551616"],
+        2,
+        USAGE,
+    ),
+    (&["raw", "ONE", "0", "--limit", "9", "OUT"], 2, USAGE),
+    (&["check", "ONE", "--limit"], 2, USAGE),
+    (&["check", "ONE", "--limit", "9", "9"], 2, USAGE),
+    (&["check", "--limit", "9", "ONE"], 2, USAGE),
+    (&["view", "ONE", "0"], 2, USAGE),
+    (&["view", "ONE", "-1", "OUT"], 2, USAGE),
+    (&["view", "ONE", "0", "OUT", "9"], 2, USAGE),
+    (
+        &["view", "ONE", "1", "OUT"],
+        1,
+        b"error: format error: image file directory not found\n",
+    ),
+    (
+        &["view", "ONE", "0", "FULL"],
+        1,
+        b"error: cannot write FULL\n",
     ),
 ];
 
@@ -396,7 +426,7 @@ fn the_version_is_told(rt: HostRuntime) -> Result<(), Fail> {
     let mut files = MemoryFiles::with(rt.alloc(), "IN", &[7])?;
     let run = run_words(rt.alloc(), &mut files, &["--version"])?;
     assert_eq!(rt; run.status, 0);
-    assert_eq!(rt; run.out.as_slice(), b"tiffpage 1\n".as_slice());
+    assert_eq!(rt; run.out.as_slice(), b"tiffpage 2\n".as_slice());
     assert_eq!(rt; run.err.len(), 0);
     Ok(())
 }
@@ -680,6 +710,104 @@ fn streams_that_are_full_are_a_fault(rt: HostRuntime) -> Result<(), Fail> {
         let (mut out, mut err) = (out_room.as_mut_slice(), err_room.as_mut_slice());
         let status = run(rt.alloc(), all.as_slice(), &mut files, &mut out, &mut err);
         assert_eq!(rt; status, wanted);
+    }
+    Ok(())
+}
+
+// A page of one gray sample 7, as a PNG file: its signature, IHDR, IDAT and IEND.
+const GRAY_PICTURE: [u8; 70] = [
+    0x89, 0x50, 0x4e, 0x47, 0x0d, 0x0a, 0x1a, 0x0a, //
+    0x00, 0x00, 0x00, 0x0d, 0x49, 0x48, 0x44, 0x52, 0x00, 0x00, 0x00, 0x01, 0x00, 0x00, 0x00, 0x01,
+    0x08, 0x00, 0x00, 0x00, 0x00, 0x3a, 0x7e, 0x9b, 0x55, //
+    0x00, 0x00, 0x00, 0x0d, 0x49, 0x44, 0x41, 0x54, 0x78, 0x01, 0x01, 0x02, 0x00, 0xfd, 0xff, 0x00,
+    0x07, 0x00, 0x09, 0x00, 0x08, 0xb9, 0xac, 0x86, 0x87, //
+    0x00, 0x00, 0x00, 0x00, 0x49, 0x45, 0x4e, 0x44, 0xae, 0x42, 0x60, 0x82,
+];
+
+// One of two pixels of RGB.
+const RGB_PICTURE: [u8; 75] = [
+    0x89, 0x50, 0x4e, 0x47, 0x0d, 0x0a, 0x1a, 0x0a, //
+    0x00, 0x00, 0x00, 0x0d, 0x49, 0x48, 0x44, 0x52, 0x00, 0x00, 0x00, 0x02, 0x00, 0x00, 0x00, 0x01,
+    0x08, 0x02, 0x00, 0x00, 0x00, 0x7b, 0x40, 0xe8, 0xdd, //
+    0x00, 0x00, 0x00, 0x12, 0x49, 0x44, 0x41, 0x54, 0x78, 0x01, 0x01, 0x07, 0x00, 0xf8, 0xff, 0x00,
+    0x01, 0x02, 0x03, 0x04, 0x05, 0x06, 0x00, 0x3f, 0x00, 0x16, 0x68, 0x41, 0x5f, 0x8d, //
+    0x00, 0x00, 0x00, 0x00, 0x49, 0x45, 0x4e, 0x44, 0xae, 0x42, 0x60, 0x82,
+];
+
+// One of a pixel of RGB, whose samples are the highest bytes of those of 16 bits.
+const WIDE_PICTURE: [u8; 72] = [
+    0x89, 0x50, 0x4e, 0x47, 0x0d, 0x0a, 0x1a, 0x0a, //
+    0x00, 0x00, 0x00, 0x0d, 0x49, 0x48, 0x44, 0x52, 0x00, 0x00, 0x00, 0x01, 0x00, 0x00, 0x00, 0x01,
+    0x08, 0x02, 0x00, 0x00, 0x00, 0x90, 0x77, 0x53, 0xde, //
+    0x00, 0x00, 0x00, 0x0f, 0x49, 0x44, 0x41, 0x54, 0x78, 0x01, 0x01, 0x04, 0x00, 0xfb, 0xff, 0x00,
+    0x01, 0x03, 0x05, 0x00, 0x12, 0x00, 0x0a, 0x02, 0x33, 0x33, 0x40, //
+    0x00, 0x00, 0x00, 0x00, 0x49, 0x45, 0x4e, 0x44, 0xae, 0x42, 0x60, 0x82,
+];
+
+// Jobs that write a page, and the PNG file of its picture, by Python's zlib.
+const PICTURES: [(&str, &[u8]); 3] = [
+    ("image Gray8 1 1\nwrite_data 7", &GRAY_PICTURE),
+    ("image RGB8 2 1\nwrite_data 1 2 3 4 5 6", &RGB_PICTURE),
+    ("image RGB16 1 1\nwrite_data 102 304 506", &WIDE_PICTURE),
+];
+
+#[test]
+fn pictures_are_written(rt: HostRuntime) -> Result<(), Fail> {
+    for (page, picture) in PICTURES {
+        let mut files = MemoryFiles::with(rt.alloc(), "-", page.as_bytes())?;
+        let written = run_words(rt.alloc(), &mut files, &["jobs", "PAGE"])?;
+        assert_eq!(rt; written.status, 0);
+        let view = run_words(rt.alloc(), &mut files, &["view", "PAGE", "0", "OUT"])?;
+        assert_eq!(rt; view.status, 0);
+        assert_eq!(rt; view.out.len() + view.err.len(), 0);
+        assert_eq!(rt; files.read("OUT")?.as_slice(), picture);
+    }
+    Ok(())
+}
+
+// Jobs that write a page that has no picture, and why.
+const NO_PICTURES: [(&str, &[u8]); 2] = [
+    (
+        "image CMYK8 1 1\nwrite_data 1 2 3 4",
+        b"error: unsupported error: color type CMYK(8) is unsupported\n",
+    ),
+    (
+        "image GrayI16 1 1\nwrite_data 5",
+        b"error: unsupported error: unsupported data type\n",
+    ),
+];
+
+#[test]
+fn other_pages_have_no_picture(rt: HostRuntime) -> Result<(), Fail> {
+    for (page, line) in NO_PICTURES {
+        let mut files = MemoryFiles::with(rt.alloc(), "-", page.as_bytes())?;
+        let written = run_words(rt.alloc(), &mut files, &["jobs", "PAGE"])?;
+        assert_eq!(rt; written.status, 0);
+        let view = run_words(rt.alloc(), &mut files, &["view", "PAGE", "0", "OUT"])?;
+        assert_eq!(rt; view.status, 1);
+        assert_eq!(rt; view.err.as_slice(), line);
+        assert!(rt; files.read("OUT").is_err());
+    }
+    Ok(())
+}
+
+const ONE_LIMITED: &[u8] = b"0 25 error: decoder limits exceeded\n";
+
+#[test]
+fn a_limit_refuses_and_lets_through(rt: HostRuntime) -> Result<(), Fail> {
+    let mut files = MemoryFiles::with(rt.alloc(), "IN", ONE.as_slice())?;
+    let raw = run_words(
+        rt.alloc(),
+        &mut files,
+        &["raw", "IN", "0", "OUT", "--limit", "1"],
+    )?;
+    assert_eq!(rt; raw.status, 0);
+    assert_eq!(rt; files.read("OUT")?.as_slice(), [7].as_slice());
+    for (limit, status, line) in [("0", 1, ONE_LIMITED), ("1", 0, ONE_CHECKED)] {
+        let check = run_words(rt.alloc(), &mut files, &["check", "IN", "--limit", limit])?;
+        assert_eq!(rt; check.status, status);
+        assert_eq!(rt; check.out.as_slice(), line);
+        assert_eq!(rt; check.err.len(), 0);
     }
     Ok(())
 }

@@ -1,19 +1,24 @@
-//! Writes the bytes of a file as a gray TIFF page, and the samples of a page into a file, lists the entries of a page and
-//! the pages of a file, reads every page whole, makes the calls of a list, and writes a file by the jobs of one.
+//! Writes the bytes of a file as a gray TIFF page, and the samples and the picture of a page into a file, lists the entries of a page
+//! and the pages of a file, reads every page whole, makes the calls of a list, and writes a file by the jobs of one.
 #![tactic(auto)]
 
 mod files;
+mod words;
 
 use files::MachineFiles;
+use std::io;
 use std::process::ExitCode;
-use std::{env, io};
 use tiff_program::program::run;
+use words::words;
 
 fn main(rt: HostRuntime) -> io::Result<ExitCode> {
-    let mut words = Vec::new(rt.alloc());
-    for word in env::args(&rt)?.skip(1) {
-        words.push(word)?;
-    }
+    let words = match words(&rt)? {
+        Ok(words) => words,
+        Err(place) => {
+            eprintln!(rt; "tiffpage: word {place} is not UTF-8")?;
+            return Ok(ExitCode::from(2));
+        }
+    };
     let mut files = MachineFiles::new(&rt);
     let mut out = rt.stdout();
     let mut err = rt.stderr();

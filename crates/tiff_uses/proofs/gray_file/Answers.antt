@@ -12,7 +12,7 @@ pub returns-in_err-written-clause-answer : goal.returns-in_err-written-clause-an
 unfolding color_type inner_type
 returns-in_err-written-clause-answer c =
     let told = gray_answered c.args.width c.args.height c.args.samples.now _ _ c.in_ok-encoder.encoder c.write_image-written.new.self (Err c.in_err-written.field-0.0)
-    c.in_ok-encoder.ensures.answer (c.new-2.ensures ∙ c.new.ensures.items) c.in_err-written.ensures.answer
+    c.in_ok-encoder.ensures.answer (c.new.ensures ∙ c.in_ok-room.ensures.items) c.in_err-written.ensures.answer
     (only_memory c.write_image-written.new.self.fault c.into_inner.result.refused c.into_inner.ensures.fault) tt in
     search rules
 
@@ -20,13 +20,13 @@ pub returns-clause-answer : goal.returns-clause-answer
 unfolding color_type inner_type
 returns-clause-answer c =
     gray_answered c.args.width c.args.height c.args.samples.now _ _ c.in_ok-encoder.encoder c.write_image-written.new.self (Ok c.into_vec-file.result.items)
-    c.in_ok-encoder.ensures.answer (c.new-2.ensures ∙ c.new.ensures.items) c.in_ok-written.ensures.answer
+    c.in_ok-encoder.ensures.answer (c.new.ensures ∙ c.in_ok-room.ensures.items) c.in_ok-written.ensures.answer
     (only_memory c.write_image-written.new.self.fault c.into_inner.result.refused c.into_inner.ensures.fault) (c.into_vec-file.ensures ∙ c.into_inner.ensures.bytes)
 
 pub returns-clause-shows : goal.returns-clause-shows
 returns-clause-shows c =
     let encoder = c.in_ok-encoder.encoder in
-    let empty = c.new-2.ensures ∙ c.new.ensures.items in
+    let empty = c.new.ensures ∙ c.in_ok-room.ensures.items in
     let header = c.in_ok-encoder.ensures.leaves empty in
     let is = c.in_ok-encoder.ensures.answer in
     let kind = sym (ap (λ e. e.kind) is) in
