@@ -2,8 +2,8 @@
 
      calls FILE ..
 
-   makes those that read on the first three pages of each file, and tiff_write_image on images of all colors, methods, predictors and kinds of
-   files. A refused request has to be answered TIFF_OUT_OF_MEMORY, with nothing written into the answer but as mangohatch_tiff.h says, or, where the call does
+   makes those that read on the first three pages of each file, tiff_write_image on images of all colors, methods, predictors and kinds of
+   files, and tiff_write_jobs on two lists of jobs. A refused request has to be answered TIFF_OUT_OF_MEMORY, with nothing written into the answer but as mangohatch_tiff.h says, or, where the call does
    without it, as at first; no block may be left behind; and the call that is made again has to answer what it answered at first. It prints a
    line for each call; what isn't as it has to be stands on standard error, and the status is 1 then. */
 #include "heap.h"
@@ -37,18 +37,23 @@ struct answer {
     struct tiff_sides sides;
     struct tiff_layout layout;
     struct tiff_color color;
+    struct tiff_samples samples;
     struct tiff_chunks chunks;
     struct tiff_field field;
     size_t number;
     uint64_t value;
     uint32_t order;
+    struct tiff_jobs_end end;
     struct tiff_listed_page pages[LISTED];
+    uint64_t numbers[LISTED];
+    double floats[LISTED];
     uint8_t bytes[ROOM];
     uint8_t guard[GUARD];
 };
 
-/* What a refusal leaves: all as it was; all but the bytes of the buffer; all but a count of 0. */
-enum left { ALL, BUT_BYTES, BUT_COUNT };
+/* What a refusal leaves: all as it was; all but the bytes of the buffer; all but a count of 0; all but an end at no line, which may be at a job
+   that found no memory. */
+enum left { ALL, BUT_BYTES, BUT_COUNT, BUT_END };
 
 struct call {
     const char *name;
@@ -67,6 +72,10 @@ static tiff_status image_bytes(const struct input *on, struct answer *to) {
 static tiff_status page_layout(const struct input *on, struct answer *to) { return tiff_page_layout(on->file, on->len, on->page, &to->layout); }
 
 static tiff_status page_color(const struct input *on, struct answer *to) { return tiff_page_color(on->file, on->len, on->page, &to->color); }
+
+static tiff_status page_samples(const struct input *on, struct answer *to) {
+    return tiff_page_samples(on->file, on->len, on->page, &to->samples);
+}
 
 static tiff_status page_chunks(const struct input *on, struct answer *to) { return tiff_page_chunks(on->file, on->len, on->page, &to->chunks); }
 
@@ -104,10 +113,41 @@ static tiff_status offset_bytes(const struct input *on, struct answer *to) {
     return tiff_tag_bytes(on->file, on->len, on->page, 273, 1, to->bytes, 6, &to->number);
 }
 
+static tiff_status bits_numbers(const struct input *on, struct answer *to) {
+    return tiff_tag_numbers(on->file, on->len, on->page, 258, to->numbers, LISTED, &to->number);
+}
+
+static tiff_status offset_numbers(const struct input *on, struct answer *to) {
+    return tiff_tag_numbers(on->file, on->len, on->page, 273, to->numbers, LISTED, &to->number);
+}
+
+static tiff_status scale_floats(const struct input *on, struct answer *to) {
+    return tiff_tag_floats(on->file, on->len, on->page, 33550, to->floats, LISTED, &to->number);
+}
+
+static tiff_status description_text(const struct input *on, struct answer *to) {
+    return tiff_tag_text(on->file, on->len, on->page, 270, to->bytes, ROOM, &to->number);
+}
+
+static tiff_status software_text(const struct input *on, struct answer *to) {
+    return tiff_tag_text(on->file, on->len, on->page, 305, to->bytes, ROOM, &to->number);
+}
+
 static tiff_status byte_order(const struct input *on, struct answer *to) { return tiff_byte_order(on->file, on->len, &to->order); }
 
 static tiff_status write_image(const struct input *on, struct answer *to) {
     return tiff_write_image(&on->image, on->file, on->len, to->bytes, on->size, &to->number);
+}
+
+/* a page with a tag of one's own, and one that is refused */
+static tiff_status write_jobs(const struct input *on, struct answer *to) {
+    static const char jobs[] = "image Gray8 2 1\nwrite_tag 270 text words\nwrite_data 1 2\n";
+    return tiff_write_jobs(on->image.version, (const uint8_t *)jobs, sizeof jobs - 1, to->bytes, on->size, &to->number, &to->end);
+}
+
+static tiff_status refused_jobs(const struct input *on, struct answer *to) {
+    static const char jobs[] = "image Gray8 1 1\nwrite_data 7\nimage Gray8 0 1\nfinish\n";
+    return tiff_write_jobs(on->image.version, (const uint8_t *)jobs, sizeof jobs - 1, to->bytes, on->size, &to->number, &to->end);
 }
 
 static tiff_status fault_text(const struct input *on, struct answer *to) {
@@ -122,6 +162,7 @@ static const struct call readers[] = {
     {"tiff_read_image_bytes", BUT_BYTES, image_bytes},
     {"tiff_page_layout", ALL, page_layout},
     {"tiff_page_color", ALL, page_color},
+    {"tiff_page_samples", ALL, page_samples},
     {"tiff_page_chunks", ALL, page_chunks},
     {"tiff_list_pages", BUT_COUNT, list_pages},
     {"tiff_read_chunk_bytes", BUT_BYTES, chunk_bytes},
@@ -133,10 +174,19 @@ static const struct call readers[] = {
     {"tiff_tag_number (259)", ALL, method_number},
     {"tiff_tag_bytes (258)", BUT_BYTES, bits_bytes},
     {"tiff_tag_bytes (273)", BUT_BYTES, offset_bytes},
+    {"tiff_tag_numbers (258)", ALL, bits_numbers},
+    {"tiff_tag_numbers (273)", ALL, offset_numbers},
+    {"tiff_tag_floats (33550)", ALL, scale_floats},
+    {"tiff_tag_text (270)", ALL, description_text},
+    {"tiff_tag_text (305)", ALL, software_text},
     {"tiff_byte_order", ALL, byte_order},
     {"tiff_fault_text", ALL, fault_text},
 };
 static const struct call writer = {"tiff_write_image", ALL, write_image};
+static const struct call job_writers[] = {
+    {"tiff_write_jobs", BUT_END, write_jobs},
+    {"tiff_write_jobs (refused)", BUT_END, refused_jobs},
+};
 
 /* == A request that is refused */
 
@@ -161,6 +211,7 @@ static tiff_status made(const struct call *call, const struct input *on, struct 
 static _Bool stays(enum left left) {
     struct answer want = pattern;
     if (left == BUT_COUNT) want.number = 0;
+    if (left == BUT_END) want.end = (struct tiff_jobs_end){0, got.end.job};
     if (left == BUT_BYTES)
         for (size_t at = 0; at < ROOM; at++) want.bytes[at] = got.bytes[at];
     return memcmp(&want, &got, sizeof got) == 0;
@@ -247,6 +298,15 @@ static void try_color(uint32_t color) {
         }
 }
 
+/* Jobs, in a buffer with room and in one without. */
+static void try_jobs(const struct call *call) {
+    for (uint16_t version = TIFF_CLASSIC; version <= TIFF_BIG; version++)
+        for (size_t size = 0; size <= ROOM; size += ROOM) {
+            struct input on = {.name = "jobs", .image = {.version = version}, .size = size};
+            try_call(call, &on);
+        }
+}
+
 int main(int argc, char **argv) {
     memset(&pattern, PATTERN, sizeof pattern);
     alarm(SECONDS);
@@ -256,6 +316,10 @@ int main(int argc, char **argv) {
     }
     for (uint32_t color = TIFF_GRAY8; color <= TIFF_CMYKA8 + 1; color++) try_color(color);
     tell(&writer);
+    for (size_t call = 0; call < sizeof job_writers / sizeof *job_writers; call++) {
+        try_jobs(&job_writers[call]);
+        tell(&job_writers[call]);
+    }
     dprintf(1, "tiff_c: %zu requests refused, each then made again\n", refused);
     return is_well ? 0 : 1;
 }

@@ -24,20 +24,11 @@ static uint8_t *read_file(const char *name, size_t *len) {
     return file;
 }
 
-/* The first offset of the tag, in the file's byte order: 4 bytes, in BigTIFF 8. */
+/* The first offset of the tag. */
 static tiff_status sub_ifd(const uint8_t *file, size_t len, uint64_t *offset) {
-    struct tiff_field field;
-    uint32_t order;
-    uint8_t bytes[8];
-    size_t width;
-    tiff_status status = tiff_byte_order(file, len, &order);
-    if (status == TIFF_DONE) status = tiff_tag_field(file, len, 0, SUB_IFDS, &field);
-    if (status != TIFF_DONE) return status;
-    width = field.kind == 16 || field.kind == 18 ? 8 : 4;
-    status = tiff_tag_bytes(file, len, 0, SUB_IFDS, 0, bytes, width, &width);
-    *offset = 0;
-    for (size_t at = 0; at < width; at++) *offset = *offset << 8 | bytes[order == TIFF_BIG_ENDIAN ? at : width - 1 - at];
-    return status;
+    size_t count;
+    tiff_status status = tiff_tag_numbers(file, len, 0, SUB_IFDS, offset, 1, &count);
+    return status == TIFF_DONE && count == 0 ? TIFF_REQUIRED_TAG_NOT_FOUND : status;
 }
 
 static tiff_status write_image(const uint8_t *file, size_t len, uint64_t offset) {

@@ -14,13 +14,18 @@ DESCRIPTION
     or not: one of tiff_list_pages, a SubIFD, a preview. A call on a number goes along the chain up to it. One on an offset doesn't: all pages of a file
     are asked one by one in time that grows with their number, where they are told by the offsets that tiff_list_pages gave.
 
+    The calls on a tag, of a PAGE that is TIFF_AT(OFFSET), read that directory alone: it need not be one of a page, so the tags of one that all other calls
+    refuse are answered too, as of a color filter array (PhotometricInterpretation 32803), or of Exif. Of a number they read the page's, which is refused
+    as by the other calls. All calls open the file at its first page, so one that is refused there refuses each call.
+
     A call that answers TIFF_DONE has written its answer. One that answers anything else has left a struct or a number as it was; what it leaves
     in a buffer of bytes isn't told. tiff_write_image tells more.
 
     A file may claim any size: ask for the layout, and judge it, before you take memory for an image. The calls that read pixels are under no limit,
     whatever the size of a chunk in the file: they write into BUFFER, and allocate for a row alone, as long as a row in BUFFER or as the bytes of it that
     FILE was found to have.
-    A page may have 8,388,608 chunks, and a tag that tiff_tag_number reads as many values; more answers TIFF_LIMITS_EXCEEDED.
+    A page may have 8,388,608 chunks, and a tag that tiff_tag_number, tiff_tag_numbers or tiff_tag_floats reads as many values; a text of tiff_tag_text
+    268,435,456 bytes. More answers TIFF_LIMITS_EXCEEDED. These calls allocate for all values of the tag, as many as FILE was found to have.
 
 POINTERS
     No pointer may be null, not even with a length of 0: hand the address of any byte. FILE with a length of 0 is no TIFF file
@@ -37,7 +42,7 @@ LINKING
 #ifndef MANGOHATCH_TIFF_H
 #define MANGOHATCH_TIFF_H
 
-#define MANGOHATCH_TIFF_VERSION 1
+#define MANGOHATCH_TIFF_VERSION 2
 
 /* A PAGE that is the directory at an offset. */
 #define TIFF_AT(offset) ((size_t)(offset) | (size_t)1 << 63)
@@ -162,6 +167,24 @@ struct tiff_color {
 };
 tiff_status tiff_page_color(const uint8_t *file, size_t len, size_t page, struct tiff_color *color);
 
+/* The samples of a page, as the calls that read pixels hand them out: KIND, what the bits of one are; BITS, how many those are; SAMPLES, how many a
+   pixel shows; PLANES, 1 of a chunky page, whose samples of a pixel lie side by side, else how many planes there are, each of one sample;
+   INVERTED, 1 where 0 is white in the file: there each number is complemented as it is read, so that 0 is black. A KIND that has no name here is what the
+   tag SampleFormat says; pixels of it aren't read. A page without a color or a layout: the fault of tiff_page_color or tiff_page_layout. */
+enum {
+    TIFF_UNSIGNED_NUMBERS = 1,
+    TIFF_SIGNED_NUMBERS = 2,
+    TIFF_FLOATING_NUMBERS = 3, /* IEEE, of 16, 32 or 64 bits */
+};
+struct tiff_samples {
+    uint32_t kind;
+    uint32_t bits;
+    uint32_t samples;
+    uint32_t planes;
+    uint32_t inverted;
+};
+tiff_status tiff_page_samples(const uint8_t *file, size_t len, size_t page, struct tiff_samples *samples);
+
 /* The chunks of a page, of all planes: their kind, how many there are, and the width and the height of one in pixels, before
    those at the edges of the image are cut. */
 enum {
@@ -229,6 +252,23 @@ tiff_status tiff_tag_number(const uint8_t *file, size_t len, size_t page, uint16
    TIFF_REQUIRED_TAG_NOT_FOUND. */
 tiff_status tiff_tag_bytes(const uint8_t *file, size_t len, size_t page, uint16_t tag, uint64_t at, uint8_t *buffer, size_t size,
                            size_t *written);
+
+/* Puts the values of a tag of a page into NUMBERS as numbers of the machine: as many as ROOM lets in, from the first one on; those of NUMBERS behind
+   them stay. *COUNT is how many there are, also where ROOM is less; so a first call with a ROOM of 0 asks for that. They are of the types BYTE, SHORT, LONG,
+   LONG8, IFD, IFD8 and UNDEFINED. One RATIONAL is two numbers, and a text those of its characters; any other type, or several RATIONALs:
+   TIFF_INVALID_TYPE_FOR_TAG. No such tag: TIFF_REQUIRED_TAG_NOT_FOUND. Any status but TIFF_DONE leaves NUMBERS and *COUNT as they were. */
+tiff_status tiff_tag_numbers(const uint8_t *file, size_t len, size_t page, uint16_t tag, uint64_t *numbers, size_t room, size_t *count);
+
+/* The same of values of the type DOUBLE, as GeoTIFF's ModelTiepointTag (33922) has them. A value of any other type, FLOAT too:
+   TIFF_INVALID_TYPE_FOR_TAG. */
+tiff_status tiff_tag_floats(const uint8_t *file, size_t len, size_t page, uint16_t tag, double *numbers, size_t room, size_t *count);
+
+/* Puts the text of a tag of a page, of the type ASCII, into TEXT, as many bytes of it as SIZE takes, with no zero behind it; those of TEXT
+   behind them stay. *LEN_OF_TEXT is how many bytes the text has, also where SIZE is less. It ends before its first zero, and has to be UTF-8; one that
+   stands in its entry, of 4 bytes or in BigTIFF 8 at most, has to be ASCII with a zero at its end, and is told without zeros at both ends: else
+   TIFF_INVALID_TAG. Any other type, and no values: TIFF_INVALID_TYPE_FOR_TAG. No such tag: TIFF_REQUIRED_TAG_NOT_FOUND. Any status but TIFF_DONE
+   leaves TEXT and *LEN_OF_TEXT as they were. tiff_tag_bytes copies the bytes of any text as they stand. */
+tiff_status tiff_tag_text(const uint8_t *file, size_t len, size_t page, uint16_t tag, uint8_t *text, size_t size, size_t *len_of_text);
 
 /* The byte order of a file. */
 enum {
@@ -305,6 +345,40 @@ struct tiff_image {
    samples, TIFF_INVALID_DATA; a file that its kind can't hold, TIFF_INT_SIZE_ERROR. */
 tiff_status tiff_write_image(const struct tiff_image *image, const uint8_t *samples, size_t samples_len, uint8_t *buffer, size_t size,
                              size_t *len);
+
+/* Where a list of jobs was refused, counted from 1: at a line that is no job, or at a job that had a fault. 0 is none. */
+struct tiff_jobs_end {
+    size_t line;
+    size_t job;
+};
+
+/* Writes the file that a list of jobs leaves into BUFFER, of SIZE bytes, and tells in *LEN how many bytes the file has: pages of any color type
+   with tags of one's own, tiles, planes, directories out of the chain. VERSION is TIFF_CLASSIC or TIFF_BIG. JOBS is the text of the list, of JOBS_LEN
+   bytes, in UTF-8, a line for each step:
+
+       compression packbits
+       image RGB8 50 50
+       write_tag 270 text a description
+       write_tag 33550 f64 3ff0000000000000*3
+       write_data ff*7500
+
+   - A line that is empty or begins with # is a comment. Words are parted by one space.
+   - Between jobs: a setting, `predictor NUMBER` or `compression packbits|uncompressed`; or the beginning of a job. `image COLOR WIDTH HEIGHT`, the color type
+     as Gray8, RGB16, Gray32Float; `directory`, in the chain, or `extra_directory`, out of it, with the number of the job behind it, counted from 0, whose
+     directory links to it, or nothing.
+   - In a job its steps. Of both: `write_tag TAG VALUE`, `write_tag_buf TAG BUFFER`, `write_entry`, `write_entry_buf`, `write_entry_bytes`, `write_data_buf`,
+     `extend_from`; of a directory `write_data` too. Of an image: `tiles WIDTH HEIGHT`, `planar 2`, `rows_per_strip ROWS`, `extra_samples NUMBER ..`,
+     `resolution UNIT X Y`, `write_strip SAMPLES`, `write_chunk SAMPLES`, `append_data`, `next_strip_sample_count`, `next_chunk_sample_count`.
+   - The end of a job: `finish`, or `discard`; of an image also `write_data SAMPLES`, with all of its samples.
+   - VALUE is a type and a word for each number: u8, i8, u16, i16, u32, i32, u64, i64, ifd, ifd8; rational and srational, as 300/1; f32 and f64, the bits as
+     hexadecimal digits; or `text`, and the text behind one space. SAMPLES are hexadecimal numbers. 7*20 is 7 twenty times.
+
+   A line that is no job: TIFF_INVALID_INPUT with its number in END->line, and nothing is run; with 0 there, and in END->job, where JOBS isn't UTF-8. A job that had
+   a fault: its number in END->job, and the status of its first fault. The others were run all the same, but their file isn't written. A BUFFER that is too short:
+   TIFF_INSUFFICIENT_OUTPUT_BUFFER_SIZE, with 0 in both, and *LEN is told all the same. A VERSION that is none: TIFF_SIGNATURE_INVALID. Any status but TIFF_DONE
+   leaves BUFFER as it was, and any but these two *LEN. It allocates the file, eight bytes for each sample of the list, and the list. */
+tiff_status tiff_write_jobs(uint16_t version, const uint8_t *jobs, size_t jobs_len, uint8_t *buffer, size_t size, size_t *len,
+                            struct tiff_jobs_end *end);
 
 /* The version of the calls of this library, as MANGOHATCH_TIFF_VERSION is that of this header. */
 uint32_t tiff_version(void);

@@ -3,13 +3,16 @@
 
 ghost use Rattle.std.specs.Prelude.{◌≡◌, ◌⊎◌};
 ghost use Rattle.tiff_statuses.specs.Calls as calls;
+ghost use Rattle.tiff_statuses.specs.Jobs.{JobsTell};
 ghost use Rattle.tiff_statuses.specs.List.{ListTells, list_of};
 ghost use Rattle.tiff_statuses.specs.Status.{StatusPuts, StatusTells};
+ghost use Rattle.tiff_statuses.specs.Values as values;
 ghost use Rattle.tiff_statuses.specs.Writer as writer;
 ghost use Rattle.tiff_statuses.specs.Writer.{IsShown};
 
 use std::alloc::Global;
-use tiff_statuses::calls::{Chunks, Color, FieldSize, Layout, Sides};
+use tiff_statuses::calls::{Chunks, Color, FieldSize, Layout, PageSamples, Sides};
+use tiff_statuses::jobs::JobsEnd;
 use tiff_statuses::list::ListedPage;
 use tiff_statuses::writer::NewImage;
 
@@ -40,6 +43,19 @@ pub extern "C" fn tiff_page_color(alloc: Global, file: &[u8], page: usize, color
     ensures { StatusPuts (calls.page_color file.now page) result color.old color.new }
 {
     tiff_statuses::page_color(alloc, file, page, color)
+}
+
+/// The samples of a page.
+#[unsafe(no_mangle)]
+pub extern "C" fn tiff_page_samples(
+    alloc: Global,
+    file: &[u8],
+    page: usize,
+    samples: &mut PageSamples,
+) -> u32
+    ensures { StatusPuts (calls.page_samples file.now page) result samples.old samples.new }
+{
+    tiff_statuses::page_samples(alloc, file, page, samples)
 }
 
 /// The strips or the tiles of a page.
@@ -156,6 +172,51 @@ pub extern "C" fn tiff_tag_bytes(
     tiff_statuses::tag_bytes(alloc, file, page, number, at, buffer, written)
 }
 
+/// Puts the numbers of a tag of a page into a slice, by the tag's number, as many as it has room for, and tells how many there are.
+#[unsafe(no_mangle)]
+pub extern "C" fn tiff_tag_numbers(
+    alloc: Global,
+    file: &[u8],
+    page: usize,
+    number: u16,
+    numbers: &mut [u64],
+    count: &mut usize,
+) -> u32
+    ensures { StatusPuts (values.tag_numbers file.now page number numbers.old) result (count.old, numbers.old) (count.new, numbers.new) }
+{
+    tiff_statuses::tag_numbers(alloc, file, page, number, numbers, count)
+}
+
+/// The same of the bits of its floating numbers.
+#[unsafe(no_mangle)]
+pub extern "C" fn tiff_tag_floats(
+    alloc: Global,
+    file: &[u8],
+    page: usize,
+    number: u16,
+    numbers: &mut [u64],
+    count: &mut usize,
+) -> u32
+    ensures { StatusPuts (values.tag_floats file.now page number numbers.old) result (count.old, numbers.old) (count.new, numbers.new) }
+{
+    tiff_statuses::tag_floats(alloc, file, page, number, numbers, count)
+}
+
+/// The same of the bytes of its text.
+#[unsafe(no_mangle)]
+pub extern "C" fn tiff_tag_text(
+    alloc: Global,
+    file: &[u8],
+    page: usize,
+    number: u16,
+    text: &mut [u8],
+    len: &mut usize,
+) -> u32
+    ensures { StatusPuts (values.tag_text file.now page number text.old) result (len.old, text.old) (len.new, text.new) }
+{
+    tiff_statuses::tag_text(alloc, file, page, number, text, len)
+}
+
 /// The byte order of a file.
 #[unsafe(no_mangle)]
 pub extern "C" fn tiff_byte_order(alloc: Global, file: &[u8], order: &mut u32) -> u32
@@ -203,10 +264,26 @@ pub extern "C" fn tiff_write_image(
     tiff_statuses::write_image(alloc, image, samples, buffer, len)
 }
 
+/// Writes the file of the jobs that a text lists into a slice, and tells how many bytes it has; or where the list was refused.
+#[unsafe(no_mangle)]
+pub extern "C" fn tiff_write_jobs(
+    alloc: Global,
+    version: u16,
+    jobs: &[u8],
+    buffer: &mut [u8],
+    len: &mut usize,
+    end: &mut JobsEnd,
+) -> u32
+    ensures answer { JobsTell version result buffer.old buffer.new len.old len.new end.new }
+    ensures stays { (result ≡ 0) ⊎ (buffer.new ≡ buffer.old) }
+{
+    tiff_statuses::write_jobs(alloc, version, jobs, buffer, len, end)
+}
+
 /// The version of these calls.
 #[unsafe(no_mangle)]
 pub extern "C" fn tiff_version() -> u32
-    ensures { result ≡ 1 }
+    ensures { result ≡ 2 }
 {
     tiff_statuses::version()
 }

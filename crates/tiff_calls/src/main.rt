@@ -3,7 +3,8 @@
 #![tactic(auto)]
 
 use std::io;
-use tiff_statuses::calls::{Chunks, Color, FieldSize, Layout, Sides};
+use tiff_statuses::calls::{Chunks, Color, FieldSize, Layout, PageSamples, Sides};
+use tiff_statuses::jobs::JobsEnd;
 use tiff_statuses::list::ListedPage;
 use tiff_statuses::writer::NewImage;
 
@@ -22,12 +23,47 @@ const SAMPLES: [u8; 12] = [1, 2, 3, 4, 5, 6, 7, 8, 9, 10, 11, 12];
 // Where the entry of the page that is written counts the bytes of its strip.
 const BYTE_COUNT: usize = 154;
 
+// Where the page's interpretation stands, the types of its resolutions with their counts behind them, and their values.
+const INTERPRETATION: usize = 106;
+
+const X_TYPE: usize = 160;
+
+const Y_TYPE: usize = 172;
+
+const X_VALUE: usize = 8;
+
+const Y_VALUE: usize = 16;
+
+const HALF: [u8; 8] = [0, 0, 0, 0, 0, 0, 224, 63];
+
+// Where the page's directory stands, how long it is, and where it is put once more.
+const DIRECTORY: usize = 48;
+
+const DIRECTORY_LEN: usize = 174;
+
+const SECOND: usize = 222;
+
 // A page that is the directory at an offset: this is added to it. The one that is written stands at 48.
 const AT: usize = 1 << 63;
 
 const IMAGE_WIDTH: u16 = 256;
 
 const BITS_PER_SAMPLE: u16 = 258;
+
+const PHOTOMETRIC_INTERPRETATION: u16 = 262;
+
+const X_RESOLUTION: u16 = 282;
+
+const Y_RESOLUTION: u16 = 283;
+
+// A page with a tag of its own.
+const JOBS: &str = "image Gray8 2 1\nwrite_tag 270 text words\nwrite_data 1 2\n";
+
+// The second job is refused.
+const REFUSED_JOBS: &str = "image Gray8 1 1\nwrite_data 7\nimage Gray8 0 1\nfinish\n";
+
+// The second line is no job.
+const NO_JOBS: &str = "image Gray8 2 1\nwrite_all 1 2\n";
 
 fn print_sides(rt: &HostRuntime, file: &[u8], page: usize) -> io::Result<()> {
     let mut sides = Sides {
@@ -94,11 +130,55 @@ fn print_tags(rt: &HostRuntime, file: &[u8], page: usize) -> io::Result<()> {
     println!(rt; "tag_bytes {page}: {status}, {count}, {bytes:?}")
 }
 
+fn print_samples(rt: &HostRuntime, file: &[u8], page: usize) -> io::Result<()> {
+    let mut samples = PageSamples {
+        kind: 0,
+        bits: 0,
+        samples: 0,
+        planes: 0,
+        inverted: 0,
+    };
+    let status = tiff_statuses::page_samples(rt.alloc(), file, page, &mut samples);
+    println!(rt; "page_samples {page}: {status}, {samples:?}")
+}
+
+fn print_numbers(rt: &HostRuntime, file: &[u8], page: usize, tag: u16) -> io::Result<()> {
+    let mut numbers = [9u64; 2];
+    let mut count = 9;
+    let (out, told) = (&mut numbers, &mut count);
+    let status = tiff_statuses::tag_numbers(rt.alloc(), file, page, tag, out, told);
+    println!(rt; "tag_numbers {page} {tag}: {status}, {count}, {numbers:?}")
+}
+
+fn print_floats(rt: &HostRuntime, file: &[u8], page: usize, tag: u16) -> io::Result<()> {
+    let mut numbers = [9u64; 2];
+    let mut count = 9;
+    let (out, told) = (&mut numbers, &mut count);
+    let status = tiff_statuses::tag_floats(rt.alloc(), file, page, tag, out, told);
+    println!(rt; "tag_floats {page} {tag}: {status}, {count}, {numbers:?}")
+}
+
+fn print_tag_text(rt: &HostRuntime, file: &[u8], page: usize, tag: u16) -> io::Result<()> {
+    let mut text = [9u8; 4];
+    let mut len = 9;
+    let (out, told) = (&mut text, &mut len);
+    let status = tiff_statuses::tag_text(rt.alloc(), file, page, tag, out, told);
+    println!(rt; "tag_text {page} {tag}: {status}, {len}, {text:?}")
+}
+
+fn print_values(rt: &HostRuntime, file: &[u8], page: usize, tag: u16) -> io::Result<()> {
+    print_numbers(rt, file, page, tag)?;
+    print_floats(rt, file, page, tag)?;
+    print_tag_text(rt, file, page, tag)
+}
+
 fn print_page(rt: &HostRuntime, file: &[u8], page: usize) -> io::Result<()> {
     print_sides(rt, file, page)?;
+    print_samples(rt, file, page)?;
     print_parts(rt, file, page)?;
     print_pixels(rt, file, page)?;
-    print_tags(rt, file, page)
+    print_tags(rt, file, page)?;
+    print_values(rt, file, page, BITS_PER_SAMPLE)
 }
 
 fn print_file(rt: &HostRuntime, file: &[u8]) -> io::Result<()> {
@@ -149,6 +229,62 @@ fn print_claim(rt: &HostRuntime) -> io::Result<()> {
     print_pixels(rt, &file[..len.min(300)], 0)
 }
 
+fn print_jobs(rt: &HostRuntime, jobs: &str, room: usize) -> io::Result<()> {
+    let mut buffer = [0u8; 300];
+    let mut len = 0;
+    let mut end = JobsEnd { line: 7, job: 7 };
+    let room = &mut buffer[..room.min(300)];
+    let (bytes, written, ended) = (jobs.as_bytes(), &mut len, &mut end);
+    let status = tiff_statuses::write_jobs(rt.alloc(), 42, bytes, room, written, ended);
+    println!(rt;
+        "write_jobs into {} bytes: {status}, {len}, {end:?}",
+        room.len()
+    )?;
+    print_sides(rt, &buffer[..len.min(300)], 0)
+}
+
+// Lays bytes over those of a file from an offset on, as many as there are.
+fn lay(file: &mut [u8], at: usize, bytes: &[u8]) {
+    for (to, from) in file.iter_mut().skip(at).zip(bytes) {
+        *to = *from;
+    }
+}
+
+// The page again, of which other bytes tell more: its 0 is white, one resolution is a floating number, a half, and the other a text.
+fn print_retyped(rt: &HostRuntime) -> io::Result<()> {
+    let mut file = [0u8; 300];
+    let mut len = 0;
+    let status = tiff_statuses::write_image(rt.alloc(), &IMAGE, &SAMPLES, &mut file, &mut len);
+    file[INTERPRETATION] = 0;
+    file[X_TYPE] = 12;
+    lay(&mut file, X_VALUE, &HALF);
+    file[Y_TYPE] = 2;
+    file[Y_TYPE + 2] = 8;
+    lay(&mut file, Y_VALUE, b"300 dpi\0");
+    println!(rt; "white, a half and a text: {status}, {len}")?;
+    let file = &file[..len.min(300)];
+    print_samples(rt, file, 0)?;
+    print_values(rt, file, 0, X_RESOLUTION)?;
+    print_values(rt, file, 0, Y_RESOLUTION)
+}
+
+// The page and its directory once more behind them, of which the interpretation is that of a color filter array: it is no page, but its
+// tags are answered.
+fn print_refused(rt: &HostRuntime) -> io::Result<()> {
+    let mut file = [0u8; 400];
+    let mut len = 0;
+    let status = tiff_statuses::write_image(rt.alloc(), &IMAGE, &SAMPLES, &mut file, &mut len);
+    file.copy_within(DIRECTORY..DIRECTORY + DIRECTORY_LEN, SECOND);
+    file[SECOND + INTERPRETATION - DIRECTORY] = 35;
+    file[SECOND + INTERPRETATION - DIRECTORY + 1] = 128;
+    println!(rt; "a color filter array: {status}, {len}")?;
+    print_sides(rt, &file, AT + SECOND)?;
+    print_samples(rt, &file, AT + SECOND)?;
+    print_tags(rt, &file, AT + SECOND)?;
+    print_numbers(rt, &file, AT + SECOND, PHOTOMETRIC_INTERPRETATION)?;
+    print_values(rt, &file, AT + SECOND, BITS_PER_SAMPLE)
+}
+
 fn main(rt: HostRuntime) -> io::Result<()> {
     let mut buffer = [0u8; 300];
     let mut len = 0;
@@ -172,10 +308,16 @@ fn main(rt: HostRuntime) -> io::Result<()> {
     print_chunks(&rt, file, 0, 2)?;
     print_chunks(&rt, file, 1, u32::MAX)?;
     print_claim(&rt)?;
+    print_retyped(&rt)?;
+    print_refused(&rt)?;
     print_file(&rt, file)?;
     print_file(&rt, cut)?;
     print_list(&rt, file)?;
     print_list(&rt, cut)?;
+    print_jobs(&rt, JOBS, 300)?;
+    print_jobs(&rt, JOBS, 100)?;
+    print_jobs(&rt, REFUSED_JOBS, 300)?;
+    print_jobs(&rt, NO_JOBS, 300)?;
     println!(rt; "version: {}", tiff_statuses::version())?;
     print_text(&rt, 0)?;
     print_text(&rt, 22)

@@ -1,5 +1,5 @@
--- What C is told of an image that was written.
-use Rattle.std.proofs.Common.{◌≡◌, ℕ, ◌<◌, ◌≤◌, ◌⊎◌, inl, inr, List, ◌++◌, length, take, drop, Result, Ok, Err, refl, sym, ap, subst, ◌∙◌, lit<, arith}
+-- What C is told of an image that was written, and of jobs.
+use Rattle.std.proofs.Common.{◌≡◌, ℕ, ◌<◌, ◌≤◌, ◌⊎◌, inl, inr, List, ◌++◌, length, take, drop, Option, None, Some, Result, Ok, Err, refl, sym, ap, subst, ◌∙◌, lit<, arith}
 use Rattle.std.proofs.Math.Seq.{take-append_seam, drop-append_seam}
 use Rattle.tiff_base.specs.declared.error.TiffError.{TiffError}
 use Rattle.tiff_base.specs.declared.error.TiffError.TheVariants.{FormatError, UnsupportedError, IoError, UsageError, LimitsExceeded, IntSizeError, OutOfMemory}
@@ -12,10 +12,14 @@ use Rattle.tiff_base.specs.declared.error.UsageError.TheVariants.{InvalidChunkTy
 use Rattle.tiff_base.specs.declared.io.IoKind.{IoKind}
 use Rattle.tiff_base.specs.declared.io.IoKind.TheVariants.{UnexpectedEof, InvalidData, InvalidInput, WriteZero, Device}
 use Rattle.tiff_encode.specs.Shows.{ShowsFirst}
+use Rattle.tiff_statuses.specs.declared.jobs.Answer.{Answer}
+use Rattle.tiff_statuses.specs.declared.jobs.Answer.TheVariants.{NoJob, Ran}
+use Rattle.tiff_statuses.specs.declared.jobs.JobsEnd.{JobsEnd}
 use Rattle.tiff_statuses.specs.declared.writer.NewImage.{NewImage}
 use Rattle.tiff_statuses.specs.declared.writer.Settings.{Settings}
+use Rattle.tiff_statuses.specs.Jobs.{AnswersKind, JobsTell, TellsAnswer, TellsRan}
 use Rattle.tiff_statuses.specs.Status.{fault_number, format_fault_number, unsupported_fault_number, usage_fault_number, io_fault_number}
-use Rattle.tiff_statuses.specs.Writer.{Delivers, IsShown, WriterTells, WritesBy, WritesBytes, WritesNew, image_by, samples_from_bytes, settings_of}
+use Rattle.tiff_statuses.specs.Writer.{Delivers, IsShown, WriterTells, WritesBy, WritesBytes, WritesNew, image_by, kind_of, samples_from_bytes, settings_of}
 
 -- no fault has the number 0
 some_format : (e : TiffFormatError) → 0 < format_fault_number e
@@ -148,3 +152,21 @@ told_shown image bytes answer status old new len_old len_new w d zero = delivere
 pub told_kept : (image : NewImage) (bytes : List ℕ) (answer : Result (List ℕ) TiffError) (status : ℕ) (old new : List ℕ) (len_old len_new : ℕ)
     → WritesNew image bytes answer → Delivers answer status old new len_old len_new → (status ≡ 0) ⊎ (new ≡ old)
 told_kept image bytes answer status old new len_old len_new w d = kept answer status old new len_old len_new d
+
+-- ---- the file of jobs
+
+-- what is told of jobs
+pub told_jobs : (version : ℕ) (answer : Result Answer TiffError) (status : ℕ) (old new : List ℕ) (len_old len_new : ℕ) (end : JobsEnd)
+    → AnswersKind (kind_of version) answer → TellsAnswer answer status old new len_old len_new end → JobsTell version status old new len_old len_new end
+told_jobs version answer status old new len_old len_new end a t = (answer, (a, t))
+
+kept_ran : (file : List ℕ) (refused : Option (ℕ × ℕ)) (status : ℕ) (old new : List ℕ) (len_old len_new : ℕ) (end : JobsEnd)
+    → TellsRan file refused status old new len_old len_new end → (status ≡ 0) ⊎ (new ≡ old)
+kept_ran file None status old new len_old len_new end t = kept (Ok file) status old new len_old len_new t.0
+kept_ran file (Some r) status old new len_old len_new end t = inr t.1.0.0
+
+pub kept_jobs : (answer : Result Answer TiffError) (status : ℕ) (old new : List ℕ) (len_old len_new : ℕ) (end : JobsEnd)
+    → TellsAnswer answer status old new len_old len_new end → (status ≡ 0) ⊎ (new ≡ old)
+kept_jobs (Ok (Ran ran)) status old new len_old len_new end t = kept_ran ran.file.items ran.refused status old new len_old len_new end t
+kept_jobs (Ok (NoJob line)) status old new len_old len_new end t = inr t.1.0.0
+kept_jobs (Err e) status old new len_old len_new end t = inr t.1.0.0

@@ -7,3 +7,6 @@ pub mod Writing
 pub mod Delivered
 pub mod Listed
 mod Ranges
+mod FirstFault
+pub mod Filled
+pub mod Planes

@@ -1,13 +1,10 @@
 -- A decoder whose reads never fail: its answers are those that the file gives, but for want of memory.
-use Rattle.std.proofs.Common.{◌≡◌, ℕ, ◌<◌, List, Option, None, true, Result, Ok, Err, sym, subst, arith, OnOk}
+use Rattle.std.proofs.Common.{◌≡◌, ℕ, ◌<◌, true, Result, Ok, Err, arith, OnOk}
 use Rattle.tiff_base.specs.declared.error.TiffError.{TiffError}
 use Rattle.tiff_base.specs.declared.error.TiffError.TheVariants.{FormatError, UnsupportedError, IoError, UsageError, LimitsExceeded, IntSizeError, OutOfMemory}
 use Rattle.tiff_base.specs.declared.io.IoKind.TheVariants.{UnexpectedEof, InvalidData, InvalidInput, WriteZero, Device}
 use Rattle.tiff_base.specs.Answers.{Answers, AnswersBut, AnswersWithoutMemory, AnswersWithoutSource}
-use Rattle.tiff_base.specs.declared.tags.Tag.{Tag}
-use Rattle.tiff_base.specs.Field.{DirectoryRecord}
-use Rattle.tiff_decode.specs.Outcome.{find_tag_bytes, next_image}
-use Rattle.tiff_decode.specs.Reader.{TagsRead, reader_of}
+use Rattle.tiff_decode.specs.Outcome.{next_image}
 use Rattle.tiff_decode.specs.Machine.{Decoding, Follows, FollowsBut, Outcome, Refused}
 
 not_more : (m n : ℕ) → m ≡ 0 → n ≡ 0 → m < n → ⊥
@@ -67,12 +64,6 @@ pub answer_here : {X Y : Type 0} → (view : X → Y) → (given : Result Y Tiff
 answer_here view given (Ok x) m n r a b = r
 answer_here view given (Err e) m n r a b = tag_refused (Unit {0}) view given e m n r a b
 
-pub read_here : {X Y : Type 0} → (wanting : Type 0) (view : X → Y) → (o : Outcome Y) → (result : Result X TiffError) → (old new : Decoding)
-    → TagsRead wanting view o result old new
-    → old.failures ≡ 0 → new.failures ≡ 0 → AnswersWithoutSource view result o.answer
-read_here wanting view o (Ok x) old new r a b = r.answer
-read_here wanting view o (Err e) old new r a b = tag_refused wanting view o.answer e old.failures new.failures r.answer a b
-
 -- an answer that takes no memory
 exact : {X Y : Type 0} → (view : X → Y) → (given : Result Y TiffError) → (e : TiffError) → (m n : ℕ) → AnswersWithoutMemory view (Err e) given m n
     → m ≡ 0 → n ≡ 0 → AnswersWithoutSource view (Err e) given
@@ -92,14 +83,3 @@ pub exactly_here : {X Y : Type 0} → (view : X → Y) → (given : Result Y Tif
     → m ≡ 0 → n ≡ 0 → AnswersWithoutSource view result given
 exactly_here view given (Ok x) m n r a b = r
 exactly_here view given (Err e) m n r a b = exact view given e m n r a b
-
--- bytes of a tag that a decoder read in its page's directory
-pub part_read : (tag : Tag) (old_bytes new_bytes : List ℕ) (at : ℕ) (result : Result (Option ℕ) TiffError) (d e : Decoding) (other : Option DirectoryRecord) (m n : ℕ)
-    → e ≡ d → other ≡ None
-    → AnswersWithoutMemory (λ count. (count, new_bytes)) result (find_tag_bytes (reader_of e other) tag old_bytes at).answer e.failures n → m ≡ n
-    → AnswersWithoutMemory (λ count. (count, new_bytes)) result (find_tag_bytes d tag old_bytes at).answer d.failures m
-part_read tag old_bytes new_bytes at result d e other m n same none r is =
-    let there = subst (λ o. AnswersWithoutMemory (λ count. (count, new_bytes)) result (find_tag_bytes (reader_of e o) tag old_bytes at).answer e.failures n) none r in
-    let here : AnswersWithoutMemory (λ count. (count, new_bytes)) result (find_tag_bytes d tag old_bytes at).answer d.failures n =
-    subst (λ (x : Decoding). AnswersWithoutMemory (λ count. (count, new_bytes)) result (find_tag_bytes (reader_of x None) tag old_bytes at).answer x.failures n) same there in
-    subst (λ k. AnswersWithoutMemory (λ count. (count, new_bytes)) result (find_tag_bytes d tag old_bytes at).answer d.failures k) (sym is) here

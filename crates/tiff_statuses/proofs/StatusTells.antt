@@ -69,6 +69,14 @@ pub puts_told : {X Y : Type 0} → (view : X → Y) → (answer : Result X TiffE
 puts_told view (Ok x) given n old new h e l k = subst (λ g. StatusPuts g n old new) (sym h) (inl (e, l))
 puts_told view (Err f) given n old new h e l k = unput view f given n old new h e k
 
+-- what a call puts into a variable and a slice of the caller's
+pub puts_both : {X Z : Type 0} → (answer : Result X TiffError) → (given : Result (X × Z) TiffError) → (n : ℕ) → (old new : X) → (before slice : Z)
+    → AnswersWithoutSource (λ x. (x, slice)) answer given → n ≡ status answer → IfOk answer (λ x. new ≡ x) → OnErr answer (new ≡ old)
+    → OnErr answer (slice ≡ before) → StatusPuts given n (old, before) (new, slice)
+puts_both (Ok x) given n old new before slice h e l k s =
+    subst (λ g. StatusPuts g n (old, before) (new, slice)) (sym h) (inl (e, ap (λ y. (y, slice)) l))
+puts_both (Err f) given n old new before slice h e l k s = unput (λ x. (x, slice)) f given n (old, before) (new, slice) h e (λ i. (k i, s i))
+
 -- what a call leaves in one beside a slice
 pub kept_told : {X : Type 0} → (answer : Result X TiffError) → (n : ℕ) → (old new : X) → n ≡ status answer → OnErr answer (new ≡ old)
     → (n ≡ 0) ⊎ (new ≡ old)

@@ -1,5 +1,5 @@
 -- What the pages of a file answer, by the outcomes of a decoder's calls.
-use Rattle.std.specs.Prelude.{ℕ, zero, suc, ◌+◌, ◌-◌, ◌^◌, List, ◌++◌, length, take, drop, if◌then◌else◌, nat_le, nat_lt, Option, None, Some, Result, Ok, Err}
+use Rattle.std.specs.Prelude.{ℕ, zero, suc, ◌+◌, ◌-◌, ◌^◌, ◌==◌, List, ◌++◌, length, take, drop, if◌then◌else◌, nat_le, nat_lt, Option, None, Some, Result, Ok, Err}
 use Rattle.tiff_base.specs.declared.color.ChunkType.{ChunkType}
 use Rattle.tiff_base.specs.declared.color.ChunkType.TheVariants.{Strip, Tile}
 use Rattle.tiff_base.specs.declared.color.ColorType.{ColorType}
@@ -7,23 +7,28 @@ use Rattle.tiff_base.specs.declared.color.ColorType.TheVariants.{Gray, RGB, Pale
 use Rattle.tiff_base.specs.declared.error.TiffError.{TiffError}
 use Rattle.tiff_base.specs.Answers.{◌>>=◌}
 use Rattle.tiff_base.specs.Color.{bit_depth, num_samples}
+use Rattle.tiff_base.specs.Field.{Field}
 use Rattle.tiff_decode.specs.Machine.{Decoding, Outcome}
 use Rattle.tiff_decode.specs.Outcome as outcome
+use Rattle.tiff_decode.specs.Reader.{reader_of}
 use Rattle.tiff_base.specs.declared.error.TiffError.TheVariants.{FormatError, UsageError}
 use Rattle.tiff_base.specs.declared.error.TiffFormatError.TheVariants.{RequiredTagNotFound}
 use Rattle.tiff_base.specs.declared.error.UsageError.TheVariants.{InsufficientOutputBufferSize, InvalidChunkIndex}
 use Rattle.tiff_base.specs.declared.tags.ByteOrder.{ByteOrder}
 use Rattle.tiff_base.specs.declared.tags.ByteOrder.TheVariants.{LittleEndian, BigEndian}
 use Rattle.tiff_base.specs.declared.tags.Tag.{Tag}
-use Rattle.tiff_base.specs.Tags.{tag_of, type_number}
+use Rattle.tiff_base.specs.declared.tags.Tag.TheVariants.{PhotometricInterpretation}
+use Rattle.tiff_base.specs.Tags.{format_number, tag_of, type_number}
 use Rattle.tiff_ifd.specs.Limits.{unlimited}
 use Rattle.tiff_ifd.specs.Look.{ok_or_fault}
+use Rattle.tiff_page.specs.declared.layout.BufferLayoutPreference.{BufferLayoutPreference}
 use Rattle.tiff_page.specs.PixelFault.{each_below}
 use Rattle.tiff_statuses.specs.declared.calls.FieldSize.{FieldSize}
 use Rattle.tiff_statuses.specs.declared.calls.Sides.{Sides}
 use Rattle.tiff_statuses.specs.declared.calls.Layout.{Layout}
 use Rattle.tiff_statuses.specs.declared.calls.Color.{Color}
 use Rattle.tiff_statuses.specs.declared.calls.Chunks.{Chunks}
+use Rattle.tiff_statuses.specs.declared.calls.PageSamples.{PageSamples}
 
 -- to go to a page: the one of this number in the chain; or, of a number from 2^63 on, the directory at the offset that the
 -- number is less 2^63
@@ -38,7 +43,19 @@ decoder_at_page file page = do
   _ ← (page_outcome d page).answer
   Ok (record d { state = (page_outcome d page).next })
 
--- the same under no limits: what is read into a caller's slice takes no memory by what a file claims
+-- the decoder at the first page of a file, with the directory at an offset in place of that page's
+abbrev pub tags_at_offset : List ℕ → ℕ → Result Decoding TiffError
+tags_at_offset file offset = do
+  d ← outcome.decoder_of file 0
+  directory ← (outcome.read_directory d (record { 0 = offset })).answer
+  Ok (reader_of d (Some directory))
+
+-- the decoder by which tags are read: at the page of a number; or, of the directory at an offset, at the first page, with that
+-- directory in place of its own, whose page is not looked at
+abbrev pub tags_at_page : List ℕ → ℕ → Result Decoding TiffError
+tags_at_page file page = if nat_lt page (2 ^ 63) then decoder_at_page file page else tags_at_offset file (page - 2 ^ 63)
+
+-- the decoder at a page under no limits: what is read into a caller's slice takes no memory by what a file claims
 abbrev pub free_at_page : List ℕ → ℕ → Result Decoding TiffError
 free_at_page file page = do
   d ← decoder_at_page file page
@@ -155,16 +172,46 @@ chunks_of_page d = do
 abbrev pub page_chunks : List ℕ → ℕ → Result Chunks TiffError
 page_chunks file page = decoder_at_page file page >>= chunks_of_page
 
+-- whether a page's numbers are complemented where they are read: 1 of the interpretation WhiteIsZero, which is 0 in a file, else 0
+abbrev pub inverted_by : ℕ → ℕ
+inverted_by meaning = if meaning == 0 then 1 else 0
+
+-- the samples of a page of this color, layout and interpretation: the number of their format, as the tag SampleFormat has it; the
+-- bits of one; how many a pixel shows; in how many planes; and whether they are inverted
+abbrev pub samples_by : ColorType → BufferLayoutPreference → ℕ → PageSamples
+samples_by color layout meaning = record {
+  kind = format_number layout.sample_format;
+  bits = bit_depth color;
+  samples = num_samples color;
+  planes = layout.planes;
+  inverted = inverted_by meaning;
+}
+
+abbrev pub samples_in : Decoding → ColorType → BufferLayoutPreference → Result PageSamples TiffError
+samples_in d color layout = do
+  meaning ← (outcome.get_tag_u64 d PhotometricInterpretation).answer
+  Ok (samples_by color layout meaning)
+
+-- the samples of a page
+abbrev pub samples_of_page : Decoding → Result PageSamples TiffError
+samples_of_page d = do
+  color ← (outcome.colortype d).answer
+  layout ← (outcome.image_buffer_layout d).answer
+  samples_in d color layout
+
+abbrev pub page_samples : List ℕ → ℕ → Result PageSamples TiffError
+page_samples file page = decoder_at_page file page >>= samples_of_page
+
 -- the field of a tag of a page: the number of its type, and how many values there are
-abbrev pub field_size : Decoding → Tag → Result FieldSize TiffError
-field_size d tag = do
-  field ← ok_or_fault (outcome.find_entry d tag) (FormatError (RequiredTagNotFound tag))
+abbrev pub field_size : Tag → Option Field → Result FieldSize TiffError
+field_size tag found = do
+  field ← ok_or_fault found (FormatError (RequiredTagNotFound tag))
   Ok (record { kind = type_number field.field_type; count = field.count })
 
 abbrev pub tag_field : List ℕ → ℕ → ℕ → Result FieldSize TiffError
 tag_field file page number = do
-  d ← decoder_at_page file page
-  field_size d (tag_of number)
+  d ← tags_at_page file page
+  field_size (tag_of number) (outcome.find_entry d (tag_of number))
 
 -- the fault by which a chain ends, if it ends by one
 abbrev pub plain_end : Option TiffError → Result (Unit {0}) TiffError
@@ -183,7 +230,7 @@ page_count file = do
 -- the number of a tag of a page
 abbrev pub tag_number_at : List ℕ → ℕ → ℕ → Result ℕ TiffError
 tag_number_at file page number = do
-  d ← decoder_at_page file page
+  d ← tags_at_page file page
   (outcome.get_tag_u64 d (tag_of number)).answer
 
 -- bytes of the values of a tag of a page, from one on, in a slice, and how many of them were copied
@@ -195,7 +242,7 @@ bytes_of_tag d tag at slice = do
 
 abbrev pub tag_bytes : List ℕ → ℕ → ℕ → ℕ → List ℕ → Result (ℕ × List ℕ) TiffError
 tag_bytes file page number at slice = do
-  d ← decoder_at_page file page
+  d ← tags_at_page file page
   bytes_of_tag d (tag_of number) at slice
 
 -- little-endian is 0, big-endian 1

@@ -1,23 +1,27 @@
 //! The calls of a decoder on a page of a file that lies in a slice. No read of it fails, so a fault is the file's, the
 //! caller's, or want of memory.
 
-ghost use Rattle.std.specs.Prelude.{◌≡◌, ◌-◌, ◌^◌, ◌<◌, length, IfOk, Ok, OnOk};
-ghost use Rattle.tiff_base.specs.Answers.{AnswersWithoutMemory, AnswersWithoutSource, Gives};
+ghost use Rattle.std.specs.Prelude.{◌≡◌, ◌-◌, ◌^◌, ◌<◌, length, option_map, IfOk, Ok, OnOk};
+ghost use Rattle.tiff_base.specs.Answers.{Answers, AnswersWithoutMemory, AnswersWithoutSource, Gives};
+ghost use Rattle.tiff_base.specs.Color.{num_samples};
 ghost use Rattle.tiff_base.specs.declared.error.TiffError.TheVariants.{FormatError};
 ghost use Rattle.tiff_base.specs.declared.error.TiffFormatError.TheVariants.{RequiredTagNotFound};
 ghost use Rattle.tiff_ifd.specs.Look.{ok_or_fault};
 ghost use Rattle.tiff_decode.specs.Outcome as outcome;
+ghost use Rattle.tiff_decode.specs.Reader.{reader_of};
 ghost use Rattle.tiff_statuses.specs.Calls as calls;
 
 use std::alloc::Global;
 use tiff_base::color::{ChunkType, ColorType};
+use tiff_base::directory::{Directory, Entry};
 use tiff_base::error::{TiffFormatError, TiffResult, UsageError};
 use tiff_base::io::{SliceSource, Source};
 use tiff_base::tags::{ByteOrder, IfdPointer, Tag};
 use tiff_decode::decoder::Decoder;
+use tiff_decode::ifd_decoder::IfdDecoder;
 use tiff_ifd::limits::Limits;
 use tiff_laws::pages::{walk_ends, walk_goes_on, walk_opens};
-use tiff_page::layout::TiffCodingUnit;
+use tiff_page::layout::{BufferLayoutPreference, TiffCodingUnit};
 
 // From this number on a page is told by the offset of its directory, counted from here.
 const AT: usize = 1 << 63;
@@ -55,6 +59,18 @@ pub struct Chunks {
     pub count: u32,
     pub width: u32,
     pub height: u32,
+}
+
+/// The samples of a page: the number of their format, as the tag SampleFormat has it; the bits of one; how many a pixel shows; in how
+/// many planes; and 1 where they are inverted, since 0 is white, else 0.
+#[derive(Clone, Copy, Debug, PartialEq, Eq)]
+#[repr(C)]
+pub struct PageSamples {
+    pub kind: u32,
+    pub bits: u32,
+    pub samples: u32,
+    pub planes: u32,
+    pub inverted: u32,
 }
 
 /// The field of a tag: the number of its type, and how many values there are.
@@ -117,7 +133,11 @@ fn go_to(decoder: &mut Decoder<SliceSource<'_>>, page: usize) -> TiffResult<()>
 }
 
 // A decoder at a page of a file. It is opened at the first one, whose directory isn't read again.
-fn open_at(alloc: Global, file: &[u8], page: usize) -> TiffResult<Decoder<SliceSource<'_>>>
+pub(crate) fn open_at(
+    alloc: Global,
+    file: &[u8],
+    page: usize,
+) -> TiffResult<Decoder<SliceSource<'_>>>
     ensures { AnswersWithoutSource (λ d. d) result (calls.decoder_at_page file.now page) }
 {
     walk_opens();
@@ -129,7 +149,51 @@ fn open_at(alloc: Global, file: &[u8], page: usize) -> TiffResult<Decoder<SliceS
     Ok(decoder)
 }
 
-// The same under no limits: what is read into a caller's slice takes no memory by what a file claims.
+// The directory at an offset of a decoder's file.
+#[tactic(auto, using(crate::proofs::Slices::here, crate::proofs::Slices::gone), unfolding(tiff_decode::specs::Outcome::read_directory))]
+fn directory_here(decoder: &mut Decoder<SliceSource<'_>>, offset: u64) -> TiffResult<Directory>
+    ensures answer { AnswersWithoutSource (λ x. x) result (outcome.read_directory decoder.old (record { 0 = offset })).answer }
+    ensures stays { OnOk result (decoder.new ≡ decoder.old) }
+{
+    never_failed(decoder);
+    let answer = decoder.read_directory(IfdPointer(offset));
+    never_failed(decoder);
+    answer
+}
+
+// A decoder for the tags of a page: at the page of a number; or at the first page, with the directory at an offset, whose page is
+// not looked at.
+pub(crate) fn open_tags(
+    alloc: Global,
+    file: &[u8],
+    page: usize,
+) -> TiffResult<(Decoder<SliceSource<'_>>, Option<Directory>)>
+    ensures { AnswersWithoutSource (λ t. reader_of t.0 t.1) result (calls.tags_at_page file.now page) }
+{
+    if page < AT {
+        return Ok((open_at(alloc, file, page)?, None));
+    }
+    let mut decoder = open_first(alloc, file)?;
+    let directory = directory_here(&mut decoder, (page - AT) as u64)?;
+    Ok((decoder, Some(directory)))
+}
+
+// The tags of a decoder's page, or of another directory of its file.
+pub(crate) fn tags_of<'a, R: Source>(
+    decoder: &'a mut Decoder<R>,
+    other: &'a Option<Directory>,
+) -> IfdDecoder<'a, R>
+    ensures same_reference { result.decoder.ghost_name ≡ decoder.entry.ghost_name }
+    ensures decoder { result.decoder.now ≡ decoder.old }
+    ensures other { option_map (λ d. d.now) result.other ≡ other.now }
+{
+    match other {
+        None => decoder.image_ifd(),
+        Some(directory) => decoder.read_directory_tags(directory),
+    }
+}
+
+// A decoder at a page of a file under no limits: what is read into a caller's slice takes no memory by what a file claims.
 fn open_free(alloc: Global, file: &[u8], page: usize) -> TiffResult<Decoder<SliceSource<'_>>>
     ensures { AnswersWithoutSource (λ d. d) result (calls.free_at_page file.now page) }
 {
@@ -333,6 +397,66 @@ pub fn page_color(alloc: Global, file: &[u8], page: usize) -> TiffResult<Color>
     color_here(&mut open_at(alloc, file, page)?)
 }
 
+// Whether numbers of this interpretation are inverted, as C is told of it.
+fn inverted_by(meaning: u64) -> u32
+    ensures { result ≡ calls.inverted_by meaning }
+{
+    if meaning == 0 { 1 } else { 0 }
+}
+
+// The samples of a color, a layout and an interpretation, as C is told of them.
+fn samples_by(color: ColorType, layout: &BufferLayoutPreference, meaning: u64) -> PageSamples
+    // A page has no more planes than samples.
+    requires { layout.now.planes < 2 ^ 32 }
+    ensures { result ≡ calls.samples_by color layout.now meaning }
+{
+    PageSamples {
+        kind: u32::from(layout.sample_format.to_u16()),
+        bits: u32::from(color.bit_depth()),
+        samples: u32::from(color.num_samples()),
+        planes: layout.planes as u32,
+        inverted: inverted_by(meaning),
+    }
+}
+
+// A color has fewer than 2^16 samples.
+fn samples_fit(color: &ColorType)
+    ensures { num_samples color.now < 2 ^ 16 }
+{
+    let _samples = color.num_samples();
+}
+
+// The samples of a decoder's page, of this color and layout.
+fn samples_in(
+    decoder: &mut Decoder<SliceSource<'_>>,
+    color: ColorType,
+    layout: &BufferLayoutPreference,
+) -> TiffResult<PageSamples>
+    requires { layout.now.planes < 2 ^ 32 }
+    ensures { AnswersWithoutSource (λ s. s) result (calls.samples_in decoder.old color layout.now) }
+{
+    let meaning = number_here(decoder, &None, Tag::PhotometricInterpretation)?;
+    Ok(samples_by(color, layout, meaning))
+}
+
+// The samples of a decoder's page.
+#[tactic(auto, using(crate::proofs::Planes::planes_few), unfolding(tiff_decode::specs::Outcome::colortype, tiff_decode::specs::Outcome::image_buffer_layout))]
+fn samples_here(decoder: &mut Decoder<SliceSource<'_>>) -> TiffResult<PageSamples>
+    ensures { AnswersWithoutSource (λ s. s) result (calls.samples_of_page decoder.old) }
+{
+    let color = decoder.colortype()?;
+    samples_fit(&color);
+    let layout = decoder.image_buffer_layout()?;
+    samples_in(decoder, color, &layout)
+}
+
+/// The samples of a page.
+pub fn page_samples(alloc: Global, file: &[u8], page: usize) -> TiffResult<PageSamples>
+    ensures { AnswersWithoutSource (λ s. s) result (calls.page_samples file.now page) }
+{
+    samples_here(&mut open_at(alloc, file, page)?)
+}
+
 // The chunks of a decoder's page.
 #[tactic(auto, unfolding(tiff_decode::specs::Outcome::strip_count, tiff_decode::specs::Outcome::tile_count))]
 fn chunks_here(decoder: &mut Decoder<SliceSource<'_>>) -> TiffResult<Chunks>
@@ -358,11 +482,11 @@ pub fn page_chunks(alloc: Global, file: &[u8], page: usize) -> TiffResult<Chunks
     chunks_here(&mut open_at(alloc, file, page)?)
 }
 
-// The field of a tag of a decoder's page.
-fn field_here(decoder: &mut Decoder<SliceSource<'_>>, tag: Tag) -> TiffResult<FieldSize>
-    ensures { AnswersWithoutSource (λ f. f) result (calls.field_size decoder.old tag) }
+// The field of a tag, as C is told of it.
+fn field_size(tag: Tag, found: Option<Entry>) -> TiffResult<FieldSize>
+    ensures { AnswersWithoutSource (λ f. f) result (calls.field_size tag found) }
 {
-    match decoder.image_ifd().find_entry(tag) {
+    match found {
         None => Err(TiffFormatError::RequiredTagNotFound(tag).into()),
         Some(entry) => Ok(FieldSize {
             kind: u32::from(entry.field_type().to_u16()),
@@ -375,10 +499,10 @@ fn field_here(decoder: &mut Decoder<SliceSource<'_>>, tag: Tag) -> TiffResult<Fi
 pub fn tag_field(alloc: Global, file: &[u8], page: usize, number: u16) -> TiffResult<FieldSize>
     ensures { AnswersWithoutSource (λ f. f) result (calls.tag_field file.now page number) }
 {
-    field_here(
-        &mut open_at(alloc, file, page)?,
-        Tag::from_u16_exhaustive(number),
-    )
+    let (mut decoder, other) = open_tags(alloc, file, page)?;
+    let tag = Tag::from_u16_exhaustive(number);
+    let found = tags_of(&mut decoder, &other).find_entry(tag);
+    field_size(tag, found)
 }
 
 // A file has fewer than 2^64 bytes.
@@ -427,13 +551,29 @@ pub fn page_count(alloc: Global, file: &[u8]) -> TiffResult<usize>
     count_pages(&mut decoder)
 }
 
-// The number of a tag of a decoder's page.
-#[tactic(auto, using(crate::proofs::Slices::read_here))]
-fn number_here(decoder: &mut Decoder<SliceSource<'_>>, tag: Tag) -> TiffResult<u64>
-    ensures { AnswersWithoutSource (λ n. n) result (outcome.get_tag_u64 decoder.old tag).answer }
+// The number of a tag of a decoder's page, or of another directory of its file.
+fn number_of<R: Source>(
+    decoder: &mut Decoder<R>,
+    other: &Option<Directory>,
+    tag: Tag,
+) -> TiffResult<u64>
+    ensures { Answers (λ n. n) result (outcome.get_tag_u64 (reader_of decoder.old other.now) tag).answer
+        decoder.old.failures decoder.new.failures }
+{
+    tags_of(decoder, other).get_tag_u64(tag)
+}
+
+// The same of a decoder whose reads never fail.
+#[tactic(auto, using(crate::proofs::Slices::answer_here))]
+fn number_here(
+    decoder: &mut Decoder<SliceSource<'_>>,
+    other: &Option<Directory>,
+    tag: Tag,
+) -> TiffResult<u64>
+    ensures { AnswersWithoutSource (λ n. n) result (outcome.get_tag_u64 (reader_of decoder.old other.now) tag).answer }
 {
     never_failed(decoder);
-    let answer = decoder.get_tag_u64(tag);
+    let answer = number_of(decoder, other, tag);
     never_failed(decoder);
     answer
 }
@@ -442,10 +582,8 @@ fn number_here(decoder: &mut Decoder<SliceSource<'_>>, tag: Tag) -> TiffResult<u
 pub fn tag_number(alloc: Global, file: &[u8], page: usize, number: u16) -> TiffResult<u64>
     ensures { AnswersWithoutSource (λ n. n) result (calls.tag_number_at file.now page number) }
 {
-    number_here(
-        &mut open_at(alloc, file, page)?,
-        Tag::from_u16_exhaustive(number),
-    )
+    let (mut decoder, other) = open_tags(alloc, file, page)?;
+    number_here(&mut decoder, &other, Tag::from_u16_exhaustive(number))
 }
 
 // A field's bytes that were copied: how many, where there is the field.
@@ -458,32 +596,33 @@ fn copied(tag: Tag, found: Option<usize>) -> TiffResult<usize>
     }
 }
 
-// Copies bytes of the values of a tag of a decoder's page, where there is the tag.
-#[tactic(auto, using(crate::proofs::Slices::part_read))]
+// Copies bytes of the values of a tag of a decoder's page, or of another directory, where there is the tag.
 fn part_of_tag<R: Source>(
     decoder: &mut Decoder<R>,
+    other: &Option<Directory>,
     tag: Tag,
     at: u64,
     buffer: &mut [u8],
 ) -> TiffResult<Option<usize>>
-    ensures { AnswersWithoutMemory (λ n. (n, buffer.new)) result (outcome.find_tag_bytes decoder.old tag buffer.old at).answer
+    ensures { AnswersWithoutMemory (λ n. (n, buffer.new)) result (outcome.find_tag_bytes (reader_of decoder.old other.now) tag buffer.old at).answer
         decoder.old.failures decoder.new.failures }
 {
-    decoder.image_ifd().find_tag_bytes(tag, buffer, at)
+    tags_of(decoder, other).find_tag_bytes(tag, buffer, at)
 }
 
 // The same of a decoder whose reads never fail.
 #[tactic(auto, using(crate::proofs::Slices::exactly_here))]
 fn part_here(
     decoder: &mut Decoder<SliceSource<'_>>,
+    other: &Option<Directory>,
     tag: Tag,
     at: u64,
     buffer: &mut [u8],
 ) -> TiffResult<Option<usize>>
-    ensures { AnswersWithoutSource (λ n. (n, buffer.new)) result (outcome.find_tag_bytes decoder.old tag buffer.old at).answer }
+    ensures { AnswersWithoutSource (λ n. (n, buffer.new)) result (outcome.find_tag_bytes (reader_of decoder.old other.now) tag buffer.old at).answer }
 {
     never_failed(decoder);
-    let answer = part_of_tag(decoder, tag, at, buffer);
+    let answer = part_of_tag(decoder, other, tag, at, buffer);
     never_failed(decoder);
     answer
 }
@@ -491,13 +630,14 @@ fn part_here(
 // The same, and how many bytes they are.
 fn bytes_here(
     decoder: &mut Decoder<SliceSource<'_>>,
+    other: &Option<Directory>,
     tag: Tag,
     at: u64,
     buffer: &mut [u8],
 ) -> TiffResult<usize>
-    ensures { AnswersWithoutSource (λ n. (n, buffer.new)) result (calls.bytes_of_tag decoder.old tag at buffer.old) }
+    ensures { AnswersWithoutSource (λ n. (n, buffer.new)) result (calls.bytes_of_tag (reader_of decoder.old other.now) tag at buffer.old) }
 {
-    let found = part_here(decoder, tag, at, buffer)?;
+    let found = part_here(decoder, other, tag, at, buffer)?;
     copied(tag, found)
 }
 
@@ -513,8 +653,10 @@ pub fn tag_bytes(
 ) -> TiffResult<usize>
     ensures { AnswersWithoutSource (λ n. (n, buffer.new)) result (calls.tag_bytes file.now page number at buffer.old) }
 {
+    let (mut decoder, other) = open_tags(alloc, file, page)?;
     bytes_here(
-        &mut open_at(alloc, file, page)?,
+        &mut decoder,
+        &other,
         Tag::from_u16_exhaustive(number),
         at,
         buffer,

@@ -5,20 +5,25 @@
 
 ghost use Rattle.std.specs.Prelude.{◌≡◌, ◌⊎◌};
 ghost use Rattle.tiff_statuses.specs.Calls as calls;
+ghost use Rattle.tiff_statuses.specs.Jobs.{JobsTell};
 ghost use Rattle.tiff_statuses.specs.List.{ListTells, list_of};
 ghost use Rattle.tiff_statuses.specs.Status.{StatusPuts, StatusTells};
+ghost use Rattle.tiff_statuses.specs.Values as values;
 ghost use Rattle.tiff_statuses.specs.Writer as writer;
 ghost use Rattle.tiff_statuses.specs.Writer.{IsShown};
 
 use std::alloc::Global;
 
 pub mod calls;
+pub mod jobs;
 pub mod list;
 mod samples;
 mod status;
+pub mod values;
 pub mod writer;
 
-use crate::calls::{Chunks, Color, FieldSize, Layout, Sides};
+use crate::calls::{Chunks, Color, FieldSize, Layout, PageSamples, Sides};
+use crate::jobs::{JobsEnd, run_version, tell};
 use crate::list::{ListedPage, list_into};
 use crate::status::{done, given, text_of};
 use crate::writer::{NewImage, deliver, write_new};
@@ -45,6 +50,14 @@ pub fn page_color(alloc: Global, file: &[u8], page: usize, color: &mut Color) ->
     ensures { StatusPuts (calls.page_color file.now page) result color.old color.new }
 {
     given(calls::page_color(alloc, file, page), color)
+}
+
+/// The samples of a page.
+#[tactic(auto, using(crate::proofs::StatusTells::puts_told))]
+pub fn page_samples(alloc: Global, file: &[u8], page: usize, samples: &mut PageSamples) -> u32
+    ensures { StatusPuts (calls.page_samples file.now page) result samples.old samples.new }
+{
+    given(calls::page_samples(alloc, file, page), samples)
 }
 
 /// The strips or the tiles of a page.
@@ -142,6 +155,57 @@ pub fn tag_bytes(
     )
 }
 
+/// Puts the numbers of a tag of a page into a slice, by the tag's number, as many as it has room for, and tells how many there are.
+#[tactic(auto, using(crate::proofs::StatusTells::puts_both))]
+pub fn tag_numbers(
+    alloc: Global,
+    file: &[u8],
+    page: usize,
+    number: u16,
+    numbers: &mut [u64],
+    count: &mut usize,
+) -> u32
+    ensures { StatusPuts (values.tag_numbers file.now page number numbers.old) result (count.old, numbers.old) (count.new, numbers.new) }
+{
+    given(
+        values::tag_numbers(alloc, file, page, number, numbers),
+        count,
+    )
+}
+
+/// The same of the bits of its floating numbers.
+#[tactic(auto, using(crate::proofs::StatusTells::puts_both))]
+pub fn tag_floats(
+    alloc: Global,
+    file: &[u8],
+    page: usize,
+    number: u16,
+    numbers: &mut [u64],
+    count: &mut usize,
+) -> u32
+    ensures { StatusPuts (values.tag_floats file.now page number numbers.old) result (count.old, numbers.old) (count.new, numbers.new) }
+{
+    given(
+        values::tag_floats(alloc, file, page, number, numbers),
+        count,
+    )
+}
+
+/// The same of the bytes of its text.
+#[tactic(auto, using(crate::proofs::StatusTells::puts_both))]
+pub fn tag_text(
+    alloc: Global,
+    file: &[u8],
+    page: usize,
+    number: u16,
+    text: &mut [u8],
+    len: &mut usize,
+) -> u32
+    ensures { StatusPuts (values.tag_text file.now page number text.old) result (len.old, text.old) (len.new, text.new) }
+{
+    given(values::tag_text(alloc, file, page, number, text), len)
+}
+
 /// The byte order of a file.
 #[tactic(auto, using(crate::proofs::StatusTells::puts_told))]
 pub fn byte_order(alloc: Global, file: &[u8], order: &mut u32) -> u32
@@ -183,11 +247,27 @@ pub fn write_image(
     deliver(write_new(alloc, image, samples), buffer, len)
 }
 
+/// Writes the file of the jobs that a text lists into a slice, and tells how many bytes it has; or where the list was refused.
+#[tactic(auto, using(crate::proofs::Delivered::told_jobs, crate::proofs::Delivered::kept_jobs))]
+pub fn write_jobs(
+    alloc: Global,
+    version: u16,
+    jobs: &[u8],
+    buffer: &mut [u8],
+    len: &mut usize,
+    end: &mut JobsEnd,
+) -> u32
+    ensures answer { JobsTell version result buffer.old buffer.new len.old len.new end.new }
+    ensures stays { (result ≡ 0) ⊎ (buffer.new ≡ buffer.old) }
+{
+    tell(run_version(alloc, version, jobs), buffer, len, end)
+}
+
 /// The version of these calls, as the header for C tells it: it is raised where a call changes or is added.
 pub fn version() -> u32
-    ensures { result ≡ 1 }
+    ensures { result ≡ 2 }
 {
-    1
+    2
 }
 
 /// Writes the text of a status into a slice, as much of it as fits, and answers how many bytes it has.

@@ -7,7 +7,7 @@ ghost use Rattle.tiff_statuses.specs.List as list;
 ghost use Rattle.tiff_statuses.specs.Status as status;
 
 use crate::calls::{Color, color_by, never_failed, open_first};
-use crate::status::{Status, fault_number};
+use crate::status::{Status, fault_number, status_of};
 use std::alloc::Global;
 use tiff_base::color::{ChunkType, ColorType};
 use tiff_base::error::{TiffError, TiffResult};
@@ -36,16 +36,6 @@ const NO_COLOR: Color = Color {
     bits: 0,
     samples: 0,
 };
-
-// The number of an answer.
-fn status_of<T: Drop>(answer: &TiffResult<T>) -> u32
-    ensures { result ≡ status.status answer.now }
-{
-    match answer {
-        Ok(_) => Status::Done as u32,
-        Err(fault) => fault_number(fault),
-    }
-}
 
 // A color, as C is told of it.
 fn color_told(color: &TiffResult<ColorType>) -> Color

@@ -176,6 +176,16 @@ pub fn fault_number(fault: &TiffError) -> u32
     }
 }
 
+/// The number of an answer.
+pub fn status_of<T: Drop>(answer: &TiffResult<T>) -> u32
+    ensures { result ≡ spec.status answer.now }
+{
+    match answer {
+        Ok(_) => Status::Done as u32,
+        Err(fault) => fault_number(fault),
+    }
+}
+
 /// The status of a call that leaves what it answers in a variable of the caller's.
 pub fn done(answer: TiffResult<()>) -> u32
     ensures { result ≡ spec.status answer }

@@ -82,8 +82,8 @@ const COLOR_TYPES: [ColorTypeName; 30] = [
 // Room for what a file of few strips has beside its samples; one of more strips takes more room as it grows.
 const FRAME: usize = 4096;
 
-// A kind of file, by the version in its header.
-fn kind_of(version: u16) -> Option<FileKind>
+/// A kind of file, by the version in its header.
+pub fn kind_of(version: u16) -> Option<FileKind>
     ensures { result ≡ writer.kind_of version }
 {
     match version {

@@ -1,0 +1,79 @@
+-- What C is told of a list of jobs: the file that they leave, or where the list was refused.
+use Rattle.std.specs.Prelude.{◌≡◌, ℕ, ◌+◌, ◌==◌, ◌++◌, List, [], ◌∷◌, map, if◌then◌else◌, Option, None, Some, Result, Ok, Err}
+use Rattle.tiff_base.specs.declared.error.TiffError.{TiffError}
+use Rattle.tiff_base.specs.declared.error.TiffError.TheVariants.{FormatError, IoError, OutOfMemory}
+use Rattle.tiff_base.specs.declared.error.TiffFormatError.TheVariants.{TiffSignatureInvalid}
+use Rattle.tiff_base.specs.declared.io.IoKind.TheVariants.{InvalidInput}
+use Rattle.tiff_base.specs.declared.tags.FileKind.{FileKind}
+use Rattle.tiff_encode.specs.declared.encoder.script.Job.{Job}
+use Rattle.tiff_encode.specs.declared.encoder.script.JobReply.{JobReply}
+use Rattle.tiff_encode.specs.Jobs.{LeavesJobs}
+use Rattle.tiff_statuses.specs.declared.jobs.Answer.{Answer}
+use Rattle.tiff_statuses.specs.declared.jobs.Answer.TheVariants.{NoJob, Ran}
+use Rattle.tiff_statuses.specs.declared.jobs.JobsEnd.{JobsEnd}
+use Rattle.tiff_statuses.specs.Status.{fault_number, status}
+use Rattle.tiff_statuses.specs.Writer.{Delivers, kind_of}
+
+-- ---- which job was refused
+
+-- the first of some statuses that is a fault's, or 0
+abbrev pub first_status : List ℕ → ℕ
+first_status [] = 0
+first_status (n ∷ ns) = if n == 0 then first_status ns else n
+
+-- the status of a job: of its first step that was refused, else of its end
+abbrev pub job_status : JobReply → ℕ
+job_status reply = first_status (map status reply.steps.items ++ status reply.last ∷ [])
+
+-- the first of some jobs that had a fault, by its number, counted from this one on, with its status
+abbrev pub first_refused : ℕ → List JobReply → Option (ℕ × ℕ)
+first_refused n [] = None
+first_refused n (reply ∷ replies) = if job_status reply == 0 then first_refused (n + 1) replies else Some (n, job_status reply)
+
+-- ---- what jobs leave
+
+-- The jobs left this file on a sink that held nothing, and this is the first of them that had a fault, counted from 1.
+pub record RanJobs (kind : FileKind) (jobs : List Job) (file : List ℕ) (refused : Option (ℕ × ℕ)) : Type 0 where
+  pub replies : List JobReply
+  pub before : ℕ
+  pub after : ℕ
+  pub leaves : LeavesJobs kind jobs replies [] before file after
+  pub refused_is : refused ≡ first_refused 1 replies
+
+-- A text is answered: a line of it was no job, or all its jobs were run. Which lines are jobs is told in CALLING.md, and by no clause.
+abbrev pub AnswersJobs : FileKind → Answer → Type 0
+AnswersJobs kind (NoJob line) = Unit {0}
+AnswersJobs kind (Ran ran) = (jobs : List Job) × RanJobs kind jobs ran.file.items ran.refused
+
+-- ---- what C is told
+
+abbrev pub no_end : JobsEnd
+no_end = record { line = 0; job = 0 }
+
+-- a buffer and a length stay
+abbrev pub Stays : List ℕ → List ℕ → ℕ → ℕ → Type 0
+Stays old new len_old len_new = (new ≡ old) × (len_new ≡ len_old)
+
+-- The file of jobs is delivered where none of them had a fault; else the first that had one is told, with its status.
+abbrev pub TellsRan : List ℕ → Option (ℕ × ℕ) → ℕ → List ℕ → List ℕ → ℕ → ℕ → JobsEnd → Type 0
+TellsRan file None status old new len_old len_new end = Delivers (Ok file) status old new len_old len_new × (end ≡ no_end)
+TellsRan file (Some refused) status old new len_old len_new end =
+    (status ≡ refused.1) × (Stays old new len_old len_new × (end ≡ record { line = 0; job = refused.0 }))
+
+-- A line that is no job is told, and nothing was run; or the fault is.
+abbrev pub TellsAnswer : Result Answer TiffError → ℕ → List ℕ → List ℕ → ℕ → ℕ → JobsEnd → Type 0
+TellsAnswer (Ok (Ran ran)) status old new len_old len_new end = TellsRan ran.file.items ran.refused status old new len_old len_new end
+TellsAnswer (Ok (NoJob line)) status old new len_old len_new end =
+    (status ≡ fault_number (IoError InvalidInput)) × (Stays old new len_old len_new × (end ≡ record { line = line; job = 0 }))
+TellsAnswer (Err e) status old new len_old len_new end = (status ≡ fault_number e) × (Stays old new len_old len_new × (end ≡ no_end))
+
+-- a text for a file of a kind is answered, or there is no memory
+abbrev pub AnswersKind : Option FileKind → Result Answer TiffError → Type 0
+AnswersKind None answer = answer ≡ Err (FormatError TiffSignatureInvalid)
+AnswersKind (Some kind) (Ok answer) = AnswersJobs kind answer
+AnswersKind (Some kind) (Err e) = e ≡ OutOfMemory
+
+-- what C is told of jobs for a file whose header has this version, and the buffer and the length before and after
+abbrev pub JobsTell : ℕ → ℕ → List ℕ → List ℕ → ℕ → ℕ → JobsEnd → Type 0
+JobsTell version status old new len_old len_new end =
+    (answer : Result Answer TiffError) × (AnswersKind (kind_of version) answer × TellsAnswer answer status old new len_old len_new end)

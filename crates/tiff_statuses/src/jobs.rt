@@ -1,0 +1,178 @@
+//! The file of a list of jobs, as C asks for it by lines of text.
+
+ghost use Rattle.std.specs.Prelude.{◌≡◌, map, IfErr, MatchResult};
+ghost use Rattle.tiff_statuses.specs.Jobs.{AnswersJobs, AnswersKind, RanJobs, TellsAnswer, TellsRan, first_refused, first_status, job_status};
+ghost use Rattle.tiff_statuses.specs.Status as status;
+ghost use Rattle.tiff_statuses.specs.Writer as writer;
+
+use crate::status::{Status, fault_number, status_of};
+use crate::writer::{deliver, kind_of};
+use std::alloc::Global;
+use std::str;
+use tiff_base::error::{TiffError, TiffFormatError, TiffResult};
+use tiff_base::io::MemorySink;
+use tiff_base::tags::FileKind;
+use tiff_encode::encoder::script::{Job, JobReply, StepReply, run_jobs};
+use tiff_encode::encoder::{TiffKind, TiffKindBig, TiffKindStandard};
+use tiff_lists::jobs::jobs_of;
+
+/// Where a list of jobs was refused, counted from 1: at a line that is no job, or at a job that had a fault. 0 is none.
+#[derive(Clone, Copy, Debug, PartialEq, Eq)]
+#[repr(C)]
+pub struct JobsEnd {
+    pub line: usize,
+    pub job: usize,
+}
+
+const NO_END: JobsEnd = JobsEnd { line: 0, job: 0 };
+
+/// What jobs left that were run: their file, and the number of the first of them that had a fault, counted from 1, with its status.
+#[derive(Drop)]
+pub struct Ran {
+    pub file: Vec<u8>,
+    pub refused: Option<(usize, u32)>,
+}
+
+/// What a text of jobs is answered.
+#[derive(Drop)]
+pub enum Answer {
+    /// The line of this number is no job; 0 where the text isn't UTF-8.
+    NoJob(usize),
+
+    /// Its jobs were run.
+    Ran(Ran),
+}
+
+// The status of the first step that was refused, or 0.
+fn steps_status(steps: &[TiffResult<StepReply>]) -> u32
+    ensures { result ≡ first_status (map status.status steps.now) }
+{
+    for i in 0..steps.len() {
+        let number = status_of(&steps[i]);
+        if number != 0 {
+            return number;
+        }
+    }
+    0
+}
+
+// The status of the first fault of a job, of its steps and then of its end, or 0.
+#[tactic(auto, using(crate::proofs::FirstFault::first_behind))]
+fn job_status(reply: &JobReply) -> u32
+    ensures { result ≡ job_status reply.now }
+{
+    let steps = steps_status(&reply.steps);
+    if steps == 0 {
+        status_of(&reply.last)
+    } else {
+        steps
+    }
+}
+
+// The first job that had a fault, by its number from 1, with its status.
+fn first_refused(replies: &[JobReply]) -> Option<(usize, u32)>
+    ensures { result ≡ first_refused 1 replies.now }
+{
+    for i in 0..replies.len() {
+        let number = job_status(&replies[i]);
+        if number != 0 {
+            return Some((i + 1, number));
+        }
+    }
+    None
+}
+
+// Lets a value go. A list of replies is let go here: where a function isn't generic, that is long to prove.
+fn let_go<T: Drop>(_value: T) {}
+
+// Runs jobs over a sink that holds nothing.
+#[tactic(auto, using(tiff_base::proofs::MemoryFaults::header_refused))]
+fn run_kind<K: TiffKind>(alloc: Global, jobs: &[Job]) -> TiffResult<Ran>
+    ensures { MatchResult result (λ ran. RanJobs K.kind jobs.now ran.file.items ran.refused) (λ e. e ≡ TiffError.OutOfMemory) }
+{
+    let mut replies = Vec::new(alloc);
+    let sink = MemorySink::new(Vec::new(alloc));
+    let sink = run_jobs::<MemorySink, K>(alloc, sink, jobs, &mut replies)?;
+    let refused = first_refused(&replies);
+    let_go(replies);
+    Ok(Ran {
+        file: sink.into_vec(),
+        refused,
+    })
+}
+
+// The same, by the kind of the file.
+fn run(alloc: Global, kind: FileKind, jobs: &[Job]) -> TiffResult<Ran>
+    ensures { MatchResult result (λ ran. RanJobs kind jobs.now ran.file.items ran.refused) (λ e. e ≡ TiffError.OutOfMemory) }
+{
+    match kind {
+        FileKind::Classic => run_kind::<TiffKindStandard>(alloc, jobs),
+        FileKind::Big => run_kind::<TiffKindBig>(alloc, jobs),
+    }
+}
+
+// The jobs that a text lists; or the number of its first line that is none, and 0 where it isn't UTF-8.
+fn listed(alloc: Global, text: &[u8]) -> TiffResult<Result<Vec<Job>, usize>>
+    ensures { IfErr result (λ e. e ≡ TiffError.OutOfMemory) }
+{
+    match str::from_utf8(text) {
+        Ok(text) => Ok(jobs_of(alloc, text)?),
+        Err(_) => Ok(Err(0)),
+    }
+}
+
+/// Runs the jobs that a text lists, unless a line of it is none. Its only error is `OutOfMemory`.
+pub fn run_listed(alloc: Global, kind: FileKind, text: &[u8]) -> TiffResult<Answer>
+    ensures { MatchResult result (AnswersJobs kind) (λ e. e ≡ TiffError.OutOfMemory) }
+{
+    match listed(alloc, text)? {
+        Ok(jobs) => Ok(Answer::Ran(run(alloc, kind, &jobs)?)),
+        Err(line) => Ok(Answer::NoJob(line)),
+    }
+}
+
+// Puts the file of jobs into a buffer where none of them had a fault.
+fn tell_ran(ran: Ran, buffer: &mut [u8], len: &mut usize, end: &mut JobsEnd) -> u32
+    ensures { TellsRan ran.file.items ran.refused result buffer.old buffer.new len.old len.new end.new }
+{
+    match ran.refused {
+        None => {
+            *end = NO_END;
+            deliver(Ok(ran.file), buffer, len)
+        }
+        Some((job, number)) => {
+            *end = JobsEnd { line: 0, job };
+            number
+        }
+    }
+}
+
+/// Tells C what a text of jobs is answered, and where it was refused.
+pub fn tell(
+    answer: TiffResult<Answer>,
+    buffer: &mut [u8],
+    len: &mut usize,
+    end: &mut JobsEnd,
+) -> u32
+    ensures { TellsAnswer answer result buffer.old buffer.new len.old len.new end.new }
+{
+    *end = NO_END;
+    match answer {
+        Ok(Answer::Ran(ran)) => tell_ran(ran, buffer, len, end),
+        Ok(Answer::NoJob(line)) => {
+            end.line = line;
+            Status::InvalidInput as u32
+        }
+        Err(fault) => fault_number(&fault),
+    }
+}
+
+/// The answer to a text of jobs for a file whose header has this version; a version that is none is refused first.
+pub fn run_version(alloc: Global, version: u16, text: &[u8]) -> TiffResult<Answer>
+    ensures { AnswersKind (writer.kind_of version) result }
+{
+    match kind_of(version) {
+        Some(kind) => run_listed(alloc, kind, text),
+        None => Err(TiffFormatError::TiffSignatureInvalid.into()),
+    }
+}
