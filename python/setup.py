@@ -25,7 +25,8 @@ Rattle kit is, or name it in the environment variable {VARIABLE}."""
 def library() -> Path:
     """Finds the shared library: the one that is named, or the one that `make` built."""
     named = os.environ.get(VARIABLE)
-    found = Path(named) if named else next(BUILT.glob(f"{NAME}.*"), None)
+    latest = max(BUILT.glob(f"{NAME}.*"), key=lambda file: int(file.suffix[1:]), default=None)
+    found = Path(named) if named else latest
     if found is None or not found.is_file():
         raise SystemExit(MISSING)
     return found

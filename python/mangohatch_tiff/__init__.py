@@ -8,11 +8,13 @@
 Names follow tifffile's where the thing is the same.
 """
 from ._file import TiffFile, TiffPage, imread, imwrite
-from ._library import ColorKind, Status, TiffError, library_version
+from ._jobs import write_jobs
+from ._library import ColorKind, JobsError, Status, TiffError, library_version
 from ._tags import Tags
 
 __all__ = [
     "ColorKind",
+    "JobsError",
     "Status",
     "Tags",
     "TiffError",
@@ -21,4 +23,5 @@ __all__ = [
     "imread",
     "imwrite",
     "library_version",
+    "write_jobs",
 ]

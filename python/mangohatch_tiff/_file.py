@@ -10,7 +10,7 @@ from types import TracebackType
 from typing import TYPE_CHECKING, Any, Union, overload
 
 from . import _library
-from ._library import Chunks, Color, ColorKind, Layout, ListedPage, Status, TiffError
+from ._library import Chunks, Color, ColorKind, Layout, ListedPage, Samples, Status, TiffError
 from ._tags import Tags
 
 if TYPE_CHECKING:
@@ -76,6 +76,11 @@ class TiffPage:
         return _library.ask(_library.PAGE_CHUNKS, Chunks, self._file, self._at)
 
     @cached_property
+    def _samples(self) -> Samples:
+        """What the samples of the page are, and how they lie."""
+        return _library.ask(_library.PAGE_SAMPLES, Samples, self._file, self._at)
+
+    @cached_property
     def tags(self) -> Tags:
         """The tags of the page, by number and by name."""
         return Tags(self._file, self._at, self._order)
@@ -116,6 +121,11 @@ class TiffPage:
         return self.tags.first(SAMPLE_FORMAT, 1)
 
     @property
+    def is_inverted(self) -> bool:
+        """Whether zero is white in the file: `asarray` gives the samples with zero as black."""
+        return self._samples.inverted == 1
+
+    @property
     def is_tiled(self) -> bool:
         """Whether the page is in tiles, and not in strips."""
         return self._facts.chunk_kind == _library.TILES
@@ -149,7 +159,7 @@ class TiffPage:
     @property
     def _planes(self) -> int:
         """The planes of the image."""
-        return self._layout.complete_len // self._layout.len
+        return self._samples.planes
 
     @cached_property
     def _number_type(self) -> str | None:
@@ -305,6 +315,13 @@ class TiffFile:
         Such offsets stand in the tag SubIFDs (330). Its `index` is -1.
         """
         return TiffPage(self._file, -1, _library.page_at(self._file, offset), self.byteorder)
+
+    def tags_at(self, offset: int) -> Tags:
+        """Returns the tags of the directory at an offset of the file, also of one that is no page.
+
+        Such offsets stand in the tags SubIFDs (330), ExifTag (34665) and GPSTag (34853).
+        """
+        return Tags(self._file, _library.at(offset), self.byteorder)
 
     def asarray(self, page: int = 0) -> NDArray[Any]:
         """Reads the image of a page as an array."""

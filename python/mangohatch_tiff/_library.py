@@ -10,9 +10,11 @@ from ctypes import (
     POINTER,
     Structure,
     byref,
+    c_double,
     c_int,
     c_size_t,
     c_ssize_t,
+    c_ubyte,
     c_uint16,
     c_uint32,
     c_uint64,
@@ -118,6 +120,8 @@ BIG_ENDIAN = 1
 # The bytes of a page of a few tags, and how many pages are listed at first.
 SHORT_PAGE = 64
 FIRST_ROOM = 1 << 14
+# How many values of a tag are asked for at first.
+FEW = 16
 
 
 class Layout(Structure):
@@ -130,6 +134,22 @@ class Color(Structure):
     """The kind of a color, the bits of a sample, and how many samples a pixel shows."""
 
     _fields_ = [("kind", c_uint32), ("bits", c_uint32), ("samples", c_uint32)]
+
+
+class Samples(Structure):
+    """The samples of a page: what their bits are, how many those are, and how they lie.
+
+    `kind` is that of the tag SampleFormat. `samples` counts those that a pixel shows, `planes` is 1
+    where they lie side by side, and `inverted` is 1 where zero is white in the file.
+    """
+
+    _fields_ = [
+        ("kind", c_uint32),
+        ("bits", c_uint32),
+        ("samples", c_uint32),
+        ("planes", c_uint32),
+        ("inverted", c_uint32),
+    ]
 
 
 class Chunks(Structure):
@@ -183,6 +203,12 @@ class Image(Structure):
         ("method", c_uint16),
         ("predictor", c_uint16),
     ]
+
+
+class JobsEnd(Structure):
+    """Where a list of jobs was refused: a line or a job, counted from 1; 0 is none."""
+
+    _fields_ = [("line", c_size_t), ("job", c_size_t)]
 
 
 class _Number(Structure):
@@ -242,6 +268,7 @@ LIST_PAGES = _declare(
 )
 PAGE_SIDES = _declare("tiff_page_sides", *_PAGE, POINTER(Sides))
 PAGE_COLOR = _declare("tiff_page_color", *_PAGE, POINTER(Color))
+PAGE_SAMPLES = _declare("tiff_page_samples", *_PAGE, POINTER(Samples))
 PAGE_LAYOUT = _declare("tiff_page_layout", *_PAGE, POINTER(Layout))
 PAGE_CHUNKS = _declare("tiff_page_chunks", *_PAGE, POINTER(Chunks))
 READ_IMAGE = _declare("tiff_read_image_bytes", *_PAGE, *_BYTES)
@@ -251,8 +278,18 @@ TAG_NUMBER = _declare("tiff_tag_number", *_PAGE, c_uint16, POINTER(_Number))
 TAG_BYTES = _declare(
     "tiff_tag_bytes", *_PAGE, c_uint16, c_uint64, *_BYTES, POINTER(c_size_t)
 )
+TAG_NUMBERS = _declare(
+    "tiff_tag_numbers", *_PAGE, c_uint16, POINTER(c_uint64), c_size_t, POINTER(c_size_t)
+)
+TAG_FLOATS = _declare(
+    "tiff_tag_floats", *_PAGE, c_uint16, POINTER(c_double), c_size_t, POINTER(c_size_t)
+)
+TAG_TEXT = _declare("tiff_tag_text", *_PAGE, c_uint16, *_BYTES, POINTER(c_size_t))
 WRITE_IMAGE = _declare(
     "tiff_write_image", POINTER(Image), *_BYTES, *_BYTES, POINTER(c_size_t)
+)
+WRITE_JOBS = _declare(
+    "tiff_write_jobs", c_uint16, *_BYTES, *_BYTES, POINTER(c_size_t), POINTER(JobsEnd)
 )
 FAULT_TEXT = _declare("tiff_fault_text", c_uint32, *_BYTES, answer=c_size_t)
 
@@ -283,6 +320,22 @@ class TiffError(Exception):
 
     def __str__(self) -> str:
         return fault_text(self.status)
+
+
+class JobsError(TiffError):
+    """A list of jobs that is refused: at a `line` that is no job, or at a `job` that had a fault.
+
+    Both are counted from 1, and 0 is none.
+    """
+
+    def __init__(self, status: int, line: int, job: int) -> None:
+        super().__init__(status)
+        self.line, self.job = line, job
+
+    def __str__(self) -> str:
+        if self.line:
+            return f"line {self.line} is no job"
+        return f"job {self.job}: {super().__str__()}" if self.job else super().__str__()
 
 
 def check(status: int) -> None:
@@ -364,6 +417,35 @@ def page_at(file: ReadableBuffer, offset: int) -> ListedPage:
         count_status=count_status,
         count=chunks.count,
     )
+
+
+def _values(call: Any, kind: Any, file: ReadableBuffer, *place: int) -> Any:
+    """Returns the values of a tag of a page. A second call has the room that many want."""
+    count = c_size_t()
+    room = FEW
+    with locked(file) as (address, length):
+        values = (kind * room)()
+        check(call(address, length, *place, values, room, byref(count)))
+        if count.value > room:
+            room = count.value
+            values = (kind * room)()
+            check(call(address, length, *place, values, room, byref(count)))
+    return values[: min(count.value, room)]
+
+
+def tag_numbers(file: ReadableBuffer, page: int, number: int) -> tuple[int, ...]:
+    """Returns the values of a tag of a page as unsigned numbers."""
+    return tuple(_values(TAG_NUMBERS, c_uint64, file, page, number))
+
+
+def tag_floats(file: ReadableBuffer, page: int, number: int) -> tuple[float, ...]:
+    """Returns the values of a tag of a page as floating numbers."""
+    return tuple(_values(TAG_FLOATS, c_double, file, page, number))
+
+
+def tag_text(file: ReadableBuffer, page: int, number: int) -> str:
+    """Returns the text of a tag of a page."""
+    return bytes(_values(TAG_TEXT, c_ubyte, file, page, number)).decode()
 
 
 def byte_order(file: ReadableBuffer) -> str:

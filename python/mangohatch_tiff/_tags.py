@@ -206,6 +206,28 @@ class Tags(Mapping[Union[int, str], TagValue]):
     def __len__(self) -> int:
         return sum(1 for _ in self)
 
+    def _number(self, key: int | str) -> int:
+        """Returns the number of a tag that can be asked for."""
+        number = number_of(key)
+        if number is None:
+            raise KeyError(key)
+        return number
+
+    def numbers(self, key: int | str) -> tuple[int, ...]:
+        """Returns the values of a tag of unsigned numbers, one or several.
+
+        Values of another type, and no such tag, raise the library's fault.
+        """
+        return _library.tag_numbers(self._file, self._page, self._number(key))
+
+    def floats(self, key: int | str) -> tuple[float, ...]:
+        """Returns the values of a tag of floating numbers of 64 bits, as `numbers` those of its."""
+        return _library.tag_floats(self._file, self._page, self._number(key))
+
+    def text(self, key: int | str) -> str:
+        """Returns the text of a tag up to its first zero, which has to be UTF-8."""
+        return _library.tag_text(self._file, self._page, self._number(key))
+
     def first(self, number: int, default: int) -> Any:
         """Returns the first value of a tag, or another where the page hasn't this tag."""
         value = self.get(number, default)

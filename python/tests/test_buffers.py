@@ -134,4 +134,4 @@ def test_threads() -> None:
 
 
 def test_the_version_of_the_library() -> None:
-    assert mt.library_version() >= 1
+    assert mt.library_version() >= 2

@@ -172,7 +172,10 @@ def test_odd_depths_stay_packed() -> None:
 
 
 def test_white_is_zero_is_inverted() -> None:
-    image = mt.imread(gray_file(t262=(3, 0)))
+    file = gray_file(t262=(3, 0))
+    image = mt.imread(file)
+    assert mt.TiffFile(file).pages[0].is_inverted
+    assert not mt.TiffFile(gray_file()).pages[0].is_inverted
     numpy.testing.assert_array_equal(image, 255 - numpy.arange(12, dtype="u1").reshape(3, 4))
 
 

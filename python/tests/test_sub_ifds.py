@@ -6,7 +6,7 @@ from io import BytesIO
 import numpy
 import pytest
 import tifffile
-from conftest import samples
+from conftest import gray_file, samples
 
 from mangohatch_tiff import Status, TiffError, TiffFile
 
@@ -36,3 +36,17 @@ def test_no_page() -> None:
         with pytest.raises(TiffError) as caught:
             file.page_at(len(made.getvalue()))
         assert caught.value.status is Status.UNEXPECTED_EOF
+
+
+def test_tags_of_no_page() -> None:
+    """The tags of a directory are read, whether it is a page or not."""
+    first = gray_file()
+    page = gray_file(t262=(3, 32803))
+    directory = page[int.from_bytes(page[4:8], "little") :]
+    file = TiffFile(first + directory)
+    with pytest.raises(TiffError) as caught:
+        file.page_at(len(first))
+    assert caught.value.status is Status.UNKNOWN_INTERPRETATION
+    tags = file.tags_at(len(first))
+    assert tags[262] == 32803 and tags.numbers("ImageWidth") == (4,)
+    assert 65099 not in tags

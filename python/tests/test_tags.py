@@ -75,6 +75,33 @@ def test_long_types(byteorder: str) -> None:
 
 
 @pytest.mark.parametrize("byteorder", "<>")
+@pytest.mark.parametrize("bigtiff", [False, True])
+def test_values_of_one_type(byteorder: str, bigtiff: bool) -> None:
+    """The library's calls on values give what the bytes of a tag are decoded to."""
+    many = tuple(range(1, 100))
+    extra = [*EXTRA, (65020, "H", 99, many, True), (65021, "d", 20, (0.5, -0.0) * 10, True)]
+    tags = mt.TiffFile(file_of_tags(byteorder, bigtiff, extra)).pages[0].tags
+    assert tags.numbers(65000) == (1, 2, 255)
+    assert tags.numbers(65003) == (1, 4294967295)
+    assert tags.numbers(65020) == many
+    assert tags.numbers("ImageWidth") == (5,)
+    assert tags.floats(65011) == (3.141592653589793,)
+    assert tags.floats(65021) == (0.5, -0.0) * 10
+    assert tags.text(65001) == "a text"
+    assert tags.text("ImageDescription") == "a scan"
+    for call, number in ((tags.numbers, 65005), (tags.floats, 65010), (tags.text, 65000)):
+        with pytest.raises(mt.TiffError) as fault:
+            call(number)
+        assert fault.value.status is mt.Status.INVALID_TYPE_FOR_TAG
+    for call in (tags.numbers, tags.floats, tags.text):
+        with pytest.raises(mt.TiffError) as fault:
+            call(65099)
+        assert fault.value.status is mt.Status.REQUIRED_TAG_NOT_FOUND
+        with pytest.raises(KeyError):
+            call("NoSuchName")
+
+
+@pytest.mark.parametrize("byteorder", "<>")
 def test_common_tags(byteorder: str) -> None:
     file = file_of_tags(byteorder)
     tags = mt.TiffFile(file).pages[0].tags

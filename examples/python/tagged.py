@@ -1,0 +1,36 @@
+"""Writes a page with two tags of one's own: a description, and a pixel's size in a map's units.
+
+    python3 tagged.py PAGE.tif
+
+It takes the package `mangohatch_tiff` and numpy.
+"""
+import struct
+import sys
+
+import numpy
+
+from mangohatch_tiff import TiffFile, write_jobs
+
+MODEL_PIXEL_SCALE = 33550
+
+
+def double(number: float) -> str:
+    """The bits of a number, as a list of jobs takes them."""
+    return struct.pack(">d", number).hex()
+
+
+def main(path: str) -> None:
+    image = numpy.arange(256, dtype="u1").reshape(16, 16)
+    scale = " ".join(double(side) for side in (0.5, 0.5, 0))
+    write_jobs(path, f"""
+image Gray8 {image.shape[1]} {image.shape[0]}
+write_tag 270 text a ramp
+write_tag {MODEL_PIXEL_SCALE} f64 {scale}
+write_data {image.tobytes().hex(" ")}
+""")
+    with TiffFile(path) as tif:
+        print(tif.pages[0].tags[270], tif.pages[0].tags[MODEL_PIXEL_SCALE])
+
+
+if __name__ == "__main__":
+    main(*sys.argv[1:])
