@@ -5,46 +5,68 @@
    SPDX-License-Identifier: MIT
 
 DESCRIPTION
-    A file is FILE, LEN bytes of the caller's memory that hold all of it. Nothing of it is copied, and nothing is kept between calls:
-    each call that reads opens the file anew, reads the header and the directories up to the page that is asked for, and lets go of all memory
-    that it took. FILE must stay unchanged during a call. Calls of several threads at once don't disturb each other, also on the same FILE: no call
-    writes anything but what it is handed to write into, and none has a state of its own.
+    A file is FILE, LEN bytes of the caller's memory that hold the whole file. No call copies FILE,
+    and no call keeps anything: each call that reads opens the file anew, reads the header and the
+    directories up to the page that the caller asks for, and frees all memory that it allocated.
+    FILE must stay unchanged during a call. Several threads may call at once, also on the same
+    FILE: a call writes only into what the caller passes for its results, and no call has a state
+    of its own.
 
-    PAGE is the number of a page from 0, along the file's chain of directories; or TIFF_AT(OFFSET), the directory at that offset of the file, in the chain
-    or not: one of tiff_list_pages, a SubIFD, a preview. A call on a number goes along the chain up to it. One on an offset doesn't: all pages of a file
-    are asked one by one in time that grows with their number, where they are told by the offsets that tiff_list_pages gave.
+    PAGE is the number of a page, counted from 0 along the file's chain of directories; or
+    TIFF_AT(OFFSET), the directory at that offset of the file. That directory need not be in the
+    chain: it may be one of tiff_list_pages, a SubIFD or a preview. A call with a number walks
+    along the chain up to that page. A call with an offset doesn't: to visit all pages by the
+    offsets that tiff_list_pages returns takes time that grows with the number of pages.
 
-    The calls on a tag, of a PAGE that is TIFF_AT(OFFSET), read that directory alone: it need not be one of a page, so the tags of one that all other calls
-    refuse are answered too, as of a color filter array (PhotometricInterpretation 32803), or of Exif. Of a number they read the page's, which is refused
-    as by the other calls. All calls open the file at its first page, so one that is refused there refuses each call.
+    The calls that read a tag treat TIFF_AT(OFFSET) in another way: they read that directory alone,
+    which need not be a page. So they also read the tags of a directory that all other calls
+    refuse, as of a color filter array (PhotometricInterpretation 32803), or of Exif. With a
+    number, they read the tags of that page, and refuse it as the other calls do.
 
-    A call that answers TIFF_DONE has written its answer. One that answers anything else has left a struct or a number as it was; what it leaves
-    in a buffer of bytes isn't told. tiff_write_image tells more.
+    Each call that reads first opens the file at its first page, so it returns the error of a
+    header or a first page that is refused, and then the error of PAGE: for a number behind the end
+    of the chain, the error by which the chain ends, else TIFF_IMAGE_FILE_DIRECTORY_NOT_FOUND; for
+    an offset where FILE ends within the directory, TIFF_UNEXPECTED_EOF; else the first error of the
+    page. Any call that reads or writes a file may return TIFF_OUT_OF_MEMORY. The comment of each
+    call names the errors that come behind these. Of several errors a call returns the first one.
 
-    A file may claim any size: ask for the layout, and judge it, before you take memory for an image. The calls that read pixels are under no limit,
-    whatever the size of a chunk in the file: they write into BUFFER, and allocate for a row alone, as long as a row in BUFFER or as the bytes of it that
-    FILE was found to have.
-    A page may have 8,388,608 chunks, and a tag that tiff_tag_number, tiff_tag_numbers or tiff_tag_floats reads as many values; a text of tiff_tag_text
-    268,435,456 bytes. More answers TIFF_LIMITS_EXCEEDED. These calls allocate for all values of the tag, as many as FILE was found to have.
+    A call that returns TIFF_DONE has written its result. A call that returns any other status
+    leaves a struct or a number as it was; what it leaves in a buffer of bytes is not specified.
+    tiff_list_pages, tiff_tag_numbers, tiff_tag_floats, tiff_tag_text, tiff_write_image and
+    tiff_write_jobs specify more.
+
+    A file may claim any size: call tiff_page_layout and judge its result before you allocate for
+    an image. The calls that read pixels have no limit for the size of a chunk in the file: they
+    write into BUFFER, and allocate for one row alone, which is as long as a row in BUFFER or as
+    the bytes of that row that FILE was found to have.
+    A page may have 8,388,608 chunks. A tag that tiff_tag_number, tiff_tag_numbers or
+    tiff_tag_floats reads may have as many values, and a text that tiff_tag_text reads 268,435,456
+    bytes. For more, a call returns TIFF_LIMITS_EXCEEDED. These calls allocate for all values of
+    the tag, as many as FILE was found to have.
 
 POINTERS
-    No pointer may be null, not even with a length of 0: hand the address of any byte. FILE with a length of 0 is no TIFF file
-    (TIFF_SIGNATURE_NOT_FOUND). What is read and what is written may not overlap.
+    No pointer may be null, not even with a length of 0: pass the address of any byte then. FILE
+    with a length of 0 is no TIFF file (TIFF_SIGNATURE_NOT_FOUND). The memory that a call reads and
+    the memory that it writes may not overlap.
 
 VERSION
-    MANGOHATCH_TIFF_VERSION is the version of these calls; it is raised where a call changes or is added. tiff_version tells the one of the library
-    that is linked. The numbers that have names here stay as they are.
+    MANGOHATCH_TIFF_VERSION is the version of these calls; it is raised when a call changes or is
+    added. tiff_version returns the version of the library that is linked. The numbers that have
+    names here never change.
 
 LINKING
-    cc .. $(pkg-config --cflags --libs mangohatch_tiff), where it is installed (`make install`). Without: cc .. libtiff_c.a liblibc_c.a. The first is built
-    by `rt lib` in crates/tiff_c, under the licence above; the second is the toolchain's, in its folder c: the heap, over malloc and free of the C library.
-    An installed library holds both. Its calls have other names than those of libtiff, so a program can link both. */
+    Where the library is installed (`make install`):
+    cc .. $(pkg-config --cflags --libs mangohatch_tiff). Where it isn't:
+    cc .. libtiff_c.a liblibc_c.a. `rt lib` in crates/tiff_c builds the first archive, under the
+    licence above. The second archive is the toolchain's, in its folder c: the heap, over malloc
+    and free of the C library. An installed library holds both. The names of its calls differ from
+    those of libtiff, so a program can link both. */
 #ifndef MANGOHATCH_TIFF_H
 #define MANGOHATCH_TIFF_H
 
 #define MANGOHATCH_TIFF_VERSION 2
 
-/* A PAGE that is the directory at an offset. */
+/* A PAGE that is the directory at an offset of the file. */
 #define TIFF_AT(offset) ((size_t)(offset) | (size_t)1 << 63)
 
 #include <stddef.h>
@@ -54,7 +76,7 @@ LINKING
 extern "C" {
 #endif
 
-/* What a call answers. The numbers stay. */
+/* What a call returns. The numbers never change. */
 typedef uint32_t tiff_status;
 enum {
     /* the call itself */
@@ -62,7 +84,7 @@ enum {
     TIFF_LIMITS_EXCEEDED = 1, /* decoder limits exceeded */
     TIFF_INT_SIZE_ERROR = 2, /* platform or format size limits exceeded */
     TIFF_OUT_OF_MEMORY = 3, /* out of memory */
-    TIFF_LATER_FAULT = 4, /* a fault that has no number yet; never answered */
+    TIFF_LATER_FAULT = 4, /* an error that has no number yet; no call returns it */
     /* the bytes */
     TIFF_UNEXPECTED_EOF = 10, /* unexpected end of file */
     TIFF_INVALID_DATA = 11, /* invalid data */
@@ -127,32 +149,41 @@ struct tiff_sides {
     uint32_t height;
 };
 
-/* How many pages a file has, along its chain of directories. A page that tiff_page_sides refuses: the fault of the first one. Where
-   none is refused, a chain that is cut or leads back behind them: the fault by which it ends. Whether pixels can be read isn't asked. */
+/* Counts the pages of a file along its chain of directories, into *PAGES. Errors: the first error
+   of a page that tiff_page_sides refuses, in the order of the chain; then, for a chain that is cut
+   or leads back into itself, the error by which it ends. The call doesn't test whether pixels can
+   be read. */
 tiff_status tiff_page_count(const uint8_t *file, size_t len, size_t *pages);
 
-/* The sides of a page. */
+/* Puts the width and the height of a page, in pixels, into *SIDES. Errors: those of FILE and of
+   PAGE alone. */
 tiff_status tiff_page_sides(const uint8_t *file, size_t len, size_t page, struct tiff_sides *sides);
 
-/* Reads the image of a page into BUFFER, of SIZE bytes: rows from the top, each of whole bytes, samples of 16 bits and more with
-   their lowest byte first. A chunky page has the samples of a pixel side by side; a planar one has its planes one behind the other, as many
-   as BUFFER takes whole. The bytes of BUFFER behind them stay. A BUFFER that is shorter than one plane:
-   TIFF_INSUFFICIENT_OUTPUT_BUFFER_SIZE. */
+/* Reads the image of a page into BUFFER, of SIZE bytes: rows from the top, each of whole bytes;
+   samples of 16 bits and more with their lowest byte first. In a chunky page the samples of a pixel
+   lie side by side. A planar page has its planes one behind the other; the call reads as many
+   planes as fit whole into BUFFER. The bytes of BUFFER behind what the call reads stay. Errors, in
+   this order: the first error of the page's color or its layout; a BUFFER shorter than one plane,
+   TIFF_INSUFFICIENT_OUTPUT_BUFFER_SIZE; the first error of a chunk. */
 tiff_status tiff_read_image_bytes(const uint8_t *file, size_t len, size_t page, uint8_t *buffer, size_t size);
 
-/* The bytes of the image of a page: LEN of one plane, COMPLETE_LEN of all planes (the same for a chunky page). */
+/* How many bytes the image of a page has: LEN those of one plane, COMPLETE_LEN those of all planes.
+   For a chunky page both are the same. tiff_page_layout puts them into *LAYOUT; it returns an error
+   where the page's samples have no layout. */
 struct tiff_layout {
     size_t len;
     size_t complete_len;
 };
 tiff_status tiff_page_layout(const uint8_t *file, size_t len, size_t page, struct tiff_layout *layout);
 
-/* The color of a page: its kind, the bits of a sample, and how many samples a pixel shows. */
+/* The color of a page: its kind, the bits of a sample, and how many samples a pixel shows.
+   tiff_page_color puts them into *COLOR; a page that has no color,
+   TIFF_INTERPRETATION_WITH_BITS. */
 enum {
     TIFF_GRAY = 0,
     TIFF_RGB = 1,
-    TIFF_PALETTE = 2,   /* never answered */
-    TIFF_GRAY_A = 3,    /* never answered */
+    TIFF_PALETTE = 2,   /* no call returns it */
+    TIFF_GRAY_A = 3,    /* no call returns it */
     TIFF_RGBA = 4,
     TIFF_CMYK = 5,
     TIFF_CMYKA = 6,
@@ -167,10 +198,14 @@ struct tiff_color {
 };
 tiff_status tiff_page_color(const uint8_t *file, size_t len, size_t page, struct tiff_color *color);
 
-/* The samples of a page, as the calls that read pixels hand them out: KIND, what the bits of one are; BITS, how many those are; SAMPLES, how many a
-   pixel shows; PLANES, 1 of a chunky page, whose samples of a pixel lie side by side, else how many planes there are, each of one sample;
-   INVERTED, 1 where 0 is white in the file: there each number is complemented as it is read, so that 0 is black. A KIND that has no name here is what the
-   tag SampleFormat says; pixels of it aren't read. A page without a color or a layout: the fault of tiff_page_color or tiff_page_layout. */
+/* The samples of a page, as the calls that read pixels return them. KIND says what the bits of a
+   sample are; a KIND that has no name here is the value of the tag SampleFormat, and pixels of that
+   kind can't be read. BITS is how many bits a sample has, SAMPLES how many samples a pixel shows.
+   PLANES is 1 for a chunky page, where the samples of a pixel lie side by side; else it is the
+   number of planes, each of one sample. INVERTED is 1 where 0 is white in the file: the calls that
+   read pixels then complement each number, so that 0 is black. Else INVERTED is 0. For a page
+   without a color or a layout, tiff_page_samples returns the error of tiff_page_color or
+   tiff_page_layout. */
 enum {
     TIFF_UNSIGNED_NUMBERS = 1,
     TIFF_SIGNED_NUMBERS = 2,
@@ -185,8 +220,9 @@ struct tiff_samples {
 };
 tiff_status tiff_page_samples(const uint8_t *file, size_t len, size_t page, struct tiff_samples *samples);
 
-/* The chunks of a page, of all planes: their kind, how many there are, and the width and the height of one in pixels, before
-   those at the edges of the image are cut. */
+/* The chunks of a page, in all planes: their kind, how many there are, and the width and the height
+   of one in pixels, before chunks at the edges of the image are cut. tiff_page_chunks puts them
+   into *CHUNKS; it returns an error where the chunks can't be counted. */
 enum {
     TIFF_STRIPS = 0,
     TIFF_TILES = 1,
@@ -199,9 +235,10 @@ struct tiff_chunks {
 };
 tiff_status tiff_page_chunks(const uint8_t *file, size_t len, size_t page, struct tiff_chunks *chunks);
 
-/* A page in a list of pages: the offset of its directory in the file, and its facts as the calls on a page tell them. Where the page is
-   refused, STATUS is its first fault, and all behind it is 0. A page without a color has the fault of that in COLOR_STATUS, and one whose
-   chunks aren't counted in COUNT_STATUS; the numbers that belong to it are 0 then. */
+/* A page in a list of pages: the offset of its directory in the file, and its facts, as the calls
+   on a page return them. For a page that is refused, STATUS is its first error, and all members
+   behind STATUS are 0. For a page without a color, COLOR_STATUS is the error, and COLOR is all 0.
+   Where the chunks can't be counted, COUNT_STATUS is the error, and COUNT is 0. */
 struct tiff_listed_page {
     uint64_t offset;
     tiff_status status;
@@ -212,29 +249,39 @@ struct tiff_listed_page {
     struct tiff_color color;
     uint32_t chunk_kind; /* TIFF_STRIPS or TIFF_TILES */
     tiff_status count_status;
-    uint32_t count; /* of its chunks, in all planes */
+    uint32_t count; /* how many chunks the page has, in all planes */
 };
 
-/* Lists the pages of a file, along its chain of directories, refused ones too: as many as ROOM lets in, from the first one on, into PAGES;
-   those of PAGES behind them stay. *COUNT is how many pages there are, also where ROOM is less. One opening and one walk serve for all. The
-   status is TIFF_DONE where the chain ends by a link of 0, else the fault by which it ends. Where nothing is listed, *COUNT is 0, PAGES stays,
-   and the status is the fault of the header or the first page, or TIFF_OUT_OF_MEMORY. A call with a ROOM of 0 asks for the count alone. */
+/* Lists the pages of a file along its chain of directories, also the pages that are refused, into
+   PAGES: from the first page on, as many as ROOM allows. The elements of PAGES behind them stay.
+   *COUNT is how many pages there are, even if ROOM is less; with a ROOM of 0 the call just counts.
+   The call opens the file once and walks along the chain once. It returns TIFF_DONE if the chain
+   ends by a link of 0, else the error by which the chain ends. If it lists nothing, *COUNT is 0
+   and PAGES stays; it then returns the error of the header or of the first page, or
+   TIFF_OUT_OF_MEMORY. */
 tiff_status tiff_list_pages(const uint8_t *file, size_t len, struct tiff_listed_page *pages, size_t room, size_t *count);
 
-/* Reads the chunk of this number, from 0, into BUFFER, as it is in the image and in one plane; the other bytes of BUFFER stay. A
-   BUFFER that is shorter than the chunk: TIFF_INSUFFICIENT_OUTPUT_BUFFER_SIZE. */
+/* Reads the chunk with the number CHUNK, counted from 0, into BUFFER: as it is in the image, cut at
+   its edges, and in one plane. The other bytes of BUFFER stay. Errors, in this order: the first
+   error of the page's color or its layout; a BUFFER shorter than the chunk,
+   TIFF_INSUFFICIENT_OUTPUT_BUFFER_SIZE; the first error of the chunk. */
 tiff_status tiff_read_chunk_bytes(const uint8_t *file, size_t len, size_t page, uint32_t chunk, uint8_t *buffer, size_t size);
 
-/* Reads COUNT chunks from FIRST on into BUFFER, one behind the other, each as tiff_read_chunk_bytes reads it; the bytes of BUFFER behind them stay. The file is
-   opened once for all. A BUFFER that is too short for one of them: TIFF_INSUFFICIENT_OUTPUT_BUFFER_SIZE. FIRST + COUNT of 2^32 or more:
-   TIFF_INVALID_CHUNK_INDEX. */
+/* Reads COUNT chunks from the number FIRST on into BUFFER, one behind the other, each as
+   tiff_read_chunk_bytes reads it. The bytes of BUFFER behind them stay. The call opens the file
+   once. Errors: FIRST + COUNT of 2^32 or more, TIFF_INVALID_CHUNK_INDEX; then, chunk by chunk,
+   those of tiff_read_chunk_bytes, for the bytes of BUFFER that are left. */
 tiff_status tiff_read_chunks(const uint8_t *file, size_t len, size_t page, uint32_t first, uint32_t count, uint8_t *buffer, size_t size);
 
-/* Reads a coding unit, which is a chunk of the first plane with those of the other planes that lie upon it, one behind the other, as
-   many as BUFFER takes whole. No such unit: TIFF_INVALID_CODING_UNIT. */
+/* Reads the coding unit with the number UNIT, counted from 0: a chunk of the first plane and the
+   chunks of the other planes that cover the same pixels, one behind the other, as many as fit whole
+   into BUFFER. The other bytes of BUFFER stay. Errors, in this order: the first error of the page's
+   color or its layout; no such unit, TIFF_INVALID_CODING_UNIT; a BUFFER shorter than the chunk of
+   one plane, TIFF_INSUFFICIENT_OUTPUT_BUFFER_SIZE; the first error of a chunk. */
 tiff_status tiff_read_coding_unit_bytes(const uint8_t *file, size_t len, size_t page, uint32_t unit, uint8_t *buffer, size_t size);
 
-/* The field of a tag of a page, by the tag's number: the number of its type, and how many values there are. No such tag:
+/* The field of a tag of a page: the number of its type, and how many values it has.
+   tiff_tag_field finds it by the tag's number and puts it into *FIELD; no such tag,
    TIFF_REQUIRED_TAG_NOT_FOUND. */
 struct tiff_field {
     uint32_t kind;
@@ -242,45 +289,62 @@ struct tiff_field {
 };
 tiff_status tiff_tag_field(const uint8_t *file, size_t len, size_t page, uint16_t tag, struct tiff_field *field);
 
-/* The number of a tag of a page, which has to have one value: a compression by tag 259 (1: none, 32773: PackBits; no such tag: none), or
-   any other. No such tag: TIFF_REQUIRED_TAG_NOT_FOUND. */
+/* Puts the value of a tag of a page, found by the tag's number, into *NUMBER. With tag 259 the
+   value is the compression (1: none, 32773: PackBits; no such tag: none). Errors: no such tag,
+   TIFF_REQUIRED_TAG_NOT_FOUND; values that reach behind the end of FILE, TIFF_UNEXPECTED_EOF;
+   several values, or one that is no unsigned number, TIFF_INVALID_TYPE_FOR_TAG. */
 tiff_status tiff_tag_number(const uint8_t *file, size_t len, size_t page, uint16_t tag, uint64_t *number);
 
-/* Copies the bytes of the values of a tag of a page from byte AT on into BUFFER, as many as SIZE takes, and tells in *WRITTEN how many:
-   as the file has them, so numbers are in its byte order. AT is 0 for the first of them; from the end of the values on, none are copied. The
-   other bytes of BUFFER stay. All of them are as many as tiff_tag_field counts, each of the bytes of its type. No such tag:
-   TIFF_REQUIRED_TAG_NOT_FOUND. */
+/* Copies the bytes of the values of a tag of a page into BUFFER, from byte AT on, as many as SIZE
+   allows; *WRITTEN is how many. AT counts from 0; from the end of the values on, the call copies
+   none. The bytes are as in the file, so numbers are in its byte order. The other bytes of BUFFER
+   stay. The values have in all as many bytes as tiff_tag_field counts values, times the size of
+   their type. Errors: no such tag, TIFF_REQUIRED_TAG_NOT_FOUND; values of 2^64 bytes or more,
+   TIFF_LIMITS_EXCEEDED; bytes to copy that lie behind the end of FILE, TIFF_UNEXPECTED_EOF. */
 tiff_status tiff_tag_bytes(const uint8_t *file, size_t len, size_t page, uint16_t tag, uint64_t at, uint8_t *buffer, size_t size,
                            size_t *written);
 
-/* Puts the values of a tag of a page into NUMBERS as numbers of the machine: as many as ROOM lets in, from the first one on; those of NUMBERS behind
-   them stay. *COUNT is how many there are, also where ROOM is less; so a first call with a ROOM of 0 asks for that. They are of the types BYTE, SHORT, LONG,
-   LONG8, IFD, IFD8 and UNDEFINED. One RATIONAL is two numbers, and a text those of its characters; any other type, or several RATIONALs:
-   TIFF_INVALID_TYPE_FOR_TAG. No such tag: TIFF_REQUIRED_TAG_NOT_FOUND. Any status but TIFF_DONE leaves NUMBERS and *COUNT as they were. */
+/* Puts the values of a tag of a page into NUMBERS, as numbers of the machine: from the first one
+   on, as many as ROOM allows. The elements of NUMBERS behind them stay. *COUNT is how many values
+   there are, even if ROOM is less; so a first call with a ROOM of 0 returns the count. The values
+   are of the types BYTE, SHORT, LONG, LONG8, IFD, IFD8 or UNDEFINED; one RATIONAL is two numbers,
+   and a text is the numbers of its characters. Errors: no such tag, TIFF_REQUIRED_TAG_NOT_FOUND;
+   values that reach behind the end of FILE, TIFF_UNEXPECTED_EOF; any other type, or several
+   RATIONALs, TIFF_INVALID_TYPE_FOR_TAG. Any status but TIFF_DONE leaves NUMBERS and *COUNT as they
+   were. */
 tiff_status tiff_tag_numbers(const uint8_t *file, size_t len, size_t page, uint16_t tag, uint64_t *numbers, size_t room, size_t *count);
 
-/* The same of values of the type DOUBLE, as GeoTIFF's ModelTiepointTag (33922) has them. A value of any other type, FLOAT too:
-   TIFF_INVALID_TYPE_FOR_TAG. */
+/* Puts the values of a tag of a page, of the type DOUBLE, into NUMBERS: from the first one on, as
+   many as ROOM allows. GeoTIFF's ModelTiepointTag (33922) has such values. The elements of NUMBERS
+   behind them stay. *COUNT is how many values there are, even if ROOM is less. Errors: no such tag,
+   TIFF_REQUIRED_TAG_NOT_FOUND; values that reach behind the end of FILE, TIFF_UNEXPECTED_EOF; any
+   other type, FLOAT too, TIFF_INVALID_TYPE_FOR_TAG. Any status but TIFF_DONE leaves NUMBERS and
+   *COUNT as they were. */
 tiff_status tiff_tag_floats(const uint8_t *file, size_t len, size_t page, uint16_t tag, double *numbers, size_t room, size_t *count);
 
-/* Puts the text of a tag of a page, of the type ASCII, into TEXT, as many bytes of it as SIZE takes, with no zero behind it; those of TEXT
-   behind them stay. *LEN_OF_TEXT is how many bytes the text has, also where SIZE is less. It ends before its first zero, and has to be UTF-8; one that
-   stands in its entry, of 4 bytes or in BigTIFF 8 at most, has to be ASCII with a zero at its end, and is told without zeros at both ends: else
-   TIFF_INVALID_TAG. Any other type, and no values: TIFF_INVALID_TYPE_FOR_TAG. No such tag: TIFF_REQUIRED_TAG_NOT_FOUND. Any status but TIFF_DONE
-   leaves TEXT and *LEN_OF_TEXT as they were. tiff_tag_bytes copies the bytes of any text as they stand. */
+/* Puts the text of a tag of a page, of the type ASCII, into TEXT: as many bytes as SIZE allows,
+   with no zero behind them. The bytes of TEXT behind them stay. *LEN_OF_TEXT is how many bytes the
+   text has, even if SIZE is less. The text ends before its first zero and has to be UTF-8. A text
+   that lies in its entry, of at most 4 bytes, or 8 in BigTIFF, has to be ASCII with a zero at its
+   end; the call returns it without zeros at both ends. Errors: no such tag,
+   TIFF_REQUIRED_TAG_NOT_FOUND; a text that reaches behind the end of FILE, TIFF_UNEXPECTED_EOF; a
+   text that isn't as above, TIFF_INVALID_TAG; any other type, or no values,
+   TIFF_INVALID_TYPE_FOR_TAG. Any status but TIFF_DONE leaves TEXT and *LEN_OF_TEXT as they were.
+   tiff_tag_bytes copies the bytes of any text as they are in the file. */
 tiff_status tiff_tag_text(const uint8_t *file, size_t len, size_t page, uint16_t tag, uint8_t *text, size_t size, size_t *len_of_text);
 
-/* The byte order of a file. */
+/* The byte order of a file, which tiff_byte_order puts into *ORDER. */
 enum {
     TIFF_LITTLE_ENDIAN = 0, /* II */
     TIFF_BIG_ENDIAN = 1,    /* MM */
 };
 tiff_status tiff_byte_order(const uint8_t *file, size_t len, uint32_t *order);
 
-/* What an image is written as: its color type; its sides, in pixels; the version that the header of its file has; the values of its
-   tags Compression and Predictor. */
+/* How to write an image: its color type; its width and its height, in pixels; the version in the
+   header of its file; the values of its tags Compression and Predictor. */
 enum {
-    /* the color types: how samples are read, and the bits of each; I: signed, FLOAT: floating numbers, else unsigned */
+    /* the color types: what the samples are, and the bits of each; I: signed, FLOAT: floating
+       point, else unsigned */
     TIFF_GRAY8 = 0,
     TIFF_GRAY16 = 1,
     TIFF_GRAY32 = 2,
@@ -311,15 +375,15 @@ enum {
     TIFF_CMYK64_FLOAT = 27,
     TIFF_YCBCR8 = 28, /* chroma not subsampled */
     TIFF_CMYKA8 = 29,
-    /* the kinds of files */
+    /* the kinds of files, by the version in the header */
     TIFF_CLASSIC = 42,
     TIFF_BIG = 43,
-    /* the methods */
+    /* the methods of compression */
     TIFF_UNCOMPRESSED = 1,
     TIFF_PACKBITS = 32773,
     /* the predictors */
     TIFF_NO_PREDICTOR = 1,
-    TIFF_HORIZONTAL = 2, /* differences; not of floating numbers. Many readers don't undo them without LZW or Deflate */
+    TIFF_HORIZONTAL = 2, /* differences; not for floating-point samples. Many readers don't undo them without LZW or Deflate */
 };
 struct tiff_image {
     uint32_t color;
@@ -330,31 +394,37 @@ struct tiff_image {
     uint16_t predictor;
 };
 
-/* Writes a file whose one page is an image, in strips, into BUFFER, of SIZE bytes, and tells in *LEN how many bytes the file has. SAMPLES, of
-   SAMPLES_LEN bytes, are row by row from the top, the samples of a pixel side by side, each with its lowest byte first, as
-   tiff_read_image_bytes reads them; samples behind those of the image are not looked at. The bytes of BUFFER behind the file stay.
+/* Writes a file whose one page is an image, in strips, into BUFFER, of SIZE bytes; *LEN is how many
+   bytes the file has. SAMPLES, of SAMPLES_LEN bytes, are the samples row by row from the top, those
+   of a pixel side by side, each with its lowest byte first, as tiff_read_image_bytes reads them.
+   The call ignores samples behind those of the image. The bytes of BUFFER behind the file stay.
 
-   A BUFFER that is too short: TIFF_INSUFFICIENT_OUTPUT_BUFFER_SIZE, and *LEN is told all the same; so a first call with a SIZE of 0 asks
-   for the length. It takes as long as one that writes.
+   A BUFFER that is too short: TIFF_INSUFFICIENT_OUTPUT_BUFFER_SIZE, and *LEN is set all the same.
+   So a first call with a SIZE of 0 returns the length; it takes as long as a call that writes.
 
-   Any status but TIFF_DONE leaves BUFFER as it was, and any but these two *LEN. Faults, the first of them: a version that is none,
-   TIFF_SIGNATURE_INVALID; a color type that is none, TIFF_INVALID_INPUT; a method that isn't written,
-   TIFF_UNSUPPORTED_COMPRESSION_METHOD; a predictor that is none, TIFF_UNKNOWN_PREDICTOR; SAMPLES_LEN that is no whole number of samples,
-   TIFF_MISMATCHED_ENTRY_LENGTH; a side of 0, TIFF_INVALID_DIMENSIONS; the horizontal predictor of floating numbers,
-   TIFF_PREDICTOR_INCOMPATIBLE, and predictor 3, TIFF_PREDICTOR_UNAVAILABLE; 2^64 samples or more, TIFF_INVALID_INPUT; too few
-   samples, TIFF_INVALID_DATA; a file that its kind can't hold, TIFF_INT_SIZE_ERROR. */
+   Any status but TIFF_DONE leaves BUFFER as it was. Any status but TIFF_DONE and that of a BUFFER
+   that is too short leaves *LEN as it was. Errors, in this order: a version that is none,
+   TIFF_SIGNATURE_INVALID; a color type that is none, TIFF_INVALID_INPUT; a method that this library
+   doesn't write, TIFF_UNSUPPORTED_COMPRESSION_METHOD; a predictor that is none,
+   TIFF_UNKNOWN_PREDICTOR; SAMPLES_LEN that is no whole number of samples,
+   TIFF_MISMATCHED_ENTRY_LENGTH; a side of 0, TIFF_INVALID_DIMENSIONS; the horizontal predictor with
+   floating-point samples, TIFF_PREDICTOR_INCOMPATIBLE, and predictor 3, TIFF_PREDICTOR_UNAVAILABLE;
+   2^64 samples or more, TIFF_INVALID_INPUT; too few samples, TIFF_INVALID_DATA; a file that its
+   kind can't hold, TIFF_INT_SIZE_ERROR; and at last a BUFFER that is too short. */
 tiff_status tiff_write_image(const struct tiff_image *image, const uint8_t *samples, size_t samples_len, uint8_t *buffer, size_t size,
                              size_t *len);
 
-/* Where a list of jobs was refused, counted from 1: at a line that is no job, or at a job that had a fault. 0 is none. */
+/* Where a list of jobs was refused, counted from 1: at a line that is no job, or at a job that had
+   an error. 0 is none. */
 struct tiff_jobs_end {
     size_t line;
     size_t job;
 };
 
-/* Writes the file that a list of jobs leaves into BUFFER, of SIZE bytes, and tells in *LEN how many bytes the file has: pages of any color type
-   with tags of one's own, tiles, planes, directories out of the chain. VERSION is TIFF_CLASSIC or TIFF_BIG. JOBS is the text of the list, of JOBS_LEN
-   bytes, in UTF-8, a line for each step:
+/* Writes the file that a list of jobs leaves into BUFFER, of SIZE bytes; *LEN is how many bytes the
+   file has. Its pages may have any color type, tags of the caller's own, tiles and planes, and
+   directories may lie out of the chain. VERSION is TIFF_CLASSIC or TIFF_BIG. JOBS is the text of
+   the list, of JOBS_LEN bytes, in UTF-8, with one line for each step:
 
        compression packbits
        image RGB8 50 50
@@ -362,29 +432,42 @@ struct tiff_jobs_end {
        write_tag 33550 f64 3ff0000000000000*3
        write_data ff*7500
 
-   - A line that is empty or begins with # is a comment. Words are parted by one space.
-   - Between jobs: a setting, `predictor NUMBER` or `compression packbits|uncompressed`; or the beginning of a job. `image COLOR WIDTH HEIGHT`, the color type
-     as Gray8, RGB16, Gray32Float; `directory`, in the chain, or `extra_directory`, out of it, with the number of the job behind it, counted from 0, whose
-     directory links to it, or nothing.
-   - In a job its steps. Of both: `write_tag TAG VALUE`, `write_tag_buf TAG BUFFER`, `write_entry`, `write_entry_buf`, `write_entry_bytes`, `write_data_buf`,
-     `extend_from`; of a directory `write_data` too. Of an image: `tiles WIDTH HEIGHT`, `planar 2`, `rows_per_strip ROWS`, `extra_samples NUMBER ..`,
-     `resolution UNIT X Y`, `write_strip SAMPLES`, `write_chunk SAMPLES`, `append_data`, `next_strip_sample_count`, `next_chunk_sample_count`.
-   - The end of a job: `finish`, or `discard`; of an image also `write_data SAMPLES`, with all of its samples.
-   - VALUE is a type and a word for each number: u8, i8, u16, i16, u32, i32, u64, i64, ifd, ifd8; rational and srational, as 300/1; f32 and f64, the bits as
-     hexadecimal digits; or `text`, and the text behind one space. SAMPLES are hexadecimal numbers. 7*20 is 7 twenty times.
+   - An empty line, and one that begins with #, is a comment. One space separates words.
+   - Between jobs stands a setting, `predictor NUMBER` or `compression packbits|uncompressed`, or
+     the beginning of a job. `image COLOR WIDTH HEIGHT` begins an image, with a color type as
+     Gray8, RGB16 or Gray32Float. `directory` begins a directory in the chain, `extra_directory`
+     one out of it; behind either stands the number of the job, counted from 0, whose directory
+     links to it, or nothing.
+   - Inside of a job stand its steps. Of both kinds: `write_tag TAG VALUE`,
+     `write_tag_buf TAG BUFFER`, `write_entry`, `write_entry_buf`, `write_entry_bytes`,
+     `write_data_buf`, `extend_from`. Of a directory: `write_data` too. Of an image:
+     `tiles WIDTH HEIGHT`, `planar 2`, `rows_per_strip ROWS`, `extra_samples NUMBER ..`,
+     `resolution UNIT X Y`, `write_strip SAMPLES`, `write_chunk SAMPLES`, `append_data`,
+     `next_strip_sample_count`, `next_chunk_sample_count`.
+   - A job ends by `finish` or `discard`; an image also by `write_data SAMPLES`, with all of its
+     samples.
+   - VALUE is a type and a word for each number: u8, i8, u16, i16, u32, i32, u64, i64, ifd, ifd8;
+     rational and srational, as 300/1; f32 and f64, the bits as hexadecimal digits. Or it is `text`
+     and, behind one space, the text. SAMPLES are hexadecimal numbers. 7*20 is 7 twenty times.
 
-   A line that is no job: TIFF_INVALID_INPUT with its number in END->line, and nothing is run; with 0 there, and in END->job, where JOBS isn't UTF-8. A job that had
-   a fault: its number in END->job, and the status of its first fault. The others were run all the same, but their file isn't written. A BUFFER that is too short:
-   TIFF_INSUFFICIENT_OUTPUT_BUFFER_SIZE, with 0 in both, and *LEN is told all the same. A VERSION that is none: TIFF_SIGNATURE_INVALID. Any status but TIFF_DONE
-   leaves BUFFER as it was, and any but these two *LEN. It allocates the file, eight bytes for each sample of the list, and the list. */
+   Errors: a VERSION that is none, TIFF_SIGNATURE_INVALID. JOBS that isn't UTF-8,
+   TIFF_INVALID_INPUT, with 0 in END->line and END->job. A line that is no job, TIFF_INVALID_INPUT,
+   with the number of the first such line in END->line; the call runs no job then. A job that had
+   an error: the first error of the first such job, with the number of that job in END->job; the
+   call runs the other jobs all the same, but doesn't write their file. A BUFFER that is too short,
+   TIFF_INSUFFICIENT_OUTPUT_BUFFER_SIZE, with 0 in END->line and END->job; *LEN is set all the
+   same. Any status but TIFF_DONE leaves BUFFER as it was. Any status but TIFF_DONE and that of a
+   BUFFER that is too short leaves *LEN as it was. The call allocates the file, eight bytes for each
+   sample of the list, and the list. */
 tiff_status tiff_write_jobs(uint16_t version, const uint8_t *jobs, size_t jobs_len, uint8_t *buffer, size_t size, size_t *len,
                             struct tiff_jobs_end *end);
 
-/* The version of the calls of this library, as MANGOHATCH_TIFF_VERSION is that of this header. */
+/* Returns the version of the calls of this library; MANGOHATCH_TIFF_VERSION is the version of this
+   header. */
 uint32_t tiff_version(void);
 
-/* Writes the text of a status into BUFFER, of SIZE bytes, as much of it as fits, with no zero behind it. Answers how many bytes the
-   text has. */
+/* Writes the text of a status into BUFFER, of SIZE bytes: as much of it as fits, with no zero
+   behind it. Returns how many bytes the whole text has. */
 size_t tiff_fault_text(tiff_status status, uint8_t *buffer, size_t size);
 
 #ifdef __cplusplus

@@ -1,4 +1,7 @@
-//! A static library for C: the calls of `tiff_statuses` under their names in C. `include/mangohatch_tiff.h` tells each call.
+//! A static library for C: the calls of `tiff_statuses` under their names in C.
+//! `include/mangohatch_tiff.h` describes each call. Each call but `tiff_version` and
+//! `tiff_fault_text` returns a status: 0 if it is done, else the number of its error; any of them
+//! may return the number of `OutOfMemory`.
 #![tactic(auto)]
 
 ghost use Rattle.std.specs.Prelude.{◌≡◌, ◌⊎◌};
@@ -16,7 +19,8 @@ use tiff_statuses::jobs::JobsEnd;
 use tiff_statuses::list::ListedPage;
 use tiff_statuses::writer::NewImage;
 
-/// The width and the height of a page.
+/// Puts the width and the height of a page, in pixels, into `sides`. Returns 0, or the number of
+/// the error that refuses the file or the page. An error leaves `sides` as it was.
 #[unsafe(no_mangle)]
 pub extern "C" fn tiff_page_sides(alloc: Global, file: &[u8], page: usize, sides: &mut Sides) -> u32
     ensures { StatusPuts (calls.page_sides file.now page) result sides.old sides.new }
@@ -24,7 +28,11 @@ pub extern "C" fn tiff_page_sides(alloc: Global, file: &[u8], page: usize, sides
     tiff_statuses::page_sides(alloc, file, page, sides)
 }
 
-/// Reads the image of a page into a slice.
+/// Reads the image of a page into `buffer`, under no limits: rows from the top, each of whole
+/// bytes, samples with their lowest byte first; of a planar page as many planes as fit whole, one
+/// behind the other. Returns 0, or the number of the first error: of the file or the page; of its
+/// color or its layout; of a buffer shorter than one plane, `InsufficientOutputBufferSize`; of a
+/// chunk. What an error leaves in `buffer` is not specified.
 #[unsafe(no_mangle)]
 pub extern "C" fn tiff_read_image_bytes(
     alloc: Global,
@@ -37,7 +45,8 @@ pub extern "C" fn tiff_read_image_bytes(
     tiff_statuses::read_image_bytes(alloc, file, page, buffer)
 }
 
-/// The color of a page.
+/// Puts the color of a page into `color`. Returns 0, or the number of the first error: of the file
+/// or the page; of a page without a color. An error leaves `color` as it was.
 #[unsafe(no_mangle)]
 pub extern "C" fn tiff_page_color(alloc: Global, file: &[u8], page: usize, color: &mut Color) -> u32
     ensures { StatusPuts (calls.page_color file.now page) result color.old color.new }
@@ -45,7 +54,9 @@ pub extern "C" fn tiff_page_color(alloc: Global, file: &[u8], page: usize, color
     tiff_statuses::page_color(alloc, file, page, color)
 }
 
-/// The samples of a page.
+/// Puts what the samples of a page are, and how they lie, into `samples`. Returns 0, or the number
+/// of the first error: of the file or the page; of its color or its layout. An error leaves
+/// `samples` as it was.
 #[unsafe(no_mangle)]
 pub extern "C" fn tiff_page_samples(
     alloc: Global,
@@ -58,7 +69,9 @@ pub extern "C" fn tiff_page_samples(
     tiff_statuses::page_samples(alloc, file, page, samples)
 }
 
-/// The strips or the tiles of a page.
+/// Puts the kind, the count and the sides of a page's strips or tiles into `chunks`. Returns 0, or
+/// the number of the first error: of the file or the page; of chunks that can't be counted. An
+/// error leaves `chunks` as it was.
 #[unsafe(no_mangle)]
 pub extern "C" fn tiff_page_chunks(
     alloc: Global,
@@ -71,7 +84,9 @@ pub extern "C" fn tiff_page_chunks(
     tiff_statuses::page_chunks(alloc, file, page, chunks)
 }
 
-/// The bytes of the image of a page: of one plane, and of all.
+/// Puts how many bytes the image of a page has, in one plane and in all planes, into `layout`.
+/// Returns 0, or the number of the first error: of the file or the page; of samples without a
+/// layout. An error leaves `layout` as it was.
 #[unsafe(no_mangle)]
 pub extern "C" fn tiff_page_layout(
     alloc: Global,
@@ -84,7 +99,10 @@ pub extern "C" fn tiff_page_layout(
     tiff_statuses::page_layout(alloc, file, page, layout)
 }
 
-/// Reads a chunk of a page into a slice.
+/// Reads the chunk of a page with the number `chunk`, from 0, into `buffer`, under no limits, as it
+/// is in the image and in one plane. Returns 0, or the number of the first error: of the file or
+/// the page; of its color or its layout; of a buffer shorter than the chunk,
+/// `InsufficientOutputBufferSize`; of the chunk. What an error leaves in `buffer` is not specified.
 #[unsafe(no_mangle)]
 pub extern "C" fn tiff_read_chunk_bytes(
     alloc: Global,
@@ -98,7 +116,11 @@ pub extern "C" fn tiff_read_chunk_bytes(
     tiff_statuses::read_chunk_bytes(alloc, file, page, chunk, buffer)
 }
 
-/// Reads so many chunks of a page from one on into a slice, one behind the other.
+/// Reads `count` chunks of a page, from the number `first` on, into `buffer`, one behind the other,
+/// under no limits. Returns 0, or the number of the first error: of the file or the page; `first`
+/// plus `count` of 2^32 or more, `InvalidChunkIndex`; and then, chunk by chunk, of the page's color
+/// or its layout; of a buffer that has no room left for the chunk, `InsufficientOutputBufferSize`;
+/// of the chunk. What an error leaves in `buffer` is not specified.
 #[unsafe(no_mangle)]
 pub extern "C" fn tiff_read_chunks(
     alloc: Global,
@@ -113,7 +135,11 @@ pub extern "C" fn tiff_read_chunks(
     tiff_statuses::read_chunks(alloc, file, page, first, count, buffer)
 }
 
-/// Reads a coding unit of a page into a slice.
+/// Reads the coding unit of a page with the number `unit`, from 0, into `buffer`, under no limits:
+/// its chunk in each plane, one behind the other, as many as fit whole. Returns 0, or the number of
+/// the first error: of the file or the page; of its color or its layout; no such unit,
+/// `InvalidCodingUnit`; of a buffer shorter than the chunk of one plane,
+/// `InsufficientOutputBufferSize`; of a chunk. What an error leaves in `buffer` is not specified.
 #[unsafe(no_mangle)]
 pub extern "C" fn tiff_read_coding_unit_bytes(
     alloc: Global,
@@ -127,7 +153,9 @@ pub extern "C" fn tiff_read_coding_unit_bytes(
     tiff_statuses::read_coding_unit_bytes(alloc, file, page, unit, buffer)
 }
 
-/// The field of a tag of a page, by the tag's number.
+/// Puts the number of the type of a tag, and how many values it has, into `field`. `number` is the
+/// tag's number. Returns 0, or the number of the first error: of the file or the page; no such tag,
+/// `RequiredTagNotFound`. An error leaves `field` as it was.
 #[unsafe(no_mangle)]
 pub extern "C" fn tiff_tag_field(
     alloc: Global,
@@ -141,7 +169,10 @@ pub extern "C" fn tiff_tag_field(
     tiff_statuses::tag_field(alloc, file, page, number, field)
 }
 
-/// The number of a tag of a page, by the tag's number.
+/// Puts the value of a tag, which has to have one, into `value`. `number` is the tag's number.
+/// Returns 0, or the number of the first error: of the file or the page; no such tag,
+/// `RequiredTagNotFound`; of reading the value, also of one that is no number below 2^64. An error
+/// leaves `value` as it was.
 #[unsafe(no_mangle)]
 pub extern "C" fn tiff_tag_number(
     alloc: Global,
@@ -155,7 +186,13 @@ pub extern "C" fn tiff_tag_number(
     tiff_statuses::tag_number(alloc, file, page, number, value)
 }
 
-/// Copies the bytes of the values of a tag of a page from a byte on, by the tag's number.
+/// Copies the bytes of the values of a tag into `buffer`, in the file's byte order, from byte `at`
+/// on, as many as fit, and puts how many into `written`. `number` is the tag's number. Returns 0,
+/// or the number of the first error: of the file or the page; no such tag, `RequiredTagNotFound`;
+/// of values of 2^64 bytes or more, `LimitsExceeded`; of an offset of 2^64 or more,
+/// `InconsistentSizesEncountered`; of bytes to copy that lie behind the file's end,
+/// `IoError(UnexpectedEof)`. An error leaves `written` as it was; what it leaves in `buffer` is not
+/// specified.
 #[unsafe(no_mangle)]
 pub extern "C" fn tiff_tag_bytes(
     alloc: Global,
@@ -172,7 +209,11 @@ pub extern "C" fn tiff_tag_bytes(
     tiff_statuses::tag_bytes(alloc, file, page, number, at, buffer, written)
 }
 
-/// Puts the numbers of a tag of a page into a slice, by the tag's number, as many as it has room for, and tells how many there are.
+/// Puts the values of a tag into `numbers`, from the first one on, as many as fit, and how many
+/// there are into `count`, even if not all fit. `number` is the tag's number. Returns 0, or the
+/// number of the first error: of the file or the page; no such tag, `RequiredTagNotFound`; of
+/// reading the values, also of values that are no numbers below 2^64. An error leaves `numbers` and
+/// `count` as they were.
 #[unsafe(no_mangle)]
 pub extern "C" fn tiff_tag_numbers(
     alloc: Global,
@@ -187,7 +228,11 @@ pub extern "C" fn tiff_tag_numbers(
     tiff_statuses::tag_numbers(alloc, file, page, number, numbers, count)
 }
 
-/// The same of the bits of its floating numbers.
+/// Puts the bits of a tag's values, floating-point numbers of 8 bytes, into `numbers`, from the
+/// first one on, as many as fit, and how many there are into `count`, even if not all fit. `number`
+/// is the tag's number. Returns 0, or the number of the first error: of the file or the page; no
+/// such tag, `RequiredTagNotFound`; of reading the values, also of values of another type. An error
+/// leaves `numbers` and `count` as they were.
 #[unsafe(no_mangle)]
 pub extern "C" fn tiff_tag_floats(
     alloc: Global,
@@ -202,7 +247,11 @@ pub extern "C" fn tiff_tag_floats(
     tiff_statuses::tag_floats(alloc, file, page, number, numbers, count)
 }
 
-/// The same of the bytes of its text.
+/// Puts the bytes of a tag's text into `text`, from the first one on, as many as fit, and how many
+/// there are into `len`, even if not all fit. `number` is the tag's number. Returns 0, or the
+/// number of the first error: of the file or the page; no such tag, `RequiredTagNotFound`; of
+/// reading the text, also of values that are no text. An error leaves `text` and `len` as they
+/// were.
 #[unsafe(no_mangle)]
 pub extern "C" fn tiff_tag_text(
     alloc: Global,
@@ -217,7 +266,8 @@ pub extern "C" fn tiff_tag_text(
     tiff_statuses::tag_text(alloc, file, page, number, text, len)
 }
 
-/// The byte order of a file.
+/// Puts the byte order of a file into `order`: 0 for little-endian, 1 for big-endian. Returns 0, or
+/// the number of the error that refuses the file. An error leaves `order` as it was.
 #[unsafe(no_mangle)]
 pub extern "C" fn tiff_byte_order(alloc: Global, file: &[u8], order: &mut u32) -> u32
     ensures { StatusPuts (calls.file_byte_order file.now) result order.old order.new }
@@ -225,7 +275,9 @@ pub extern "C" fn tiff_byte_order(alloc: Global, file: &[u8], order: &mut u32) -
     tiff_statuses::byte_order(alloc, file, order)
 }
 
-/// How many pages a file has.
+/// Puts how many pages a file has, along its chain of directories, into `pages`. Returns 0, or the
+/// number of the first error: of the header; of the pages in their order; of the chain's end. An
+/// error leaves `pages` as it was.
 #[unsafe(no_mangle)]
 pub extern "C" fn tiff_page_count(alloc: Global, file: &[u8], pages: &mut usize) -> u32
     ensures { StatusPuts (calls.page_count file.now) result pages.old pages.new }
@@ -233,7 +285,10 @@ pub extern "C" fn tiff_page_count(alloc: Global, file: &[u8], pages: &mut usize)
     tiff_statuses::page_count(alloc, file, pages)
 }
 
-/// Lists the pages of a file.
+/// Puts the pages of a file into `pages`, along its chain of directories, as many as fit, and how
+/// many there are into `count`, even if not all fit. Returns 0, or the number of the error by which
+/// the chain ends. If the file's header or first page is refused, or memory is out, it returns that
+/// error. `count` is then 0, and `pages` is as it was.
 #[unsafe(no_mangle)]
 pub extern "C" fn tiff_list_pages(
     alloc: Global,
@@ -246,7 +301,13 @@ pub extern "C" fn tiff_list_pages(
     tiff_statuses::list_pages(alloc, file, pages, count)
 }
 
-/// Writes a file of one image into a slice, and tells how many bytes it has.
+/// Writes a file of one image into `buffer`, and puts how many bytes the file has into `len`.
+/// `samples` are little-endian, row by row, the samples of a pixel side by side. Returns 0, or the
+/// number of the first error: of the version, the color type, the method and the predictor of
+/// `image`, `TiffSignatureInvalid`, `IoError(InvalidInput)`, `UnsupportedCompressionMethod` and
+/// `UnknownPredictor`; of a part of a sample that is left over, `MismatchedEntryLength`; of the
+/// encoder's `write_image`; of a buffer that is too short, `InsufficientOutputBufferSize`. An error
+/// leaves `buffer` as it was, and `len` too, unless only the buffer is too short.
 #[unsafe(no_mangle)]
 pub extern "C" fn tiff_write_image(
     alloc: Global,
@@ -257,14 +318,19 @@ pub extern "C" fn tiff_write_image(
 ) -> u32
     ensures answer { writer.WriterTells image.now samples.now result buffer.old buffer.new len.old len.new }
 
-    // What is done is shown, and what is not done is not begun.
+    // Status 0: the buffer holds a file that shows the image. Any other status: the buffer stays.
     ensures shows { result ≡ 0 → IsShown image.now samples.now buffer.old buffer.new len.new }
     ensures stays { (result ≡ 0) ⊎ (buffer.new ≡ buffer.old) }
 {
     tiff_statuses::write_image(alloc, image, samples, buffer, len)
 }
 
-/// Writes the file of the jobs that a text lists into a slice, and tells how many bytes it has; or where the list was refused.
+/// Writes the file of the jobs that the text `jobs` lists into `buffer`, puts how many bytes the
+/// file has into `len`, and puts where the list is refused into `end`. Returns 0, or the number of
+/// the first error: of the version, `TiffSignatureInvalid`; of a text that isn't UTF-8, or of its
+/// first line that is no job, `IoError(InvalidInput)`; of the first job that has an error; of a
+/// buffer that is too short, `InsufficientOutputBufferSize`. An error leaves `buffer` as it was,
+/// and `len` too, unless only the buffer is too short.
 #[unsafe(no_mangle)]
 pub extern "C" fn tiff_write_jobs(
     alloc: Global,
@@ -280,7 +346,8 @@ pub extern "C" fn tiff_write_jobs(
     tiff_statuses::write_jobs(alloc, version, jobs, buffer, len, end)
 }
 
-/// The version of these calls.
+/// Returns the version of these calls, which is `MANGOHATCH_TIFF_VERSION` of the header for C. It
+/// is raised when a call changes or is added.
 #[unsafe(no_mangle)]
 pub extern "C" fn tiff_version() -> u32
     ensures { result ≡ 2 }
@@ -288,7 +355,8 @@ pub extern "C" fn tiff_version() -> u32
     tiff_statuses::version()
 }
 
-/// Writes the text of a status into a slice, as much of it as fits, and answers how many bytes it has.
+/// Writes the text of a status into `buffer`, as much of it as fits, and returns how many bytes the
+/// whole text has. The text of a number that is no status says so.
 #[unsafe(no_mangle)]
 pub extern "C" fn tiff_fault_text(status: u32, buffer: &mut [u8]) -> usize {
     tiff_statuses::fault_text(status, buffer)

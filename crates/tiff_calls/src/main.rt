@@ -1,5 +1,6 @@
-//! Makes the calls of `tiff_statuses`, which C has by `tiff_c`, on a file of one page that one of them writes; and prints each with its
-//! status and what it put. Page 1 isn't there: its calls are refused, and put nothing.
+//! Makes the calls of `tiff_statuses`, which `tiff_c` exports to C, on a file of one page that one
+//! of the calls writes. It prints each call with its status and with what the call put. There is no
+//! page 1: calls on it are refused, and put nothing.
 #![tactic(auto)]
 
 use std::io;
@@ -20,10 +21,11 @@ const IMAGE: NewImage = NewImage {
 
 const SAMPLES: [u8; 12] = [1, 2, 3, 4, 5, 6, 7, 8, 9, 10, 11, 12];
 
-// Where the entry of the page that is written counts the bytes of its strip.
+// Where the entry of the page has the byte count of its strip.
 const BYTE_COUNT: usize = 154;
 
-// Where the page's interpretation stands, the types of its resolutions with their counts behind them, and their values.
+// Where the page has its interpretation, the types of its resolutions with their counts behind
+// them, and the values of its resolutions.
 const INTERPRETATION: usize = 106;
 
 const X_TYPE: usize = 160;
@@ -43,7 +45,8 @@ const DIRECTORY_LEN: usize = 174;
 
 const SECOND: usize = 222;
 
-// A page that is the directory at an offset: this is added to it. The one that is written stands at 48.
+// A page that is the directory at an offset has this number plus the offset. The directory of the
+// page stands at 48.
 const AT: usize = 1 << 63;
 
 const IMAGE_WIDTH: u16 = 256;
@@ -56,13 +59,13 @@ const X_RESOLUTION: u16 = 282;
 
 const Y_RESOLUTION: u16 = 283;
 
-// A page with a tag of its own.
+// Jobs that write a page with a tag of its own.
 const JOBS: &str = "image Gray8 2 1\nwrite_tag 270 text words\nwrite_data 1 2\n";
 
-// The second job is refused.
+// Jobs of which the second is refused.
 const REFUSED_JOBS: &str = "image Gray8 1 1\nwrite_data 7\nimage Gray8 0 1\nfinish\n";
 
-// The second line is no job.
+// Jobs of which the second line is no job.
 const NO_JOBS: &str = "image Gray8 2 1\nwrite_all 1 2\n";
 
 fn print_sides(rt: &HostRuntime, file: &[u8], page: usize) -> io::Result<()> {
@@ -218,7 +221,7 @@ fn print_text(rt: &HostRuntime, status: u32) -> io::Result<()> {
     println!(rt; "fault_text {status}: {len}, {text:?}")
 }
 
-// The pixels of the page, whose strip claims 128 MiB and a byte.
+// Prints the result of reading the pixels of the page, whose strip claims 128 MiB and a byte.
 fn print_claim(rt: &HostRuntime) -> io::Result<()> {
     let mut file = [0u8; 300];
     let mut len = 0;
@@ -243,14 +246,15 @@ fn print_jobs(rt: &HostRuntime, jobs: &str, room: usize) -> io::Result<()> {
     print_sides(rt, &buffer[..len.min(300)], 0)
 }
 
-// Lays bytes over those of a file from an offset on, as many as there are.
+// Puts bytes over those of a file, from an offset on, as many as there are.
 fn lay(file: &mut [u8], at: usize, bytes: &[u8]) {
     for (to, from) in file.iter_mut().skip(at).zip(bytes) {
         *to = *from;
     }
 }
 
-// The page again, of which other bytes tell more: its 0 is white, one resolution is a floating number, a half, and the other a text.
+// Prints the calls on the page with other bytes: its 0 is white, one resolution is a floating-point
+// number, a half, and the other one is a text.
 fn print_retyped(rt: &HostRuntime) -> io::Result<()> {
     let mut file = [0u8; 300];
     let mut len = 0;
@@ -268,8 +272,8 @@ fn print_retyped(rt: &HostRuntime) -> io::Result<()> {
     print_values(rt, file, 0, Y_RESOLUTION)
 }
 
-// The page and its directory once more behind them, of which the interpretation is that of a color filter array: it is no page, but its
-// tags are answered.
+// Prints the calls on a copy of the page's directory, behind the file, whose interpretation is that
+// of a color filter array. It is no page, but its tags can be read.
 fn print_refused(rt: &HostRuntime) -> io::Result<()> {
     let mut file = [0u8; 400];
     let mut len = 0;

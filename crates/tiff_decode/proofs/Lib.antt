@@ -10,3 +10,4 @@ pub mod Samples
 pub mod Pieces
 pub mod CallsMade
 pub mod Wraps
+pub mod SampleBytes

@@ -5,7 +5,7 @@ use Rattle.std.proofs.lemmas.List.FromFn.{fill_by_all}
 use Rattle.std.specs.Prelude.{slice_index, replicate}
 use Rattle.tiff_base.specs.declared.tags.ByteOrder.TheVariants.{LittleEndian}
 use Rattle.tiff_base.specs.Number.{number}
-use Rattle.tiff_page.specs.Pixels.{each_to, width_of}
+use Rattle.tiff_page.specs.Pixels.{tabulate, width_of}
 
 pub zero_in : (n i : ℕ) → get_or {A = ℕ} (replicate n 0) i 0 ≡ 0
 zero_in zero i = refl
@@ -20,10 +20,10 @@ behind (b ∷ bytes) zeros (suc k) none = behind bytes zeros k none
 
 -- number n of those that bytes hold
 abbrev pub number_in : ℕ → List ℕ → ℕ → ℕ
-number_in size bytes n = number LittleEndian (width_of size) (each_to size (λ j. slice_index bytes (n * size + j)))
+number_in size bytes n = number LittleEndian (width_of size) (tabulate size (λ j. slice_index bytes (n * size + j)))
 
 -- a whole piece of bytes
-pub whole : (size : ℕ) (bytes : List ℕ) (n : ℕ) → n * size + size ≤ length bytes → take size (drop (n * size) bytes) ≡ each_to size (λ j. slice_index bytes (n * size + j))
+pub whole : (size : ℕ) (bytes : List ℕ) (n : ℕ) → n * size + size ≤ length bytes → take size (drop (n * size) bytes) ≡ tabulate size (λ j. slice_index bytes (n * size + j))
 whole size bytes n h =
     fill_by_all (λ j. slice_index bytes (n * size + j)) (take size (drop (n * size) bytes)) size 0
     (length-take-le size (drop (n * size) bytes) (omega (arith, length-drop (n * size) bytes)))

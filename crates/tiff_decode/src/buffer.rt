@@ -1,15 +1,16 @@
 //! Samples that are written in place.
 
-ghost use Rattle.std.specs.Prelude.{◌≡◌, ◌*◌, ◌++◌, length, map, Ok, OnOk};
+ghost use Rattle.std.specs.Prelude.{◌≡◌, ◌*◌, length, map, Ok};
 ghost use Rattle.std.specs.List.{flat_map};
 ghost use Rattle.tiff_base.specs.Answers.{AnswersWithoutSource};
 ghost use Rattle.tiff_base.specs.Number.{le};
 ghost use Rattle.tiff_page.specs.Layout.{size_of};
 ghost use Rattle.tiff_decode.specs.Result.{buffered_as, bytes_of};
 
-use std::alloc::{AllocError, Global};
+use std::alloc::Global;
 use tiff_base::error::TiffResult;
 use tiff_base::tags::{Bits16, Bits32, Bits64};
+use tiff_page::numbers::Number;
 
 /// Samples that can be written in place, by their number type.
 #[derive(Drop)]
@@ -27,146 +28,14 @@ pub enum DecodingBuffer<'a> {
     I64(&'a mut [i64]),
 }
 
-// A number by its bits.
-trait Sample: Copy {
-    ghost use Rattle.std.specs.Prelude.{ℕ};
-
-    // how many bytes it has
-    ghost size: { ℕ };
-
-    // its bits
-    ghost bits: { Self → ℕ };
-
-    // Appends its bytes, the lowest first.
-    fn append_to(self, bytes: &mut Vec<u8>) -> Result<(), AllocError>
-        ensures { OnOk result (bytes.new.items ≡ bytes.old.items ++ le size (bits self)) };
-}
-
-impl Sample for u8 {
-    ghost size = { 1 };
-
-    ghost bits = { λ n. n };
-
-    fn append_to(self, bytes: &mut Vec<u8>) -> Result<(), AllocError> {
-        bytes.extend_from_slice(&self.to_le_bytes())
-    }
-}
-
-impl Sample for u16 {
-    ghost size = { 2 };
-
-    ghost bits = { λ n. n };
-
-    fn append_to(self, bytes: &mut Vec<u8>) -> Result<(), AllocError> {
-        bytes.extend_from_slice(&self.to_le_bytes())
-    }
-}
-
-impl Sample for u32 {
-    ghost size = { 4 };
-
-    ghost bits = { λ n. n };
-
-    fn append_to(self, bytes: &mut Vec<u8>) -> Result<(), AllocError> {
-        bytes.extend_from_slice(&self.to_le_bytes())
-    }
-}
-
-impl Sample for u64 {
-    ghost size = { 8 };
-
-    ghost bits = { λ n. n };
-
-    fn append_to(self, bytes: &mut Vec<u8>) -> Result<(), AllocError> {
-        bytes.extend_from_slice(&self.to_le_bytes())
-    }
-}
-
-impl Sample for Bits16 {
-    ghost size = { 2 };
-
-    ghost bits = { λ b. b.0 };
-
-    fn append_to(self, bytes: &mut Vec<u8>) -> Result<(), AllocError> {
-        bytes.extend_from_slice(&self.0.to_le_bytes())
-    }
-}
-
-impl Sample for Bits32 {
-    ghost size = { 4 };
-
-    ghost bits = { λ b. b.0 };
-
-    fn append_to(self, bytes: &mut Vec<u8>) -> Result<(), AllocError> {
-        bytes.extend_from_slice(&self.0.to_le_bytes())
-    }
-}
-
-impl Sample for Bits64 {
-    ghost size = { 8 };
-
-    ghost bits = { λ b. b.0 };
-
-    fn append_to(self, bytes: &mut Vec<u8>) -> Result<(), AllocError> {
-        bytes.extend_from_slice(&self.0.to_le_bytes())
-    }
-}
-
-impl Sample for i8 {
-    ghost use Rattle.std.specs.Int.{w8, cast_unsigned};
-
-    ghost size = { 1 };
-
-    ghost bits = { cast_unsigned w8 };
-
-    fn append_to(self, bytes: &mut Vec<u8>) -> Result<(), AllocError> {
-        bytes.extend_from_slice(&self.to_le_bytes())
-    }
-}
-
-impl Sample for i16 {
-    ghost use Rattle.std.specs.Int.{w16, cast_unsigned};
-
-    ghost size = { 2 };
-
-    ghost bits = { cast_unsigned w16 };
-
-    fn append_to(self, bytes: &mut Vec<u8>) -> Result<(), AllocError> {
-        bytes.extend_from_slice(&self.to_le_bytes())
-    }
-}
-
-impl Sample for i32 {
-    ghost use Rattle.std.specs.Int.{w32, cast_unsigned};
-
-    ghost size = { 4 };
-
-    ghost bits = { cast_unsigned w32 };
-
-    fn append_to(self, bytes: &mut Vec<u8>) -> Result<(), AllocError> {
-        bytes.extend_from_slice(&self.to_le_bytes())
-    }
-}
-
-impl Sample for i64 {
-    ghost use Rattle.std.specs.Int.{w64, cast_unsigned};
-
-    ghost size = { 8 };
-
-    ghost bits = { cast_unsigned w64 };
-
-    fn append_to(self, bytes: &mut Vec<u8>) -> Result<(), AllocError> {
-        bytes.extend_from_slice(&self.to_le_bytes())
-    }
-}
-
-// The bytes of samples.
-fn bytes_of<T: Sample>(alloc: Global, samples: &[T]) -> TiffResult<Vec<u8>>
-    ensures { AnswersWithoutSource (λ v. v.items) result (Ok (flat_map (le T.size) (map T.bits samples.now))) }
+// The bytes of samples, the lowest of each first.
+#[tactic(auto, using(crate::proofs::SampleBytes::lowest_bytes))]
+fn bytes_of<T: Number<N>, const N: usize>(alloc: Global, samples: &[T]) -> TiffResult<Vec<u8>>
+    ensures { AnswersWithoutSource (λ v. v.items) result (Ok (flat_map (le N) (map T.bits samples.now))) }
 {
-    let mut bytes = Vec::new(alloc);
+    let mut bytes = Vec::with_capacity(alloc, samples.len().saturating_mul(N))?;
     for sample in samples {
-        sample.append_to(&mut bytes)?;
+        bytes.extend_from_slice(&sample.bytes())?;
     }
     Ok(bytes)
 }
@@ -196,17 +65,17 @@ impl DecodingBuffer<'_> {
         ensures { AnswersWithoutSource (λ v. v.items) result (Ok (bytes_of (buffered_as self.now))) }
     {
         match self {
-            DecodingBuffer::U8(samples) => bytes_of(alloc, samples),
-            DecodingBuffer::U16(samples) => bytes_of(alloc, samples),
-            DecodingBuffer::U32(samples) => bytes_of(alloc, samples),
-            DecodingBuffer::U64(samples) => bytes_of(alloc, samples),
-            DecodingBuffer::F16(samples) => bytes_of(alloc, samples),
-            DecodingBuffer::F32(samples) => bytes_of(alloc, samples),
-            DecodingBuffer::F64(samples) => bytes_of(alloc, samples),
-            DecodingBuffer::I8(samples) => bytes_of(alloc, samples),
-            DecodingBuffer::I16(samples) => bytes_of(alloc, samples),
-            DecodingBuffer::I32(samples) => bytes_of(alloc, samples),
-            DecodingBuffer::I64(samples) => bytes_of(alloc, samples),
+            DecodingBuffer::U8(samples) => bytes_of::<u8, 1>(alloc, samples),
+            DecodingBuffer::U16(samples) => bytes_of::<u16, 2>(alloc, samples),
+            DecodingBuffer::U32(samples) => bytes_of::<u32, 4>(alloc, samples),
+            DecodingBuffer::U64(samples) => bytes_of::<u64, 8>(alloc, samples),
+            DecodingBuffer::F16(samples) => bytes_of::<Bits16, 2>(alloc, samples),
+            DecodingBuffer::F32(samples) => bytes_of::<Bits32, 4>(alloc, samples),
+            DecodingBuffer::F64(samples) => bytes_of::<Bits64, 8>(alloc, samples),
+            DecodingBuffer::I8(samples) => bytes_of::<i8, 1>(alloc, samples),
+            DecodingBuffer::I16(samples) => bytes_of::<i16, 2>(alloc, samples),
+            DecodingBuffer::I32(samples) => bytes_of::<i32, 4>(alloc, samples),
+            DecodingBuffer::I64(samples) => bytes_of::<i64, 8>(alloc, samples),
         }
     }
 }

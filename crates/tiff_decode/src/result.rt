@@ -18,7 +18,7 @@ use std::alloc::{AllocError, Global};
 use tiff_base::error::{TiffResult, TiffUnsupportedError};
 use tiff_base::tags::{Bits16, Bits32, Bits64};
 use tiff_ifd::limits::Limits;
-use tiff_page::faults::samples_fault;
+use tiff_page::faults::limit_fault;
 use tiff_page::layout::{BufferLayoutPreference, DecodingSampleType, size_of};
 use tiff_page::samples::Samples;
 
@@ -120,7 +120,7 @@ impl DecodingResult {
             return Err(TiffUnsupportedError::UnknownInterpretation.into());
         };
         let size = size_of(sample_type);
-        samples_fault(limits, size, layout.complete_len)?;
+        limit_fault(limits, size, layout.complete_len)?;
         *self = zeros(
             self.allocator(),
             sample_type,

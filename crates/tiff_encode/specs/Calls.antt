@@ -29,7 +29,7 @@ use Rattle.tiff_value.specs.Buffer.{BufferRecord}
 use Rattle.tiff_value.specs.Data.{FieldData, Scalars, u16s, u32s, methods, interpretations, planars, predictors, units, formats, extras, rationals, data_of}
 use Rattle.tiff_encode.specs.Value.{offset_values, data_in, buffer_data, is_long, field_at}
 use Rattle.tiff_encode.specs.Deeds.{Deed, Appended, Handed, Listed, Linked}
-use Rattle.tiff_encode.specs.Machine.{FileState, compression_method, OpenDirectory, Form, OpenImage, Writing, answers, gives, does, by_cause, ◌>>=◌}
+use Rattle.tiff_encode.specs.Machine.{FileState, compression_method, OpenDirectory, ChunkLayout, OpenImage, Writing, answers, gives, does, by_cause, ◌>>=◌}
 use Rattle.tiff_encode.specs.Chunks.{all_samples, parts_left}
 use Rattle.tiff_encode.specs.Causes.{begin_cause, write_tag_cause, write_buf_cause, write_entry_bytes_cause, write_data_cause, write_data_buf_cause, finish_cause, offset_cause, new_image_cause, extra_samples_cause, rows_per_strip_cause, tiles_cause, planar_cause, resolution_cause, one_resolution_cause, resolution_unit_cause, write_strip_cause, write_chunk_cause, write_image_data_cause, end_of}
 
@@ -186,10 +186,10 @@ chroma_tags YCbCr = (tag.ChromaSubsampling, u16s (1 ∷ 1 ∷ [])) ∷ []
 chroma_tags _ = []
 
 -- strips of so many rows, which are as wide as the image; and tiles
-abbrev pub strips_of : ℕ → ℕ → PlanarConfiguration → Form
+abbrev pub strips_of : ℕ → ℕ → PlanarConfiguration → ChunkLayout
 strips_of width rows planar = record { chunk_type = Strip; chunk_width = width; chunk_height = rows; planar = planar }
 
-abbrev pub tiles_of : ℕ → ℕ → PlanarConfiguration → Form
+abbrev pub tiles_of : ℕ → ℕ → PlanarConfiguration → ChunkLayout
 tiles_of width length planar = record { chunk_type = Tile; chunk_width = width; chunk_height = length; planar = planar }
 
 -- what an image is: its sides, how it is packed and differenced, and what its samples mean

@@ -10,8 +10,8 @@ use Rattle.tiff_base.specs.declared.tags.SampleFormat.TheVariants.{Void}
 use Rattle.tiff_page.specs.Page.{PageRecord}
 use Rattle.tiff_page.specs.Counts.{all_chunks}
 use Rattle.tiff_page.specs.Rect.{rect, chunk_of_pixel}
-use Rattle.tiff_page.specs.Pixels.{each_to, planar_or, stored_samples}
-use Rattle.tiff_encode.specs.Machine.{Form, OpenImage}
+use Rattle.tiff_page.specs.Pixels.{tabulate, planar_or, stored_samples}
+use Rattle.tiff_encode.specs.Machine.{ChunkLayout, OpenImage}
 
 -- all samples of a pixel
 abbrev pub all_samples : OpenImage → ℕ
@@ -86,14 +86,14 @@ next_strip_sample_count i = if is_tile i.form.chunk_type then 0 else next_chunk_
 -- ---- what the chunks are handed
 
 -- whether the samples of the chunks, one chunk after another, are those of the image in its order
-abbrev pub is_in_order : Form → Bool
+abbrev pub is_in_order : ChunkLayout → Bool
 is_in_order form = not (is_tile form.chunk_type) && not (is_planar form.planar)
 
 -- of all samples of an image, row by row and pixel by pixel, those of a chunk; 0 for those that lie beyond the image
 unfoldable pub cut_out : PageRecord → List ℕ → ℕ → List ℕ
 cut_out p samples k =
     let r = rect p k in
-    each_to (chunk_samples p k) (λ n.
+    tabulate (chunk_samples p k) (λ n.
     let row = n / row_samples p in
     let column = n % row_samples p / stored_samples p in
     let sample = planar_or p.planar r.plane (n % stored_samples p) in
@@ -112,7 +112,7 @@ part i samples k =
 
 -- the same of each chunk that is left
 unfoldable pub parts_left : OpenImage → List ℕ → List (List ℕ)
-parts_left i samples = each_to (chunks_left i) (part i samples)
+parts_left i samples = tabulate (chunks_left i) (part i samples)
 
 -- a sample of a pixel of a page whose chunks were handed these samples
 unfoldable pub sample_in : PageRecord → List (List ℕ) → ℕ → ℕ → ℕ → ℕ

@@ -14,7 +14,7 @@ use Rattle.tiff_base.specs.Field.{Field}
 use Rattle.tiff_value.specs.ColorType.{ColorTypeRecord}
 use Rattle.tiff_encode.specs.declared.encoder.settings.Compression.{Compression}
 use Rattle.tiff_encode.specs.declared.encoder.settings.Compression.TheVariants.{Uncompressed, Packbits}
-pub use Rattle.tiff_encode.specs.declared.encoder.drawing.Form.{Form}
+pub use Rattle.tiff_encode.specs.declared.encoder.drawing.ChunkLayout.{ChunkLayout}
 pub use Rattle.tiff_encode.specs.declared.encoder.drawing.Chunk.{Chunk}
 use Rattle.tiff_encode.specs.FileBytes.{header_mark, header_bytes}
 use Rattle.tiff_encode.specs.Deeds.{Deed, bytes_after}
@@ -53,7 +53,7 @@ pub record OpenImage : Type 0 where
   pub extra : List ExtraSamples
   pub predictor : Predictor
   pub method : CompressionMethod
-  pub form : Form
+  pub form : ChunkLayout
   pub chunks : List Chunk
 
 -- a new encoder over a sink that held these bytes

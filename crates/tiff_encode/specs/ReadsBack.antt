@@ -12,8 +12,8 @@ use Rattle.tiff_page.specs.declared.layout.DecodingSampleType.{DecodingSampleTyp
 use Rattle.tiff_page.specs.Page.{PageRecord}
 use Rattle.tiff_page.specs.Rect.{chunks_of_plane}
 use Rattle.tiff_page.specs.Layout.{samples_in_chunk, planes, row_bytes, whole_chroma, color_of, sample_type_of}
-use Rattle.tiff_page.specs.PixelFault.{is_plain, predictor_fault, method_fault, white_fault}
-use Rattle.tiff_page.specs.Pixels.{each_to}
+use Rattle.tiff_page.specs.PixelFault.{is_supported_color, predictor_fault, method_fault, inversion_fault}
+use Rattle.tiff_page.specs.Pixels.{tabulate}
 use Rattle.tiff_page.specs.Row.{IsSize}
 use Rattle.tiff_page.specs.PixelCalls.{image_of}
 use Rattle.tiff_page.specs.Image.{Decoded}
@@ -29,7 +29,7 @@ use Rattle.tiff_encode.specs.ImageData.{AreNumbers, LeavesImage, image_of_sample
 abbrev pub samples_shown : Image → PageRecord → ColorType → List ℕ
 samples_shown i p color =
     let s = samples_in_chunk p.planar color in
-    each_to (p.height * p.width * s) (λ n. i.sample_at (n / s % p.width) (n / s / p.width) (n % s))
+    tabulate (p.height * p.width * s) (λ n. i.sample_at (n / s % p.width) (n / s / p.width) (n % s))
 
 -- where a plane shows all samples of a pixel, those of an image that was handed in whole are in the order in which they
 -- were handed in
@@ -46,10 +46,10 @@ pub record HasSamplesOf (i : Image) (size : ℕ) : Type 0 where
 -- A page whose samples are of whole bytes is of a form that this version reads: its color, its predictor, how it is
 -- packed, what it inverts, and its chroma.
 pub record IsReadable (p : PageRecord) (color : ColorType) : Type 0 where
-  pub plain : is_plain color ≡ true
+  pub plain : is_supported_color color ≡ true
   pub predictor : predictor_fault p color ≡ Ok tt
   pub packed_by : method_fault p.method ≡ Ok tt
-  pub upright : white_fault p color ≡ Ok tt
+  pub upright : inversion_fault p color ≡ Ok tt
   pub chroma : whole_chroma p color ≡ Ok color
 
 -- Limits let an image pass: the bytes of a chunk's rows across the image and those of all planes are fewer than 2^64, those

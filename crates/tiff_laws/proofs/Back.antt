@@ -11,7 +11,7 @@ use Rattle.tiff_base.specs.declared.tags.ByteOrder.TheVariants.{LittleEndian}
 use Rattle.tiff_base.specs.Number.{number, le}
 use Rattle.tiff_base.specs.SourceAndSink.{AreOctets}
 use Rattle.tiff_page.specs.declared.layout.DecodingSampleType.TheVariants as type
-use Rattle.tiff_page.specs.Pixels.{each_to, width_of, numbers_in}
+use Rattle.tiff_page.specs.Pixels.{tabulate, width_of, numbers_in}
 use Rattle.tiff_decode.specs.Result.{whole_numbers, BytesAgain}
 use Rattle.tiff_decode.proofs.Pieces.{zero_in, behind, number_in, whole}
 
@@ -58,16 +58,16 @@ number_back size returns bytes octets n h =
 
 -- whole numbers give their bytes back
 each_back : (size : ℕ) → Returns size → (bytes : List ℕ) → AreOctets bytes → (n : ℕ) → n * size ≤ length bytes
-    → flat_map (le size) (each_to n (number_in size bytes)) ≡ take (n * size) bytes
+    → flat_map (le size) (tabulate n (number_in size bytes)) ≡ take (n * size) bytes
 each_back size returns bytes octets zero h = let e : 0 ≡ 0 * size = omega arith in ap (λ (k : ℕ). take k bytes) e
 each_back size returns bytes octets (suc n) h =
     let more : suc n ≡ n + 1 = omega arith in
     let len : n * size + size ≡ suc n * size = omega arith in
     let fits : n * size + size ≤ length bytes = omega arith in
     let before : n * size ≤ length bytes = omega arith in
-    ap (λ (k : ℕ). flat_map (le size) (each_to k (number_in size bytes))) more
+    ap (λ (k : ℕ). flat_map (le size) (tabulate k (number_in size bytes))) more
     ∙ ap (flat_map (le size)) (map-range_with_len_more (number_in size bytes) 0 n n (omega arith))
-    ∙ flat_map-append (le size) (each_to n (number_in size bytes)) (number_in size bytes n ∷ [])
+    ∙ flat_map-append (le size) (tabulate n (number_in size bytes)) (number_in size bytes n ∷ [])
     ∙ ap₂ ◌++◌ (each_back size returns bytes octets n before) (append-nil (le size (number_in size bytes n)) ∙ number_back size returns bytes octets n fits)
     ∙ take_next (n * size) size bytes
     ∙ ap (λ (k : ℕ). take k bytes) len
@@ -84,7 +84,7 @@ filled_back size returns bytes octets len =
     let same : (k : ℕ) → get_or all k 0 ≡ get_or bytes k 0 = λ k. behind bytes (replicate missing 0) k (zero_in missing) in
     let all_octets : AreOctets all = λ k. omega (arith, same k, octets k) in
     let all_len : length all ≡ count * size = length-append bytes (replicate missing 0) ∙ ap (λ (n : ℕ). length bytes + n) (length-replicate missing 0) ∙ len in
-    (λ i. flat_map (le size) (each_to count (λ n. number LittleEndian (width_of size) (each_to size (λ j. sym (same (n * size + j)) i)))))
+    (λ i. flat_map (le size) (tabulate count (λ n. number LittleEndian (width_of size) (tabulate size (λ j. sym (same (n * size + j)) i)))))
     ∙ each_back size returns all all_octets count (omega (arith, all_len))
     ∙ take_all (count * size) all (omega (arith, all_len))
 

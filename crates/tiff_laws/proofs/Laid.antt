@@ -12,7 +12,7 @@ use Rattle.tiff_base.specs.Answers.{◌>>=◌}
 use Rattle.tiff_ifd.specs.declared.limits.Limits.{Limits}
 use Rattle.tiff_page.specs.Page.{PageRecord}
 use Rattle.tiff_page.specs.Layout.{LayoutRecord, layout_of, color_of, row_bytes, planes, wide, whole_chunks, whole_chroma}
-use Rattle.tiff_page.specs.PixelFault.{unless}
+use Rattle.tiff_page.specs.PixelFault.{fail_if}
 use Rattle.tiff_page.specs.Buffers.{planes_layout}
 use Rattle.tiff_page.specs.PixelCalls.{Part, room_fault, part_fault, bytes_with_region, fill_buffer}
 
@@ -24,9 +24,9 @@ good x = Ok x
 pub ok_is : {A : Type 0} (x y : A) → good x ≡ good y → x ≡ y
 ok_is x y h = cc
 
-pub unless_ok : (b : Bool) (e : TiffError) → unless b e ≡ Ok tt → b ≡ false
-unless_ok true e h = cc
-unless_ok false e h = refl
+pub fail_if_ok : (b : Bool) (e : TiffError) → fail_if b e ≡ Ok tt → b ≡ false
+fail_if_ok true e h = cc
+fail_if_ok false e h = refl
 
 pub wide_ok : (n m : ℕ) → wide n ≡ Ok m → (n < 2 ^ 64) × (m ≡ n)
 wide_ok n m h =
@@ -36,7 +36,7 @@ wide_ok n m h =
     (cases_Bool (nat_lt n (2 ^ 64)))
 
 pub room_ok : (provided needed : ℕ) → room_fault provided needed ≡ Ok tt → needed ≤ provided
-room_ok provided needed h = ltb-false provided needed (unless_ok (nat_lt provided needed) (UsageError (InsufficientOutputBufferSize needed provided)) h)
+room_ok provided needed h = ltb-false provided needed (fail_if_ok (nat_lt provided needed) (UsageError (InsufficientOutputBufferSize needed provided)) h)
 
 -- ---- layouts
 

@@ -9,7 +9,7 @@ use Rattle.tiff_base.specs.Answers.{◌>>=◌}
 use Rattle.tiff_page.specs.declared.layout.BufferLayoutPreference.{BufferLayoutPreference}
 use Rattle.tiff_page.specs.declared.layout.DecodingSampleType.{DecodingSampleType}
 use Rattle.tiff_page.specs.Layout.{LayoutRecord, planes, size_of}
-use Rattle.tiff_page.specs.PixelFault.{samples_fault}
+use Rattle.tiff_page.specs.PixelFault.{limit_fault}
 use Rattle.tiff_page.specs.Image.{Decoded, decoded_samples}
 use Rattle.tiff_page.specs.Buffers.{all_planes}
 use Rattle.tiff_page.specs.PixelCalls.{planes_used}
@@ -41,7 +41,7 @@ module _ (some_bytes : SomeBytes) (d : Decoding) (l : LayoutRecord) (type : Deco
   -- with a type, and within the limit, they are those of the bytes that are read
   numbers_of : numbers ≡ (image_read d zeros >>= (λ bytes. good (decoded_samples type bytes)))
   numbers_of =
-      ap (λ (r : Result DecodingSampleType TiffError). r >>= (λ type. samples_fault d.state.limits (size_of type) len >>= (λ _. image_read d zeros >>= (λ bytes. good (decoded_samples type bytes))))) is.typed
+      ap (λ (r : Result DecodingSampleType TiffError). r >>= (λ type. limit_fault d.state.limits (size_of type) len >>= (λ _. image_read d zeros >>= (λ bytes. good (decoded_samples type bytes))))) is.typed
       ∙ ap (λ (r : Result (Unit {0}) TiffError). r >>= (λ _. image_read d zeros >>= (λ bytes. good (decoded_samples type bytes)))) is.few
 
   room : HasRoom d.state.page l (length zeros)

@@ -46,12 +46,12 @@ fault_behind link met (Some n) (p ∷ ps) end m e s h = absurd (cc)
 unlinked : (link : ℕ → Link) (met : List ℕ) (n : ℕ) (after : Option ℕ) → link n ≡ Ok None → enter_at link met n ≡ Ok after → after ≡ None
 unlinked link met n after l h = same_ok (enter_at link met n) after None h (ap (λ (r : Link). r >>= unless_met (n ∷ met)) l)
 
-unless_cyclic : (b : Bool) (m : ℕ) (after : Option ℕ) → cond b (Err (FormatError CycleInOffsets)) (Ok (Some m)) ≡ Ok after → after ≡ Some m
-unless_cyclic true m after h = absurd (cc)
-unless_cyclic false m after h = cc
+fail_if_cyclic : (b : Bool) (m : ℕ) (after : Option ℕ) → cond b (Err (FormatError CycleInOffsets)) (Ok (Some m)) ≡ Ok after → after ≡ Some m
+fail_if_cyclic true m after h = absurd (cc)
+fail_if_cyclic false m after h = cc
 
 linked : (link : ℕ → Link) (met : List ℕ) (n m : ℕ) (after : Option ℕ) → link n ≡ Ok (Some m) → enter_at link met n ≡ Ok after → after ≡ Some m
-linked link met n m after l h = unless_cyclic (list_any (nat_eq m) (n ∷ met)) m after (sym (ap (λ (r : Link). r >>= unless_met (n ∷ met)) l) ∙ h)
+linked link met n m after l h = fail_if_cyclic (list_any (nat_eq m) (n ∷ met)) m after (sym (ap (λ (r : Link). r >>= unless_met (n ∷ met)) l) ∙ h)
 
 -- a chain stops, and by no fault, at an offset that links to none
 chain_stops : (link : ℕ → Link) (met : List ℕ) (next : Option ℕ) (ps : List ℕ) (end : Option TiffError) (i offset : ℕ)

@@ -16,7 +16,7 @@ use Rattle.tiff_ifd.specs.declared.limits.Limits.{Limits}
 use Rattle.tiff_page.specs.Page.{PageRecord}
 use Rattle.tiff_page.specs.Rect.{rect, chunks_of_plane}
 use Rattle.tiff_page.specs.Layout.{LayoutRecord, layout_of, planes, row_bits, row_bytes, samples_in_chunk}
-use Rattle.tiff_page.specs.PixelFault.{unless, depth_fault, predictor_fault, method_fault, white_fault, form_fault, chunk_fault}
+use Rattle.tiff_page.specs.PixelFault.{fail_if, depth_fault, predictor_fault, method_fault, inversion_fault, form_fault, chunk_fault}
 use Rattle.tiff_page.specs.Pixels.{Region, is_short, byte_at, region_byte, image_region, chunk_region}
 use Rattle.tiff_page.specs.PixelCalls as pixels
 use Rattle.tiff_page.specs.PixelCalls.{Part, image_part, chunk_part, planes_used, bytes_with_region}
@@ -83,13 +83,13 @@ pub depth_read : (p : PageRecord) (limits : Limits) (short : ℕ → Bool) (colo
     → depth_fault p color ≡ Ok tt
 unfolding form_fault
 depth_read p limits short color i h =
-    let late : Result (Unit {0}) TiffError = unless (short i) (IoError UnexpectedEof) in
+    let late : Result (Unit {0}) TiffError = fail_if (short i) (IoError UnexpectedEof) in
     let rest : Result (Unit {0}) TiffError =
     predictor_fault p color
-    >>= (λ _. unless (nat_lt limits.intermediate_buffer_size (slice_index p.byte_counts i)) LimitsExceeded
-    >>= (λ _. method_fault p.method >>= (λ _. white_fault p color))) in
+    >>= (λ _. fail_if (nat_lt limits.intermediate_buffer_size (slice_index p.byte_counts i)) LimitsExceeded
+    >>= (λ _. method_fault p.method >>= (λ _. inversion_fault p color))) in
     let deep : Result (Unit {0}) TiffError = depth_fault p color >>= (λ _. rest) in
-    let listed : Result (Unit {0}) TiffError = unless (nat_le (length p.offsets) i) (FormatError InconsistentSizesEncountered) in
+    let listed : Result (Unit {0}) TiffError = fail_if (nat_le (length p.offsets) i) (FormatError InconsistentSizesEncountered) in
     let a = bind_ok (form_fault p limits color i) (λ _. late) tt h in
     let b = bind_ok listed (λ _. deep) a.0 a.1.0 in
     (bind_ok (depth_fault p color) (λ _. rest) a.0 b.1.1).1.0

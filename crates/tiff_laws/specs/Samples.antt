@@ -7,7 +7,7 @@ use Rattle.tiff_page.specs.declared.layout.DecodingSampleType.{DecodingSampleTyp
 use Rattle.tiff_page.specs.Rect.{rect}
 use Rattle.tiff_page.specs.Layout.{LayoutRecord, sample_type_of, size_of}
 use Rattle.tiff_page.specs.PixelCalls.{planes_within}
-use Rattle.tiff_page.specs.PixelFault.{samples_fault}
+use Rattle.tiff_page.specs.PixelFault.{limit_fault}
 use Rattle.tiff_page.specs.Image.{Decoded, decoded_samples}
 use Rattle.tiff_page.specs.Buffers.{planes_layout, all_planes}
 use Rattle.tiff_page.specs.Laws.{HasSides}
@@ -21,7 +21,7 @@ use Rattle.tiff_laws.specs.Whole.{IsFirstRefused, IsMadeOfChunks}
 abbrev pub numbers_by : Decoding → (List ℕ → Result (List ℕ) TiffError) → ℕ → Result Decoded TiffError
 numbers_by d read len = do
   type ← sample_type_of d.state.page
-  _ ← samples_fault d.state.limits (size_of type) len
+  _ ← limit_fault d.state.limits (size_of type) len
   bytes ← read (replicate len 0)
   Ok (decoded_samples type bytes)
 
@@ -69,7 +69,7 @@ ChunkByBytes = (d : Decoding) (i : ℕ) → (outcome.read_chunk d i).answer ≡ 
 pub record HasNumbers (d : Decoding) (layout : LayoutRecord) (type : DecodingSampleType) (len : ℕ) : Type 0 where
   pub laid : planes_layout d.state.page d.state.page.width d.state.page.height ≡ Ok layout
   pub typed : sample_type_of d.state.page ≡ Ok type
-  pub few : samples_fault d.state.limits (size_of type) len ≡ Ok tt
+  pub few : limit_fault d.state.limits (size_of type) len ≡ Ok tt
 
 -- these are the numbers of what the chunks of an image make, read one by one and placed into so many zeros
 abbrev pub AreOfChunks : Decoding → LayoutRecord → DecodingSampleType → ℕ → Decoded → Type 0

@@ -1,4 +1,4 @@
-//! Calls of a decoder as words, each its name and its numbers, and lists of them as lines of text.
+//! Calls of a decoder as words, each its name and its numbers, and lists of calls as lines of text.
 
 use std::alloc::{AllocError, Global};
 use tiff_base::tags::{IfdPointer, Tag};
@@ -14,7 +14,7 @@ fn number_of(word: &str) -> Option<u64> {
     }
 }
 
-// The numbers that the words are, if each is one.
+// The numbers that words are; `None` if one is no number.
 fn numbers_of(alloc: Global, words: &str) -> Result<Option<Vec<u64>>, AllocError> {
     let mut numbers = Vec::new(alloc);
     for word in words.split(' ') {
@@ -26,7 +26,7 @@ fn numbers_of(alloc: Global, words: &str) -> Result<Option<Vec<u64>>, AllocError
     Ok(Some(numbers))
 }
 
-// A call that reads the next number, or the next bytes of an offset.
+// The call of a name that reads the next number, or the next bytes of an offset.
 fn next_number_call(name: &str) -> Option<Call> {
     match name {
         "read_ifd_offset" => Some(Call::ReadIfdOffset),
@@ -45,7 +45,7 @@ fn next_number_call(name: &str) -> Option<Call> {
     }
 }
 
-// A call with no number.
+// The call of a name that takes no number.
 fn plain_call(name: &str) -> Option<Call> {
     match name {
         "dimensions" => Some(Call::Dimensions),
@@ -66,7 +66,7 @@ fn plain_call(name: &str) -> Option<Call> {
     }
 }
 
-// A call with one number of 64 bits.
+// The call of a name that takes one number of 64 bits.
 fn wide_call(name: &str, number: u64) -> Option<Call> {
     match name {
         "seek_to_image" => Some(Call::SeekToImage(number as usize)),
@@ -78,7 +78,7 @@ fn wide_call(name: &str, number: u64) -> Option<Call> {
     }
 }
 
-// A call with one number of 32 bits.
+// The call of a name that takes one number of 32 bits.
 fn index_call(name: &str, number: u32) -> Option<Call> {
     match name {
         "goto_offset" => Some(Call::GotoOffset(number)),
@@ -90,7 +90,7 @@ fn index_call(name: &str, number: u32) -> Option<Call> {
     }
 }
 
-// A call with a tag alone.
+// The call of a name that takes a tag alone.
 fn tag_call(name: &str, tag: Tag) -> Option<Call> {
     match name {
         "find_entry" => Some(Call::FindEntry(tag)),
@@ -115,7 +115,7 @@ fn tag_call(name: &str, tag: Tag) -> Option<Call> {
     }
 }
 
-// A call with one number.
+// The call of a name that takes one number.
 fn one_number_call(name: &str, number: u64) -> Option<Call> {
     if let Some(call) = wide_call(name, number) {
         return Some(call);
@@ -128,7 +128,7 @@ fn one_number_call(name: &str, number: u64) -> Option<Call> {
     tag_call(name, Tag::from_u16_exhaustive(number))
 }
 
-// A call with two numbers: an index, and a length or a stride.
+// The call of a name that takes two numbers: an index, and a length or a stride.
 fn two_numbers_call(name: &str, index: u32, len: usize) -> Option<Call> {
     match name {
         "read_chunk_bytes" => Some(Call::ReadChunkBytes { chunk: index, len }),
@@ -144,7 +144,7 @@ fn two_numbers_call(name: &str, index: u32, len: usize) -> Option<Call> {
     }
 }
 
-// A call with three numbers.
+// The call of a name that takes three numbers.
 fn three_numbers_call(name: &str, first: u64, second: u64, third: u64) -> Option<Call> {
     match name {
         "set_limits" => {
@@ -163,7 +163,7 @@ fn three_numbers_call(name: &str, first: u64, second: u64, third: u64) -> Option
     }
 }
 
-// A call with its numbers.
+// The call of a name with its numbers.
 fn numbers_call(name: &str, numbers: &[u64]) -> Option<Call> {
     match numbers {
         [number] => one_number_call(name, *number),
@@ -173,7 +173,7 @@ fn numbers_call(name: &str, numbers: &[u64]) -> Option<Call> {
     }
 }
 
-/// The call that the words tell of, if they do.
+/// The call that words stand for, its name and its numbers; `None` if they are no call.
 pub fn call_of(alloc: Global, words: &str) -> Result<Option<Call>, AllocError> {
     let Some((name, rest)) = words.split_once(' ') else {
         return Ok(plain_call(words));
@@ -184,8 +184,8 @@ pub fn call_of(alloc: Global, words: &str) -> Result<Option<Call>, AllocError> {
     }
 }
 
-/// The calls that the lines of a text tell of, or the number, from 1, of the first line that is none. Empty lines and those that
-/// begin with `#` tell of nothing.
+/// The calls that the lines of a text list; or the number, from 1, of the first line that is no
+/// call. Empty lines and lines that begin with `#` are ignored.
 pub fn calls_of(alloc: Global, text: &str) -> Result<Result<Vec<Call>, usize>, AllocError> {
     let mut calls = Vec::new(alloc);
     let mut number = 1usize;

@@ -5,7 +5,7 @@ ghost use Rattle.std.specs.Prelude.{◌<◌, IfSome};
 use std::alloc::{AllocError, Global};
 use std::fmt::Write;
 
-// The number of a digit.
+// The number that a hexadecimal digit is, of `0` to `9` and `a` to `f`.
 fn digit(byte: u8) -> Option<u8>
     ensures { IfSome result (λ n. n < 16) }
 {
@@ -16,7 +16,7 @@ fn digit(byte: u8) -> Option<u8>
     }
 }
 
-// The byte of two digits.
+// The byte that two digits are.
 fn byte_of(pair: &[u8]) -> Option<u8> {
     match pair {
         [high, low] => Some(digit(*high)? * 16 + digit(*low)?),
@@ -24,7 +24,8 @@ fn byte_of(pair: &[u8]) -> Option<u8> {
     }
 }
 
-/// The bytes whose digits these are, two for each, if they are; `-` is no bytes.
+/// The bytes that hexadecimal digits are, two digits for each; `-` is no bytes. `None` if the text
+/// is anything else.
 pub fn bytes_of(alloc: Global, digits: &str) -> Result<Option<Vec<u8>>, AllocError> {
     let mut bytes = Vec::new(alloc);
     if digits == "-" {
@@ -39,7 +40,7 @@ pub fn bytes_of(alloc: Global, digits: &str) -> Result<Option<Vec<u8>>, AllocErr
     Ok(Some(bytes))
 }
 
-/// Appends the digits of bytes, two for each.
+/// Appends bytes to a text as hexadecimal digits, two small digits for each.
 pub fn push_digits(text: &mut String, bytes: &[u8]) -> Result<(), AllocError> {
     for byte in bytes {
         write!(text, "{byte:02x}")?;
@@ -47,7 +48,7 @@ pub fn push_digits(text: &mut String, bytes: &[u8]) -> Result<(), AllocError> {
     Ok(())
 }
 
-/// The digits of bytes, two for each; `-` for none.
+/// Bytes as hexadecimal digits, two small digits for each; `-` for no bytes.
 pub fn digits_text(alloc: Global, bytes: &[u8]) -> Result<String, AllocError> {
     let mut text = String::new(alloc);
     match bytes {

@@ -9,7 +9,7 @@ use tiff_encode::encoder::script::{
 };
 use tiff_value::encoder::colortype::ColorTypeName;
 
-// A job that has begun.
+// A job that has begun and has not ended.
 #[derive(Clone, Copy)]
 enum Begun {
     Directory {
@@ -23,7 +23,7 @@ enum Begun {
     },
 }
 
-// What the lines up to one tell of.
+// The jobs of the lines that were read so far.
 #[derive(Drop)]
 struct JobList {
     alloc: Global,
@@ -42,7 +42,7 @@ fn directory_begun(chained: bool, words: &str) -> Result<Begun, Unread> {
     Ok(Begun::Directory { chained, parent })
 }
 
-// The beginning of an image: its color type and its sides.
+// The beginning of an image: its color type, its width and its height.
 fn image_begun(words: &str) -> Result<Begun, Unread> {
     let (color, words) = first_word(words);
     let (width, height) = first_word(words);
@@ -59,13 +59,13 @@ fn put<T: Drop>(items: &mut Vec<T>, item: T) -> Result<(), Unread> {
     Ok(())
 }
 
-// Takes all items out.
+// Takes all items out of a list.
 fn taken<T: Drop>(alloc: Global, items: &mut Vec<T>) -> Vec<T> {
     mem::replace(items, Vec::new(alloc))
 }
 
 impl JobList {
-    // No job.
+    // A list without jobs.
     fn new(alloc: Global) -> Self {
         JobList {
             alloc,
@@ -76,7 +76,7 @@ impl JobList {
         }
     }
 
-    // A line outside of jobs.
+    // Reads a line outside of jobs: a setting, or the beginning of a job.
     fn begin(&mut self, name: &str, words: &str) -> Result<(), Unread> {
         match name {
             "predictor" => put(&mut self.jobs, Job::Predictor(read(words)?)),
@@ -97,7 +97,7 @@ impl JobList {
         }
     }
 
-    // The end of a directory.
+    // Ends a directory, and puts its job behind the others.
     fn end_directory(
         &mut self,
         chained: bool,
@@ -114,7 +114,7 @@ impl JobList {
         put(&mut self.jobs, Job::Directory(job))
     }
 
-    // A line of a directory.
+    // Reads a line of a directory: a step, or its end.
     fn go_on_directory(
         &mut self,
         chained: bool,
@@ -132,7 +132,7 @@ impl JobList {
         }
     }
 
-    // The end of an image.
+    // Ends an image, and puts its job behind the others.
     fn end_image(
         &mut self,
         color: ColorTypeName,
@@ -151,13 +151,13 @@ impl JobList {
         put(&mut self.jobs, Job::Image(job))
     }
 
-    // A step of an image.
+    // Reads a step of an image.
     fn add_image_step(&mut self, name: &str, words: &str) -> Result<(), Unread> {
         let step = image_step_of(self.alloc, name, words)?;
         put(&mut self.image_steps, step)
     }
 
-    // The end of an image that a line tells of, if it is one.
+    // The end of an image that a line stands for, if it is one.
     fn image_end(&self, line: &str) -> Result<Option<ImageEnd>, Unread> {
         let (name, words) = first_word(line);
         match (name, words) {
@@ -168,7 +168,7 @@ impl JobList {
         }
     }
 
-    // A line of an image.
+    // Reads a line of an image: a step, or its end.
     fn go_on_image(
         &mut self,
         color: ColorTypeName,
@@ -185,7 +185,7 @@ impl JobList {
         }
     }
 
-    // The next line.
+    // Reads the next line, outside or inside of a job.
     fn take(&mut self, line: &str) -> Result<(), Unread> {
         if line.is_empty() || line.starts_with('#') {
             return Ok(());
@@ -217,8 +217,9 @@ impl JobList {
     }
 }
 
-/// The jobs that the lines of a text tell of, or the number, from 1, of the first line that is none. A text that ends within
-/// a job is refused at the line after its last. Empty lines and those that begin with `#` tell of nothing.
+/// The jobs that the lines of a text list; or the number, from 1, of the first line that is no job
+/// and no step of one. A text that ends inside of a job is refused at the number of the line behind
+/// its last one. Empty lines and lines that begin with `#` are ignored.
 pub fn jobs_of(alloc: Global, text: &str) -> Result<Result<Vec<Job>, usize>, AllocError> {
     let mut list = JobList::new(alloc);
     let mut number = 1usize;

@@ -1,4 +1,4 @@
-//! Lists of jobs and of calls as text, and the text of what they are answered.
+//! Lists of jobs and of calls as text, and the text of the replies to them.
 #![tactic(auto)]
 
 pub mod call;

@@ -1,4 +1,4 @@
-//! The text of what calls and jobs are answered.
+//! The text of replies to calls and to jobs.
 
 ghost use Rattle.tiff_lists.specs.Told.{LinesOfCalls, LinesOfJobs};
 
@@ -22,7 +22,8 @@ fn entry_text(alloc: Global, entry: &Entry) -> Result<String, AllocError> {
     Ok(text)
 }
 
-// What a step is answered: `nothing`, a number, the type, the count and the bytes of an entry, or the refusal.
+// The reply to a step: `nothing`; a number; the type, the count and the bytes of an entry; or the
+// error.
 fn step_text(alloc: Global, reply: &TiffResult<StepReply>) -> Result<String, AllocError> {
     match reply {
         Ok(StepReply::Nothing) => String::from_str(alloc, "nothing"),
@@ -32,7 +33,8 @@ fn step_text(alloc: Global, reply: &TiffResult<StepReply>) -> Result<String, All
     }
 }
 
-// What the end of a job is answered: `nothing`, where its directory and the link to the next one stand, or the refusal.
+// The reply to the end of a job: `nothing`; the offsets of its directory and of the link to the
+// next one; or the error.
 fn end_text(alloc: Global, reply: &TiffResult<EndReply>) -> Result<String, AllocError> {
     match reply {
         Ok(EndReply::Nothing) => String::from_str(alloc, "nothing"),
@@ -43,14 +45,14 @@ fn end_text(alloc: Global, reply: &TiffResult<EndReply>) -> Result<String, Alloc
     }
 }
 
-// What is told in lines.
+// What has lines of text.
 trait Lines {
-    // The lines.
+    // The lines of this value.
     fn lines(&self, alloc: Global) -> Result<String, AllocError>;
 }
 
 impl Lines for Reply {
-    // One line.
+    // One line for the reply to a call.
     fn lines(&self, alloc: Global) -> Result<String, AllocError> {
         let mut line = text_of(alloc, self)?;
         line.push_str("\n")?;
@@ -59,7 +61,7 @@ impl Lines for Reply {
 }
 
 impl Lines for JobReply {
-    // A line for each step, and one for the end.
+    // A line for each step of a job, and one for its end.
     fn lines(&self, alloc: Global) -> Result<String, AllocError> {
         let mut lines = String::new(alloc);
         for step in &self.steps {
@@ -72,7 +74,7 @@ impl Lines for JobReply {
     }
 }
 
-// What is answered, one after another.
+// The lines of all replies, one after another.
 fn all_lines<T: Lines>(alloc: Global, replies: &[T]) -> Result<String, AllocError> {
     let mut lines = String::new(alloc);
     for reply in replies {
@@ -81,16 +83,19 @@ fn all_lines<T: Lines>(alloc: Global, replies: &[T]) -> Result<String, AllocErro
     Ok(lines)
 }
 
-/// What jobs were answered: a line for each step of each, and one for its end.
+/// The replies to jobs, as lines: one for each step of each job, and one for its end. Its only
+/// error is out of memory.
 pub fn lines_of_jobs(alloc: Global, replies: &[JobReply]) -> Result<String, AllocError> {
     all_lines(alloc, replies)
 }
 
-// Lets a value go. A list of replies is let go here: where a function isn't generic, that is long to prove.
+// Drops a value. A list of replies is dropped here, since a proof about that is long in a function
+// that isn't generic.
 fn let_go<T: Drop>(_value: T) {}
 
-/// Makes calls of a decoder, as `run_calls` does, and answers what each is answered, a refusal too, a line for each. Its only error is
-/// `OutOfMemory`: for the replies, and then no call was made, or for the lines, and then all were.
+/// Makes calls of a decoder, as `run_calls` does, and returns a line for the reply to each, also to
+/// one that is refused. Its only error is `OutOfMemory`: for the replies, and then it made no call;
+/// or for the lines, and then it made all calls.
 pub fn lines_of_calls<R: Source>(
     alloc: Global,
     decoder: &mut Decoder<R>,
@@ -106,8 +111,8 @@ pub fn lines_of_calls<R: Source>(
     Ok(lines?)
 }
 
-/// Runs jobs over a sink, as `run_jobs` does, and answers the sink with the lines of what the jobs were answered. Its errors are those of
-/// `run_jobs`, and `OutOfMemory` for the lines.
+/// Runs jobs over a sink, as `run_jobs` does, and returns the sink with the lines of the replies to
+/// the jobs. Its errors are those of `run_jobs`, and `OutOfMemory` for the lines.
 pub fn run_told<W: Sink, K: TiffKind>(
     alloc: Global,
     sink: W,

@@ -6,7 +6,8 @@ use std::alloc::Global;
 use tiff_encode::encoder::script::{DirectoryStep, ImageStep};
 use tiff_value::encoder::tiff_value::Rational;
 
-/// The step of a directory that words tell of.
+/// The step of a directory that a name and the words behind it stand for. Words that aren't so:
+/// `Form`.
 pub fn directory_step_of(alloc: Global, name: &str, words: &str) -> Result<DirectoryStep, Unread> {
     match name {
         "write_tag" => {
@@ -30,13 +31,13 @@ pub fn directory_step_of(alloc: Global, name: &str, words: &str) -> Result<Direc
     }
 }
 
-// A fraction of two words.
+// The fraction that two words are.
 fn fraction(words: &str) -> Result<Rational, Unread> {
     let (n, d) = pair_of(words)?;
     Ok(Rational { n, d })
 }
 
-// A step of an image that takes no memory.
+// The step of an image, of those that allocate nothing.
 fn setting_step(name: &str, words: &str) -> Result<ImageStep, Unread> {
     match name {
         "tiles" => {
@@ -55,7 +56,7 @@ fn setting_step(name: &str, words: &str) -> Result<ImageStep, Unread> {
     }
 }
 
-// A step of an image that is a name alone.
+// The step of an image that is a name alone.
 fn plain_step(name: &str) -> Option<ImageStep> {
     match name {
         "planar" => Some(ImageStep::Planar),
@@ -65,7 +66,7 @@ fn plain_step(name: &str) -> Option<ImageStep> {
     }
 }
 
-// A step of an image's directory.
+// The step of an image that is a step of its directory.
 fn inner_step(alloc: Global, name: &str, words: &str) -> Result<ImageStep, Unread> {
     let name = match name {
         "append_data" => "write_data",
@@ -74,7 +75,8 @@ fn inner_step(alloc: Global, name: &str, words: &str) -> Result<ImageStep, Unrea
     Ok(ImageStep::Directory(directory_step_of(alloc, name, words)?))
 }
 
-/// The step of an image that words tell of.
+/// The step of an image that a name and the words behind it stand for. Words that aren't so:
+/// `Form`.
 pub fn image_step_of(alloc: Global, name: &str, words: &str) -> Result<ImageStep, Unread> {
     match name {
         "write_strip" => Ok(ImageStep::WriteStrip(samples_of(alloc, words)?)),

@@ -1,4 +1,4 @@
-//! The values that are written, and fields of directories, as words.
+//! The values that jobs write, and the fields of directories, as words.
 
 use crate::words::{Unread, digits_of, first_word, list_of, read};
 use std::alloc::Global;
@@ -17,7 +17,7 @@ fn place_value(alloc: Global, name: &str, words: &str) -> Result<JobValue, Unrea
     }
 }
 
-// A value of what numbers stand for.
+// A value of what numbers stand for, as a compression method or a predictor.
 fn named_value(alloc: Global, name: &str, words: &str) -> Result<JobValue, Unread> {
     match name {
         "method" => Ok(JobValue::CompressionMethod(list_of(alloc, words)?)),
@@ -31,7 +31,7 @@ fn named_value(alloc: Global, name: &str, words: &str) -> Result<JobValue, Unrea
     }
 }
 
-// A value of wide numbers.
+// A value of numbers of 32 or 64 bits.
 fn wide_value(alloc: Global, name: &str, words: &str) -> Result<JobValue, Unread> {
     match name {
         "u32" => Ok(JobValue::U32(list_of(alloc, words)?)),
@@ -44,7 +44,8 @@ fn wide_value(alloc: Global, name: &str, words: &str) -> Result<JobValue, Unread
     }
 }
 
-/// The value that words tell of: the name of a type, and a word for each number; or `text`, and the text.
+/// The value that words stand for: the name of a type, and a word for each number; or `text`, and
+/// the text. Words that aren't so: `Form`.
 pub fn value_of(alloc: Global, words: &str) -> Result<JobValue, Unread> {
     let (name, words) = first_word(words);
     match name {
@@ -57,7 +58,8 @@ pub fn value_of(alloc: Global, words: &str) -> Result<JobValue, Unread> {
     }
 }
 
-/// The bytes that words tell of: the number of a type, their order, and their digits.
+/// The bytes that words stand for: the number of a type, the byte order `little` or `big`, and the
+/// bytes as hexadecimal digits. Words that aren't so: `Form`.
 pub fn buffer_of(alloc: Global, words: &str) -> Result<JobBuffer, Unread> {
     let (data_type, words) = first_word(words);
     let (order, digits) = first_word(words);
@@ -68,7 +70,7 @@ pub fn buffer_of(alloc: Global, words: &str) -> Result<JobBuffer, Unread> {
     })
 }
 
-// The eight bytes of sixteen digits.
+// The eight bytes that sixteen hexadecimal digits are.
 fn field_bytes(digits: &str) -> Option<[u8; 8]> {
     if digits.len() != 16 {
         return None;
@@ -76,12 +78,13 @@ fn field_bytes(digits: &str) -> Option<[u8; 8]> {
     Some(u64::from_str_radix(digits, 16).ok()?.to_be_bytes())
 }
 
-// The parts of `a:b`.
+// Both parts of `a:b`.
 fn parted(word: &str) -> Result<(&str, &str), Unread> {
     word.split_once(':').ok_or(Unread::Form)
 }
 
-// Sets the field that a word tells of: the numbers of its tag and its type, how many values it has, and its bytes.
+// Sets the field that a word stands for: the number of its tag, the number of its type, how many
+// values it has, and its eight bytes as digits, with `:` between them.
 fn set_field(directory: &mut Directory, word: &str) -> Result<(), Unread> {
     let (tag, word) = parted(word)?;
     let (data_type, word) = parted(word)?;
@@ -92,7 +95,9 @@ fn set_field(directory: &mut Directory, word: &str) -> Result<(), Unread> {
     Ok(())
 }
 
-/// The directory of the fields that words tell of.
+/// The directory of the fields that words stand for; no words are no fields. Each word is the
+/// number of a tag, the number of a type, the count of values and eight bytes as hexadecimal
+/// digits, with `:` between them. Words that aren't so: `Form`.
 pub fn directory_of(alloc: Global, words: &str) -> Result<Directory, Unread> {
     let mut directory = Directory::empty(alloc);
     if words.is_empty() {
@@ -104,13 +109,14 @@ pub fn directory_of(alloc: Global, words: &str) -> Result<Directory, Unread> {
     Ok(directory)
 }
 
-/// The tag of the first word, and the words behind it.
+/// The tag whose number is the first word, and the words behind it. Another word: `Form`.
 pub fn tagged(words: &str) -> Result<(Tag, &str), Unread> {
     let (tag, words) = first_word(words);
     Ok((read(tag)?, words))
 }
 
-/// The type of the first word, and the bytes of the second.
+/// The type whose number is the first word, and the bytes that the second word is as hexadecimal
+/// digits. Words that aren't so: `Form`.
 pub fn typed_bytes(alloc: Global, words: &str) -> Result<(Type, Vec<u8>), Unread> {
     let (data_type, digits) = first_word(words);
     Ok((read(data_type)?, digits_of(alloc, digits)?))

@@ -10,10 +10,10 @@ use tiff_encode::encoder::Compression;
 use tiff_value::encoder::colortype::ColorTypeName;
 use tiff_value::encoder::tiff_value::{Ifd, Ifd8, Rational, SRational};
 
-/// Why words tell of nothing.
+/// Why words stand for nothing.
 #[derive(Clone, Copy, Debug, Drop)]
 pub enum Unread {
-    /// They are not of the form.
+    /// The words don't have the form that they need.
     Form,
     OutOfMemory,
 }
@@ -30,9 +30,9 @@ impl<T: Drop> From<AllocFailed<T>> for Unread {
     }
 }
 
-/// What one word tells of.
+/// What a single word can stand for.
 pub trait FromWord: Sized {
-    /// What the word tells of, if it does.
+    /// What the word stands for; `None` if it stands for nothing of this type.
     fn from_word(word: &str) -> Option<Self>;
 }
 
@@ -271,30 +271,30 @@ impl FromWord for ColorTypeName {
     }
 }
 
-/// What a word tells of.
+/// What a word stands for; `Form` if it stands for nothing of this type.
 pub fn read<T: FromWord>(word: &str) -> Result<T, Unread> {
     T::from_word(word).ok_or(Unread::Form)
 }
 
-/// The first word, and those behind it.
+/// The first word, and the words behind it.
 pub fn first_word(words: &str) -> (&str, &str) {
     words.split_once(' ').unwrap_or((words, ""))
 }
 
-/// What two words tell of.
+/// What two words stand for; `Form` if one of them stands for nothing of its type.
 pub fn pair_of<A: FromWord + Drop, B: FromWord>(words: &str) -> Result<(A, B), Unread> {
     let (first, second) = first_word(words);
     let first = read::<A>(first)?;
     Ok((first, read::<B>(second)?))
 }
 
-// A word, and how often it stands: `7`, or `7*20`.
+// A word, and how often it counts: `7` once, or `7*20` twenty times.
 fn repeated(word: &str) -> Result<(&str, usize), Unread> {
     let (word, count) = word.split_once('*').unwrap_or((word, "1"));
     Ok((word, read(count)?))
 }
 
-// Adds what a word tells of, once or several times over.
+// Adds what a word stands for, as often as it counts.
 fn push_items<T: FromWord + Drop>(list: &mut Vec<T>, word: &str) -> Result<(), Unread> {
     let (word, count) = repeated(word)?;
     for _ in 0..count {
@@ -303,7 +303,8 @@ fn push_items<T: FromWord + Drop>(list: &mut Vec<T>, word: &str) -> Result<(), U
     Ok(())
 }
 
-/// What each of some words tells of, or of none.
+/// What each word stands for, as often as it counts; no words are an empty list. Words that aren't
+/// so: `Form`.
 pub fn list_of<T: FromWord + Drop>(alloc: Global, words: &str) -> Result<Vec<T>, Unread> {
     let mut list = Vec::new(alloc);
     if words.is_empty() {
@@ -315,12 +316,12 @@ pub fn list_of<T: FromWord + Drop>(alloc: Global, words: &str) -> Result<Vec<T>,
     Ok(list)
 }
 
-/// The bytes of digits.
+/// The bytes that hexadecimal digits are; `Form` for anything else.
 pub fn digits_of(alloc: Global, word: &str) -> Result<Vec<u8>, Unread> {
     bytes_of(alloc, word)?.ok_or(Unread::Form)
 }
 
-// Adds the samples from one to another: of `0..ff` 256, of `7` one.
+// Adds the samples from one number to another: for `0..ff` 256 samples, for `7` one.
 fn push_range(samples: &mut Vec<u64>, word: &str) -> Result<(), Unread> {
     let (first, last) = word.split_once("..").unwrap_or((word, word));
     let (first, last) = (read::<Bits64>(first)?, read::<Bits64>(last)?);
@@ -330,7 +331,7 @@ fn push_range(samples: &mut Vec<u64>, word: &str) -> Result<(), Unread> {
     Ok(())
 }
 
-// Adds the samples of a word, once or several times over.
+// Adds the samples of a word, as often as it counts.
 fn push_samples(samples: &mut Vec<u64>, word: &str) -> Result<(), Unread> {
     let (word, count) = repeated(word)?;
     for _ in 0..count {
@@ -339,7 +340,8 @@ fn push_samples(samples: &mut Vec<u64>, word: &str) -> Result<(), Unread> {
     Ok(())
 }
 
-/// The samples of words: hexadecimal numbers, or from one to another, each once or a decimal number of times.
+/// The samples that words stand for: hexadecimal numbers, or ranges from one to another, each once
+/// or a decimal number of times. Words that aren't so: `Form`.
 pub fn samples_of(alloc: Global, words: &str) -> Result<Vec<u64>, Unread> {
     let mut samples = Vec::new(alloc);
     if words.is_empty() {

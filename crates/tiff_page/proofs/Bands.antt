@@ -21,7 +21,7 @@ use Rattle.tiff_page.specs.Counts.{all_chunks}
 use Rattle.tiff_page.specs.Rect.{rect}
 use Rattle.tiff_page.specs.Layout.{row_bits, row_bytes, samples_in_chunk}
 use Rattle.tiff_page.specs.Laws.{HasSides}
-use Rattle.tiff_page.specs.PixelFault.{unless}
+use Rattle.tiff_page.specs.PixelFault.{fail_if}
 use Rattle.tiff_page.specs.Pixels.{width_of, stored_samples, chunk_data, stored_row_bytes, is_byte_plane, is_short, row_number, needed_bytes, needed_of_row, shown_number, number_by, number_of_row}
 use Rattle.tiff_page.specs.BufferPositions.{Writes, IsIn, in_rect, chunk_byte}
 use Rattle.tiff_page.specs.OutputRow.{StoresAllShown, handed_number, handed_byte}
@@ -269,7 +269,7 @@ module _ (file : List ℕ) (order : ByteOrder) (p : PageRecord) (color : ColorTy
   -- too few bytes for rows are too few for the chunk
   pub short_band : (failed failed' : Type 0) (row n m : ℕ) (ahead : List ℕ) (e : TiffError) → (failed → failed') → 0 < h → row + n ≤ h → m ≡ n * stride
       → ahead ≡ drop (row * stride) bytes → IsCause (Unit {0}) failed e (IsTooShort ahead (needed_of_row p color m) e)
-      → IsCause (Unit {0}) failed' e (unless (is_short file order p color k) (IoError UnexpectedEof) ≡ Err e)
+      → IsCause (Unit {0}) failed' e (fail_if (is_short file order p color k) (IoError UnexpectedEof) ≡ Err e)
   short_band failed failed' row n m ahead e f some rl c d q =
       cause_along e (λ w. w) f
       (λ t.

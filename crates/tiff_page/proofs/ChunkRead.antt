@@ -14,7 +14,7 @@ use Rattle.tiff_page.specs.Page.{PageRecord}
 use Rattle.tiff_page.specs.Counts.{all_chunks}
 use Rattle.tiff_page.specs.Rect.{rect}
 use Rattle.tiff_page.specs.Layout.{row_bits, row_bytes, samples_in_chunk}
-use Rattle.tiff_page.specs.PixelFault.{unless}
+use Rattle.tiff_page.specs.PixelFault.{fail_if}
 use Rattle.tiff_page.specs.Pixels.{chunk_data, stored_row_bytes, is_short, needed_of_row}
 use Rattle.tiff_page.specs.Laws.{HasSides}
 use Rattle.tiff_page.specs.BufferPositions.{chunk_byte}
@@ -90,7 +90,7 @@ module _ (file : List ℕ) (order : ByteOrder) (p : PageRecord) (color : ColorTy
 
   pub too_short : (failed failed' : Type 0) (r n : ℕ) (left : List ℕ) (e : TiffError) → (failed → failed') → r < h → n ≡ len → left ≡ drop (r * stored_row_bytes p) bytes
       → IsCause (Unit {0}) failed e (IsTooShort left (needed_of_row p color n) e)
-      → IsCause (Unit {0}) failed' e (unless (is_short file order p color k) (IoError UnexpectedEof) ≡ Err e)
+      → IsCause (Unit {0}) failed' e (fail_if (is_short file order p color k) (IoError UnexpectedEof) ≡ Err e)
   too_short failed failed' r n left e f rl q d c =
       cause_along e (λ w. w) f
       (λ t.

@@ -27,7 +27,7 @@ use Rattle.tiff_page.specs.Page.{PageRecord}
 use Rattle.tiff_page.specs.Rect.{chunks_of_plane, rect}
 use Rattle.tiff_page.specs.Buffers.{planes_layout, unit_fault}
 use Rattle.tiff_page.specs.Layout.{LayoutRecord, sample_type_of, size_of}
-use Rattle.tiff_page.specs.PixelFault.{unless, form_fault, chunk_fault, samples_fault, each_below}
+use Rattle.tiff_page.specs.PixelFault.{fail_if, form_fault, chunk_fault, limit_fault, each_below}
 use Rattle.tiff_page.specs.PixelCalls.{Part, part_fault, fill_buffer, samples, image_part, chunk_part, planes_used, read_chunk_bytes, read_coding_unit_bytes, read_image_bytes, room_fault}
 use Rattle.tiff_page.specs.Pixels.{data_by_method, chunk_data, needed_bytes, is_short}
 use Rattle.tiff_page.specs.EarlyFaults.{least_stored, bytes_held, is_cut, early_fault}
@@ -48,7 +48,7 @@ bytes_few h r l a b d = let k = rows_few h r a b in omega (arith, k, d)
 -- ---- the last byte
 
 pub reached : (failed : Type 0) (bytes buf : List ℕ) (at len last : ℕ) (r : Result (Unit {0}) TiffError) → last ≡ at + len - 1 → 0 < len
-    → AnswersBut ⊥ failed (λ _. buf) r (exactly_at bytes last 1) → AnswersBut ⊥ failed (λ _. tt) r (unless (nat_lt (length bytes - at) len) (IoError UnexpectedEof))
+    → AnswersBut ⊥ failed (λ _. buf) r (exactly_at bytes last 1) → AnswersBut ⊥ failed (λ _. tt) r (fail_if (nat_lt (length bytes - at) len) (IoError UnexpectedEof))
 reached failed bytes buf at len last (Ok x) e s h =
     let b = byte_there bytes buf last h in
     rw (le-ltb (length bytes - at) len (omega (arith, b.0, e, s))) refl
@@ -57,7 +57,7 @@ reached failed bytes buf at len last (Err f) e s h =
     (λ g. (let m = missing bytes last 1 f g in rw (lt-ltb (length bytes - at) len (omega (arith, m.0, e, s))) (ap Err m.1))) h
 
 -- no byte stands at 2^64 or behind
-pub past_all : (bytes : List ℕ) (at len : ℕ) → length bytes < 2 ^ 64 → 0 < len → 2 ^ 64 ≤ at + len - 1 → unless (nat_lt (length bytes - at) len) (IoError UnexpectedEof) ≡ Err (IoError UnexpectedEof)
+pub past_all : (bytes : List ℕ) (at len : ℕ) → length bytes < 2 ^ 64 → 0 < len → 2 ^ 64 ≤ at + len - 1 → fail_if (nat_lt (length bytes - at) len) (IoError UnexpectedEof) ≡ Err (IoError UnexpectedEof)
 past_all bytes at len l s p = rw (lt-ltb (length bytes - at) len (omega (arith, l, s, p))) refl
 
 -- ---- packed bytes
@@ -65,7 +65,7 @@ past_all bytes at len l s p = rw (lt-ltb (length bytes - at) len (omega (arith, 
 pub least_few : (n : ℕ) → n < 2 ^ 89 → div_ceil n 64 < 2 ^ 89
 least_few n h = let k = div_ceil_times n 64 (omega arith) in omega (arith, h, k.1)
 
-pub counted_few : (bytes : List ℕ) (at count least : ℕ) → count < least → unless (nat_lt (min count (length bytes - at)) least) (IoError UnexpectedEof) ≡ Err (IoError UnexpectedEof)
+pub counted_few : (bytes : List ℕ) (at count least : ℕ) → count < least → fail_if (nat_lt (min count (length bytes - at)) least) (IoError UnexpectedEof) ≡ Err (IoError UnexpectedEof)
 counted_few bytes at count least h = rw (lt-ltb (min count (length bytes - at)) least (omega (arith, h))) refl
 
 pub counted_all : (bytes : List ℕ) (at count least : ℕ) → least ≤ count → nat_lt (length bytes - at) least ≡ nat_lt (min count (length bytes - at)) least
@@ -156,12 +156,12 @@ module _ (file : List ℕ) (order : ByteOrder) (p : PageRecord) (limits : Limits
   unfolding samples fill_buffer
   samples_early part type len e some planes typed h =
       ⊎_elim
-      (λ (few : samples_fault limits (size_of type) len ≡ Ok tt).
+      (λ (few : limit_fault limits (size_of type) len ≡ Ok tt).
       let g : chunk_fault p limits (is_cut file p color) color part.first ≡ Err e = rw few at h in
       let f : part_fault file order p limits color part ≡ Err e = part_early part e some planes (found_early part.first e g) in
       rw (typed, few, f) refl)
       (λ er. let g : Err er.0 ≡ Err e = rw (er.1) at h in let q : er.0 ≡ e = cc in rw (typed, er.1) (ap Err q))
-      (cases_fault (samples_fault limits (size_of type) len))
+      (cases_fault (limit_fault limits (size_of type) len))
 
   -- a fault of the form of the first chunk is what a buffer's filling gives
   form_early : (part : Part) (buf : List ℕ) (e : TiffError) → 0 < part.count → 0 < part.planes → form_fault p limits color part.first ≡ Err e

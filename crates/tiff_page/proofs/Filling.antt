@@ -13,7 +13,7 @@ use Rattle.tiff_base.specs.Answers.{IsCause}
 use Rattle.tiff_base.proofs.Causes.{cause_along}
 use Rattle.tiff_ifd.specs.declared.limits.Limits.{Limits}
 use Rattle.tiff_page.specs.Layout.{LayoutRecord, layout_of, color_of, row_bytes}
-use Rattle.tiff_page.specs.PixelFault.{unless, form_fault, chunk_fault, each_below}
+use Rattle.tiff_page.specs.PixelFault.{fail_if, form_fault, chunk_fault, each_below}
 use Rattle.tiff_page.specs.Pixels.{is_short, image_region, chunk_region}
 use Rattle.tiff_page.specs.BufferPositions.{Writes, IsIn, in_rect, chunk_byte, top_of, left_of, IsBefore, image_byte, IsInUnit, unit_byte}
 use Rattle.tiff_page.specs.ReadablePage.{IsRead}
@@ -108,7 +108,7 @@ module _ (file : List ℕ) (order : ByteOrder) (p : PageRecord) (limits : Limits
 
     pub rows_cause : (failed failed' : Type 0) (plane i : ℕ) (e : TiffError) → i ≡ at plane → (failed → failed') → plane < planes → each_below of_plane plane ≡ Ok tt
         → form_fault p limits l.color i ≡ Ok tt
-        → IsCause (Unit {0}) failed e (unless (is_short file order p l.color i) (IoError UnexpectedEof) ≡ Err e) → IsCause (Unit {0}) failed' e (each_below of_plane planes ≡ Err e)
+        → IsCause (Unit {0}) failed e (fail_if (is_short file order p l.color i) (IoError UnexpectedEof) ≡ Err e) → IsCause (Unit {0}) failed' e (each_below of_plane planes ≡ Err e)
     rows_cause failed failed' plane i e q grew below none formed c =
         cause_along e (λ w. w) grew
         (λ h.
@@ -117,7 +117,7 @@ module _ (file : List ℕ) (order : ByteOrder) (p : PageRecord) (limits : Limits
         c
 
     pub plane_none : (plane i : ℕ) → i ≡ at plane → each_below of_plane plane ≡ Ok tt → form_fault p limits l.color i ≡ Ok tt
-        → unless (is_short file order p l.color i) (IoError UnexpectedEof) ≡ Ok tt → each_below of_plane (plane + 1) ≡ Ok tt
+        → fail_if (is_short file order p l.color i) (IoError UnexpectedEof) ≡ Ok tt → each_below of_plane (plane + 1) ≡ Ok tt
     plane_none plane i q none formed whole =
         let f : fault_of i ≡ Ok tt = rw formed whole in
         one_more of_plane plane none (from_first plane ∙ subst (λ (m : ℕ). fault_of m ≡ Ok tt) q f)
@@ -264,7 +264,7 @@ module _ (file : List ℕ) (order : ByteOrder) (p : PageRecord) (limits : Limits
 
   pub unit_rows_cause : (failed failed' : Type 0) (plane i : ℕ) (old : List ℕ) (e : TiffError) → i ≡ position plane → (failed → failed') → plane < planes → each_below in_unit plane ≡ Ok tt
       → form_fault p limits color i ≡ Ok tt
-      → IsCause (Unit {0}) failed e (unless (is_short file order p color i) (IoError UnexpectedEof) ≡ Err e)
+      → IsCause (Unit {0}) failed e (fail_if (is_short file order p color i) (IoError UnexpectedEof) ≡ Err e)
       → IsCause (Unit {0}) failed' e (fill_buffer file order p limits color (chunk_part p k planes stride) old ≡ Err e)
   unfolding fill_buffer
   unit_rows_cause failed failed' plane i old e q grew below none formed c =
@@ -276,7 +276,7 @@ module _ (file : List ℕ) (order : ByteOrder) (p : PageRecord) (limits : Limits
       c
 
   pub unit_none : (plane i : ℕ) → i ≡ position plane → each_below in_unit plane ≡ Ok tt → form_fault p limits color i ≡ Ok tt
-      → unless (is_short file order p color i) (IoError UnexpectedEof) ≡ Ok tt → each_below in_unit (plane + 1) ≡ Ok tt
+      → fail_if (is_short file order p color i) (IoError UnexpectedEof) ≡ Ok tt → each_below in_unit (plane + 1) ≡ Ok tt
   unit_none plane i q none formed whole =
       let f : fault_at i ≡ Ok tt = rw formed whole in
       one_more in_unit plane none (unit_at plane ∙ subst (λ (m : ℕ). fault_at m ≡ Ok tt) q f)

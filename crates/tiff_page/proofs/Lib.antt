@@ -20,7 +20,7 @@ pub mod PixelSteps
 pub mod Cut
 pub mod NumberBytes
 pub mod PositionsPut
-pub mod Portions
+pub mod Requests
 pub mod Reach
 mod Sums
 pub mod Wants

@@ -1,10 +1,11 @@
 -- Rows of bytes that are put into lists of numbers.
+use borrow.Rule.Slice.PartMut.{mid_of, put_mid}
 use Rattle.std.proofs.Common.{◌≡◌, ℕ, zero, suc, ◌+◌, ◌-◌, ◌*◌, ◌/◌, ◌%◌, ◌^◌, ◌<◌, ◌≤◌, true, false, inl, inr, ⊎_elim, List, [], ◌∷◌, ◌++◌, length, map, take, drop, get_or, refl, ap, sym, subst, ◌∙◌, arith}
 use Rattle.std.specs.Prelude.{◌==◌, slice_index, replicate, Result, Ok, Err, OnOk}
 use Rattle.std.specs.Int.{div_ceil, w8, w16, w32, w64, to_le_bytes}
 use Rattle.std.specs.Simd.{first_chunks}
 use Rattle.std.proofs.lemmas.Bool.{cases_Bool, cases_eq, cases_lt, eqb-true}
-use Rattle.std.proofs.lemmas.List.{append-nil, ext_get_or, map-append, map-id, map-set, length-append, length-set, get_or-append_right, get_or_append_left, get_or-set_same, get_or-set_other, length-replicate, get_or-replicate, drop-drop, length-map, take_all, get_or-map}
+use Rattle.std.proofs.lemmas.List.{append-nil, drop_all, length-drop, length-take-le, take-append-drop, ext_get_or, map-append, map-id, map-set, length-append, length-set, get_or-append_right, get_or_append_left, get_or-set_same, get_or-set_other, length-replicate, get_or-replicate, drop-drop, length-map, take_all, get_or-map}
 use Rattle.std.proofs.lemmas.List.FromFn.{length-map-range_with_len, get_or-map-range_with_len}
 use Rattle.std.proofs.lemmas.Nat.{div-add-mod', div_below, mod_below, le-div, div-mul-add, mod-mul-add, row_fits}
 use Rattle.std.proofs.Math.ListN.{set}
@@ -14,7 +15,7 @@ use Rattle.tiff_base.specs.declared.tags.ByteOrder.TheVariants.{LittleEndian, Bi
 use Rattle.tiff_base.specs.Number.{number}
 use Rattle.tiff_base.specs.SourceAndSink.{AreOctets, bytes_at}
 use Rattle.tiff_page.specs.NumberBytes.{byte_of, all_bytes, bytes_in, IsPut, NumbersArePut}
-use Rattle.tiff_page.specs.Pixels.{each_to, width_of, numbers_in, row_number}
+use Rattle.tiff_page.specs.Pixels.{tabulate, width_of, numbers_in, row_number}
 use Rattle.tiff_page.specs.BufferPositions.{Writes}
 use Rattle.tiff_page.specs.Row.{IsSize}
 use Rattle.tiff_page.proofs.Rects.{writes_more, writes_as, writes_none}
@@ -87,10 +88,10 @@ unfolding numbers_in
 numbers_again size ns z =
     let s : 0 < size = some_size size z in
     let bytes : List ℕ = bytes_in size ns in
-    let f : ℕ → ℕ = λ n. number LittleEndian (width_of size) (each_to size (λ j. get_or bytes (n * size + j) 0)) in
+    let f : ℕ → ℕ = λ n. number LittleEndian (width_of size) (tabulate size (λ j. get_or bytes (n * size + j) 0)) in
     let count : div_ceil (length ns * size) size ≡ length ns = by_size (λ m. div_ceil (length ns * m) m ≡ length ns) size (omega arith) (omega arith) (omega arith) (omega arith) z in
-    let l : length (each_to (div_ceil (length bytes) size) f) ≡ length ns = length-map-range_with_len f 0 (div_ceil (length bytes) size) ∙ (ap (λ (m : ℕ). div_ceil m size) (length_bytes size ns) ∙ count) in
-    ext_get_or 0 (each_to (div_ceil (length bytes) size) f) ns l
+    let l : length (tabulate (div_ceil (length bytes) size) f) ≡ length ns = length-map-range_with_len f 0 (div_ceil (length bytes) size) ∙ (ap (λ (m : ℕ). div_ceil m size) (length_bytes size ns) ∙ count) in
+    ext_get_or 0 (tabulate (div_ceil (length bytes) size) f) ns l
     (λ k b.
     let h : k < length ns = omega (arith, b, l) in
     let c : k < div_ceil (length bytes) size = omega (arith, h, ap (λ (m : ℕ). div_ceil m size) (length_bytes size ns), count) in
@@ -207,7 +208,7 @@ pub placed_more : {X : Type 0} (bits : X → ℕ) (size first k : ℕ) (row : Li
     → first + k < length mid → new ≡ set mid (first + k) x → NumbersArePut size first row k (map bits old) (map bits mid)
     → NumbersArePut size first row (k + 1) (map bits old) (map bits new)
 placed_more bits size first k row old mid new x pieces piece d are h here is in_list more w =
-    let found : piece ≡ each_to size (λ j. get_or row (k * size + j) 0) =
+    let found : piece ≡ tabulate size (λ j. get_or row (k * size + j) 0) =
     here ∙ (ap (λ (ps : List (List ℕ)). get_or ps k d) are ∙ (piece_at size (length row / size) row k d h ∙ sym (each_at size k row (within size (length row) k h)))) in
     let value : ℕ → ℕ = λ i. row_number LittleEndian size row (i - first) in
     let e : map bits new ≡ set (map bits mid) (first + k) (bits x) = ap (map bits) more ∙ map-set bits mid (first + k) x in
@@ -221,6 +222,52 @@ placed_more bits size first k row old mid new x pieces piece d are h here is in_
     (λ i q. (omega (arith, q), omega (arith, q)))
     (λ i r. ⊎_elim (λ (a : i < first + k). inl (r.0, a)) (λ (a : first + k ≤ i). inr (omega (arith, a, r.1))) (cases_lt i (first + k)))
     w one
+
+-- numbers that are put at the front of what is behind others are put behind these
+pub placed_behind : {X : Type 0} (bits : X → ℕ) (size first count : ℕ) (row : List ℕ) (front old new : List X) → length front ≡ first
+    → NumbersArePut size 0 row count (map bits old) (map bits new) → NumbersArePut size first row count (map bits (front ++ old)) (map bits (front ++ new))
+placed_behind bits size first count row front old new e w =
+    let f : List ℕ = map bits front in
+    let l : length f ≡ first = length-map front bits ∙ e in
+    let a : map bits (front ++ old) ≡ f ++ map bits old = map-append bits front old in
+    let b : map bits (front ++ new) ≡ f ++ map bits new = map-append bits front new in
+    let la : length (map bits (front ++ old)) ≡ first + length (map bits old) = ap (λ (xs : List ℕ). length xs) a ∙ (length-append f (map bits old) ∙ ap (λ (n : ℕ). n + length (map bits old)) l) in
+    let lb : length (map bits (front ++ new)) ≡ first + length (map bits new) = ap (λ (xs : List ℕ). length xs) b ∙ (length-append f (map bits new) ∙ ap (λ (n : ℕ). n + length (map bits new)) l) in (
+      lb ∙ (ap (λ (n : ℕ). first + n) w.0 ∙ sym la),
+      λ i h.
+          ⊎_elim
+          (λ (n : i < first).
+          inr (
+            λ p. absurd (omega (arith, p.0, n)),
+            ap (λ (xs : List ℕ). get_or xs i 0) b ∙ (get_or_append_left f (map bits new) 0 i (omega (arith, n, l)) ∙ (sym (get_or_append_left f (map bits old) 0 i (omega (arith, n, l))) ∙ ap (λ (xs : List ℕ). get_or xs i 0) (sym a))),
+          ))
+          (λ (n : first ≤ i).
+          let k : ℕ = i - first in
+          let now : get_or (map bits (front ++ new)) i 0 ≡ get_or (map bits new) k 0 =
+          ap (λ (xs : List ℕ). get_or xs i 0) b ∙ get_or-append_right f (map bits new) first i 0 l n in
+          let was : get_or (map bits (front ++ old)) i 0 ≡ get_or (map bits old) k 0 =
+          ap (λ (xs : List ℕ). get_or xs i 0) a ∙ get_or-append_right f (map bits old) first i 0 l n in
+          let zero_less : k - 0 ≡ i - first = omega arith in
+          ⊎_elim
+          (λ t. inl ((n, omega (arith, n, t.0.1)), now ∙ (t.1 ∙ ap (row_number LittleEndian size row) zero_less)))
+          (λ t. inr (λ p. t.0 (omega arith, omega (arith, n, p.1)), now ∙ (t.1 ∙ sym was)))
+          (w.1 k (omega (arith, h, la, n))))
+          (cases_lt i first),
+    )
+
+-- and so, as a goal shows a list after a write to what is behind others
+pub put_behind : {X : Type 0} (bits : X → ℕ) (size first count : ℕ) (row : List ℕ) (old mid : List X) → first ≤ length old
+    → NumbersArePut size 0 row count (map bits (mid_of first (length old - first) old)) (map bits mid)
+    → NumbersArePut size first row count (map bits old) (map bits (put_mid first (length old - first) old mid))
+put_behind bits size first count row old mid h w =
+    let rest : length (drop first old) ≡ length old - first = length-drop first old in
+    let all : mid_of first (length old - first) old ≡ drop first old = take_all (length old - first) (drop first old) (omega (arith, rest)) in
+    let none : put_mid first (length old - first) old mid ≡ take first old ++ mid =
+    ap (λ xs. take first old ++ (mid ++ xs)) (drop_all (length old - first) (drop first old) (omega (arith, rest))) ∙ ap (λ xs. take first old ++ xs) (append-nil mid) in
+    let put = placed_behind bits size first count row (take first old) (drop first old) mid (length-take-le first old h)
+    (subst (λ xs. NumbersArePut size 0 row count (map bits xs) (map bits mid)) all w) in
+    subst (λ xs. NumbersArePut size first row count (map bits old) (map bits xs)) (sym none)
+    (subst (λ xs. NumbersArePut size first row count (map bits xs) (map bits (take first old ++ mid))) (take-append-drop first old) put)
 
 -- ---- single bytes are put
 

@@ -16,8 +16,8 @@ use Rattle.tiff_base.specs.declared.tags.Predictor.TheVariants as predictor
 use Rattle.tiff_page.specs.Layout.{samples_in_chunk, row_bits, row_bytes}
 use Rattle.tiff_page.specs.Page.{PageRecord}
 use Rattle.tiff_page.specs.Pixels.{stored_samples, stored_row_bytes, is_byte_plane, needs_whole_rows, row_number, summed_number, joined_number, number_by, number_of_row, shown_number, in_row}
-use Rattle.tiff_page.specs.Row.{IsSize, Became, TurnsNumbers}
-use Rattle.tiff_page.specs.OutputRow.{HoldsNumbersOf, handed_byte, is_turned}
+use Rattle.tiff_page.specs.Row.{IsSize, RowReplaced, TurnsNumbers}
+use Rattle.tiff_page.specs.OutputRow.{HoldsNumbersOf, handed_byte, needs_swap}
 use Rattle.tiff_page.specs.ReadablePage.{IsRead}
 use Rattle.tiff_page.proofs.Rows.{put_below, put_there, by_size, digits, little_digits, some_size, sums_same, stayed, bytes_stayed, all_turned}
 use Rattle.tiff_page.proofs.RowLaws.{bytes_of_numbers, complemented, digit}
@@ -67,23 +67,23 @@ depth_limit p z e = ap (λ (n : ℕ). 2 ^ n) e ∙ bytes_limit (p.depth / 8) z
 -- ---- the numbers of a row, without the byte-plane predictor
 
 pub summed_row : (p : PageRecord) (old new : List ℕ) (size s : ℕ) → p.predictor ≡ predictor.Horizontal → size ≡ p.depth / 8 → s ≡ stored_samples p
-    → Became size (summed_number LittleEndian size s old) old new → Became (p.depth / 8) (number_of_row LittleEndian p old) old new
+    → RowReplaced size (summed_number LittleEndian size s old) old new → RowReplaced (p.depth / 8) (number_of_row LittleEndian p old) old new
 summed_row p old new size s e z n b =
-    let c : Became (p.depth / 8) (summed_number LittleEndian (p.depth / 8) (stored_samples p) old) old new =
-    subst (λ (x : ℕ). Became (p.depth / 8) (summed_number LittleEndian (p.depth / 8) x old) old new) n
-    (subst (λ (x : ℕ). Became x (summed_number LittleEndian x s old) old new) z b) in
+    let c : RowReplaced (p.depth / 8) (summed_number LittleEndian (p.depth / 8) (stored_samples p) old) old new =
+    subst (λ (x : ℕ). RowReplaced (p.depth / 8) (summed_number LittleEndian (p.depth / 8) x old) old new) n
+    (subst (λ (x : ℕ). RowReplaced x (summed_number LittleEndian x s old) old new) z b) in
     record { numbers = λ k h. c.numbers k h ∙ (rw e refl); behind = c.behind }
 
 -- a number is told by those that a list holds of its row
-module _ (order : ByteOrder) (p : PageRecord) (stored held : List ℕ) (b : Became (p.depth / 8) (row_number order (p.depth / 8) stored) stored held) where
+module _ (order : ByteOrder) (p : PageRecord) (stored held : List ℕ) (b : RowReplaced (p.depth / 8) (row_number order (p.depth / 8) stored) stored held) where
   number_undone : (q : Predictor) → is_byte_plane q ≡ false → (k : ℕ) → (k + 1) * (p.depth / 8) ≤ length stored → number_by q LittleEndian p held k ≡ number_by q order p stored k
   number_undone predictor.None f k h = b.numbers k h
   number_undone predictor.Horizontal f k h = sums_same LittleEndian order (p.depth / 8) (stored_samples p) held stored k (length stored) b.numbers h
   number_undone predictor.FloatingPoint f k h = cc
 
 pub undone_numbers : (order : ByteOrder) (p : PageRecord) (stored held new : List ℕ) → is_byte_plane p.predictor ≡ false → length held ≡ length stored
-    → Became (p.depth / 8) (row_number order (p.depth / 8) stored) stored held → Became (p.depth / 8) (number_of_row LittleEndian p held) held new
-    → Became (p.depth / 8) (number_of_row order p stored) stored new
+    → RowReplaced (p.depth / 8) (row_number order (p.depth / 8) stored) stored held → RowReplaced (p.depth / 8) (number_of_row LittleEndian p held) held new
+    → RowReplaced (p.depth / 8) (number_of_row order p stored) stored new
 undone_numbers order p stored held new f l b c =
     let size : ℕ = p.depth / 8 in
     record {
@@ -94,12 +94,12 @@ undone_numbers order p stored held new f l b c =
 
 -- ---- the numbers that a list holds of a row
 
-pub turned_row : (order : ByteOrder) (p : PageRecord) (row held : List ℕ) → is_turned order p.depth ≡ true
-    → Became (p.depth / 8) (row_number BigEndian (p.depth / 8) row) row held → Became (p.depth / 8) (row_number order (p.depth / 8) row) row held
+pub turned_row : (order : ByteOrder) (p : PageRecord) (row held : List ℕ) → needs_swap order p.depth ≡ true
+    → RowReplaced (p.depth / 8) (row_number BigEndian (p.depth / 8) row) row held → RowReplaced (p.depth / 8) (row_number order (p.depth / 8) row) row held
 turned_row LittleEndian p row held t b = cc
 turned_row BigEndian p row held t b = b
 
-pub holds_turned : (order : ByteOrder) (p : PageRecord) (row held : List ℕ) → is_turned order p.depth ≡ true → length row / (p.depth / 8) * (p.depth / 8) ≡ length row
+pub holds_turned : (order : ByteOrder) (p : PageRecord) (row held : List ℕ) → needs_swap order p.depth ≡ true → length row / (p.depth / 8) * (p.depth / 8) ≡ length row
     → length held ≡ length row → TurnsNumbers (p.depth / 8) row held → HoldsNumbersOf order p row held
 holds_turned LittleEndian p row held t whole l n = cc
 holds_turned BigEndian p row held t whole l n =
@@ -110,26 +110,26 @@ holds_turned BigEndian p row held t whole l n =
       packed = λ g. Prim.absurd (omega (arith, d, g));
     }
 
-pub holds_same : (order : ByteOrder) (p : PageRecord) (row : List ℕ) → is_turned order p.depth ≡ false → HoldsNumbersOf order p row row
+pub holds_same : (order : ByteOrder) (p : PageRecord) (row : List ℕ) → needs_swap order p.depth ≡ false → HoldsNumbersOf order p row row
 holds_same LittleEndian p row t = record { same_length = refl; numbers = λ d. stayed (p.depth / 8) row; packed = λ d. refl }
 holds_same BigEndian p row t =
     let l : p.depth ≤ 8 = ltb-false 8 p.depth t in
     record { same_length = refl; numbers = λ d. bytes_stayed BigEndian (p.depth / 8) row (omega (arith, d, l)); packed = λ d. refl }
 
-pub whole_turned : (order : ByteOrder) (p : PageRecord) (row room held : List ℕ) → is_turned order p.depth ≡ true → length row / (p.depth / 8) * (p.depth / 8) ≡ length row
-    → room ≡ row → length held ≡ length row → TurnsNumbers (p.depth / 8) room held → Became (p.depth / 8) (row_number order (p.depth / 8) row) row held
+pub whole_turned : (order : ByteOrder) (p : PageRecord) (row room held : List ℕ) → needs_swap order p.depth ≡ true → length row / (p.depth / 8) * (p.depth / 8) ≡ length row
+    → room ≡ row → length held ≡ length row → TurnsNumbers (p.depth / 8) room held → RowReplaced (p.depth / 8) (row_number order (p.depth / 8) row) row held
 whole_turned order p row room held t whole e l n =
     turned_row order p row held t (all_turned (p.depth / 8) row held whole l (subst (λ (xs : List ℕ). TurnsNumbers (p.depth / 8) xs held) e n))
 
-pub whole_stood : (order : ByteOrder) (p : PageRecord) (row : List ℕ) → is_turned order p.depth ≡ false → IsSize (p.depth / 8)
-    → Became (p.depth / 8) (row_number order (p.depth / 8) row) row row
+pub whole_stood : (order : ByteOrder) (p : PageRecord) (row : List ℕ) → needs_swap order p.depth ≡ false → IsSize (p.depth / 8)
+    → RowReplaced (p.depth / 8) (row_number order (p.depth / 8) row) row row
 whole_stood order p row t z = let s : 0 < p.depth / 8 = some_size (p.depth / 8) z in (holds_same order p row t).numbers (omega (arith, s))
 
 -- ---- the bytes that are handed out
 
 -- of a row of numbers k is the one that a byte is of
 handed_at : (order : ByteOrder) (p : PageRecord) (c : ColorType) (old mid : List ℕ) (b k : ℕ) → IsRead p c → 8 ≤ p.depth
-    → Became (p.depth / 8) (number_of_row order p old) old mid → ((i : ℕ) → get_or mid i 0 < 256)
+    → RowReplaced (p.depth / 8) (number_of_row order p old) old mid → ((i : ℕ) → get_or mid i 0 < 256)
     → in_row p (b / (p.depth / 8) / samples_in_chunk p.planar c) (b / (p.depth / 8) % samples_in_chunk p.planar c) ≡ k → (k + 1) * (p.depth / 8) ≤ length old
     → shown_number p.interpretation 256 (get_or mid (k * (p.depth / 8) + b % (p.depth / 8)) 0) ≡ handed_byte order p old c b
 handed_at order p c old mid b k r d became octets at within =
@@ -159,7 +159,7 @@ each_octet row b i = ⊎_elim (λ (h : i < length row). b i h) (λ (h : length r
 
 -- a row whose samples are all shown
 pub row_handed : (order : ByteOrder) (p : PageRecord) (c : ColorType) (old mid : List ℕ) (b : ℕ) → IsRead p c → needs_whole_rows p c ≡ false
-    → (8 ≤ p.depth → Became (p.depth / 8) (number_of_row order p old) old mid) → (p.depth < 8 → mid ≡ old) → ((i : ℕ) → i < length mid → get_or mid i 0 < 256)
+    → (8 ≤ p.depth → RowReplaced (p.depth / 8) (number_of_row order p old) old mid) → (p.depth < 8 → mid ≡ old) → ((i : ℕ) → i < length mid → get_or mid i 0 < 256)
     → (p.depth < 8) ⊎ (length old / (p.depth / 8) * (p.depth / 8) ≡ length old) → b < length old
     → shown_number p.interpretation 256 (get_or mid b 0) ≡ handed_byte order p old c b
 row_handed order p c old mid b r w numbers same within_mid rows l =
@@ -211,8 +211,8 @@ kept_more row cur part column whole kept width n m en em w c long lens p before 
 
 -- the numbers of byte planes
 pub joined_numbers : (order : ByteOrder) (p : PageRecord) (old new : List ℕ) → p.predictor ≡ predictor.FloatingPoint → length old / (p.depth / 8) ≡ p.chunk_width * stored_samples p
-    → Became (p.depth / 8) (joined_number (p.depth / 8) (stored_samples p) (length old / (p.depth / 8)) old) old new
-    → Became (p.depth / 8) (number_of_row order p old) old new
+    → RowReplaced (p.depth / 8) (joined_number (p.depth / 8) (stored_samples p) (length old / (p.depth / 8)) old) old new
+    → RowReplaced (p.depth / 8) (number_of_row order p old) old new
 joined_numbers order p old new e l b =
     record {
       numbers = λ k h. b.numbers k h ∙ (rw e (λ i. joined_number (p.depth / 8) (stored_samples p) (l i) old k));
@@ -268,7 +268,7 @@ stored_fill p c width whole_pixel n r w few e ew =
 -- a row of which pixels are kept
 pub whole_handed : (order : ByteOrder) (p : PageRecord) (c : ColorType) (old mid : List ℕ) (width kept whole_pixel b x : ℕ) → IsRead p c → needs_whole_rows p c ≡ true
     → width ≤ p.chunk_width → length old ≡ stored_row_bytes p → kept ≡ samples_in_chunk p.planar c * (p.depth / 8) → whole_pixel ≡ stored_samples p * (p.depth / 8)
-    → Became (p.depth / 8) (number_of_row order p old) old mid → ((i : ℕ) → i < length mid → get_or mid i 0 < 256)
+    → RowReplaced (p.depth / 8) (number_of_row order p old) old mid → ((i : ℕ) → i < length mid → get_or mid i 0 < 256)
     → b < width * kept → x ≡ get_or mid (b / kept * whole_pixel + b % kept) 0
     → shown_number p.interpretation 256 x ≡ handed_byte order p old c b
 whole_handed order p c old mid width kept whole_pixel b x r w few long ek ew became within_mid l ex =

@@ -23,7 +23,7 @@ use Rattle.tiff_ifd.specs.declared.limits.Limits.{Limits}
 use Rattle.tiff_page.specs.Page.{PageRecord}
 use Rattle.tiff_page.specs.Rect.{chunks_of_plane}
 use Rattle.tiff_page.specs.Layout.{LayoutRecord, layout_of, color_of, color_from, no_color, gray, lab, photometric, first_is_alpha, row_bits, row_bytes, samples_in_chunk, wide, whole_chunks, whole_chroma}
-use Rattle.tiff_page.specs.PixelFault.{is_whole, depth_fault, each_below, chunk_fault}
+use Rattle.tiff_page.specs.PixelFault.{is_byte_multiple, depth_fault, each_below, chunk_fault}
 use Rattle.tiff_page.specs.Pixels.{is_short}
 use Rattle.tiff_page.specs.Buffers.{planes_layout}
 use Rattle.tiff_page.specs.PixelCalls.{samples, image_part, part_fault, image_of}
@@ -196,7 +196,7 @@ image_is_first_plane file order p limits = refl
 
 -- ---- rows of whole bytes
 
-pub whole_depth : (d : ℕ) → is_whole d ≡ true → d ≡ d / 8 * 8
+pub whole_depth : (d : ℕ) → is_byte_multiple d ≡ true → d ≡ d / 8 * 8
 whole_depth d h =
     ⊎_elim (λ (t : (d == 8) ≡ true). let e : d ≡ 8 = eqb-true d 8 t in omega (arith, e))
     (λ (a : (d == 8) ≡ false).
@@ -217,9 +217,9 @@ read_depth p c h =
     ⊎_elim (λ (l : p.depth < 8). inl l)
     (λ (g : 8 ≤ p.depth).
     let f : nat_lt p.depth 8 ≡ false = le-ltb p.depth 8 g in
-    ⊎_elim (λ (t : is_whole p.depth ≡ true). inr (whole_depth p.depth t))
-    (λ (n : is_whole p.depth ≡ false). let k : Err (UnsupportedError (UnsupportedColorType c)) ≡ Ok tt = rw (n, f) at h in cc)
-    (cases_Bool (is_whole p.depth)))
+    ⊎_elim (λ (t : is_byte_multiple p.depth ≡ true). inr (whole_depth p.depth t))
+    (λ (n : is_byte_multiple p.depth ≡ false). let k : Err (UnsupportedError (UnsupportedColorType c)) ≡ Ok tt = rw (n, f) at h in cc)
+    (cases_Bool (is_byte_multiple p.depth)))
     (cases_lt p.depth 8)
 
 pub aligned_rows : (p : PageRecord) (c : ColorType) (w : ℕ) (a : ColorType) → whole_chunks p c w ≡ Ok a

@@ -5,7 +5,7 @@ use Rattle.tiff_base.specs.Answers.{IsCause}
 use Rattle.tiff_base.specs.declared.color.ColorType.{ColorType}
 use Rattle.tiff_base.specs.declared.error.TiffError.{TiffError}
 use Rattle.tiff_base.specs.declared.tags.ByteOrder.{ByteOrder}
-use Rattle.tiff_page.specs.declared.chunk_data.Stored.{Stored}
+use Rattle.tiff_page.specs.declared.chunk_data.ChunkCursor.{ChunkCursor}
 use Rattle.tiff_page.specs.NumberBytes.{IsPut}
 use Rattle.tiff_page.specs.Page.{PageRecord}
 use Rattle.tiff_page.specs.Pixels.{needed_of_row}
@@ -14,7 +14,7 @@ use Rattle.tiff_page.specs.ChunkData.{bytes_left, IsTooShort}
 use Rattle.tiff_page.proofs.Rects.{copied, holds_put_mid}
 
 -- where it was read into its position
-pub put_in_place : (file : List ℕ) (order : ByteOrder) (p : PageRecord) (color : ColorType) (position : Stored) (failed : Type 0) (at len : ℕ) (old row : List ℕ) (r : Result Stored TiffError)
+pub put_in_place : (file : List ℕ) (order : ByteOrder) (p : PageRecord) (color : ColorType) (position : ChunkCursor) (failed : Type 0) (at len : ℕ) (old row : List ℕ) (r : Result ChunkCursor TiffError)
     → length row ≡ len → at + len ≤ length old → RowRead file order p color position (Unit {0}) failed row r
     → RowPut file order p color position failed at len old (put_mid at (at + len - at) old row) r
 put_in_place file order p color position failed at len old row (Ok rest) e fits h = record {

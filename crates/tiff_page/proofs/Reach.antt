@@ -9,10 +9,10 @@ use Rattle.tiff_base.specs.declared.tags.ByteOrder.{ByteOrder}
 use Rattle.tiff_base.specs.Answers.{AsksOnly, IsNotDevice}
 use Rattle.tiff_base.specs.SourceAndSink.{AreReadable, SourceRecord}
 use Rattle.tiff_base.proofs.Told.{part_readable}
-use Rattle.tiff_page.specs.declared.chunk_data.Stored.{Stored}
-use Rattle.tiff_page.specs.declared.chunk_data.Stored.TheVariants.{Plain, Packed, Ended}
-use Rattle.tiff_page.specs.declared.samples.Portion.{Portion}
-use Rattle.tiff_page.specs.declared.samples.Portion.TheVariants.{Image, Chunk}
+use Rattle.tiff_page.specs.declared.chunk_data.ChunkCursor.{ChunkCursor}
+use Rattle.tiff_page.specs.declared.chunk_data.ChunkCursor.TheVariants.{Plain, Packed, Ended}
+use Rattle.tiff_page.specs.declared.samples.ReadRequest.{ReadRequest}
+use Rattle.tiff_page.specs.declared.samples.ReadRequest.TheVariants.{Image, Chunk}
 use Rattle.tiff_page.specs.EarlyFaults.{is_packed}
 use Rattle.tiff_page.specs.Laws.{HasSides}
 use Rattle.tiff_page.specs.Page.{PageRecord}
@@ -30,7 +30,7 @@ asks_more P Q (Ok x) f a = tt
 asks_more P Q (Err e) f a = λ q. a (f q)
 
 -- fewer bytes are among more
-pub fewer : (s : Stored) (a b : ℕ) → a ≤ b → (t : SourceRecord) → StoredReadable t s b → StoredReadable t s a
+pub fewer : (s : ChunkCursor) (a b : ℕ) → a ≤ b → (t : SourceRecord) → StoredReadable t s b → StoredReadable t s a
 fewer (Plain at) a b h t r = part_readable t at b at a (omega arith) (omega (arith, h)) r
 fewer (Packed position) a b h t r = r
 fewer Ended a b h t r = r
@@ -43,36 +43,36 @@ data_fewer : (p : PageRecord) (i a b : ℕ) → a ≤ b → (t : SourceRecord) �
 data_fewer p i a b h t r = counted_fewer (is_packed p.method) (slice_index p.offsets i) (slice_index p.byte_counts i) a b h t r
 
 -- a position that is as many bytes behind one as that one and this are behind each other
-pub moves_on : (from mid rest : Stored) (a b n : ℕ) → a + b ≡ n → Moves from a mid → Moves mid b rest → Moves from n rest
+pub moves_on : (from mid rest : ChunkCursor) (a b n : ℕ) → a + b ≡ n → Moves from a mid → Moves mid b rest → Moves from n rest
 moves_on from mid rest a b n e g m t k r =
     let x : n + k ≡ a + (b + k) = omega (arith, e) in
     m t k (g t (b + k) (subst (StoredReadable t from) x r))
 
 -- some more bytes of so many are read
-pub more_asked : (from mid : Stored) (a b n : ℕ) (e : TiffError) (s t : SourceRecord) → t ≡ s → a + b ≤ n → Moves from a mid
+pub more_asked : (from mid : ChunkCursor) (a b n : ℕ) (e : TiffError) (s t : SourceRecord) → t ≡ s → a + b ≤ n → Moves from a mid
     → (StoredReadable t mid b → IsNotDevice e) → StoredReadable s from n → IsNotDevice e
 more_asked from mid a b n e s t same l g asked r =
     asked (g t b (fewer from (a + b) n l t (subst (λ x. StoredReadable x from n) (sym same) r)))
 
-pub asked_as : {X : Type 0} (s : Stored) (n m : ℕ) (t : SourceRecord) (r : Result X TiffError) → n ≡ m → AsksOnly (StoredReadable t s n) r → AsksOnly (StoredReadable t s m) r
+pub asked_as : {X : Type 0} (s : ChunkCursor) (n m : ℕ) (t : SourceRecord) (r : Result X TiffError) → n ≡ m → AsksOnly (StoredReadable t s n) r → AsksOnly (StoredReadable t s m) r
 asked_as s n m t r same a = subst (λ (k : ℕ). AsksOnly (StoredReadable t s k) r) same a
 
 -- ---- the data of a chunk
 
 -- a position is so many bytes behind the front of a chunk's data
-abbrev pub StandsAt : PageRecord → ℕ → ℕ → Stored → Type 0
+abbrev pub StandsAt : PageRecord → ℕ → ℕ → ChunkCursor → Type 0
 StandsAt p i at position = (t : SourceRecord) (m : ℕ) → DataReadable t p i (at + m) → StoredReadable t position m
 
-pub stands_on : (p : PageRecord) (i at n next : ℕ) (position rest : Stored) → at + n ≤ next → StandsAt p i at position → Moves position n rest → StandsAt p i next rest
+pub stands_on : (p : PageRecord) (i at n next : ℕ) (position rest : ChunkCursor) → at + n ≤ next → StandsAt p i at position → Moves position n rest → StandsAt p i next rest
 stands_on p i at n next position rest l s h t m r =
     h t m (s t (n + m) (data_fewer p i (at + (n + m)) (next + m) (omega (arith, l)) t r))
 
 -- so does the front itself, by no or more bytes
-pub front_stands : (p : PageRecord) (i at : ℕ) (position : Stored) → ((t : SourceRecord) (n : ℕ) → DataReadable t p i n → StoredReadable t position n) → StandsAt p i at position
+pub front_stands : (p : PageRecord) (i at : ℕ) (position : ChunkCursor) → ((t : SourceRecord) (n : ℕ) → DataReadable t p i n → StoredReadable t position n) → StandsAt p i at position
 front_stands p i at position e t m r = e t m (data_fewer p i m (at + m) (omega arith) t r)
 
 -- bytes within those that are needed of a chunk are read
-pub chunk_asked : (p : PageRecord) (color : ColorType) (i at n : ℕ) (position : Stored) (e : TiffError) (s t : SourceRecord) → t ≡ s → at + n ≤ needed_bytes p color i
+pub chunk_asked : (p : PageRecord) (color : ColorType) (i at n : ℕ) (position : ChunkCursor) (e : TiffError) (s t : SourceRecord) → t ≡ s → at + n ≤ needed_bytes p color i
     → StandsAt p i at position → (StoredReadable t position n → IsNotDevice e) → ChunkReadable s p color i → IsNotDevice e
 chunk_asked p color i at n position e s t same l stands asked r =
     asked (stands t n (data_fewer p i (at + n) (needed_bytes p color i) l t (subst (λ x. ChunkReadable x p color i) (sym same) r)))
@@ -102,7 +102,7 @@ behind_within row h stored need gap l w b e =
 
 -- ---- the rows of a chunk, one after another
 
-module _ (p : PageRecord) (color : ColorType) (k row n : ℕ) (position : Stored) (rl : row < (rect p k).height)
+module _ (p : PageRecord) (color : ColorType) (k row n : ℕ) (position : ChunkCursor) (rl : row < (rect p k).height)
     (whole : n ≡ row_bytes p color (rect p k).width) (stands : StandsAt p k (row * stored_row_bytes p) position) where
   abbrev h : ℕ
   h = (rect p k).height
@@ -126,7 +126,7 @@ module _ (p : PageRecord) (color : ColorType) (k row n : ℕ) (position : Stored
       chunk_asked p color k at (needed_of_row p color n) position e s t same (omega (arith, x, need_is)) stands asked
 
   -- and the bytes behind it are passed
-  module _ (rest : Stored) (behind : ℕ) (within : need ≤ stored) (moves : Moves position (needed_of_row p color n) rest)
+  module _ (rest : ChunkCursor) (behind : ℕ) (within : need ≤ stored) (moves : Moves position (needed_of_row p color n) rest)
       (between : row + 1 < h → behind ≡ stored - need) (last : row + 1 ≡ h → behind ≡ 0) where
     gap : need + behind ≤ stored
     gap = behind_within row h stored need behind rl within between last
@@ -139,7 +139,7 @@ module _ (p : PageRecord) (color : ColorType) (k row n : ℕ) (position : Stored
         let x = row_within row h stored need behind rl gap last in
         chunk_asked p color k (at + need) behind rest e s t same (omega (arith, x)) rest_stands asked
 
-    pub next_stands : (next : Stored) → Moves rest behind next → StandsAt p k ((row + 1) * stored) next
+    pub next_stands : (next : ChunkCursor) → Moves rest behind next → StandsAt p k ((row + 1) * stored) next
     next_stands next m =
         let y : (row + 1) * stored ≡ at + stored = omega arith in
         stands_on p k (at + need) behind ((row + 1) * stored) rest next (omega (arith, gap, y)) rest_stands m
@@ -163,8 +163,8 @@ image_asked p color planes stride chunk e s t same l asked r =
     })
 
 -- the first chunk is one of them
-pub first_readable : (file : List ℕ) (order : ByteOrder) (p : PageRecord) (portion : Portion) (s : SourceRecord) → HasSides p → IsLaid p portion
-    → PartReadable s p (color_in portion) (part_of file order p portion) → ChunkReadable s p (color_in portion) (first_in portion)
+pub first_readable : (file : List ℕ) (order : ByteOrder) (p : PageRecord) (request : ReadRequest) (s : SourceRecord) → HasSides p → IsLaid p request
+    → PartReadable s p (color_in request) (part_of file order p request) → ChunkReadable s p (color_in request) (first_in request)
 first_readable file order p (Image layout planes) s sides laid r =
     let x : 0 * chunks_of_plane p + (0 + 0) ≡ 0 = omega arith in
     subst (λ k. ChunkReadable s p layout.color k) x (r.chunk 0 laid.1 0 (plane_some p.width p.height p.chunk_width p.chunk_height sides.wide sides.high sides.chunk_wide sides.chunk_high))
@@ -172,16 +172,16 @@ first_readable file order p (Chunk color i stride) s sides laid r =
     let x : 0 * chunks_of_plane p + (i + 0) ≡ i = omega arith in
     subst (λ k. ChunkReadable s p color k) x (r.chunk 0 (omega arith) 0 (omega arith))
 
-part_same : (file other : List ℕ) (order : ByteOrder) (p : PageRecord) (portion : Portion) → part_of file order p portion ≡ part_of other order p portion
+part_same : (file other : List ℕ) (order : ByteOrder) (p : PageRecord) (request : ReadRequest) → part_of file order p request ≡ part_of other order p request
 part_same file other order p (Image layout planes) = refl
 part_same file other order p (Chunk color i stride) = refl
 
 -- a portion is read, from a source that tells the same
-pub portion_filled : (order : ByteOrder) (p : PageRecord) (portion : Portion) (e : TiffError) (s t : SourceRecord) → t ≡ s
-    → (PartReadable t p (color_in portion) (part_of t.bytes order p portion) → IsNotDevice e)
-    → PartReadable s p (color_in portion) (part_of s.bytes order p portion) → IsNotDevice e
-portion_filled order p portion e s t same asked r =
-    asked (subst (λ z. PartReadable z p (color_in portion) (part_of z.bytes order p portion)) (sym same) r)
+pub portion_filled : (order : ByteOrder) (p : PageRecord) (request : ReadRequest) (e : TiffError) (s t : SourceRecord) → t ≡ s
+    → (PartReadable t p (color_in request) (part_of t.bytes order p request) → IsNotDevice e)
+    → PartReadable s p (color_in request) (part_of s.bytes order p request) → IsNotDevice e
+portion_filled order p request e s t same asked r =
+    asked (subst (λ z. PartReadable z p (color_in request) (part_of z.bytes order p request)) (sym same) r)
 
 -- ---- what a layout tells
 

@@ -13,11 +13,11 @@ use Rattle.tiff_base.proofs.Causes.{cause_along}
 use Rattle.tiff_page.specs.Page.{PageRecord}
 use Rattle.tiff_page.specs.Layout.{row_bits, row_bytes, samples_in_chunk}
 use Rattle.tiff_page.specs.Pixels.{stored_row_bytes, needs_whole_rows, needed_of_row}
-use Rattle.tiff_page.specs.OutputRow.{StoresAllShown, handed_byte, is_turned}
+use Rattle.tiff_page.specs.OutputRow.{StoresAllShown, handed_byte, needs_swap}
 use Rattle.tiff_page.specs.Row.{TurnsNumbers}
 use Rattle.tiff_page.specs.RowReads.{NumbersRead, TakesNumbers, TakesRow}
 use Rattle.tiff_page.specs.ChunkData.{IsTooShort, Takes, bytes_left}
-use Rattle.tiff_page.specs.declared.chunk_data.Stored.{Stored}
+use Rattle.tiff_page.specs.declared.chunk_data.ChunkCursor.{ChunkCursor}
 use Rattle.tiff_page.proofs.ChunkRows.{bits_are}
 use Rattle.tiff_page.proofs.Data.{behind_front}
 use Rattle.tiff_page.proofs.OutputRow.{holds_turned, holds_same}
@@ -40,7 +40,7 @@ taken order p color left rest filled out e n h =
     }
 
 -- numbers that were turned on their way, and such as are read as they stand
-pub turned_taken : (order : ByteOrder) (p : PageRecord) (left rest row out : List ℕ) → is_turned order p.depth ≡ true
+pub turned_taken : (order : ByteOrder) (p : PageRecord) (left rest row out : List ℕ) → needs_swap order p.depth ≡ true
     → length out / (p.depth / 8) * (p.depth / 8) ≡ length out → length row ≡ length out → left ≡ row ++ rest → TurnsNumbers (p.depth / 8) row out
     → TakesNumbers order p left rest out
 turned_taken order p left rest row out t whole l e n = record {
@@ -49,7 +49,7 @@ turned_taken order p left rest row out t whole l e n = record {
   holds = holds_turned order p row out t (ap (λ m. m / (p.depth / 8) * (p.depth / 8)) l ∙ whole ∙ sym l) (sym l) n;
 }
 
-pub stood_taken : (order : ByteOrder) (p : PageRecord) (left rest out : List ℕ) → is_turned order p.depth ≡ false → left ≡ out ++ rest → TakesNumbers order p left rest out
+pub stood_taken : (order : ByteOrder) (p : PageRecord) (left rest out : List ℕ) → needs_swap order p.depth ≡ false → left ≡ out ++ rest → TakesNumbers order p left rest out
 stood_taken order p left rest out t e = record { row = out; next = e; holds = holds_same order p out t }
 
 pub numbers_cause : (failed : Type 0) (left : List ℕ) (n m : ℕ) (e : TiffError) → n ≡ m → IsCause ⊥ failed e (IsTooShort left n e)
@@ -57,8 +57,8 @@ pub numbers_cause : (failed : Type 0) (left : List ℕ) (n m : ℕ) (e : TiffErr
 numbers_cause failed left n m e q c =
     cause_along e (λ z. Prim.absurd z) (λ f. f) (λ t. record { fault = t.fault; short = omega (arith, t.short, q) }) c
 
-pub numbers_stood : (file : List ℕ) (order : ByteOrder) (p : PageRecord) (position : Stored) (failed : Type 0) (n : ℕ) (out : List ℕ) (result : Result Stored TiffError)
-    → is_turned order p.depth ≡ false → n ≡ length out → Takes file position ⊥ failed n out result → NumbersRead file order p position failed out result
+pub numbers_stood : (file : List ℕ) (order : ByteOrder) (p : PageRecord) (position : ChunkCursor) (failed : Type 0) (n : ℕ) (out : List ℕ) (result : Result ChunkCursor TiffError)
+    → needs_swap order p.depth ≡ false → n ≡ length out → Takes file position ⊥ failed n out result → NumbersRead file order p position failed out result
 numbers_stood file order p position failed n out (Ok rest) t e k = stood_taken order p (bytes_left file position) (bytes_left file rest) out t k.0
 numbers_stood file order p position failed n out (Err fault) t e k = numbers_cause failed (bytes_left file position) n (length out) fault e k
 

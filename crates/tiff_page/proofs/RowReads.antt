@@ -22,7 +22,7 @@ use Rattle.tiff_base.specs.Color.{num_samples}
 use Rattle.tiff_ifd.specs.declared.limits.Limits.{Limits}
 use Rattle.tiff_page.specs.Page.{PageRecord}
 use Rattle.tiff_page.specs.Layout.{color_of, color_from, no_color, gray, lab, photometric, first_is_alpha, samples_in_chunk}
-use Rattle.tiff_page.specs.PixelFault.{unless, is_whole, is_gray, refuse_predictor, depth_fault, predictor_fault, method_fault, form_fault}
+use Rattle.tiff_page.specs.PixelFault.{fail_if, is_byte_multiple, is_gray, refuse_predictor, depth_fault, predictor_fault, method_fault, form_fault}
 use Rattle.tiff_page.specs.Pixels.{stored_samples}
 use Rattle.tiff_page.specs.Row.{IsSize}
 use Rattle.tiff_page.specs.ReadablePage.{IsRead, FormRead}
@@ -100,7 +100,7 @@ shown_stored Planar p c e h = rw e (omega arith)
 
 -- ---- depths
 
-whole_size : (d : ℕ) → is_whole d ≡ true → IsSize (d / 8)
+whole_size : (d : ℕ) → is_byte_multiple d ≡ true → IsSize (d / 8)
 whole_size d h =
     ⊎_elim (λ (t : (d == 8) ≡ true). let e : d ≡ 8 = eqb-true d 8 t in inl (omega (arith, e)))
     (λ (a : (d == 8) ≡ false).
@@ -121,16 +121,16 @@ read_size p c h =
     ⊎_elim (λ (l : p.depth < 8). inl l)
     (λ (g : 8 ≤ p.depth).
     let f : nat_lt p.depth 8 ≡ false = le-ltb p.depth 8 g in
-    ⊎_elim (λ (t : is_whole p.depth ≡ true). inr (whole_size p.depth t))
-    (λ (n : is_whole p.depth ≡ false). let k : Err (UnsupportedError (UnsupportedColorType c)) ≡ Ok tt = rw (n, f) at h in cc)
-    (cases_Bool (is_whole p.depth)))
+    ⊎_elim (λ (t : is_byte_multiple p.depth ≡ true). inr (whole_size p.depth t))
+    (λ (n : is_byte_multiple p.depth ≡ false). let k : Err (UnsupportedError (UnsupportedColorType c)) ≡ Ok tt = rw (n, f) at h in cc)
+    (cases_Bool (is_byte_multiple p.depth)))
     (cases_lt p.depth 8)
 
-not_whole : (d : ℕ) → d < 8 → is_whole d ≡ false
+not_whole : (d : ℕ) → d < 8 → is_byte_multiple d ≡ false
 not_whole d h =
-    ⊎_elim (λ (t : is_whole d ≡ true). Prim.absurd (⊎_elim (λ (e : d / 8 ≡ 1). omega (arith, e, h))
+    ⊎_elim (λ (t : is_byte_multiple d ≡ true). Prim.absurd (⊎_elim (λ (e : d / 8 ≡ 1). omega (arith, e, h))
     (λ o. ⊎_elim (λ (e : d / 8 ≡ 2). omega (arith, e, h)) (λ q. ⊎_elim (λ (e : d / 8 ≡ 4). omega (arith, e, h)) (λ (e : d / 8 ≡ 8). omega (arith, e, h)) q) o) (whole_size d t)))
-    (λ f. f) (cases_Bool (is_whole d))
+    (λ f. f) (cases_Bool (is_byte_multiple d))
 
 -- with depths below 8
 packed_fault : (p : PageRecord) (c : ColorType) → p.depth < 8 → depth_fault p c ≡ (if is_gray c then refuse_predictor p.predictor c else Err (UnsupportedError (UnsupportedColorType c)))
@@ -176,15 +176,15 @@ both (Err e) f h = cc
 pub depth_passed : (p : PageRecord) (limits : Limits) (c : ColorType) (i : ℕ) → form_fault p limits c i ≡ Ok tt → depth_fault p c ≡ Ok tt
 unfolding form_fault
 depth_passed p limits c i h =
-    (both (depth_fault p c) _ (both (unless (nat_le (length p.offsets) i) (FormatError InconsistentSizesEncountered)) _ h).1).0
+    (both (depth_fault p c) _ (both (fail_if (nat_le (length p.offsets) i) (FormatError InconsistentSizesEncountered)) _ h).1).0
 
 pub method_passed : (p : PageRecord) (limits : Limits) (c : ColorType) (i : ℕ) → form_fault p limits c i ≡ Ok tt → method_fault p.method ≡ Ok tt
 unfolding form_fault
 method_passed p limits c i h =
-    let a = both (unless (nat_le (length p.offsets) i) (FormatError InconsistentSizesEncountered)) _ h in
+    let a = both (fail_if (nat_le (length p.offsets) i) (FormatError InconsistentSizesEncountered)) _ h in
     let b = both (depth_fault p c) _ a.1 in
     let d = both (predictor_fault p c) _ b.1 in
-    let e = both (unless (nat_lt limits.intermediate_buffer_size (slice_index p.byte_counts i)) LimitsExceeded) _ d.1 in
+    let e = both (fail_if (nat_lt limits.intermediate_buffer_size (slice_index p.byte_counts i)) LimitsExceeded) _ d.1 in
     (both (method_fault p.method) _ e.1).0
 
 is_read : (p : PageRecord) (c : ColorType) → 0 < p.samples → color_of p ≡ Ok c → depth_fault p c ≡ Ok tt → IsRead p c

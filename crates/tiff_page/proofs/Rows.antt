@@ -17,8 +17,8 @@ use Rattle.tiff_base.specs.declared.tags.ByteOrder.{ByteOrder}
 use Rattle.tiff_base.specs.declared.tags.ByteOrder.TheVariants.{LittleEndian, BigEndian}
 use Rattle.tiff_base.specs.Number.{number}
 use Rattle.tiff_base.specs.SourceAndSink.{bytes_at}
-use Rattle.tiff_page.specs.Pixels.{each_to, width_of, row_number, summed_number, summed_byte, joined_number}
-use Rattle.tiff_page.specs.Row.{IsSize, Became, AddsNumber, TurnsNumber, TurnsNumbers}
+use Rattle.tiff_page.specs.Pixels.{tabulate, width_of, row_number, summed_number, summed_byte, joined_number}
+use Rattle.tiff_page.specs.Row.{IsSize, RowReplaced, AddsNumber, TurnsNumber, TurnsNumbers}
 
 -- ---- bytes of a number
 
@@ -26,7 +26,7 @@ each_from : {A : Type 0} (n a : ℕ) (f g : ℕ → A) → ((j : ℕ) → a ≤ 
 each_from zero a f g e = refl
 each_from (suc n) a f g e = λ i. e a (omega arith) (omega arith) i ∷ each_from n (a + 1) f g (λ j h l. e j (omega (arith, h)) (omega (arith, l))) i
 
-pub each_same : {A : Type 0} (n : ℕ) (f g : ℕ → A) → ((j : ℕ) → j < n → f j ≡ g j) → each_to n f ≡ each_to n g
+pub each_same : {A : Type 0} (n : ℕ) (f g : ℕ → A) → ((j : ℕ) → j < n → f j ≡ g j) → tabulate n f ≡ tabulate n g
 each_same n f g e = each_from n 0 f g (λ j h l. e j (omega (arith, l)))
 
 -- numbers of the same bytes are the same
@@ -36,11 +36,11 @@ number_same order size new old k e =
     ap (number order (width_of size)) (each_same size (λ j. get_or new (k * size + j) 0) (λ j. get_or old (k * size + j) 0) (λ j h. e (k * size + j) (omega arith) (omega (arith, h))))
 
 -- the bytes of a number as a part of the row
-pub each_at : (size k : ℕ) (row : List ℕ) → (k + 1) * size ≤ length row → each_to size (λ j. get_or row (k * size + j) 0) ≡ bytes_at row (k * size) size
+pub each_at : (size k : ℕ) (row : List ℕ) → (k + 1) * size ≤ length row → tabulate size (λ j. get_or row (k * size + j) 0) ≡ bytes_at row (k * size) size
 each_at size k row h =
     let l : length (bytes_at row (k * size) size) ≡ size = length-take-le size (drop (k * size) row) (omega (arith, h, length-drop (k * size) row)) in
-    let m : length (each_to size (λ j. get_or row (k * size + j) 0)) ≡ size = length-map-range_with_len (λ j. get_or row (k * size + j) 0) 0 size in
-    ext_get_or 0 (each_to size (λ j. get_or row (k * size + j) 0)) (bytes_at row (k * size) size) (m ∙ sym l)
+    let m : length (tabulate size (λ j. get_or row (k * size + j) 0)) ≡ size = length-map-range_with_len (λ j. get_or row (k * size + j) 0) 0 size in
+    ext_get_or 0 (tabulate size (λ j. get_or row (k * size + j) 0)) (bytes_at row (k * size) size) (m ∙ sym l)
     (λ i b. let c : i < size = omega (arith, b, m) in
     get_or-map-range_with_len (λ j. get_or row (k * size + j) 0) 0 size i i 0 c (omega arith)
     ∙ sym (get_or-take size (drop (k * size) row) i 0 c ∙ get_or-drop (k * size) row i 0))
@@ -59,16 +59,16 @@ by_size P size a b c d (inr (inl e)) = subst P (sym e) b
 by_size P size a b c d (inr (inr (inl e))) = subst P (sym e) c
 by_size P size a b c d (inr (inr (inr e))) = subst P (sym e) d
 
-pub little_digits : (size : ℕ) (f : ℕ → ℕ) → IsSize size → number LittleEndian (width_of size) (each_to size f) ≡ digits f size
+pub little_digits : (size : ℕ) (f : ℕ → ℕ) → IsSize size → number LittleEndian (width_of size) (tabulate size f) ≡ digits f size
 unfolding number
 little_digits size f s =
-    by_size (λ n. number LittleEndian (width_of n) (each_to n f) ≡ digits f n) size (omega arith) (omega arith) (omega arith) (omega arith) s
+    by_size (λ n. number LittleEndian (width_of n) (tabulate n f) ≡ digits f n) size (omega arith) (omega arith) (omega arith) (omega arith) s
 
 -- the most significant first is the least first the other way round
-pub big_as_little : (size : ℕ) (f : ℕ → ℕ) → IsSize size → number BigEndian (width_of size) (each_to size f) ≡ number LittleEndian (width_of size) (each_to size (λ j. f (size - 1 - j)))
+pub big_as_little : (size : ℕ) (f : ℕ → ℕ) → IsSize size → number BigEndian (width_of size) (tabulate size f) ≡ number LittleEndian (width_of size) (tabulate size (λ j. f (size - 1 - j)))
 unfolding number
 big_as_little size f s =
-    by_size (λ n. number BigEndian (width_of n) (each_to n f) ≡ number LittleEndian (width_of n) (each_to n (λ j. f (n - 1 - j)))) size (omega arith) (omega arith) (omega arith) (omega arith) s
+    by_size (λ n. number BigEndian (width_of n) (tabulate n f) ≡ number LittleEndian (width_of n) (tabulate n (λ j. f (n - 1 - j)))) size (omega arith) (omega arith) (omega arith) (omega arith) s
 
 pub digits_lt : (f : ℕ → ℕ) (n : ℕ) → ((j : ℕ) → f j < 256) → digits f n < 256 ^ n
 digits_lt f zero b = omega arith
@@ -337,7 +337,7 @@ join_more size count k n m planes row part e f l w next done i b j c =
 pub joined : (size s : ℕ) (old mid planes new : List ℕ) → IsSize size → length old / size * size ≡ length old → length mid ≡ length old → length new ≡ length old
     → ((k : ℕ) → (k + 1) * 1 ≤ length old → row_number LittleEndian 1 mid k ≡ summed_number LittleEndian 1 s old k) → planes ≡ mid
     → ((k : ℕ) → k < length planes / size → (j : ℕ) → j < size → get_or new (k * size + j) 0 ≡ get_or planes ((size - 1 - j) * (length planes / size) + k) 0)
-    → Became size (joined_number size s (length old / size) old) old new
+    → RowReplaced size (joined_number size s (length old / size) old) old new
 joined size s old mid planes new z whole l m sums e each =
     let count = length old / size in
     let p : 0 < size = some_size size z in
@@ -358,7 +358,7 @@ joined size s old mid planes new z whole l m sums e each =
 
 -- ---- numbers the other way round
 
-pub stayed : (size : ℕ) (old : List ℕ) → Became size (row_number LittleEndian size old) old old
+pub stayed : (size : ℕ) (old : List ℕ) → RowReplaced size (row_number LittleEndian size old) old old
 stayed size old = record { numbers = λ k h. refl; behind = λ i h. refl }
 
 -- a number of one byte is the same in either order
@@ -367,9 +367,9 @@ unfolding number
 one_byte LittleEndian old k = refl
 one_byte BigEndian old k = refl
 
-pub bytes_stayed : (order : ByteOrder) (size : ℕ) (old : List ℕ) → size ≡ 1 → Became size (row_number order size old) old old
+pub bytes_stayed : (order : ByteOrder) (size : ℕ) (old : List ℕ) → size ≡ 1 → RowReplaced size (row_number order size old) old old
 bytes_stayed order size old e =
-    subst (λ (n : ℕ). Became n (row_number order n old) old old) (sym e) (record { numbers = λ k h. one_byte order old k; behind = λ i h. refl })
+    subst (λ (n : ℕ). RowReplaced n (row_number order n old) old old) (sym e) (record { numbers = λ k h. one_byte order old k; behind = λ i h. refl })
 
 turns : (size : ℕ) (row old part : List ℕ) (at n k : ℕ) → k ≡ size → length part ≡ size → (at + 1) * size ≤ length row → length old ≡ length row
     → number LittleEndian (width_of size) part ≡ n → n ≡ number BigEndian (width_of size) (bytes_at row (at * size) size)
@@ -422,7 +422,7 @@ bytes_turned size row e = subst (λ (n : ℕ). TurnsNumbers n row row) (sym e) (
 
 -- of whole numbers, no byte stands behind the last
 pub all_turned : (size : ℕ) (row new : List ℕ) → length row / size * size ≡ length row → length new ≡ length row → TurnsNumbers size row new
-    → Became size (row_number BigEndian size row) row new
+    → RowReplaced size (row_number BigEndian size row) row new
 all_turned size row new whole l t = record {
   numbers = t;
   behind = λ i h. get_or_past new i 0 (omega (arith, h, whole, l)) ∙ sym (get_or_past row i 0 (omega (arith, h, whole)));

@@ -6,7 +6,7 @@ use Rattle.std.proofs.Math.ListN.{set}
 use borrow.Rule.Slice.PartMut.{put_mid}
 use Rattle.tiff_base.specs.declared.tags.ByteOrder.TheVariants.{LittleEndian}
 use Rattle.tiff_page.specs.Pixels.{summed_number}
-use Rattle.tiff_page.specs.Row.{Became}
+use Rattle.tiff_page.specs.Row.{RowReplaced}
 use Rattle.tiff_page.proofs.Rows.{first_summed, next_summed, one_number, put_below, put_above, put_at}
 
 -- one more byte of a pixel is summed
@@ -102,7 +102,7 @@ pixel_carries s k n old row part last next e l w p sums held carries rest =
 pub all_summed : (s : ℕ) (old new : List ℕ) → length old / s * s ≡ length old
     → ((i : ℕ) → i < length old / s * s → get_or new i 0 ≡ summed_number LittleEndian 1 s old i)
     → ((i : ℕ) → length old / s * s ≤ i → get_or new i 0 ≡ get_or old i 0)
-    → Became 1 (summed_number LittleEndian 1 s old) old new
+    → RowReplaced 1 (summed_number LittleEndian 1 s old) old new
 all_summed s old new whole done rest = record {
   numbers = λ k h. one_number new k ∙ done k (omega (arith, h, whole));
   behind = λ i h. rest i (omega (arith, h, whole));

@@ -15,7 +15,7 @@ use Rattle.tiff_page.specs.declared.layout.DecodingSampleType.{DecodingSampleTyp
 use Rattle.tiff_page.specs.Page.{PageRecord}
 use Rattle.tiff_page.specs.Rect.{rect, chunks_of_plane}
 use Rattle.tiff_page.specs.Layout.{LayoutRecord, layout_of, planes, wide, sample_type_of, size_of}
-use Rattle.tiff_page.specs.PixelFault.{samples_fault}
+use Rattle.tiff_page.specs.PixelFault.{limit_fault}
 use Rattle.tiff_page.specs.Image.{Decoded}
 
 -- the layout of a part of an image all of whose planes are below 2^64 bytes
@@ -87,5 +87,5 @@ image_coding_unit_layout p unit = unit_from p.planar p unit
 unfoldable pub resized_samples : BufferLayoutPreference → Limits → Result Decoded TiffError
 resized_samples layout limits = do
   type ← ok_or_fault layout.sample_type (UnsupportedError UnknownInterpretation)
-  _ ← samples_fault limits (size_of type) layout.complete_len
+  _ ← limit_fault limits (size_of type) layout.complete_len
   Ok (record { sample_type = type; numbers = replicate (div_ceil layout.complete_len (size_of type)) 0 })

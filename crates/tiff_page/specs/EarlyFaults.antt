@@ -14,7 +14,7 @@ use Rattle.tiff_page.specs.Page.{PageRecord}
 use Rattle.tiff_page.specs.Buffers.{planes_layout, unit_fault}
 use Rattle.tiff_page.specs.Layout.{sample_type_of, size_of, wide}
 use Rattle.tiff_page.specs.PixelCalls.{planes_within, room_fault, stride_fault}
-use Rattle.tiff_page.specs.PixelFault.{samples_fault, chunk_fault, form_fault}
+use Rattle.tiff_page.specs.PixelFault.{limit_fault, chunk_fault, form_fault}
 use Rattle.tiff_page.specs.Pixels.{needed_bytes}
 use Rattle.tiff_page.specs.Rect.{rect}
 
@@ -39,7 +39,7 @@ is_cut file p color i =
 -- faults of the first chunk, whose data are told by how many bytes the file has
 abbrev pub early_fault : List ℕ → PageRecord → Limits → ColorType → DecodingSampleType → ℕ → ℕ → Result (Unit {0}) TiffError
 early_fault file p limits color type first len = do
-  _ ← samples_fault limits (size_of type) len
+  _ ← limit_fault limits (size_of type) len
   chunk_fault p limits (is_cut file p color) color first
 
 -- ---- where memory is wanted

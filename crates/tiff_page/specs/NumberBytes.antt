@@ -8,7 +8,7 @@ use Rattle.std.proofs.Math.Nat.{add-mul, mul-le-mul_right}
 use Rattle.std.specs.Int.{div_ceil}
 use Rattle.std.specs.Prelude.{◌≡◌, map, ℕ, [], ◌+◌, ◌-◌, ◌*◌, ◌/◌, ◌%◌, ◌^◌, ◌<◌, ◌≤◌, ◌==◌, if◌then◌else◌, List, length, slice_index}
 use Rattle.tiff_base.specs.declared.tags.ByteOrder.TheVariants.{LittleEndian}
-use Rattle.tiff_page.specs.Pixels.{each_to, row_number}
+use Rattle.tiff_page.specs.Pixels.{tabulate, row_number}
 use Rattle.tiff_page.specs.BufferPositions.{Writes}
 use Rattle.tiff_page.specs.Row.{IsSize}
 
@@ -18,11 +18,11 @@ byte_of size n j = if j + 1 == size then n / 256 ^ j else n / 256 ^ j % 256
 
 -- all its bytes
 abbrev pub all_bytes : ℕ → ℕ → List ℕ
-all_bytes size n = each_to size (byte_of size n)
+all_bytes size n = tabulate size (byte_of size n)
 
 -- those of all numbers of a list
 unfoldable pub bytes_in : ℕ → List ℕ → List ℕ
-bytes_in size numbers = each_to (length numbers * size) (λ i. byte_of size (slice_index numbers (i / size)) (i % size))
+bytes_in size numbers = tabulate (length numbers * size) (λ i. byte_of size (slice_index numbers (i / size)) (i % size))
 
 -- a row is put at a position, and each other byte stays
 abbrev pub IsPut : ℕ → List ℕ → List ℕ → List ℕ → Type 0
@@ -43,7 +43,7 @@ same_bytes size bits xs ys e =
 -- no numbers have none
 pub no_bytes : (size : ℕ) → bytes_in size [] ≡ []
 unfolding bytes_in
-no_bytes size = let z : 0 * size ≡ 0 = omega arith in ap (λ (k : ℕ). each_to k (λ i. byte_of size (slice_index [] (i / size)) (i % size))) z
+no_bytes size = let z : 0 * size ≡ 0 = omega arith in ap (λ (k : ℕ). tabulate k (λ i. byte_of size (slice_index [] (i / size)) (i % size))) z
 
 some_size : (size : ℕ) → IsSize size → 0 < size
 some_size size (inl e) = omega (arith, e)

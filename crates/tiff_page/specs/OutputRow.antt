@@ -10,7 +10,7 @@ use Rattle.tiff_page.specs.Rect.{rect}
 use Rattle.tiff_page.specs.Layout.{row_bytes, samples_in_chunk}
 use Rattle.tiff_page.specs.Laws.{HasSides}
 use Rattle.tiff_page.specs.Pixels.{stored_samples, stored_row_bytes, chunk_data, needed_of_row, number_size, in_row, row_number, number_of_row, shown_number}
-use Rattle.tiff_page.specs.Row.{Became}
+use Rattle.tiff_page.specs.Row.{RowReplaced}
 use Rattle.tiff_page.specs.BufferPositions.{chunk_byte}
 
 -- a stored row of a chunk
@@ -27,14 +27,14 @@ module _ (order : ByteOrder) (p : PageRecord) (row : List ℕ) (color : ColorTyp
       else handed_number (b / number_size p) / 256 ^ (b % number_size p) % 256
 
 -- whether numbers are turned on their way into little-endian ones: those of more bytes than one in a big-endian file
-abbrev pub is_turned : ByteOrder → ℕ → Bool
-is_turned LittleEndian depth = false
-is_turned BigEndian depth = nat_lt 8 depth
+abbrev pub needs_swap : ByteOrder → ℕ → Bool
+needs_swap LittleEndian depth = false
+needs_swap BigEndian depth = nat_lt 8 depth
 
 -- A list holds the little-endian numbers of the bytes of a row; with depths below 8, these bytes.
 pub record HoldsNumbersOf (order : ByteOrder) (p : PageRecord) (row held : List ℕ) : Type 0 where
   pub same_length : length held ≡ length row
-  pub numbers : 8 ≤ p.depth → Became (p.depth / 8) (row_number order (p.depth / 8) row) row held
+  pub numbers : 8 ≤ p.depth → RowReplaced (p.depth / 8) (row_number order (p.depth / 8) row) row held
   pub packed : p.depth < 8 → held ≡ row
 
 -- a page of whole bytes or of depths below 8, whose chunks store all samples that are shown

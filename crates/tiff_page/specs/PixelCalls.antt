@@ -11,18 +11,18 @@ use Rattle.tiff_page.specs.declared.layout.BufferLayoutPreference.{BufferLayoutP
 use Rattle.tiff_page.specs.Page.{PageRecord}
 use Rattle.tiff_page.specs.Rect.{rect, chunks_of_plane}
 use Rattle.tiff_page.specs.Layout.{LayoutRecord, planes, wide, sample_type_of, size_of}
-use Rattle.tiff_page.specs.PixelFault.{unless, samples_fault, each_below, chunk_fault}
-use Rattle.tiff_page.specs.Pixels.{each_to, Region, image_region, chunk_region, byte_at, is_short}
+use Rattle.tiff_page.specs.PixelFault.{fail_if, limit_fault, each_below, chunk_fault}
+use Rattle.tiff_page.specs.Pixels.{tabulate, Region, image_region, chunk_region, byte_at, is_short}
 use Rattle.tiff_page.specs.Image.{Decoded, decoded_samples}
 use Rattle.tiff_page.specs.Buffers.{planes_layout, all_planes, unit_fault}
 
 -- a slice has room for one plane
 abbrev pub room_fault : ℕ → ℕ → Result (Unit {0}) TiffError
-room_fault provided needed = unless (nat_lt provided needed) (UsageError (InsufficientOutputBufferSize needed provided))
+room_fault provided needed = fail_if (nat_lt provided needed) (UsageError (InsufficientOutputBufferSize needed provided))
 
 -- rows of so many bytes don't reach into each other
 abbrev pub stride_fault : ℕ → ℕ → Result (Unit {0}) TiffError
-stride_fault stride row_bytes = unless (nat_lt stride row_bytes) (UsageError (InsufficientOutputRowStride row_bytes stride))
+stride_fault stride row_bytes = fail_if (nat_lt stride row_bytes) (UsageError (InsufficientOutputRowStride row_bytes stride))
 
 -- the planes that a slice of so many bytes takes whole
 abbrev pub planes_used : PageRecord → LayoutRecord → ℕ → ℕ
@@ -58,7 +58,7 @@ module _ (file : List ℕ) (order : ByteOrder) (p : PageRecord) where
   -- stays
   unfoldable pub bytes_with_region : ColorType → Region → ℕ → ℕ → List ℕ → List ℕ
   bytes_with_region color region stride planes buf =
-      each_to (length buf) (λ i. unwrap_or (byte_at file order p color region stride planes i) (slice_index buf i))
+      tabulate (length buf) (λ i. unwrap_or (byte_at file order p color region stride planes i) (slice_index buf i))
 
   -- what a call gives of a buffer: the first fault, or its bytes
   unfoldable pub fill_buffer : Limits → ColorType → Part → List ℕ → Result (List ℕ) TiffError
@@ -70,7 +70,7 @@ module _ (file : List ℕ) (order : ByteOrder) (p : PageRecord) where
   unfoldable pub samples : Limits → ColorType → Part → ℕ → Result Decoded TiffError
   samples limits color part len = do
     type ← sample_type_of p
-    _ ← samples_fault limits (size_of type) len
+    _ ← limit_fault limits (size_of type) len
     bytes ← fill_buffer limits color part (replicate len 0)
     Ok (decoded_samples type bytes)
 

@@ -21,18 +21,18 @@ use Rattle.tiff_ifd.specs.declared.limits.Limits.{Limits}
 use Rattle.tiff_page.specs.Page.{PageRecord}
 
 -- a fault where a test holds
-abbrev pub unless : Bool → TiffError → Result (Unit {0}) TiffError
-unless true fault = Err fault
-unless false fault = Ok tt
+abbrev pub fail_if : Bool → TiffError → Result (Unit {0}) TiffError
+fail_if true fault = Err fault
+fail_if false fault = Ok tt
 
-abbrev pub is_whole : ℕ → Bool
-is_whole depth = depth == 8 || depth == 16 || depth == 32 || depth == 64
+abbrev pub is_byte_multiple : ℕ → Bool
+is_byte_multiple depth = depth == 8 || depth == 16 || depth == 32 || depth == 64
 
-abbrev pub is_plain : ColorType → Bool
-is_plain (Palette d) = false
-is_plain (GrayA d) = false
-is_plain (Lab d) = false
-is_plain _ = true
+abbrev pub is_supported_color : ColorType → Bool
+is_supported_color (Palette d) = false
+is_supported_color (GrayA d) = false
+is_supported_color (Lab d) = false
+is_supported_color _ = true
 
 abbrev pub is_gray : ColorType → Bool
 is_gray (Gray d) = true
@@ -46,7 +46,7 @@ refuse_predictor predictor.FloatingPoint color = Err (UnsupportedError (Floating
 
 unfoldable pub depth_fault : PageRecord → ColorType → Result (Unit {0}) TiffError
 depth_fault p color =
-    if is_whole p.depth && is_plain color then Ok tt
+    if is_byte_multiple p.depth && is_supported_color color then Ok tt
     else if nat_lt p.depth 8 && is_gray color then refuse_predictor p.predictor color
     else Err (UnsupportedError (UnsupportedColorType color))
 
@@ -62,8 +62,8 @@ is_float _ = false
 
 abbrev pub fault_of_predictor : Predictor → PageRecord → ColorType → Result (Unit {0}) TiffError
 fault_of_predictor predictor.None p color = Ok tt
-fault_of_predictor predictor.Horizontal p color = unless (not (is_number p.format)) (UnsupportedError (HorizontalPredictor color))
-fault_of_predictor predictor.FloatingPoint p color = unless (not (is_float p.format) || p.depth == 8) (UnsupportedError (FloatingPointPredictor color))
+fault_of_predictor predictor.Horizontal p color = fail_if (not (is_number p.format)) (UnsupportedError (HorizontalPredictor color))
+fault_of_predictor predictor.FloatingPoint p color = fail_if (not (is_float p.format) || p.depth == 8) (UnsupportedError (FloatingPointPredictor color))
 
 unfoldable pub predictor_fault : PageRecord → ColorType → Result (Unit {0}) TiffError
 predictor_fault p color = fault_of_predictor p.predictor p color
@@ -74,32 +74,32 @@ method_fault method.PackBits = Ok tt
 method_fault m = Err (UnsupportedError (UnsupportedCompressionMethod m))
 
 abbrev pub can_invert : SampleFormat → ColorType → Bool
-can_invert format.Uint (Gray d) = is_whole d || d == 1 || d == 2 || d == 4
+can_invert format.Uint (Gray d) = is_byte_multiple d || d == 1 || d == 2 || d == 4
 can_invert _ _ = false
 
 abbrev pub white_from : PhotometricInterpretation → PageRecord → ColorType → Result (Unit {0}) TiffError
-white_from meaning.WhiteIsZero p color = unless (not (can_invert p.format color)) (UnsupportedError UnknownInterpretation)
+white_from meaning.WhiteIsZero p color = fail_if (not (can_invert p.format color)) (UnsupportedError UnknownInterpretation)
 white_from _ p color = Ok tt
 
-unfoldable pub white_fault : PageRecord → ColorType → Result (Unit {0}) TiffError
-white_fault p color = white_from p.interpretation p color
+unfoldable pub inversion_fault : PageRecord → ColorType → Result (Unit {0}) TiffError
+inversion_fault p color = white_from p.interpretation p color
 
 -- a chunk's faults but that of too few data: an index past the list, the depth, the predictor, the limit of the file's
 -- bytes, the method, an image that can't be inverted
 unfoldable pub form_fault : PageRecord → Limits → ColorType → ℕ → Result (Unit {0}) TiffError
 form_fault p limits color i = do
-  _ ← unless (nat_le (length p.offsets) i) (FormatError InconsistentSizesEncountered)
+  _ ← fail_if (nat_le (length p.offsets) i) (FormatError InconsistentSizesEncountered)
   _ ← depth_fault p color
   _ ← predictor_fault p color
-  _ ← unless (nat_lt limits.intermediate_buffer_size (slice_index p.byte_counts i)) LimitsExceeded
+  _ ← fail_if (nat_lt limits.intermediate_buffer_size (slice_index p.byte_counts i)) LimitsExceeded
   _ ← method_fault p.method
-  white_fault p color
+  inversion_fault p color
 
 -- a chunk's faults, where `short` says whether its data are too few
 abbrev pub chunk_fault : PageRecord → Limits → (ℕ → Bool) → ColorType → ℕ → Result (Unit {0}) TiffError
 chunk_fault p limits short color i = do
   _ ← form_fault p limits color i
-  unless (short i) (IoError UnexpectedEof)
+  fail_if (short i) (IoError UnexpectedEof)
 
 -- the first fault of those below n
 abbrev pub each_below : (ℕ → Result (Unit {0}) TiffError) → ℕ → Result (Unit {0}) TiffError
@@ -109,5 +109,5 @@ each_below fault (suc n) = do
   fault n
 
 -- no more samples than fit into the limit
-abbrev pub samples_fault : Limits → ℕ → ℕ → Result (Unit {0}) TiffError
-samples_fault limits size bytes = unless (nat_lt (limits.decoding_buffer_size / size) (div_ceil bytes size)) LimitsExceeded
+abbrev pub limit_fault : Limits → ℕ → ℕ → Result (Unit {0}) TiffError
+limit_fault limits size bytes = fail_if (nat_lt (limits.decoding_buffer_size / size) (div_ceil bytes size)) LimitsExceeded

@@ -21,8 +21,8 @@ use Rattle.tiff_page.specs.Rect.{across, chunks_of_plane, rect, chunk_of_pixel}
 use Rattle.tiff_page.specs.Layout.{samples_in_chunk, row_bytes}
 
 -- f 0, f 1 .. below n
-abbrev pub each_to : {A : Type 0} → ℕ → (ℕ → A) → List A
-each_to n f = map f (range_with_len 0 n)
+abbrev pub tabulate : {A : Type 0} → ℕ → (ℕ → A) → List A
+tabulate n f = map f (range_with_len 0 n)
 
 -- a number of one, two, four or eight bytes
 abbrev pub width_of : ℕ → Width
@@ -69,7 +69,7 @@ in_row p column sample = column * stored_samples p + sample
 
 -- number k of a row of numbers of so many bytes
 abbrev pub row_number : ByteOrder → ℕ → List ℕ → ℕ → ℕ
-row_number order size row k = number order (width_of size) (each_to size (λ j. slice_index row (k * size + j)))
+row_number order size row k = number order (width_of size) (tabulate size (λ j. slice_index row (k * size + j)))
 
 -- the same with the horizontal predictor, a pixel having so many numbers
 abbrev pub summed_number : ByteOrder → ℕ → ℕ → List ℕ → ℕ → ℕ
@@ -81,7 +81,7 @@ summed_byte stored row k = sum_by (λ n. slice_index row (k - n * stored)) (rang
 
 -- number k of a row of so many numbers with that predictor: its most significant byte is of the row's first part, and so on
 abbrev pub joined_number : ℕ → ℕ → ℕ → List ℕ → ℕ → ℕ
-joined_number size stored count row k = number BigEndian (width_of size) (each_to size (λ j. summed_byte stored row (j * count + k)))
+joined_number size stored count row k = number BigEndian (width_of size) (tabulate size (λ j. summed_byte stored row (j * count + k)))
 
 -- number k of a row of a chunk, its predictor undone
 abbrev pub number_by : Predictor → ByteOrder → PageRecord → List ℕ → ℕ → ℕ
@@ -174,4 +174,4 @@ module _ (file : List ℕ) (order : ByteOrder) (p : PageRecord) where
 
 -- the little-endian numbers of so many bytes each that a list of bytes holds, the last filled up by zeros
 unfoldable pub numbers_in : ℕ → List ℕ → List ℕ
-numbers_in size bytes = each_to (div_ceil (length bytes) size) (row_number LittleEndian size bytes)
+numbers_in size bytes = tabulate (div_ceil (length bytes) size) (row_number LittleEndian size bytes)

@@ -11,8 +11,8 @@ use Rattle.tiff_base.specs.SourceAndSink.{AreReadable, SourceRecord}
 use Rattle.tiff_ifd.specs.Look.{DirectoryTags}
 use Rattle.tiff_ifd.specs.Stretches.{TagReadable}
 use Rattle.tiff_ifd.specs.Unpacking.{PackedReadable}
-use Rattle.tiff_page.specs.declared.chunk_data.Stored.{Stored}
-use Rattle.tiff_page.specs.declared.chunk_data.Stored.TheVariants.{Plain, Packed, Ended}
+use Rattle.tiff_page.specs.declared.chunk_data.ChunkCursor.{ChunkCursor}
+use Rattle.tiff_page.specs.declared.chunk_data.ChunkCursor.TheVariants.{Plain, Packed, Ended}
 use Rattle.tiff_page.specs.Buffers.{planes_layout}
 use Rattle.tiff_page.specs.EarlyFaults.{is_packed}
 use Rattle.tiff_page.specs.Layout.{LayoutRecord}
@@ -47,13 +47,13 @@ abbrev pub AsksForPage : {X : Type 0} → DirectoryTags → Result X TiffError �
 AsksForPage tags result = AsksOnly (PageReadable tags.source tags.kind tags.order tags.directory) result
 
 -- A source answers for so many bytes of a chunk's data from a position on; of packed data, for all that are counted.
-abbrev pub StoredReadable : SourceRecord → Stored → ℕ → Type 0
+abbrev pub StoredReadable : SourceRecord → ChunkCursor → ℕ → Type 0
 StoredReadable source (Plain at) n = AreReadable source at n
 StoredReadable source (Packed position) n = PackedReadable source position
 StoredReadable source Ended n = Unit {0}
 
 -- A position is so many bytes behind another one: what is read from it is among the bytes from that one on.
-abbrev pub Moves : Stored → ℕ → Stored → Type 0
+abbrev pub Moves : ChunkCursor → ℕ → ChunkCursor → Type 0
 Moves from n rest = (source : SourceRecord) (m : ℕ) → StoredReadable source from (n + m) → StoredReadable source rest m
 
 -- A source answers for so many bytes of the data of a chunk; of packed data, for all that are counted.

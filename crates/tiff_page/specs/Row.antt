@@ -10,7 +10,7 @@ IsSize size = (size ≡ 1) ⊎ ((size ≡ 2) ⊎ ((size ≡ 4) ⊎ (size ≡ 8))
 
 -- Each whole number of a row that held old became, in little-endian order, the value that is given for it. What stands
 -- behind the last one stayed.
-pub record Became (size : ℕ) (value : ℕ → ℕ) (old new : List ℕ) : Type 0 where
+pub record RowReplaced (size : ℕ) (value : ℕ → ℕ) (old new : List ℕ) : Type 0 where
   pub numbers : (k : ℕ) → (k + 1) * size ≤ length old → row_number LittleEndian size new k ≡ value k
   pub behind : (i : ℕ) → length old / size * size ≤ i → slice_index new i ≡ slice_index old i
 

@@ -4,7 +4,7 @@ use Rattle.tiff_base.specs.declared.color.ColorType.{ColorType}
 use Rattle.tiff_base.specs.declared.error.TiffError.{TiffError}
 use Rattle.tiff_base.specs.declared.tags.ByteOrder.{ByteOrder}
 use Rattle.tiff_base.specs.Answers.{IsCause}
-use Rattle.tiff_page.specs.declared.chunk_data.Stored.{Stored}
+use Rattle.tiff_page.specs.declared.chunk_data.ChunkCursor.{ChunkCursor}
 use Rattle.tiff_page.specs.NumberBytes.{IsPut}
 use Rattle.tiff_page.specs.Page.{PageRecord}
 use Rattle.tiff_page.specs.Pixels.{needed_of_row}
@@ -24,12 +24,12 @@ pub record TakesNumbers (order : ByteOrder) (p : PageRecord) (left rest out : Li
   pub holds : HoldsNumbersOf order p row out
 
 -- the answer of a call that reads numbers into a buffer
-abbrev pub NumbersRead : List ℕ → ByteOrder → PageRecord → Stored → Type 0 → List ℕ → Result Stored TiffError → Type 0
+abbrev pub NumbersRead : List ℕ → ByteOrder → PageRecord → ChunkCursor → Type 0 → List ℕ → Result ChunkCursor TiffError → Type 0
 NumbersRead file order p position failed out (Ok rest) = TakesNumbers order p (bytes_left file position) (bytes_left file rest) out
 NumbersRead file order p position failed out (Err e) = IsCause (Unit {0}) failed e (IsTooShort (bytes_left file position) (length out) e)
 
 -- the answer of a call that reads a row into a buffer
-abbrev pub RowRead : List ℕ → ByteOrder → PageRecord → ColorType → Stored → Type 0 → Type 0 → List ℕ → Result Stored TiffError → Type 0
+abbrev pub RowRead : List ℕ → ByteOrder → PageRecord → ColorType → ChunkCursor → Type 0 → Type 0 → List ℕ → Result ChunkCursor TiffError → Type 0
 RowRead file order p color position wanting failed out (Ok rest) = TakesRow order p color (bytes_left file position) (bytes_left file rest) out
 RowRead file order p color position wanting failed out (Err e) = IsCause wanting failed e (IsTooShort (bytes_left file position) (needed_of_row p color (length out)) e)
 
@@ -41,6 +41,6 @@ pub record PutsRow (order : ByteOrder) (p : PageRecord) (color : ColorType) (lef
   pub put : IsPut at row old new
 
 -- the answer of a call that reads a row of so many bytes into a list
-abbrev pub RowPut : List ℕ → ByteOrder → PageRecord → ColorType → Stored → Type 0 → ℕ → ℕ → List ℕ → List ℕ → Result Stored TiffError → Type 0
+abbrev pub RowPut : List ℕ → ByteOrder → PageRecord → ColorType → ChunkCursor → Type 0 → ℕ → ℕ → List ℕ → List ℕ → Result ChunkCursor TiffError → Type 0
 RowPut file order p color position failed at len old new (Ok rest) = PutsRow order p color (bytes_left file position) (bytes_left file rest) at len old new
 RowPut file order p color position failed at len old new (Err e) = IsCause (Unit {0}) failed e (IsTooShort (bytes_left file position) (needed_of_row p color len) e)

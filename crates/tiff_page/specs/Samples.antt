@@ -4,8 +4,8 @@ use Rattle.std.specs.Int.{w8, w16, w32, w64, cast_unsigned}
 use Rattle.tiff_base.specs.declared.color.ColorType.{ColorType}
 use Rattle.tiff_base.specs.declared.tags.ByteOrder.{ByteOrder}
 use Rattle.tiff_page.specs.declared.layout.DecodingSampleType.TheVariants as type
-use Rattle.tiff_page.specs.declared.samples.Portion.{Portion}
-use Rattle.tiff_page.specs.declared.samples.Portion.TheVariants.{Image, Chunk}
+use Rattle.tiff_page.specs.declared.samples.ReadRequest.{ReadRequest}
+use Rattle.tiff_page.specs.declared.samples.ReadRequest.TheVariants.{Image, Chunk}
 use Rattle.tiff_page.specs.declared.samples.Samples.{Samples}
 use Rattle.tiff_page.specs.declared.samples.Samples.TheVariants as samples
 use Rattle.tiff_page.specs.Image.{Decoded}
@@ -28,27 +28,27 @@ samples_as (samples.I16 v) = record { sample_type = type.I16; numbers = map (cas
 samples_as (samples.I32 v) = record { sample_type = type.I32; numbers = map (cast_unsigned w32) v.items }
 samples_as (samples.I64 v) = record { sample_type = type.I64; numbers = map (cast_unsigned w64) v.items }
 
-abbrev pub color_in : Portion → ColorType
+abbrev pub color_in : ReadRequest → ColorType
 color_in (Image layout planes) = layout.color
 color_in (Chunk color i stride) = color
 
 -- its first chunk
-abbrev pub first_in : Portion → ℕ
+abbrev pub first_in : ReadRequest → ℕ
 first_in (Image layout planes) = 0
 first_in (Chunk color i stride) = i
 
 -- what is read as the part of a page that it is
-abbrev pub part_of : (file : List ℕ) (order : ByteOrder) (p : PageRecord) → Portion → Part
+abbrev pub part_of : (file : List ℕ) (order : ByteOrder) (p : PageRecord) → ReadRequest → Part
 part_of file order p (Image layout planes) = image_part p planes layout.row_bytes
 part_of file order p (Chunk color i stride) = chunk_part p i 1 stride
 
 -- its layout is the page's
-abbrev pub IsLaid : PageRecord → Portion → Type 0
+abbrev pub IsLaid : PageRecord → ReadRequest → Type 0
 IsLaid p (Image layout planes) =
     (layout_of p p.width p.height ≡ Ok (record { color = layout.color; row_bytes = layout.row_bytes; plane_stride = layout.plane_stride })) × (0 < planes)
 IsLaid p (Chunk color i stride) = (color_of p ≡ Ok color) × (row_bytes p color (rect p i).width ≤ stride)
 
 -- the bytes that it takes
-abbrev pub room_of : PageRecord → Portion → ℕ
+abbrev pub room_of : PageRecord → ReadRequest → ℕ
 room_of p (Image layout planes) = planes * layout.plane_stride
 room_of p (Chunk color i stride) = (rect p i).height * stride

@@ -5,7 +5,7 @@ ghost use Rattle.tiff_base.specs.Answers.{Answers, AsksOnly, IsKept};
 ghost use Rattle.tiff_base.specs.declared.error.TiffError.TheVariants as tiff;
 ghost use Rattle.tiff_base.specs.declared.io.IoKind.TheVariants as io;
 ghost use Rattle.tiff_page.specs.Layout.{row_bytes};
-ghost use Rattle.tiff_page.specs.PixelFault.{method_fault, unless};
+ghost use Rattle.tiff_page.specs.PixelFault.{method_fault, fail_if};
 ghost use Rattle.tiff_page.specs.Pixels.{is_short};
 ghost use Rattle.tiff_page.specs.BufferPositions.{WritesChunk};
 ghost use Rattle.tiff_page.specs.ReadablePage.{IsRead};
@@ -14,10 +14,10 @@ ghost use Rattle.tiff_page.specs.AdjacentRows.{LieTogether};
 ghost use Rattle.tiff_page.specs.Reach.{ChunkReadable};
 ghost use Rattle.tiff_page.specs.PageView as view;
 
-use crate::chunk_data::Stored;
-use crate::chunk_rows::{ChunkReader, Corner, NextBytes};
-use crate::output_row::{is_turned, needs_whole_rows, row_len, stored_row_bytes};
-use crate::writer::RowWriter;
+use crate::chunk_data::ChunkCursor;
+use crate::chunk_rows::{ChunkReader, Destination, RowSlot};
+use crate::output_row::{needs_swap, needs_whole_rows, row_len, stored_row_bytes};
+use crate::writer::RowSink;
 use tiff_base::error::TiffResult;
 use tiff_base::io::Source;
 use tiff_base::tags::Predictor;
@@ -30,12 +30,12 @@ const BAND: usize = 8192;
 const WIDE_BAND: usize = 65536;
 
 // How many rows of so many bytes are read at once. What is read doesn't depend on it.
-fn rows_at_once(front: Stored, len: usize, turned: bool) -> usize
+fn rows_at_once(front: ChunkCursor, len: usize, turned: bool) -> usize
     requires { 0 < len }
     ensures { 0 < result }
 {
     let bytes = match front {
-        Stored::Plain(_) if len <= BAND || turned => BAND,
+        ChunkCursor::Plain(_) if len <= BAND || turned => BAND,
         _ => WIDE_BAND,
     };
     (bytes / len).max(1)
@@ -44,55 +44,59 @@ fn rows_at_once(front: Stored, len: usize, turned: bool) -> usize
 impl ChunkReader<'_> {
     /// Whether the rows lie one behind another, in the chunk's data and in a buffer, all of their bytes are handed out, and
     /// no byte is summed with others of its row.
-    pub(crate) fn lies_together(&self, corner: Corner) -> bool
+    pub(crate) fn is_contiguous(&self, destination: Destination) -> bool
         ensures { IsTrue result ↔ LieTogether (view.page self.now.page.now) self.now.color
             (row_bytes (view.page self.now.page.now) self.now.color (rect (view.page self.now.page.now) self.now.index).width)
-            corner.left corner.stride }
+            destination.left destination.stride }
     {
         let page = self.page;
         let len = row_len(page, self.color, self.width);
-        corner.left == 0
-            && corner.stride == len
+        destination.left == 0
+            && destination.stride == len
             && stored_row_bytes(page) == len
             && !needs_whole_rows(page, self.color)
             && matches!(page.predictor, Predictor::None)
     }
 
     /// Reads the rows that lie together, from the front of the chunk's data on.
-    pub(crate) fn read_together<R: Source, T, W: RowWriter<T>>(
+    pub(crate) fn read_contiguous<R: Source, T, W: RowSink<T>>(
         &self,
         source: &mut R,
-        corner: Corner,
+        destination: Destination,
         writer: &mut W,
         buf: &mut [T],
     ) -> TiffResult<()>
         requires read { IsRead (view.page self.now.page.now) self.now.color }
         requires formed { method_fault self.now.page.now.method ≡ Ok tt }
         requires listed { self.now.index < length self.now.page.now.offsets }
-        requires some { 0 < corner.stride }
+        requires some { 0 < destination.stride }
         requires together { LieTogether (view.page self.now.page.now) self.now.color
             (row_bytes (view.page self.now.page.now) self.now.color (rect (view.page self.now.page.now) self.now.index).width)
-            corner.left corner.stride }
-        requires rows { (corner.top + (rect (view.page self.now.page.now) self.now.index).height) * corner.stride
+            destination.left destination.stride }
+        requires rows { (destination.top + (rect (view.page self.now.page.now) self.now.index).height) * destination.stride
             ≤ length (W.bytes buf.old) }
-        requires few { (corner.top + (rect (view.page self.now.page.now) self.now.index).height) * corner.stride < 2 ^ 64 }
+        requires few { (destination.top + (rect (view.page self.now.page.now) self.now.index).height) * destination.stride < 2 ^ 64 }
         ensures kept { IsKept R.told R.failures result source.old source.new }
         ensures ok { OnOk result (WritesChunk (R.told source.old).bytes self.now.order (view.page self.now.page.now) self.now.color
-            self.now.index corner.stride corner.top corner.left (W.bytes buf.old) (W.bytes buf.new)) }
-        ensures answer { Answers (λ _. tt) result (unless
+            self.now.index destination.stride destination.top destination.left (W.bytes buf.old) (W.bytes buf.new)) }
+        ensures answer { Answers (λ _. tt) result (fail_if
             (is_short (R.told source.old).bytes self.now.order (view.page self.now.page.now) self.now.color self.now.index)
             (tiff.IoError io.UnexpectedEof)) (R.failures source.old) (R.failures source.new) }
         ensures asked { AsksOnly (ChunkReadable (R.told source.old) (view.page self.now.page.now) self.now.color self.now.index) result }
     {
         let rows = self.height as usize;
         let mut position = self.front();
-        let band = rows_at_once(position, corner.stride, is_turned(self.order, self.page));
+        let band = rows_at_once(
+            position,
+            destination.stride,
+            needs_swap(self.order, self.page),
+        );
         let mut row = 0;
         while row < rows {
             let more = band.min(rows - row);
-            let at = (corner.top + row) * corner.stride;
-            let len = more * corner.stride;
-            let next = NextBytes { position, len, at };
+            let at = (destination.top + row) * destination.stride;
+            let len = more * destination.stride;
+            let next = RowSlot { position, len, at };
             position = writer.read_band(source, self, next, buf)?;
             row += more;
         }

@@ -10,8 +10,8 @@ ghost use Rattle.tiff_page.specs.Rect as rects;
 ghost use Rattle.tiff_page.specs.PageView as view;
 
 use crate::layout::{
-    BufferLayoutPreference, PlaneLayout, TiffCodingUnit, chunk_data_dimensions, chunks_of_plane,
-    known_sample_type, layout_of, planes, sample_type_of, size_of, wide_product,
+    BufferLayoutPreference, PlaneLayout, TiffCodingUnit, checked_byte_count, chunk_data_dimensions,
+    chunks_of_plane, known_sample_type, layout_of, planes, sample_type_of, size_of,
 };
 use crate::page::Page;
 use std::alloc::Global;
@@ -37,7 +37,7 @@ pub fn planes_layout(page: &Page, alloc: Global, width: u32, height: u32) -> Tif
 {
     let layout = layout_of(page, alloc, width, height)?;
     let planes = usize::from(planes(page, layout.color));
-    wide_product(layout.plane_stride, planes)?;
+    checked_byte_count(layout.plane_stride, planes)?;
     Ok(layout)
 }
 

@@ -9,7 +9,7 @@ ghost use Rattle.tiff_page.specs.Pixels.{data_by_method};
 ghost use Rattle.tiff_page.specs.ChunkData.{bytes_left, Takes, Passes};
 ghost use Rattle.tiff_page.specs.EarlyFaults.{is_packed};
 ghost use Rattle.tiff_page.specs.Reach.{StoredReadable, Moves};
-ghost use Rattle.tiff_page.specs.declared.chunk_data.Stored.TheVariants.{Packed};
+ghost use Rattle.tiff_page.specs.declared.chunk_data.ChunkCursor.TheVariants.{Packed};
 ghost use Rattle.tiff_base.specs.declared.tags.ByteOrder.{ByteOrder};
 ghost use Rattle.tiff_page.specs.Page.{PageRecord};
 
@@ -21,7 +21,7 @@ use tiff_ifd::packbits::PackedPosition;
 
 /// A position in the data of a chunk: in the file, in packed data, or behind the last byte of these.
 #[derive(Clone, Copy, Debug)]
-pub enum Stored {
+pub enum ChunkCursor {
     Plain(u64),
     Packed(PackedPosition),
     Ended,
@@ -31,7 +31,11 @@ pub enum Stored {
 const PIECE: usize = 65536;
 
 // Passes so many bytes of packed data, or all that are left.
-fn pass_packed<R: Source>(source: &mut R, position: PackedPosition, n: u64) -> TiffResult<Stored>
+fn pass_packed<R: Source>(
+    source: &mut R,
+    position: PackedPosition,
+    n: u64,
+) -> TiffResult<ChunkCursor>
     ensures kept { IsKept R.told R.failures result source.old source.new }
     ensures passed { Passes (R.told source.old).bytes (Packed position) (R.failures source.old < R.failures source.new) n result }
     ensures asked { AsksOnly (PackedReadable (R.told source.old) position) result }
@@ -44,15 +48,15 @@ fn pass_packed<R: Source>(source: &mut R, position: PackedPosition, n: u64) -> T
         let len = left.min(512);
         match position.read_exact(source, &mut piece[..len as usize]) {
             Ok(()) => {}
-            Err(TiffError::IoError(IoKind::UnexpectedEof)) => return Ok(Stored::Ended),
+            Err(TiffError::IoError(IoKind::UnexpectedEof)) => return Ok(ChunkCursor::Ended),
             Err(fault) => return Err(fault),
         }
         left -= len;
     }
-    Ok(Stored::Packed(position))
+    Ok(ChunkCursor::Packed(position))
 }
 
-impl Stored {
+impl ChunkCursor {
     /// The front of data at a position of so many bytes, by a method that is unpacked.
     #[tactic(auto, using(crate::proofs::Data::unpacked_out))]
     pub fn new(method: CompressionMethod, at: u64, count: u64) -> Self
@@ -61,28 +65,28 @@ impl Stored {
         ensures readable { (source : SourceRecord) (n : ℕ) → AreReadable source at (if is_packed method then count else n) → StoredReadable source result n }
     {
         match method {
-            CompressionMethod::PackBits => Stored::Packed(PackedPosition::new(at, count)),
-            _ => Stored::Plain(at),
+            CompressionMethod::PackBits => ChunkCursor::Packed(PackedPosition::new(at, count)),
+            _ => ChunkCursor::Plain(at),
         }
     }
 
     /// Fills a buffer with the next bytes, and answers the position behind them. Fewer are left: `IoError(UnexpectedEof)`.
-    pub fn read<R: Source>(self, source: &mut R, buf: &mut [u8]) -> TiffResult<Stored>
+    pub fn read<R: Source>(self, source: &mut R, buf: &mut [u8]) -> TiffResult<ChunkCursor>
         ensures kept { IsKept R.told R.failures result source.old source.new }
         ensures taken { Takes (R.told source.old).bytes self ⊥ (R.failures source.old < R.failures source.new) (length buf.old) buf.new result }
         ensures asked { AsksOnly (StoredReadable (R.told source.old) self (length buf.old)) result }
         ensures moves { IfOk result (λ rest. Moves self (length buf.old) rest) }
     {
         match self {
-            Stored::Plain(at) => {
+            ChunkCursor::Plain(at) => {
                 read_exact_at(source, at, buf)?;
-                Ok(Stored::Plain(at + buf.len() as u64))
+                Ok(ChunkCursor::Plain(at + buf.len() as u64))
             }
-            Stored::Packed(mut position) => {
+            ChunkCursor::Packed(mut position) => {
                 position.read_exact(source, buf)?;
-                Ok(Stored::Packed(position))
+                Ok(ChunkCursor::Packed(position))
             }
-            Stored::Ended => {
+            ChunkCursor::Ended => {
                 if buf.is_empty() {
                     return Ok(self);
                 }
@@ -98,7 +102,7 @@ impl Stored {
         source: &mut R,
         row: &mut Vec<u8>,
         len: usize,
-    ) -> TiffResult<Stored>
+    ) -> TiffResult<ChunkCursor>
         ensures kept { IsKept R.told R.failures result source.old source.new }
         ensures taken { Takes (R.told source.old).bytes self (Unit {0}) (R.failures source.old < R.failures source.new) len
             row.new.items result }
@@ -118,19 +122,19 @@ impl Stored {
 
     /// Passes so many bytes, or all that are left where there are fewer.
     #[tactic(auto, using(crate::proofs::Data::passed_end))]
-    pub fn pass<R: Source>(self, source: &mut R, n: u64) -> TiffResult<Stored>
+    pub fn pass<R: Source>(self, source: &mut R, n: u64) -> TiffResult<ChunkCursor>
         ensures kept { IsKept R.told R.failures result source.old source.new }
         ensures passed { Passes (R.told source.old).bytes self (R.failures source.old < R.failures source.new) n result }
         ensures asked { AsksOnly (StoredReadable (R.told source.old) self n) result }
         ensures moves { IfOk result (λ rest. Moves self n rest) }
     {
         match self {
-            Stored::Plain(at) => match at.checked_add(n) {
-                Some(at) => Ok(Stored::Plain(at)),
-                None => Ok(Stored::Ended),
+            ChunkCursor::Plain(at) => match at.checked_add(n) {
+                Some(at) => Ok(ChunkCursor::Plain(at)),
+                None => Ok(ChunkCursor::Ended),
             },
-            Stored::Packed(position) => pass_packed(source, position, n),
-            Stored::Ended => Ok(self),
+            ChunkCursor::Packed(position) => pass_packed(source, position, n),
+            ChunkCursor::Ended => Ok(self),
         }
     }
 }

@@ -7,23 +7,23 @@ ghost use Rattle.tiff_base.specs.declared.error.TiffError.TheVariants as tiff;
 ghost use Rattle.tiff_base.specs.declared.io.IoKind.TheVariants as io;
 ghost use Rattle.tiff_base.specs.declared.tags.ByteOrder.{ByteOrder};
 ghost use Rattle.tiff_page.specs.Layout.{row_bytes};
-ghost use Rattle.tiff_page.specs.PixelFault.{method_fault, unless};
+ghost use Rattle.tiff_page.specs.PixelFault.{method_fault, fail_if};
 ghost use Rattle.tiff_page.specs.Pixels.{chunk_data, is_short, needs_whole_rows, stored_row_bytes, needed_of_row};
 ghost use Rattle.tiff_page.specs.BufferPositions.{WritesChunk};
 ghost use Rattle.tiff_page.specs.ReadablePage.{IsRead};
 ghost use Rattle.tiff_page.specs.Row.{IsSize};
-ghost use Rattle.tiff_page.specs.OutputRow.{is_turned};
+ghost use Rattle.tiff_page.specs.OutputRow.{needs_swap};
 ghost use Rattle.tiff_page.specs.RowReads.{NumbersRead, RowRead};
 ghost use Rattle.tiff_page.specs.Rect.{rect};
 ghost use Rattle.tiff_page.specs.ChunkData.{bytes_left};
 ghost use Rattle.tiff_page.specs.Reach.{StoredReadable, Moves, DataReadable, ChunkReadable};
 ghost use Rattle.tiff_page.specs.PageView as view;
 
-use crate::chunk_data::Stored;
-use crate::output_row::{hand_row, is_turned, needs_whole_rows, row_len, stored_row_bytes};
+use crate::chunk_data::ChunkCursor;
+use crate::output_row::{finish_row, needs_swap, needs_whole_rows, row_len, stored_row_bytes};
 use crate::page::Page;
-use crate::predictors::turn_numbers;
-use crate::writer::RowWriter;
+use crate::predictors::to_little_endian;
+use crate::writer::RowSink;
 use std::alloc::Global;
 use tiff_base::color::ColorType;
 use tiff_base::error::TiffResult;
@@ -47,7 +47,7 @@ pub struct ChunkReader<'a> {
 
 /// Where the rows of a chunk go in a buffer whose rows are a stride apart: their first row, and its first byte.
 #[derive(Clone, Copy, Debug)]
-pub struct Corner {
+pub struct Destination {
     pub top: usize,
     pub left: usize,
     pub stride: usize,
@@ -56,23 +56,23 @@ pub struct Corner {
 /// The bytes of a chunk that are read next: their position in its data, how many they are as they are handed out, and the first
 /// byte that they go to in a list.
 #[derive(Clone, Copy, Debug)]
-pub struct NextBytes {
-    pub position: Stored,
+pub struct RowSlot {
+    pub position: ChunkCursor,
     pub len: usize,
     pub at: usize,
 }
 
 /// Rooms for a whole stored row, and for bytes before their byte planes are joined or their numbers turned.
 #[derive(Drop)]
-pub struct RowRoom {
+pub struct RowScratch {
     row: Vec<u8>,
     other: Vec<u8>,
 }
 
-impl RowRoom {
+impl RowScratch {
     /// No room yet.
     pub fn new(alloc: Global) -> Self {
-        RowRoom {
+        RowScratch {
             row: Vec::new(alloc),
             other: Vec::new(alloc),
         }
@@ -94,10 +94,10 @@ impl ChunkReader<'_> {
     fn read_whole_row<R: Source>(
         &self,
         source: &mut R,
-        position: Stored,
-        room: &mut RowRoom,
+        position: ChunkCursor,
+        room: &mut RowScratch,
         out: &mut [u8],
-    ) -> TiffResult<Stored>
+    ) -> TiffResult<ChunkCursor>
         requires read { IsRead (view.page self.now.page.now) self.now.color }
         requires whole { needs_whole_rows (view.page self.now.page.now) self.now.color ≡ true }
         requires width { self.now.width ≤ self.now.page.now.chunk_width }
@@ -110,10 +110,10 @@ impl ChunkReader<'_> {
     {
         let page = self.page;
         let rest = position.read_grown(source, &mut room.row, stored_row_bytes(page))?;
-        if matches!(page.predictor, Predictor::FloatingPoint) || is_turned(self.order, page) {
+        if matches!(page.predictor, Predictor::FloatingPoint) || needs_swap(self.order, page) {
             room.other.resize(room.row.len(), 0)?;
         }
-        self.hand_whole_row(&mut room.row, &mut room.other, out);
+        self.finish_whole_row(&mut room.row, &mut room.other, out);
         Ok(rest)
     }
 
@@ -122,11 +122,11 @@ impl ChunkReader<'_> {
     fn read_turned<R: Source>(
         &self,
         source: &mut R,
-        position: Stored,
+        position: ChunkCursor,
         room: &mut Vec<u8>,
         out: &mut [u8],
-    ) -> TiffResult<Stored>
-        requires turned { is_turned self.now.order self.now.page.now.depth ≡ true }
+    ) -> TiffResult<ChunkCursor>
+        requires turned { needs_swap self.now.order self.now.page.now.depth ≡ true }
         requires size { IsSize (self.now.page.now.depth / 8) }
         requires whole { length out.old / (self.now.page.now.depth / 8) * (self.now.page.now.depth / 8) ≡ length out.old }
         ensures kept { IsKept R.told R.failures result source.old source.new }
@@ -137,7 +137,7 @@ impl ChunkReader<'_> {
     {
         room.resize(out.len(), 0)?;
         let rest = position.read(source, room)?;
-        turn_numbers(room, usize::from(self.page.depth / 8), out);
+        to_little_endian(room, usize::from(self.page.depth / 8), out);
         Ok(rest)
     }
 
@@ -146,10 +146,10 @@ impl ChunkReader<'_> {
     fn read_numbers<R: Source>(
         &self,
         source: &mut R,
-        position: Stored,
-        room: &mut RowRoom,
+        position: ChunkCursor,
+        room: &mut RowScratch,
         out: &mut [u8],
-    ) -> TiffResult<Stored>
+    ) -> TiffResult<ChunkCursor>
         requires read { IsRead (view.page self.now.page.now) self.now.color }
         requires whole { (self.now.page.now.depth < 8)
             ⊎ (length out.old / (self.now.page.now.depth / 8) * (self.now.page.now.depth / 8) ≡ length out.old) }
@@ -159,7 +159,7 @@ impl ChunkReader<'_> {
         ensures asked { AsksOnly (StoredReadable (R.told source.old) position (length out.old)) result }
         ensures moves { IfOk result (λ rest. Moves position (length out.old) rest) }
     {
-        if is_turned(self.order, self.page) {
+        if needs_swap(self.order, self.page) {
             return self.read_turned(source, position, &mut room.other, out);
         }
         position.read(source, out)
@@ -167,13 +167,13 @@ impl ChunkReader<'_> {
 
     /// Reads the next bytes into a buffer, as they are handed out, where no whole rows have to be read for them.
     #[tactic(auto, using(crate::proofs::RowRead::row_taken, crate::proofs::RowRead::row_cause))]
-    pub(crate) fn read_handed<R: Source>(
+    pub(crate) fn read_finished<R: Source>(
         &self,
         source: &mut R,
-        position: Stored,
-        room: &mut RowRoom,
+        position: ChunkCursor,
+        room: &mut RowScratch,
         out: &mut [u8],
-    ) -> TiffResult<Stored>
+    ) -> TiffResult<ChunkCursor>
         requires read { IsRead (view.page self.now.page.now) self.now.color }
         requires in_place { needs_whole_rows (view.page self.now.page.now) self.now.color ≡ false }
         requires whole { (self.now.page.now.depth < 8)
@@ -185,7 +185,7 @@ impl ChunkReader<'_> {
         ensures moves { IfOk result (λ rest. Moves position (length out.old) rest) }
     {
         let rest = self.read_numbers(source, position, room, out)?;
-        hand_row(self.page, self.color, out);
+        finish_row(self.page, self.color, out);
         Ok(rest)
     }
 
@@ -193,10 +193,10 @@ impl ChunkReader<'_> {
     pub(crate) fn read_row<R: Source>(
         &self,
         source: &mut R,
-        position: Stored,
-        room: &mut RowRoom,
+        position: ChunkCursor,
+        room: &mut RowScratch,
         out: &mut [u8],
-    ) -> TiffResult<Stored>
+    ) -> TiffResult<ChunkCursor>
         requires read { IsRead (view.page self.now.page.now) self.now.color }
         requires width { self.now.width ≤ self.now.page.now.chunk_width }
         requires out { length out.old ≡ row_bytes (view.page self.now.page.now) self.now.color self.now.width }
@@ -211,7 +211,7 @@ impl ChunkReader<'_> {
         if needs_whole_rows(self.page, self.color) {
             return self.read_whole_row(source, position, room, out);
         }
-        self.read_handed(source, position, room, out)
+        self.read_finished(source, position, room, out)
     }
 
     // The bytes of a stored row that aren't read.
@@ -225,7 +225,7 @@ impl ChunkReader<'_> {
     }
 
     /// The front of the chunk's data.
-    pub(crate) fn front(&self) -> Stored
+    pub(crate) fn front(&self) -> ChunkCursor
         requires formed { method_fault self.now.page.now.method ≡ Ok tt }
         requires listed { self.now.index < length self.now.page.now.offsets }
         ensures rest { (file : List ℕ) (order : ByteOrder) → bytes_left file result
@@ -235,7 +235,7 @@ impl ChunkReader<'_> {
     {
         let page = self.page;
         let chunk = self.index as usize;
-        Stored::new(
+        ChunkCursor::new(
             page.method,
             page.offsets.as_slice()[chunk],
             page.byte_counts.as_slice()[chunk],
@@ -243,26 +243,26 @@ impl ChunkReader<'_> {
     }
 
     // Reads the rows one by one, from the front of the chunk's data on.
-    fn read_each<R: Source, T, W: RowWriter<T>>(
+    fn read_each<R: Source, T, W: RowSink<T>>(
         &self,
         source: &mut R,
-        corner: Corner,
+        destination: Destination,
         writer: &mut W,
         buf: &mut [T],
     ) -> TiffResult<()>
         requires read { IsRead (view.page self.now.page.now) self.now.color }
         requires formed { method_fault self.now.page.now.method ≡ Ok tt }
         requires listed { self.now.index < length self.now.page.now.offsets }
-        requires some { 0 < corner.stride }
-        requires columns { corner.left + row_bytes (view.page self.now.page.now) self.now.color
-            (rect (view.page self.now.page.now) self.now.index).width ≤ corner.stride }
-        requires rows { (corner.top + (rect (view.page self.now.page.now) self.now.index).height) * corner.stride
+        requires some { 0 < destination.stride }
+        requires columns { destination.left + row_bytes (view.page self.now.page.now) self.now.color
+            (rect (view.page self.now.page.now) self.now.index).width ≤ destination.stride }
+        requires rows { (destination.top + (rect (view.page self.now.page.now) self.now.index).height) * destination.stride
             ≤ length (W.bytes buf.old) }
-        requires few { (corner.top + (rect (view.page self.now.page.now) self.now.index).height) * corner.stride < 2 ^ 64 }
+        requires few { (destination.top + (rect (view.page self.now.page.now) self.now.index).height) * destination.stride < 2 ^ 64 }
         ensures kept { IsKept R.told R.failures result source.old source.new }
         ensures ok { OnOk result (WritesChunk (R.told source.old).bytes self.now.order (view.page self.now.page.now) self.now.color
-            self.now.index corner.stride corner.top corner.left (W.bytes buf.old) (W.bytes buf.new)) }
-        ensures answer { Answers (λ _. tt) result (unless
+            self.now.index destination.stride destination.top destination.left (W.bytes buf.old) (W.bytes buf.new)) }
+        ensures answer { Answers (λ _. tt) result (fail_if
             (is_short (R.told source.old).bytes self.now.order (view.page self.now.page.now) self.now.color self.now.index)
             (tiff.IoError io.UnexpectedEof)) (R.failures source.old) (R.failures source.new) }
         ensures asked { AsksOnly (ChunkReadable (R.told source.old) (view.page self.now.page.now) self.now.color self.now.index) result }
@@ -272,8 +272,8 @@ impl ChunkReader<'_> {
         let gap = self.gap(len);
         let mut position = self.front();
         for row in 0..rows {
-            let at = (corner.top + row) * corner.stride + corner.left;
-            let next = NextBytes { position, len, at };
+            let at = (destination.top + row) * destination.stride + destination.left;
+            let next = RowSlot { position, len, at };
             let rest = writer.read_row(source, self, next, buf)?;
             let behind = gap_behind(gap, row, rows);
             position = rest.pass(source, behind)?;
@@ -282,33 +282,33 @@ impl ChunkReader<'_> {
     }
 
     /// Reads the rows into the bytes of a list.
-    pub(crate) fn read_rows<R: Source, T, W: RowWriter<T>>(
+    pub(crate) fn read_rows<R: Source, T, W: RowSink<T>>(
         &self,
         source: &mut R,
-        corner: Corner,
+        destination: Destination,
         writer: &mut W,
         buf: &mut [T],
     ) -> TiffResult<()>
         requires read { IsRead (view.page self.now.page.now) self.now.color }
         requires formed { method_fault self.now.page.now.method ≡ Ok tt }
         requires listed { self.now.index < length self.now.page.now.offsets }
-        requires some { 0 < corner.stride }
-        requires columns { corner.left + row_bytes (view.page self.now.page.now) self.now.color
-            (rect (view.page self.now.page.now) self.now.index).width ≤ corner.stride }
-        requires rows { (corner.top + (rect (view.page self.now.page.now) self.now.index).height) * corner.stride
+        requires some { 0 < destination.stride }
+        requires columns { destination.left + row_bytes (view.page self.now.page.now) self.now.color
+            (rect (view.page self.now.page.now) self.now.index).width ≤ destination.stride }
+        requires rows { (destination.top + (rect (view.page self.now.page.now) self.now.index).height) * destination.stride
             ≤ length (W.bytes buf.old) }
-        requires few { (corner.top + (rect (view.page self.now.page.now) self.now.index).height) * corner.stride < 2 ^ 64 }
+        requires few { (destination.top + (rect (view.page self.now.page.now) self.now.index).height) * destination.stride < 2 ^ 64 }
         ensures kept { IsKept R.told R.failures result source.old source.new }
         ensures ok { OnOk result (WritesChunk (R.told source.old).bytes self.now.order (view.page self.now.page.now) self.now.color
-            self.now.index corner.stride corner.top corner.left (W.bytes buf.old) (W.bytes buf.new)) }
-        ensures answer { Answers (λ _. tt) result (unless
+            self.now.index destination.stride destination.top destination.left (W.bytes buf.old) (W.bytes buf.new)) }
+        ensures answer { Answers (λ _. tt) result (fail_if
             (is_short (R.told source.old).bytes self.now.order (view.page self.now.page.now) self.now.color self.now.index)
             (tiff.IoError io.UnexpectedEof)) (R.failures source.old) (R.failures source.new) }
         ensures asked { AsksOnly (ChunkReadable (R.told source.old) (view.page self.now.page.now) self.now.color self.now.index) result }
     {
-        if self.lies_together(corner) {
-            return self.read_together(source, corner, writer, buf);
+        if self.is_contiguous(destination) {
+            return self.read_contiguous(source, destination, writer, buf);
         }
-        self.read_each(source, corner, writer, buf)
+        self.read_each(source, destination, writer, buf)
     }
 }

@@ -7,7 +7,7 @@ ghost use Rattle.tiff_base.specs.SourceAndSink.{AreReadable};
 ghost use Rattle.tiff_base.specs.declared.error.TiffError.TheVariants as tiff;
 ghost use Rattle.tiff_base.specs.declared.io.IoKind.TheVariants as io;
 ghost use Rattle.tiff_page.specs.EarlyFaults as spec;
-ghost use Rattle.tiff_page.specs.PixelFault.{chunk_fault, unless};
+ghost use Rattle.tiff_page.specs.PixelFault.{chunk_fault, fail_if};
 ghost use Rattle.tiff_page.specs.Pixels as pixels;
 ghost use Rattle.tiff_page.specs.Reach.{ChunkReadable};
 ghost use Rattle.tiff_page.specs.PageView as view;
@@ -58,7 +58,7 @@ fn needed_bytes(page: &Page, color: ColorType, index: u32) -> u128
 fn reach<R: Source>(source: &mut R, at: u64, len: u128) -> TiffResult<()>
     requires few { len < 2 ^ 89 }
     ensures kept { IsKept R.told R.failures result source.old source.new }
-    ensures answer { AnswersWithoutMemory (λ _. tt) result (unless (nat_lt (length (R.told source.old).bytes - at) len)
+    ensures answer { AnswersWithoutMemory (λ _. tt) result (fail_if (nat_lt (length (R.told source.old).bytes - at) len)
         (tiff.IoError io.UnexpectedEof)) (R.failures source.old) (R.failures source.new) }
     ensures asked { AsksOnly (AreReadable (R.told source.old) at len) result }
 {
@@ -76,7 +76,7 @@ fn reach<R: Source>(source: &mut R, at: u64, len: u128) -> TiffResult<()>
 fn reach_packed<R: Source>(source: &mut R, at: u64, count: u64, needed: u128) -> TiffResult<()>
     requires few { needed < 2 ^ 89 }
     ensures kept { IsKept R.told R.failures result source.old source.new }
-    ensures answer { AnswersWithoutMemory (λ _. tt) result (unless
+    ensures answer { AnswersWithoutMemory (λ _. tt) result (fail_if
         (nat_lt (min count (length (R.told source.old).bytes - at)) (div_ceil needed 64)) (tiff.IoError io.UnexpectedEof))
         (R.failures source.old) (R.failures source.new) }
     ensures asked { AsksOnly (AreReadable (R.told source.old) at count) result }
@@ -92,7 +92,7 @@ fn reach_packed<R: Source>(source: &mut R, at: u64, count: u64, needed: u128) ->
 fn cut_fault<R: Source>(source: &mut R, page: &Page, color: ColorType, index: u32) -> TiffResult<()>
     requires listed { index < length page.now.offsets }
     ensures kept { IsKept R.told R.failures result source.old source.new }
-    ensures answer { AnswersWithoutMemory (λ _. tt) result (unless
+    ensures answer { AnswersWithoutMemory (λ _. tt) result (fail_if
         (spec.is_cut (R.told source.old).bytes (view.page page.now) color index) (tiff.IoError io.UnexpectedEof))
         (R.failures source.old) (R.failures source.new) }
     ensures asked { AsksOnly (ChunkReadable (R.told source.old) (view.page page.now) color index) result }

@@ -15,14 +15,14 @@ use tiff_base::error::{TiffError, TiffFormatError, TiffResult, TiffUnsupportedEr
 use tiff_base::tags::{CompressionMethod, PhotometricInterpretation, Predictor, SampleFormat};
 use tiff_ifd::limits::Limits;
 
-fn is_whole(depth: u8) -> bool
-    ensures { result ≡ spec.is_whole depth }
+fn is_byte_multiple(depth: u8) -> bool
+    ensures { result ≡ spec.is_byte_multiple depth }
 {
     depth == 8 || depth == 16 || depth == 32 || depth == 64
 }
 
-fn is_plain(color: ColorType) -> bool
-    ensures { result ≡ spec.is_plain color }
+fn is_supported_color(color: ColorType) -> bool
+    ensures { result ≡ spec.is_supported_color color }
 {
     !matches!(
         color,
@@ -40,7 +40,7 @@ fn is_gray(color: ColorType) -> bool
 fn depth_fault(page: &Page, color: ColorType) -> TiffResult<()>
     ensures { Gives (λ _. tt) result (spec.depth_fault (view.page page.now) color) }
 {
-    if is_whole(page.depth) && is_plain(color) {
+    if is_byte_multiple(page.depth) && is_supported_color(color) {
         return Ok(());
     }
     if page.depth < 8 && is_gray(color) {
@@ -80,14 +80,17 @@ fn can_invert(format: SampleFormat, color: ColorType) -> bool
     ensures { result ≡ spec.can_invert format color }
 {
     match (format, color) {
-        (SampleFormat::Uint, ColorType::Gray(d)) => is_whole(d) || d == 1 || d == 2 || d == 4,
+        (SampleFormat::Uint, ColorType::Gray(d)) => is_byte_multiple(d)
+            || d == 1
+            || d == 2
+            || d == 4,
         _ => false,
     }
 }
 
-#[tactic(auto, unfolding(crate::specs::PixelFault::white_fault))]
-fn white_fault(page: &Page, color: ColorType) -> TiffResult<()>
-    ensures { Gives (λ _. tt) result (spec.white_fault (view.page page.now) color) }
+#[tactic(auto, unfolding(crate::specs::PixelFault::inversion_fault))]
+fn inversion_fault(page: &Page, color: ColorType) -> TiffResult<()>
+    ensures { Gives (λ _. tt) result (spec.inversion_fault (view.page page.now) color) }
 {
     match page.interpretation {
         PhotometricInterpretation::WhiteIsZero if !can_invert(page.format, color) => {
@@ -115,13 +118,13 @@ pub fn form_fault(page: &Page, limits: &Limits, color: ColorType, index: usize) 
         return Err(TiffError::LimitsExceeded);
     }
     method_fault(page.method)?;
-    white_fault(page, color)
+    inversion_fault(page, color)
 }
 
 /// More samples than `decoding_buffer_size` bytes hold: `LimitsExceeded`.
-pub fn samples_fault(limits: &Limits, size: usize, bytes: usize) -> TiffResult<()>
+pub fn limit_fault(limits: &Limits, size: usize, bytes: usize) -> TiffResult<()>
     requires { 0 < size }
-    ensures { Gives (λ _. tt) result (spec.samples_fault limits.now size bytes) }
+    ensures { Gives (λ _. tt) result (spec.limit_fault limits.now size bytes) }
 {
     if bytes.div_ceil(size) > limits.decoding_buffer_size / size {
         return Err(TiffError::LimitsExceeded);

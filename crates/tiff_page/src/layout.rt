@@ -344,7 +344,7 @@ fn check_whole_chunks(page: &Page, color: ColorType, width: u32) -> TiffResult<(
     Ok(())
 }
 
-pub fn wide_product(a: usize, b: usize) -> TiffResult<usize>
+pub fn checked_byte_count(a: usize, b: usize) -> TiffResult<usize>
     ensures { Gives (λ n. n) result (spec.wide (a * b)) }
 {
     a.checked_mul(b).ok_or(TiffError::LimitsExceeded)
@@ -364,8 +364,8 @@ pub fn layout_of(page: &Page, alloc: Global, width: u32, height: u32) -> TiffRes
 {
     let color = color_of(page, alloc)?;
     let row_bytes = (row_bits(page, color, width) + 7) / 8;
-    wide_product(row_bytes, page.chunk_height as usize)?;
-    let plane_stride = wide_product(row_bytes, height as usize)?;
+    checked_byte_count(row_bytes, page.chunk_height as usize)?;
+    let plane_stride = checked_byte_count(row_bytes, height as usize)?;
     check_whole_chunks(page, color, width)?;
     is_whole_chroma(page, color)?;
     Ok(PlaneLayout {

@@ -289,17 +289,26 @@ pub(crate) fn grow<T: Number<N>, const N: usize>(
     Ok(())
 }
 
-// Puts the numbers of a row of whole numbers from number `first` on.
+// Puts the numbers of a row of whole numbers at the front of a list. One index alone: LLVM makes vectors of it.
 #[tactic(auto, using(crate::proofs::NumberBytes::none_placed, crate::proofs::NumberBytes::placed_more))]
+fn put_front<T: Number<N>, const N: usize>(numbers: &mut [T], row: &[u8])
+    requires some { 0 < N }
+    requires room { length row.now / N ≤ length numbers.old }
+    ensures { NumbersArePut N 0 row.now (length row.now / N) (map T.bits numbers.old) (map T.bits numbers.new) }
+{
+    let (pieces, _) = row.as_chunks::<N>();
+    for k in 0..pieces.len() {
+        numbers[k] = T::of(pieces[k]);
+    }
+}
+
+// Puts the numbers of a row of whole numbers from number `first` on.
 fn put_numbers<T: Number<N>, const N: usize>(numbers: &mut [T], first: usize, row: &[u8])
     requires some { 0 < N }
     requires room { first + length row.now / N ≤ length numbers.old }
     ensures { NumbersArePut N first row.now (length row.now / N) (map T.bits numbers.old) (map T.bits numbers.new) }
 {
-    let (pieces, _) = row.as_chunks::<N>();
-    for k in 0..pieces.len() {
-        numbers[first + k] = T::of(pieces[k]);
-    }
+    put_front(&mut numbers[first..], row);
 }
 
 // Puts a byte at a position of the bytes of numbers.

@@ -5,7 +5,7 @@ ghost use Rattle.tiff_base.specs.declared.tags.ByteOrder.{ByteOrder};
 ghost use Rattle.tiff_base.specs.declared.tags.ByteOrder.TheVariants.{LittleEndian};
 ghost use Rattle.tiff_page.specs.Layout as layouts;
 ghost use Rattle.tiff_page.specs.Pixels as pixels;
-ghost use Rattle.tiff_page.specs.Row.{IsSize, Became};
+ghost use Rattle.tiff_page.specs.Row.{IsSize, RowReplaced};
 ghost use Rattle.tiff_page.specs.OutputRow as spec;
 ghost use Rattle.tiff_page.specs.OutputRow.{HoldsNumbersOf, handed_byte};
 ghost use Rattle.tiff_page.specs.ReadablePage.{FormRead, IsRead};
@@ -14,7 +14,7 @@ ghost use Rattle.tiff_page.specs.PageView as view;
 use crate::chunk_rows::ChunkReader;
 use crate::layout::{bits, row_bits, samples_in_chunk};
 use crate::page::Page;
-use crate::predictors::{invert, turn_numbers, undo_byte_plane, undo_horizontal};
+use crate::predictors::{invert, to_little_endian, undo_float_predictor, undo_horizontal};
 use tiff_base::color::ColorType;
 use tiff_base::tags::{ByteOrder, PhotometricInterpretation, PlanarConfiguration, Predictor};
 
@@ -54,8 +54,8 @@ pub fn needs_whole_rows(page: &Page, color: ColorType) -> bool
 }
 
 /// Whether numbers are turned on their way into a buffer: those of more bytes than one in a big-endian file.
-pub fn is_turned(order: ByteOrder, page: &Page) -> bool
-    ensures { result ≡ spec.is_turned order page.now.depth }
+pub fn needs_swap(order: ByteOrder, page: &Page) -> bool
+    ensures { result ≡ spec.needs_swap order page.now.depth }
 {
     matches!(order, ByteOrder::BigEndian) && page.depth > 8
 }
@@ -65,7 +65,7 @@ fn undo_differences(page: &Page, row: &mut [u8])
     requires sizes { (page.now.depth < 8) ⊎ IsSize (page.now.depth / 8) }
     requires deep { (page.now.depth < 8) ⊎ (page.now.depth ≡ page.now.depth / 8 * 8) }
     requires in_place { pixels.is_byte_plane page.now.predictor ≡ false }
-    ensures numbers { 8 ≤ page.now.depth → Became (page.now.depth / 8) (pixels.number_of_row LittleEndian (view.page page.now) row.old) row.old row.new }
+    ensures numbers { 8 ≤ page.now.depth → RowReplaced (page.now.depth / 8) (pixels.number_of_row LittleEndian (view.page page.now) row.old) row.old row.new }
     ensures packed { page.now.depth < 8 → row.new ≡ row.old }
     ensures octets { EachIndex row.new (λ i. slice_index row.new i < 256) }
 {
@@ -92,7 +92,7 @@ fn complement(page: &Page, row: &mut [u8])
 
 /// Makes the numbers of a stored row the row that is handed out, where all of its samples are shown and no byte planes are
 /// joined. They stand in little-endian order.
-pub fn hand_row(page: &Page, color: ColorType, row: &mut [u8])
+pub fn finish_row(page: &Page, color: ColorType, row: &mut [u8])
     requires read { IsRead (view.page page.now) color }
     requires in_place { pixels.needs_whole_rows (view.page page.now) color ≡ false }
     requires whole { (page.now.depth < 8) ⊎ (length row.old / (page.now.depth / 8) * (page.now.depth / 8) ≡ length row.old) }
@@ -107,12 +107,12 @@ pub fn hand_row(page: &Page, color: ColorType, row: &mut [u8])
 fn turn_whole(page: &Page, order: ByteOrder, row: &mut [u8], room: &mut [u8])
     requires size { IsSize (page.now.depth / 8) }
     requires whole { length row.old / (page.now.depth / 8) * (page.now.depth / 8) ≡ length row.old }
-    requires room { spec.is_turned order page.now.depth ≡ true → length room.old ≡ length row.old }
-    ensures { Became (page.now.depth / 8) (pixels.row_number order (page.now.depth / 8) row.old) row.old row.new }
+    requires room { spec.needs_swap order page.now.depth ≡ true → length room.old ≡ length row.old }
+    ensures { RowReplaced (page.now.depth / 8) (pixels.row_number order (page.now.depth / 8) row.old) row.old row.new }
 {
-    if is_turned(order, page) {
+    if needs_swap(order, page) {
         room.copy_from_slice(row);
-        turn_numbers(room, usize::from(page.depth / 8), row);
+        to_little_endian(room, usize::from(page.depth / 8), row);
     }
 }
 
@@ -122,15 +122,15 @@ fn undo_whole(page: &Page, order: ByteOrder, row: &mut [u8], room: &mut [u8])
     requires size { IsSize (page.now.depth / 8) }
     requires deep { page.now.depth ≡ page.now.depth / 8 * 8 }
     requires row { length row.old ≡ pixels.stored_row_bytes (view.page page.now) }
-    requires room { (pixels.is_byte_plane page.now.predictor || spec.is_turned order page.now.depth) ≡ true → length room.old ≡ length row.old }
-    ensures numbers { Became (page.now.depth / 8) (pixels.number_of_row order (view.page page.now) row.old) row.old row.new }
+    requires room { (pixels.is_byte_plane page.now.predictor || spec.needs_swap order page.now.depth) ≡ true → length room.old ≡ length row.old }
+    ensures numbers { RowReplaced (page.now.depth / 8) (pixels.number_of_row order (view.page page.now) row.old) row.old row.new }
     ensures octets { EachIndex row.new (λ i. slice_index row.new i < 256) }
 {
     let depth = page.depth;
     let stored = stored_samples(page);
     match page.predictor {
         Predictor::FloatingPoint => {
-            undo_byte_plane(row, room, usize::from(depth / 8), usize::from(stored))
+            undo_float_predictor(row, room, usize::from(depth / 8), usize::from(stored))
         }
         _ => {
             turn_whole(page, order, row, room);
@@ -185,12 +185,12 @@ impl ChunkReader<'_> {
     /// Makes a whole stored row the row that is handed out of the chunk's columns, in `out`: byte planes are joined, and of
     /// each pixel the shown samples are kept. Byte planes, and numbers that are turned, need `room` of the row's length. What
     /// stands in `row` and `room` afterwards is open.
-    pub(crate) fn hand_whole_row(&self, row: &mut [u8], room: &mut [u8], out: &mut [u8])
+    pub(crate) fn finish_whole_row(&self, row: &mut [u8], room: &mut [u8], out: &mut [u8])
         requires read { IsRead (view.page self.now.page.now) self.now.color }
         requires whole { pixels.needs_whole_rows (view.page self.now.page.now) self.now.color ≡ true }
         requires width { self.now.width ≤ self.now.page.now.chunk_width }
         requires row { length row.old ≡ pixels.stored_row_bytes (view.page self.now.page.now) }
-        requires room { (pixels.is_byte_plane self.now.page.now.predictor || spec.is_turned self.now.order self.now.page.now.depth) ≡ true
+        requires room { (pixels.is_byte_plane self.now.page.now.predictor || spec.needs_swap self.now.order self.now.page.now.depth) ≡ true
             → length room.old ≡ length row.old }
         requires out { length out.old ≡ layouts.row_bytes (view.page self.now.page.now) self.now.color self.now.width }
         ensures { EachIndex out.new (λ b. slice_index out.new b

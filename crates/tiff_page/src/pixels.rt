@@ -25,16 +25,16 @@ ghost use Rattle.tiff_page.specs.PageView as view;
 ghost use Rattle.tiff_page.specs.declared.layout.DecodingSampleType.TheVariants as type;
 
 use crate::buffers::{all_planes, planes_layout, unit_fault};
-use crate::faults::{form_fault, samples_fault};
+use crate::faults::{form_fault, limit_fault};
 use crate::layout::{
-    BufferLayoutPreference, DecodingSampleType, PlaneLayout, chunk_data_dimensions, planes,
-    sample_type_of, size_of, wide_product,
+    BufferLayoutPreference, DecodingSampleType, PlaneLayout, checked_byte_count,
+    chunk_data_dimensions, planes, sample_type_of, size_of,
 };
 use crate::numbers::Number;
 use crate::page::Page;
-use crate::read_chunks::{ImagePart, PageReader, UnitPart};
-use crate::samples::{Portion, Samples};
-use crate::writer::{InPlace, NumberRoom, RowWriter};
+use crate::read_chunks::{ImagePlanes, PageReader, UnitRequest};
+use crate::samples::{ReadRequest, Samples};
+use crate::writer::{ByteRows, RowSink, TypedRows};
 use std::alloc::Global;
 use tiff_base::color::ColorType;
 use tiff_base::error::{TiffResult, UsageError};
@@ -131,14 +131,14 @@ fn planes_within(page: &Page, limits: &Limits, layout: PlaneLayout) -> u16
     1
 }
 
-impl Portion {
+impl ReadRequest {
     // Its color.
     fn color(self) -> ColorType
         ensures { result ≡ color_in self }
     {
         match self {
-            Portion::Image(layout, _) => layout.color,
-            Portion::Chunk(color, _, _) => color,
+            ReadRequest::Image(layout, _) => layout.color,
+            ReadRequest::Chunk(color, _, _) => color,
         }
     }
 
@@ -147,8 +147,8 @@ impl Portion {
         ensures { result ≡ first_in self }
     {
         match self {
-            Portion::Image(_, _) => 0,
-            Portion::Chunk(_, index, _) => index,
+            ReadRequest::Image(_, _) => 0,
+            ReadRequest::Chunk(_, index, _) => index,
         }
     }
 }
@@ -156,53 +156,53 @@ impl Portion {
 impl PageReader<'_> {
     // Room for the samples of an image or a chunk in so many bytes, if these are within the limit, and no fault of its first
     // chunk is found before memory is taken.
-    fn room<R: Source, T: Number<N>, const N: usize>(
+    fn allocate_output<R: Source, T: Number<N>, const N: usize>(
         &self,
         source: &mut R,
-        portion: Portion,
+        request: ReadRequest,
         sample_type: DecodingSampleType,
         len: usize,
     ) -> TiffResult<Vec<T>>
         requires { 0 < N }
         ensures kept { IsKept R.told R.failures result source.old source.new }
         ensures answer { AnswersSparingly (λ _. tt) result (early_fault (R.told source.old).bytes (view.page self.now.page.now)
-            self.now.limits.now (color_in portion) sample_type (first_in portion) len) (R.failures source.old)
+            self.now.limits.now (color_in request) sample_type (first_in request) len) (R.failures source.old)
             (R.failures source.new) }
-        ensures asked { AsksOnly (ChunkReadable (R.told source.old) (view.page self.now.page.now) (color_in portion) (first_in portion)) result }
+        ensures asked { AsksOnly (ChunkReadable (R.told source.old) (view.page self.now.page.now) (color_in request) (first_in request)) result }
         ensures none { IfOk result (λ v. v.items ≡ []) }
     {
-        samples_fault(self.limits, size_of(sample_type), len)?;
-        self.early_fault(source, portion.color(), portion.first())?;
+        limit_fault(self.limits, size_of(sample_type), len)?;
+        self.early_fault(source, request.color(), request.first())?;
         Ok(Vec::with_capacity(self.alloc, len.div_ceil(N))?)
     }
 
     // Reads an image or a chunk into a list that holds nothing, which becomes so many bytes long, in whole items.
-    fn fill<R: Source, T, W: RowWriter<T>>(
+    fn fill<R: Source, T, W: RowSink<T>>(
         &self,
         source: &mut R,
-        portion: Portion,
+        request: ReadRequest,
         writer: &mut W,
         list: &mut Vec<T>,
         len: usize,
     ) -> TiffResult<()>
-        requires laid { IsLaid (view.page self.now.page.now) portion }
-        requires room { room_of (view.page self.now.page.now) portion ≤ len }
+        requires laid { IsLaid (view.page self.now.page.now) request }
+        requires room { room_of (view.page self.now.page.now) request ≤ len }
         requires none { list.old.items ≡ [] }
         ensures kept { IsKept R.told R.failures result source.old source.new }
         ensures answer { Answers (λ _. W.bytes list.new.items) result (fill_buffer (R.told source.old).bytes self.now.order
-            (view.page self.now.page.now) self.now.limits.now (color_in portion)
-            (part_of (R.told source.old).bytes self.now.order (view.page self.now.page.now) portion) (replicate (W.whole len) 0))
+            (view.page self.now.page.now) self.now.limits.now (color_in request)
+            (part_of (R.told source.old).bytes self.now.order (view.page self.now.page.now) request) (replicate (W.whole len) 0))
             (R.failures source.old) (R.failures source.new) }
-        ensures asked { AsksOnly (PartReadable (R.told source.old) (view.page self.now.page.now) (color_in portion) (part_of (R.told source.old).bytes self.now.order
-            (view.page self.now.page.now) portion)) result }
+        ensures asked { AsksOnly (PartReadable (R.told source.old) (view.page self.now.page.now) (color_in request) (part_of (R.told source.old).bytes self.now.order
+            (view.page self.now.page.now) request)) result }
     {
-        match portion {
-            Portion::Image(layout, planes) => {
-                let part = ImagePart { layout, planes };
+        match request {
+            ReadRequest::Image(layout, planes) => {
+                let part = ImagePlanes { layout, planes };
                 self.grow_image(source, part, writer, list, len)
             }
-            Portion::Chunk(color, index, stride) => {
-                let unit = UnitPart {
+            ReadRequest::Chunk(color, index, stride) => {
+                let unit = UnitRequest {
                     color,
                     index,
                     planes: 1,
@@ -214,113 +214,118 @@ impl PageReader<'_> {
     }
 
     // The bytes of an image or a chunk whose samples are bytes.
-    fn bytes_of<R: Source>(
+    fn read_bytes<R: Source>(
         &self,
         source: &mut R,
-        portion: Portion,
+        request: ReadRequest,
         len: usize,
     ) -> TiffResult<Vec<u8>>
-        requires laid { IsLaid (view.page self.now.page.now) portion }
-        requires room { room_of (view.page self.now.page.now) portion ≤ len }
+        requires laid { IsLaid (view.page self.now.page.now) request }
+        requires room { room_of (view.page self.now.page.now) request ≤ len }
         requires typed { layouts.sample_type_of (view.page self.now.page.now) ≡ Ok type.U8 }
         ensures kept { IsKept R.told R.failures result source.old source.new }
         ensures memory { WantsAfter (early_fault (R.told source.old).bytes (view.page self.now.page.now) self.now.limits.now
-            (color_in portion) type.U8 (first_in portion) len) result }
+            (color_in request) type.U8 (first_in request) len) result }
         ensures answer { Answers (λ v. record { sample_type = type.U8; numbers = v.items }) result
             (calls.samples (R.told source.old).bytes self.now.order (view.page self.now.page.now) self.now.limits.now
-            (color_in portion) (part_of (R.told source.old).bytes self.now.order (view.page self.now.page.now) portion) len)
+            (color_in request) (part_of (R.told source.old).bytes self.now.order (view.page self.now.page.now) request) len)
             (R.failures source.old) (R.failures source.new) }
-        ensures asked { AsksOnly (PartReadable (R.told source.old) (view.page self.now.page.now) (color_in portion) (part_of (R.told source.old).bytes self.now.order
-            (view.page self.now.page.now) portion)) result }
+        ensures asked { AsksOnly (PartReadable (R.told source.old) (view.page self.now.page.now) (color_in request) (part_of (R.told source.old).bytes self.now.order
+            (view.page self.now.page.now) request)) result }
     {
-        let mut bytes: Vec<u8> = self.room(source, portion, DecodingSampleType::U8, len)?;
-        let mut writer = InPlace::new(self.alloc);
-        self.fill(source, portion, &mut writer, &mut bytes, len)?;
+        let mut bytes: Vec<u8> = self.allocate_output(
+            source,
+            request,
+            DecodingSampleType::U8,
+            len,
+        )?;
+        let mut writer = ByteRows::new(self.alloc);
+        self.fill(source, request, &mut writer, &mut bytes, len)?;
         Ok(bytes)
     }
 
     // The numbers of an image or a chunk whose samples are of a number type.
-    #[tactic(auto, using(crate::proofs::Portions::portion_early, crate::proofs::Portions::numbers_given, crate::proofs::Portions::filling_cause))]
-    fn numbers_of<R: Source, T: Number<N>, const N: usize>(
+    #[tactic(auto, using(crate::proofs::Requests::portion_early, crate::proofs::Requests::numbers_given, crate::proofs::Requests::filling_cause))]
+    fn read_typed<R: Source, T: Number<N>, const N: usize>(
         &self,
         source: &mut R,
-        portion: Portion,
+        request: ReadRequest,
         sample_type: DecodingSampleType,
         len: usize,
     ) -> TiffResult<Vec<T>>
         requires some { 0 < N }
-        requires laid { IsLaid (view.page self.now.page.now) portion }
-        requires room { room_of (view.page self.now.page.now) portion ≤ len }
+        requires laid { IsLaid (view.page self.now.page.now) request }
+        requires room { room_of (view.page self.now.page.now) request ≤ len }
         requires typed { layouts.sample_type_of (view.page self.now.page.now) ≡ Ok sample_type }
         requires size { layouts.size_of sample_type ≡ N }
         ensures kept { IsKept R.told R.failures result source.old source.new }
         ensures memory { WantsAfter (early_fault (R.told source.old).bytes (view.page self.now.page.now) self.now.limits.now
-            (color_in portion) sample_type (first_in portion) len) result }
+            (color_in request) sample_type (first_in request) len) result }
         ensures answer { Answers (λ v. record { sample_type = sample_type; numbers = map T.bits v.items }) result
             (calls.samples (R.told source.old).bytes self.now.order (view.page self.now.page.now) self.now.limits.now
-            (color_in portion) (part_of (R.told source.old).bytes self.now.order (view.page self.now.page.now) portion) len)
+            (color_in request) (part_of (R.told source.old).bytes self.now.order (view.page self.now.page.now) request) len)
             (R.failures source.old) (R.failures source.new) }
-        ensures asked { AsksOnly (PartReadable (R.told source.old) (view.page self.now.page.now) (color_in portion) (part_of (R.told source.old).bytes self.now.order
-            (view.page self.now.page.now) portion)) result }
+        ensures asked { AsksOnly (PartReadable (R.told source.old) (view.page self.now.page.now) (color_in request) (part_of (R.told source.old).bytes self.now.order
+            (view.page self.now.page.now) request)) result }
     {
-        let mut numbers: Vec<T> = self.room(source, portion, sample_type, len)?;
-        let mut writer = NumberRoom::<N>::new(self.alloc);
-        self.fill(source, portion, &mut writer, &mut numbers, len)?;
+        let mut numbers: Vec<T> = self.allocate_output(source, request, sample_type, len)?;
+        let mut writer = TypedRows::<N>::new(self.alloc);
+        self.fill(source, request, &mut writer, &mut numbers, len)?;
         Ok(numbers)
     }
 
     // The samples of an image or a chunk, in so many bytes.
     #[tactic(auto, unfolding(crate::specs::PixelCalls::samples))]
-    fn samples_of<R: Source>(
+    fn read_samples<R: Source>(
         &self,
         source: &mut R,
-        portion: Portion,
+        request: ReadRequest,
         len: usize,
     ) -> TiffResult<Samples>
-        requires laid { IsLaid (view.page self.now.page.now) portion }
-        requires room { room_of (view.page self.now.page.now) portion ≤ len }
+        requires laid { IsLaid (view.page self.now.page.now) request }
+        requires room { room_of (view.page self.now.page.now) request ≤ len }
         ensures kept { IsKept R.told R.failures result source.old source.new }
         ensures memory { WantsAfter (samples_early (R.told source.old).bytes (view.page self.now.page.now) self.now.limits.now
-            (color_in portion) (first_in portion) len) result }
+            (color_in request) (first_in request) len) result }
         ensures answer { Answers samples_as result (calls.samples (R.told source.old).bytes self.now.order
-            (view.page self.now.page.now) self.now.limits.now (color_in portion)
-            (part_of (R.told source.old).bytes self.now.order (view.page self.now.page.now) portion) len) (R.failures source.old)
+            (view.page self.now.page.now) self.now.limits.now (color_in request)
+            (part_of (R.told source.old).bytes self.now.order (view.page self.now.page.now) request) len) (R.failures source.old)
             (R.failures source.new) }
-        ensures asked { AsksOnly (PartReadable (R.told source.old) (view.page self.now.page.now) (color_in portion) (part_of (R.told source.old).bytes self.now.order
-            (view.page self.now.page.now) portion)) result }
+        ensures asked { AsksOnly (PartReadable (R.told source.old) (view.page self.now.page.now) (color_in request) (part_of (R.told source.old).bytes self.now.order
+            (view.page self.now.page.now) request)) result }
     {
         let sample_type = sample_type_of(self.page, self.alloc)?;
         match sample_type {
-            DecodingSampleType::U8 => self.bytes_of(source, portion, len).map(Samples::U8),
+            DecodingSampleType::U8 => self.read_bytes(source, request, len).map(Samples::U8),
             DecodingSampleType::U16 => self
-                .numbers_of(source, portion, sample_type, len)
+                .read_typed(source, request, sample_type, len)
                 .map(Samples::U16),
             DecodingSampleType::U32 => self
-                .numbers_of(source, portion, sample_type, len)
+                .read_typed(source, request, sample_type, len)
                 .map(Samples::U32),
             DecodingSampleType::U64 => self
-                .numbers_of(source, portion, sample_type, len)
+                .read_typed(source, request, sample_type, len)
                 .map(Samples::U64),
             DecodingSampleType::F16 => self
-                .numbers_of(source, portion, sample_type, len)
+                .read_typed(source, request, sample_type, len)
                 .map(Samples::F16),
             DecodingSampleType::F32 => self
-                .numbers_of(source, portion, sample_type, len)
+                .read_typed(source, request, sample_type, len)
                 .map(Samples::F32),
             DecodingSampleType::F64 => self
-                .numbers_of(source, portion, sample_type, len)
+                .read_typed(source, request, sample_type, len)
                 .map(Samples::F64),
             DecodingSampleType::I8 => self
-                .numbers_of(source, portion, sample_type, len)
+                .read_typed(source, request, sample_type, len)
                 .map(Samples::I8),
             DecodingSampleType::I16 => self
-                .numbers_of(source, portion, sample_type, len)
+                .read_typed(source, request, sample_type, len)
                 .map(Samples::I16),
             DecodingSampleType::I32 => self
-                .numbers_of(source, portion, sample_type, len)
+                .read_typed(source, request, sample_type, len)
                 .map(Samples::I32),
             DecodingSampleType::I64 => self
-                .numbers_of(source, portion, sample_type, len)
+                .read_typed(source, request, sample_type, len)
                 .map(Samples::I64),
         }
     }
@@ -348,8 +353,8 @@ pub fn read_image<R: Source>(
         limits,
     };
     let layout = planes_layout(page, alloc, page.width, page.height)?;
-    let portion = Portion::Image(layout, 1);
-    reader.samples_of(source, portion, layout.plane_stride)
+    let request = ReadRequest::Image(layout, 1);
+    reader.read_samples(source, request, layout.plane_stride)
 }
 
 /// The samples of all planes of an image, or of the first one where all aren't within `decoding_buffer_size`, with the layout
@@ -379,8 +384,8 @@ pub fn read_image_to_buffer<R: Source>(
     let preference = all_planes(page, layout);
     let planes = planes_within(page, limits, layout);
     let len = layout.plane_stride * usize::from(planes);
-    let portion = Portion::Image(layout, planes);
-    let samples = reader.samples_of(source, portion, len)?;
+    let request = ReadRequest::Image(layout, planes);
+    let samples = reader.read_samples(source, request, len)?;
     Ok((preference, samples))
 }
 
@@ -411,8 +416,8 @@ pub fn read_image_bytes<R: Source>(
     room_fault(buf.len(), layout.plane_stride)?;
     let planes = planes_used(page, layout, buf.len());
     form_fault(page, limits, layout.color, 0)?;
-    let part = ImagePart { layout, planes };
-    reader.fill_image(source, part, &mut InPlace::new(alloc), buf)
+    let part = ImagePlanes { layout, planes };
+    reader.fill_image(source, part, &mut ByteRows::new(alloc), buf)
 }
 
 /// The samples of a chunk, in rows of its own width in the image. An index past the list of chunks:
@@ -439,8 +444,8 @@ pub fn read_chunk<R: Source>(
         limits,
     };
     let layout = chunk_layout(page, alloc, index)?;
-    let portion = Portion::Chunk(layout.color, index, layout.row_bytes);
-    reader.samples_of(source, portion, layout.plane_stride)
+    let request = ReadRequest::Chunk(layout.color, index, layout.row_bytes);
+    reader.read_samples(source, request, layout.plane_stride)
 }
 
 /// Reads a chunk into a slice, in rows of its own width in the image; bytes behind them stay. Less room than its bytes:
@@ -470,13 +475,13 @@ pub fn read_chunk_bytes<R: Source>(
     let layout = chunk_layout(page, alloc, index)?;
     room_fault(buf.len(), layout.plane_stride)?;
     form_fault(page, limits, layout.color, index as usize)?;
-    let unit = UnitPart {
+    let unit = UnitRequest {
         color: layout.color,
         index,
         planes: 1,
         stride: layout.row_bytes,
     };
-    reader.fill_unit(source, unit, &mut InPlace::new(alloc), buf)
+    reader.fill_unit(source, unit, &mut ByteRows::new(alloc), buf)
 }
 
 /// The samples of a chunk, its rows `stride` bytes apart, with zeros between them. A stride below the bytes of a row:
@@ -506,10 +511,10 @@ pub fn read_chunk_to_buffer<R: Source>(
     };
     let layout = chunk_layout(page, alloc, index)?;
     stride_fault(stride, layout.row_bytes)?;
-    wide_product(stride, page.chunk_height as usize)?;
+    checked_byte_count(stride, page.chunk_height as usize)?;
     let len = rows_len(page, index, stride);
-    let portion = Portion::Chunk(layout.color, index, stride);
-    reader.samples_of(source, portion, len)
+    let request = ReadRequest::Chunk(layout.color, index, stride);
+    reader.read_samples(source, request, len)
 }
 
 /// Reads the chunk of each plane of a coding unit into a slice, as many as it takes whole, one behind the other; bytes behind
@@ -542,11 +547,11 @@ pub fn read_coding_unit_bytes<R: Source>(
     room_fault(buf.len(), layout.plane_stride)?;
     let planes = planes_used(page, layout, buf.len());
     form_fault(page, limits, layout.color, unit as usize)?;
-    let unit = UnitPart {
+    let unit = UnitRequest {
         color: layout.color,
         index: unit,
         planes,
         stride: layout.row_bytes,
     };
-    reader.fill_unit(source, unit, &mut InPlace::new(alloc), buf)
+    reader.fill_unit(source, unit, &mut ByteRows::new(alloc), buf)
 }

@@ -3,7 +3,7 @@
 ghost use Rattle.std.specs.Prelude.{◌≡◌, ℕ, ◌+◌, ◌-◌, ◌*◌, ◌/◌, ◌%◌, ◌<◌, ◌≤◌, length, slice_index, EachIndex};
 ghost use Rattle.tiff_base.specs.declared.tags.ByteOrder.TheVariants.{LittleEndian, BigEndian};
 ghost use Rattle.tiff_page.specs.Pixels.{summed_number, joined_number};
-ghost use Rattle.tiff_page.specs.Row.{IsSize, Became, AddsNumber, TurnsNumber, TurnsNumbers};
+ghost use Rattle.tiff_page.specs.Row.{IsSize, RowReplaced, AddsNumber, TurnsNumber, TurnsNumbers};
 
 use std::simd::prelude::*;
 use tiff_base::read::{u16_in, u32_in, u64_in};
@@ -76,7 +76,7 @@ fn turn_u64s(row: &[u8], out: &mut [u8])
 
 /// Puts the big-endian numbers of a row, of `size` bytes each, into `out` as little-endian ones. What stands there behind the
 /// last whole number is open.
-pub fn turn_numbers(row: &[u8], size: usize, out: &mut [u8])
+pub fn to_little_endian(row: &[u8], size: usize, out: &mut [u8])
     requires size { IsSize size }
     requires out { length out.old ≡ length row.now }
     ensures { TurnsNumbers size row.now out.new }
@@ -156,7 +156,7 @@ fn add_number(row: &mut [u8], from: usize, to: usize, size: usize)
 fn sum_numbers(row: &mut [u8], size: usize, stored: usize)
     requires size { IsSize size }
     requires stored { 0 < stored }
-    ensures { Became size (summed_number LittleEndian size stored row.old) row.old row.new }
+    ensures { RowReplaced size (summed_number LittleEndian size stored row.old) row.old row.new }
 {
     let count = row.len() / size;
     for k in stored..count {
@@ -183,7 +183,7 @@ fn sum_pixel<const N: usize>(last: &mut [u8; N], pixel: &mut [u8])
 fn sum_pixels<const N: usize>(row: &mut [u8])
     requires some { 0 < N }
     requires whole { length row.old / N * N ≡ length row.old }
-    ensures { Became 1 (summed_number LittleEndian 1 N row.old) row.old row.new }
+    ensures { RowReplaced 1 (summed_number LittleEndian 1 N row.old) row.old row.new }
 {
     let mut last = [0; N];
     for k in 0..row.len() / N {
@@ -196,7 +196,7 @@ fn sum_pixels<const N: usize>(row: &mut [u8])
 pub fn undo_horizontal(row: &mut [u8], size: usize, stored: usize)
     requires size { IsSize size }
     requires stored { 0 < stored }
-    ensures { Became size (summed_number LittleEndian size stored row.old) row.old row.new }
+    ensures { RowReplaced size (summed_number LittleEndian size stored row.old) row.old row.new }
 {
     match (size, stored) {
         (1, 1) => sum_numbers(row, 1, 1),
@@ -256,12 +256,12 @@ fn join_planes(planes: &[u8], size: usize, row: &mut [u8])
 
 /// Undoes the byte-plane predictor over a row of numbers of `size` bytes, of which a pixel has `stored`, into little-endian
 /// ones. `room` has the row's length; what stands there afterwards is open.
-pub fn undo_byte_plane(row: &mut [u8], room: &mut [u8], size: usize, stored: usize)
+pub fn undo_float_predictor(row: &mut [u8], room: &mut [u8], size: usize, stored: usize)
     requires size { IsSize size }
     requires stored { 0 < stored }
     requires whole { length row.old / size * size ≡ length row.old }
     requires room { length room.old ≡ length row.old }
-    ensures { Became size (joined_number size stored (length row.old / size) row.old) row.old row.new }
+    ensures { RowReplaced size (joined_number size stored (length row.old / size) row.old) row.old row.new }
 {
     undo_horizontal(row, 1, stored);
     room.copy_from_slice(row);

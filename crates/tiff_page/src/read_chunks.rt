@@ -11,11 +11,11 @@ ghost use Rattle.tiff_page.specs.Reach.{PartReadable};
 ghost use Rattle.tiff_page.specs.Rect.{rect, chunks_of_plane};
 ghost use Rattle.tiff_page.specs.PageView as view;
 
-use crate::chunk_rows::{ChunkReader, Corner};
+use crate::chunk_rows::{ChunkReader, Destination};
 use crate::faults::form_fault;
 use crate::layout::{PlaneLayout, chunk_data_dimensions, chunks_of_plane, rect, row_bits};
 use crate::page::Page;
-use crate::writer::RowWriter;
+use crate::writer::RowSink;
 use std::alloc::Global;
 use tiff_base::color::ColorType;
 use tiff_base::error::TiffResult;
@@ -34,21 +34,21 @@ pub struct PageReader<'a> {
 
 /// So many planes of an image, by its layout.
 #[derive(Clone, Copy, Debug)]
-pub struct ImagePart {
+pub struct ImagePlanes {
     pub layout: PlaneLayout,
     pub planes: u16,
 }
 
 // The chunk of each plane of a part of an image.
 #[derive(Clone, Copy, Debug)]
-struct ImageChunk {
-    part: ImagePart,
+struct ChunkRequest {
+    part: ImagePlanes,
     chunk: u32,
 }
 
 /// A chunk in a color, or that of each of so many planes, its rows so many bytes apart.
 #[derive(Clone, Copy, Debug)]
-pub struct UnitPart {
+pub struct UnitRequest {
     pub color: ColorType,
     pub index: u32,
     pub planes: u16,
@@ -56,7 +56,7 @@ pub struct UnitPart {
 }
 
 // Where a chunk of a plane goes in a buffer of the planes of an image.
-fn image_corner(page: &Page, layout: PlaneLayout, plane: u16, chunk: u32) -> Corner
+fn image_destination(page: &Page, layout: PlaneLayout, plane: u16, chunk: u32) -> Destination
     requires { chunk < chunks_of_plane (view.page page.now) }
     ensures top { result.top ≡ top_of (view.page page.now) layout.color layout.row_bytes plane chunk }
     ensures left { result.left ≡ left_of (view.page page.now) layout.color layout.row_bytes plane chunk }
@@ -64,7 +64,7 @@ fn image_corner(page: &Page, layout: PlaneLayout, plane: u16, chunk: u32) -> Cor
 {
     let rect = rect(page, chunk);
     let height = page.height as usize;
-    Corner {
+    Destination {
         top: usize::from(plane) * height + rect.y as usize,
         left: row_bits(page, layout.color, rect.x as u32) / 8,
         stride: layout.row_bytes,
@@ -72,7 +72,7 @@ fn image_corner(page: &Page, layout: PlaneLayout, plane: u16, chunk: u32) -> Cor
 }
 
 // So many bytes from a buffer's first on hold the rows of a chunk of an image in one plane, or all planes of it.
-fn bytes_up_to(page: &Page, part: ImagePart, chunk: u32) -> usize
+fn bytes_up_to(page: &Page, part: ImagePlanes, chunk: u32) -> usize
     requires laid { layout_of (view.page page.now) page.now.width page.now.height ≡ Ok
         (record { color = part.layout.color; row_bytes = part.layout.row_bytes; plane_stride = part.layout.plane_stride }) }
     requires few { part.planes * part.layout.plane_stride < 2 ^ 64 }
@@ -90,10 +90,10 @@ fn bytes_up_to(page: &Page, part: ImagePart, chunk: u32) -> usize
 
 impl PageReader<'_> {
     // Reads a chunk of an image in all planes that are asked for.
-    fn fill_chunk<R: Source, T, W: RowWriter<T>>(
+    fn fill_chunk<R: Source, T, W: RowSink<T>>(
         &self,
         source: &mut R,
-        next: ImageChunk,
+        next: ChunkRequest,
         writer: &mut W,
         buf: &mut [T],
     ) -> TiffResult<()>
@@ -122,7 +122,7 @@ impl PageReader<'_> {
         for plane in 0..next.part.planes {
             let index = usize::from(plane) * chunks + next.chunk as usize;
             form_fault(page, self.limits, layout.color, index)?;
-            let corner = image_corner(page, layout, plane, next.chunk);
+            let destination = image_destination(page, layout, plane, next.chunk);
             let (width, height) = chunk_data_dimensions(page, index as u32);
             let reader = ChunkReader {
                 page,
@@ -132,17 +132,17 @@ impl PageReader<'_> {
                 width,
                 height,
             };
-            reader.read_rows(source, corner, writer, buf)?;
+            reader.read_rows(source, destination, writer, buf)?;
         }
         Ok(())
     }
 
     /// Reads all chunks of an image into the bytes of a list, in so many planes one behind the other, or answers the first
     /// fault: of the first chunk, and in it of the first plane, that has one.
-    pub(crate) fn fill_image<R: Source, T, W: RowWriter<T>>(
+    pub(crate) fn fill_image<R: Source, T, W: RowSink<T>>(
         &self,
         source: &mut R,
-        part: ImagePart,
+        part: ImagePlanes,
         writer: &mut W,
         buf: &mut [T],
     ) -> TiffResult<()>
@@ -160,17 +160,17 @@ impl PageReader<'_> {
             part.planes part.layout.row_bytes)) result }
     {
         for chunk in 0..chunks_of_plane(self.page) {
-            self.fill_chunk(source, ImageChunk { part, chunk }, writer, buf)?;
+            self.fill_chunk(source, ChunkRequest { part, chunk }, writer, buf)?;
         }
         Ok(())
     }
 
     /// The same of a list that holds nothing, which becomes so many bytes long, in whole items: it grows by zeros before each chunk,
     /// and behind the last.
-    pub(crate) fn grow_image<R: Source, T, W: RowWriter<T>>(
+    pub(crate) fn grow_image<R: Source, T, W: RowSink<T>>(
         &self,
         source: &mut R,
-        part: ImagePart,
+        part: ImagePlanes,
         writer: &mut W,
         list: &mut Vec<T>,
         len: usize,
@@ -190,7 +190,7 @@ impl PageReader<'_> {
     {
         for chunk in 0..chunks_of_plane(self.page) {
             W::grow(list, bytes_up_to(self.page, part, chunk))?;
-            self.fill_chunk(source, ImageChunk { part, chunk }, writer, list)?;
+            self.fill_chunk(source, ChunkRequest { part, chunk }, writer, list)?;
         }
         W::grow(list, len)?;
         Ok(())
@@ -198,10 +198,10 @@ impl PageReader<'_> {
 
     /// Reads a chunk into the bytes of a list, its rows a stride apart, or that of each of so many planes one behind the
     /// other; or answers the first fault.
-    pub(crate) fn fill_unit<R: Source, T, W: RowWriter<T>>(
+    pub(crate) fn fill_unit<R: Source, T, W: RowSink<T>>(
         &self,
         source: &mut R,
-        unit: UnitPart,
+        unit: UnitRequest,
         writer: &mut W,
         buf: &mut [T],
     ) -> TiffResult<()>
@@ -227,7 +227,7 @@ impl PageReader<'_> {
         for plane in 0..unit.planes {
             let index = usize::from(plane) * chunks + unit.index as usize;
             form_fault(page, self.limits, unit.color, index)?;
-            let corner = Corner {
+            let destination = Destination {
                 top: usize::from(plane) * rows as usize,
                 left: 0,
                 stride: unit.stride,
@@ -241,16 +241,16 @@ impl PageReader<'_> {
                 width,
                 height,
             };
-            reader.read_rows(source, corner, writer, buf)?;
+            reader.read_rows(source, destination, writer, buf)?;
         }
         Ok(())
     }
 
     /// The same of a list that holds nothing, which becomes so many bytes long, in whole items.
-    pub(crate) fn grow_unit<R: Source, T, W: RowWriter<T>>(
+    pub(crate) fn grow_unit<R: Source, T, W: RowSink<T>>(
         &self,
         source: &mut R,
-        unit: UnitPart,
+        unit: UnitRequest,
         writer: &mut W,
         list: &mut Vec<T>,
         len: usize,

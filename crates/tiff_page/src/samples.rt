@@ -22,7 +22,7 @@ pub enum Samples {
 
 /// What samples are read of.
 #[derive(Clone, Copy, Debug)]
-pub enum Portion {
+pub enum ReadRequest {
     /// An image of a layout, in so many planes.
     Image(PlaneLayout, u16),
     /// A chunk in a color, by its index, its rows so many bytes apart.

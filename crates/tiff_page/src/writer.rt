@@ -11,15 +11,15 @@ ghost use Rattle.tiff_page.specs.RowReads.{RowPut};
 ghost use Rattle.tiff_page.specs.Reach.{StoredReadable, Moves};
 ghost use Rattle.tiff_page.specs.PageView as view;
 
-use crate::chunk_data::Stored;
-use crate::chunk_rows::{ChunkReader, NextBytes, RowRoom};
+use crate::chunk_data::ChunkCursor;
+use crate::chunk_rows::{ChunkReader, RowScratch, RowSlot};
 use crate::numbers::{Number, grow, put_row};
 use std::alloc::{AllocError, Global};
 use tiff_base::error::TiffResult;
 use tiff_base::io::Source;
 
 /// How the rows of chunks go into a list, which is seen as bytes.
-pub trait RowWriter<T> {
+pub trait RowSink<T> {
     /// The bytes of a list.
     ghost bytes: { List T → List ℕ };
 
@@ -31,9 +31,9 @@ pub trait RowWriter<T> {
         &mut self,
         source: &mut R,
         reader: &ChunkReader<'_>,
-        next: NextBytes,
+        next: RowSlot,
         out: &mut [T],
-    ) -> TiffResult<Stored>
+    ) -> TiffResult<ChunkCursor>
         requires read { IsRead (view.page reader.now.page.now) reader.now.color }
         requires width { reader.now.width ≤ reader.now.page.now.chunk_width }
         requires len { next.len ≡ row_bytes (view.page reader.now.page.now) reader.now.color reader.now.width }
@@ -53,9 +53,9 @@ pub trait RowWriter<T> {
         &mut self,
         source: &mut R,
         reader: &ChunkReader<'_>,
-        next: NextBytes,
+        next: RowSlot,
         out: &mut [T],
-    ) -> TiffResult<Stored>
+    ) -> TiffResult<ChunkCursor>
         requires read { IsRead (view.page reader.now.page.now) reader.now.color }
         requires in_place { needs_whole_rows (view.page reader.now.page.now) reader.now.color ≡ false }
         requires whole { (reader.now.page.now.depth < 8)
@@ -84,20 +84,20 @@ pub trait RowWriter<T> {
 
 /// Rows are read into the position of a list of bytes where they stand.
 #[derive(Drop)]
-pub struct InPlace {
-    room: RowRoom,
+pub struct ByteRows {
+    room: RowScratch,
 }
 
-impl InPlace {
+impl ByteRows {
     /// No room yet.
     pub fn new(alloc: Global) -> Self {
-        InPlace {
-            room: RowRoom::new(alloc),
+        ByteRows {
+            room: RowScratch::new(alloc),
         }
     }
 }
 
-impl RowWriter<u8> for InPlace {
+impl RowSink<u8> for ByteRows {
     ghost bytes = { λ bytes. bytes };
 
     ghost whole = { λ n. n };
@@ -107,9 +107,9 @@ impl RowWriter<u8> for InPlace {
         &mut self,
         source: &mut R,
         reader: &ChunkReader<'_>,
-        next: NextBytes,
+        next: RowSlot,
         out: &mut [u8],
-    ) -> TiffResult<Stored> {
+    ) -> TiffResult<ChunkCursor> {
         let row = &mut out[next.at..next.at + next.len];
         reader.read_row(source, next.position, &mut self.room, row)
     }
@@ -119,11 +119,11 @@ impl RowWriter<u8> for InPlace {
         &mut self,
         source: &mut R,
         reader: &ChunkReader<'_>,
-        next: NextBytes,
+        next: RowSlot,
         out: &mut [u8],
-    ) -> TiffResult<Stored> {
+    ) -> TiffResult<ChunkCursor> {
         let row = &mut out[next.at..next.at + next.len];
-        reader.read_handed(source, next.position, &mut self.room, row)
+        reader.read_finished(source, next.position, &mut self.room, row)
     }
 
     #[tactic(auto, using(crate::proofs::NumberBytes::plain_zeros_behind))]
@@ -140,22 +140,22 @@ impl RowWriter<u8> for InPlace {
 
 /// Rows are read into a room, and their numbers are put from there into a list.
 #[derive(Drop)]
-pub struct NumberRoom<const N: usize> {
+pub struct TypedRows<const N: usize> {
     row: Vec<u8>,
-    room: RowRoom,
+    room: RowScratch,
 }
 
-impl<const N: usize> NumberRoom<N> {
+impl<const N: usize> TypedRows<N> {
     /// No room yet.
     pub fn new(alloc: Global) -> Self {
-        NumberRoom {
+        TypedRows {
             row: Vec::new(alloc),
-            room: RowRoom::new(alloc),
+            room: RowScratch::new(alloc),
         }
     }
 }
 
-impl<T: Number<N>, const N: usize> RowWriter<T> for NumberRoom<N> {
+impl<T: Number<N>, const N: usize> RowSink<T> for TypedRows<N> {
     ghost use Rattle.tiff_page.specs.NumberBytes.{no_bytes, same_bytes, whole_enough};
 
     ghost bytes = { λ numbers. bytes_in N (map T.bits numbers) };
@@ -167,9 +167,9 @@ impl<T: Number<N>, const N: usize> RowWriter<T> for NumberRoom<N> {
         &mut self,
         source: &mut R,
         reader: &ChunkReader<'_>,
-        next: NextBytes,
+        next: RowSlot,
         out: &mut [T],
-    ) -> TiffResult<Stored> {
+    ) -> TiffResult<ChunkCursor> {
         self.row.resize(next.len, 0)?;
         let rest = reader.read_row(source, next.position, &mut self.room, &mut self.row)?;
         put_row(out, next.at, &self.row);
@@ -181,11 +181,11 @@ impl<T: Number<N>, const N: usize> RowWriter<T> for NumberRoom<N> {
         &mut self,
         source: &mut R,
         reader: &ChunkReader<'_>,
-        next: NextBytes,
+        next: RowSlot,
         out: &mut [T],
-    ) -> TiffResult<Stored> {
+    ) -> TiffResult<ChunkCursor> {
         self.row.resize(next.len, 0)?;
-        let rest = reader.read_handed(source, next.position, &mut self.room, &mut self.row)?;
+        let rest = reader.read_finished(source, next.position, &mut self.room, &mut self.row)?;
         put_row(out, next.at, &self.row);
         Ok(rest)
     }

@@ -20,14 +20,15 @@ use Rattle.tiff_pages.specs.Pages.{HasItsPage, IsOfFile, WasOnItsWay, facts_at, 
 abbrev Answer : Type 0
 Answer = Result (Unit {0}) TiffError
 
--- Pages were listed up to the one at which the decoder stands, to which it came by a seek and by going on.
+-- Pages were listed up to the one at which the decoder is, to which it came by a seek and by going
+-- on.
 pub record ListsAlong (start d : Decoding) (items : List PageItem) : Type 0 where
   pub listed : ListedAlong (item_at start) start d items
   pub state : d ≡ record start { state = state_along start listed.number }
 
--- ---- answers
+-- ---- results
 
--- an answer of the file is the one that is given
+-- A result that comes from the file is the given one.
 of_file : (wanting : Type 0) (o : Outcome (Unit {0})) (r : Answer) (old new : Decoding) → IsOfFile r → FollowsBut wanting (λ x. x) o r old new → GivesOutcome r o old new
 of_file wanting o (Ok u) old new k h = h
 of_file wanting o (Err OutOfMemory) old new k h = absurd (cc)
@@ -42,7 +43,7 @@ of_file wanting o (Err LimitsExceeded) old new k h = h
 of_file wanting o (Err IntSizeError) old new k h = h
 of_file wanting o (Err (UsageError x)) old new k h = h
 
--- any other leaves the decoder where it stood
+-- Any other result leaves the decoder where it was.
 kept_by : (wanting : Type 0) (o : Outcome (Unit {0})) (e : TiffError) (old new : Decoding) → keeps_state e ≡ true → FollowsBut {X = Unit {0}} wanting (λ x. x) o (Err e) old new
     → new.state ≡ old.state
 kept_by wanting o OutOfMemory old new k h = ap (λ (d : Decoding). d.state) h.1
@@ -63,13 +64,13 @@ kept_state wanting o r e old new k h =
     let P : Answer → Type 0 = λ x. FollowsBut wanting (λ y. y) o x old new in
     kept_by wanting o e old new k.1 (subst P k.0 h)
 
--- ---- where it is
+-- ---- where the decoder is
 
 -- The decoder has a pointer.
 pub some_pointer : (start d : Decoding) (n : ℕ) (answer : Answer) → Arrives start n answer d → IsSome d.state.pointer
 some_pointer start d n answer a = ap is_some a.along.pointer
 
--- Its page is that of its directory.
+-- The page of a decoder is that of its directory.
 pub has_page : (start d : Decoding) (n : ℕ) (answer : Answer) → Arrives start n answer d → OnOk answer (HasItsPage d)
 has_page start d n (Ok u) a =
     let s = a.along.same in
@@ -81,7 +82,7 @@ within_end : (n len : ℕ) (end : Option TiffError) → n < len → n ≤ times_
 within_end n len None h = omega (arith, h)
 within_end n len (Some e) h = omega (arith, h)
 
--- It is on its way.
+-- The decoder is on its way along the chain.
 pub on_its_way : (start d : Decoding) (n : ℕ) (answer : Answer) (state : State) → IsAlong start n d → state ≡ state_along start n → WasOnItsWay start state
 on_its_way start d n answer state a h =
     let within = slice_get_within (chain_of start).offsets n a.offset a.is_offset in
@@ -98,7 +99,7 @@ facts_by start d offset (Err e) p = sym (ap (λ (r : Result PageRecord TiffError
 place_is : (o : Option IfdPointer) (p q : IfdPointer) → o ≡ Some p → o ≡ Some q → p ≡ q
 place_is o p q h k = ap (λ (x : Option IfdPointer). unwrap_or x p) (sym h ∙ k)
 
--- what was made of a page is its item
+-- What was made of a page is its item.
 item_is : (start d : Decoding) (n : ℕ) (answer : Answer) (a : Arrives start n answer d) (item : PageItem) → d.state.pointer ≡ Some item.place
     → item.page ≡ facts_told answer d.state.page → item ≡ item_at start a.along.offset
 item_is start d n answer a item place page =
@@ -133,7 +134,7 @@ lists_first start mid new entered item none items a s place page n e =
 
 -- ---- the next page
 
--- A decoder that was open went on, and the file gave the answer.
+-- A decoder with more pages went on, and the result came from the file.
 pub record WentOn (start old : Decoding) (items : List PageItem) (l : ListsAlong start old items) (entered : Answer) (new : Decoding) : Type 0 where
   pub went : GoesOn start l.listed.number (slice_get (chain_of start).offsets (suc l.listed.number)) old entered new
   pub state : new ≡ record start { state = state_along start (suc l.listed.number) }
@@ -154,7 +155,7 @@ still_some : (start old new : Decoding) (n : ℕ) (entered : Answer) (next : Opt
 still_some start old new n entered (Some p) a w = some_pointer start new (suc n) entered w
 still_some start old new n entered None a w = ap is_some (ap (λ (d : Decoding). d.state.pointer) w.3 ∙ a.pointer)
 
--- It has a pointer then.
+-- A decoder that went on has a pointer.
 pub some_after : (start old new : Decoding) (items : List PageItem) (l : ListsAlong start old items) (entered : Answer) → WentOn start old items l entered new → IsSome new.state.pointer
 some_after start old new items l entered w = still_some start old new l.listed.number entered (slice_get (chain_of start).offsets (suc l.listed.number)) l.listed.along w.went
 
@@ -185,14 +186,14 @@ apart : (old new : Decoding) (here place : IfdPointer) → old.state.pointer ≡
     → new.state.pointer ≡ old.state.pointer → ⊥
 apart old new here place h p d s = d (ap (λ (x : IfdPointer). x.0) (place_is old.state.pointer place here (sym s ∙ p) h))
 
--- Its pointer stayed: the chain ends by the fault.
+-- The pointer of the decoder stayed: the chain ends by the error.
 pub ended : WalkMoves → (start old new : Decoding) (items : List PageItem) (l : ListsAlong start old items) (entered : Answer) (here place : IfdPointer)
     → WentOn start old items l entered new → old.state.pointer ≡ Some here → new.state.pointer ≡ Some place → Same place here
     → (e : TiffError) × (entered ≡ Err e) × EndsBehind start l.listed.number (Some e)
 ended moves start old new items l entered here place w h p s =
     ended_by start old new l.listed.number entered (slice_get (chain_of start).offsets (suc l.listed.number)) moves l.listed.along w.went (same_pointer old new here place h p s)
 
--- Its pointer moved: it came to the next directory.
+-- The pointer of the decoder moved: it is at the next directory.
 pub moved : (start old new : Decoding) (items : List PageItem) (l : ListsAlong start old items) (entered : Answer) (here place : IfdPointer)
     → WentOn start old items l entered new → old.state.pointer ≡ Some here → new.state.pointer ≡ Some place → (Same place here → ⊥)
     → Arrives start (suc l.listed.number) entered new
@@ -219,7 +220,7 @@ fewer start old new before items item l m e = listed_fewer (item_at start) start
 
 -- ---- the end
 
--- All pages are listed, and the chain ends so.
+-- All pages are listed, and the chain ends by `told`.
 pub all_listed : (start d : Decoding) (items : List PageItem) (l : ListsAlong start d items) (end told : Option TiffError) → EndsBehind start l.listed.number end → told ≡ end
     → record { items = items; end = told } ≡ pages_of start
 all_listed start d items l end told e h =
@@ -227,7 +228,8 @@ all_listed start d items l end told e h =
     let ends = h ∙ sym e.is_end in
     λ i. record { items = all i; end = ends i }
 
--- Where the decoder stands at the end of a chain that ends by none, and by a fault.
+-- Where the decoder is at the end of a chain that ends by no error, and of one that ends by an
+-- error.
 pub stands_last : (start d : Decoding) (items : List PageItem) (l : ListsAlong start d items) → EndsBehind start l.listed.number None
     → d ≡ record start { state = state_along start (times_to_end start) }
 stands_last start d items l e =

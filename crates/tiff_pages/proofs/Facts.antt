@@ -1,4 +1,4 @@
--- The facts of a page, as a decoder tells them.
+-- The facts of a page, as a decoder returns them.
 use Rattle.std.proofs.Common.{◌≡◌, ℕ, ◌<◌, ◌≤◌, Option, None, Some, Result, Ok, Err, refl, ap, sym, ◌∙◌}
 use Rattle.std.specs.Prelude.{option_map, unwrap_or}
 use Rattle.tiff_base.specs.declared.error.TiffError.{TiffError}
@@ -30,7 +30,7 @@ method_told : (d : Decoding) → PageHasMethod → HasItsPage d → method_by (f
 unfolding find_tag method_in find
 method_told d law h = law (page_tags d) d.state.page h
 
--- only reading, refused for no fault of the file
+-- A call only reads, and its error is not one of the file.
 only_reads : {X : Type 0} (d new : Decoding) (e : TiffError) → new ≡ record d { failures = new.failures } → d.failures ≤ new.failures
     → IsCause (Unit {0}) (d.failures < new.failures) e ⊥ → OnlyReads {X = X} (Err e) d new
 only_reads d new e kept grew c = record { stays = tt; file = record { stands = kept; failures = grew }; refused = c }
@@ -48,17 +48,17 @@ module _ (law : PageHasMethod) (d new : Decoding) (h : HasItsPage d) where
   abbrev is : method_by told ≡ Ok d.state.page.method
   is = method_told d law h
 
-  -- The tag's value is not refused but by the device or for want of memory.
+  -- The value of the tag Compression is refused only by the device or when memory is out.
   pub value_refused : {X : Type 0} (e : TiffError) → TagsRead {X = Option Value} (WantsTag d Compression) (option_map datum) (find_tag d Compression) (Err e) d new → OnlyReads {X = X} (Err e) d new
   value_refused e t = only_reads d new e t.state t.failures (cause_along e (λ w. tt) (λ f. f) (no_fault told d.state.page.method e is) t.answer)
 
-  -- Its number is not refused.
+  -- The number of the tag Compression is not refused.
   pub number_refused : {X : Type 0} (v : Value) (e : TiffError) → TagsRead {X = Option Value} (WantsTag d Compression) (option_map datum) (find_tag d Compression) (Ok (Some v)) d new
       → Gives {X = ℕ} (λ n. n) (Err e) (into_u16 (datum v)) → OnlyReads {X = X} (Err e) d new
   number_refused v e t g =
       only_reads d new e t.state t.failures (cause_along e (λ w. absurd w) (λ f. absurd f) (no_wrong told d.state.page.method (datum v) e is t.answer) g)
 
-  -- It is the method's.
+  -- The number of the tag Compression is that of the page's method.
   pub method_found : (v : Value) (n : ℕ) → TagsRead {X = Option Value} (WantsTag d Compression) (option_map datum) (find_tag d Compression) (Ok (Some v)) d new
       → Gives {X = ℕ} (λ n. n) (Ok n) (into_u16 (datum v)) → method_of n ≡ d.state.page.method
   method_found v n t g =

@@ -1,4 +1,4 @@
--- The pages of a file, each with its facts or its fault (this project's).
+-- The pages of a file, each with its facts or its error (this project's).
 use Rattle.std.specs.Prelude.{◌≡◌, ◌⊎◌, ℕ, zero, suc, ◌-◌, ◌<◌, ◌≤◌, List, length, false, IfErr, OnOk, map, Option, None, Some, Result, Ok, Err}
 use Rattle.tiff_base.specs.declared.color.ChunkType.{ChunkType}
 use Rattle.tiff_base.specs.declared.color.ChunkType.TheVariants.{Strip, Tile}
@@ -30,7 +30,7 @@ facts_of page = record {
   chunks = chunk_count page.chunk_type page;
 }
 
--- the facts of the page at an offset of the chain, or its first fault
+-- the facts of the page at an offset of the chain, or its first error
 abbrev pub facts_at : Decoding → ℕ → Result PageFacts TiffError
 facts_at d offset = do
   page ← page_at d offset
@@ -47,44 +47,47 @@ pub record Pages : Type 0 where
 abbrev pub pages_in : PageList → Pages
 pages_in list = record { items = list.pages.items; end = list.end }
 
--- the pages of a decoder's file: one for each offset of the chain, in their order, under the decoder's limits; and the fault by which
--- the chain ends, or none
+-- the pages of a decoder's file: one for each offset of the chain, in their order, under the
+-- decoder's limits; and the error by which the chain ends, or none
 abbrev pub pages_of : Decoding → Pages
 pages_of d = record { items = map (item_at d) (chain_of d).offsets; end = (chain_of d).end }
 
 -- ---- where the decoder is left
 
--- where a decoder stands that sought the first page, and then went on so often
+-- the state of a decoder that sought the first page, and then went on `n` times
 abbrev pub state_along : Decoding → ℕ → State
 state_along d zero = (seek_to_image d 0).next
 state_along d (suc n) = (next_image (record d { state = state_along d n })).next
 
--- how often one goes on along a chain of so many offsets: to each further one, and once more where it ends by a fault
+-- how often a decoder goes on along a chain of so many offsets: to each offset behind the first,
+-- and once more if the chain ends by an error
 abbrev pub times_on : ℕ → Option TiffError → ℕ
 times_on offsets None = offsets - 1
 times_on offsets (Some e) = offsets
 
--- how often it goes on to the end of its chain
+-- how often a decoder goes on to the end of its chain
 abbrev pub times_to_end : Decoding → ℕ
 times_to_end d = times_on (length (chain_of d).offsets) (chain_of d).end
 
--- a call of a decoder was the last, before it or on the way, that was not refused for want of memory or by the device
+-- the state is the decoder's own, or one on its way along the chain: that after the last call that
+-- neither ran out of memory nor failed by the device
 abbrev pub WasOnItsWay : Decoding → State → Type 0
 WasOnItsWay d state = (state ≡ d.state) ⊎ ((n : ℕ) × (n ≤ times_to_end d) × (state ≡ state_along d n))
 
--- The list leaves the decoder at the chain's end; a refusal where the last call left it, and its file is the same.
+-- The list leaves the decoder at the chain's end. An error leaves it where the last call left it,
+-- and its file is the same.
 abbrev pub LeavesPages : Result PageList TiffError → Decoding → Decoding → Type 0
 LeavesPages (Ok list) old new = new ≡ record old { state = state_along old (times_to_end old) }
 LeavesPages (Err e) old new = StandsAt new.state old new × WasOnItsWay old new.state
 
 -- ---- one page
 
--- the facts of a page that was entered, or the fault that was answered in its place
+-- the facts of a page that was entered, or the error of the call that entered it
 abbrev pub facts_told : Result (Unit {0}) TiffError → PageRecord → Result PageFacts TiffError
 facts_told (Ok u) page = Ok (facts_of page)
 facts_told (Err e) page = Err e
 
--- an answer that is neither want of memory nor a fault of the device
+-- a result that is neither out of memory nor an error of the device
 abbrev pub IsOfFile : {X : Type 0} → Result X TiffError → Type 0
 IsOfFile answer = IfErr answer (λ e. keeps_state e ≡ false)
 
@@ -92,8 +95,8 @@ IsOfFile answer = IfErr answer (λ e. keeps_state e ≡ false)
 abbrev pub HasItsPage : Decoding → Type 0
 HasItsPage d = page_in d.kind d.order d.bytes d.state.limits d.state.directory ≡ Ok d.state.page
 
--- a call that reads: where it isn't refused all is as it was, and else no more than the count of failed reads changed, which grew
--- where the device failed
+-- a call that reads: a result leaves the decoder as it was; an error, only out of memory or of the
+-- device, changes at most the count of failed reads, which grew if the device failed
 pub record OnlyReads {X : Type 0} (result : Result X TiffError) (old new : Decoding) : Type 0 where
   pub stays : OnOk result (new ≡ old)
   pub file : StandsAt old.state old new

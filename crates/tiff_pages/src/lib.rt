@@ -1,4 +1,4 @@
-//! The pages of a file: what each of them is, or why it is none, and how their chain ends.
+//! The pages of a file: the facts of each page, or its first error, and how their chain ends.
 #![tactic(auto)]
 
 pub mod pages;

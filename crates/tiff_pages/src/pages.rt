@@ -1,4 +1,4 @@
-//! The pages of a file are listed.
+//! The list of a file's pages.
 
 ghost use Rattle.std.specs.Prelude.{◌≡◌, ◌<◌, ◌≤◌, ◌++◌, ◌∷◌, [], IfErr, IfOk, IfSome, IsSome, MatchResult, None, Ok, OnErr, OnOk, Some, true};
 ghost use Rattle.tiff_base.specs.Answers.{Answers, IsCause};
@@ -14,8 +14,9 @@ use tiff_decode::decoder::Decoder;
 use tiff_laws::page::page_has_method;
 use tiff_laws::pages::{walk_ends, walk_goes_on, walk_moves, walk_seeks};
 
-/// What is known of a page without its pixels: its sides, its color or why it has none, its method of compression, whether it is in
-/// strips or in tiles, and how many of these there are in all planes, or why they aren't counted.
+/// What is known of a page without its pixels: its width and height, in pixels; its color, or the
+/// error by which it has none; its method of compression; whether it is in strips or in tiles; and
+/// how many of these it has in all planes, or the error by which they aren't counted.
 #[derive(Debug, Drop)]
 pub struct PageFacts {
     pub width: u32,
@@ -26,22 +27,23 @@ pub struct PageFacts {
     pub chunks: TiffResult<u32>,
 }
 
-/// A page of a file: the offset of its directory, and its facts, or its first fault.
+/// A page of a file: the offset of its directory, and its facts, or its first error.
 #[derive(Debug, Drop)]
 pub struct PageItem {
     pub place: IfdPointer,
     pub page: TiffResult<PageFacts>,
 }
 
-/// The pages of a file in the order of their chain, and the fault by which the chain ends, if it ends by one.
+/// The pages of a file in the order of their chain, and the error by which the chain ends, if it
+/// ends by one.
 #[derive(Debug, Drop)]
 pub struct PageList {
     pub pages: Vec<PageItem>,
     pub end: Option<TiffError>,
 }
 
-/// An answer that the file gives, a fault too: want of memory and a fault of the device are refused, `OutOfMemory` and
-/// `IoError(Device)`.
+/// A result that comes from the file, also an error of it, is wrapped in `Ok`. Out of memory and an
+/// error of the device are returned as errors, `OutOfMemory` and `IoError(Device)`.
 pub fn file_answer<T: Drop>(answer: TiffResult<T>) -> TiffResult<TiffResult<T>>
     ensures { MatchResult result (λ told. (told ≡ answer) × IsOfFile answer) (λ e. (answer ≡ Err e) × (keeps_state e ≡ true)) }
 {
@@ -67,7 +69,7 @@ fn method_here<R: Source>(decoder: &mut Decoder<R>) -> TiffResult<CompressionMet
     Ok(CompressionMethod::from_u16_exhaustive(number))
 }
 
-// How many chunks a decoder's page has, or why they aren't counted.
+// How many chunks a decoder's page has, or the error by which they aren't counted.
 #[tactic(auto, unfolding(tiff_decode::specs::Outcome::strip_count, tiff_decode::specs::Outcome::tile_count))]
 fn chunks_here<R: Source>(decoder: &mut Decoder<R>) -> TiffResult<u32>
     ensures count { result ≡ (facts_of decoder.old.state.page).chunks }
@@ -113,7 +115,7 @@ fn place_of<R: Source>(decoder: &mut Decoder<R>) -> IfdPointer
     }
 }
 
-// The page at which a decoder is, once it was entered or refused.
+// The page at which a decoder is, after it was entered or refused.
 fn item_here<R: Source>(decoder: &mut Decoder<R>, entered: TiffResult<()>) -> TiffResult<PageItem>
     requires place { IsSome decoder.old.state.pointer }
     requires page { OnOk entered (HasItsPage decoder.old) }
@@ -129,7 +131,8 @@ fn item_here<R: Source>(decoder: &mut Decoder<R>, entered: TiffResult<()>) -> Ti
     Ok(PageItem { place, page })
 }
 
-// Lists the pages of a decoder's file behind none, and answers the fault by which their chain ends, if it ends by one.
+// Lists the pages of a decoder's file into an empty list, and returns the error by which their
+// chain ends, if it ends by one.
 fn list_pages<R: Source>(
     decoder: &mut Decoder<R>,
     pages: &mut Vec<PageItem>,
@@ -159,10 +162,12 @@ fn list_pages<R: Source>(
     Ok(None)
 }
 
-/// The pages of a decoder's file, from the first one to the end of the chain, wherever the decoder stands: each with its facts, or with
-/// the first fault of its page under the decoder's limits; and the fault by which the chain ends, if it ends by one. The decoder is then
-/// at the chain's last directory. Only want of memory and a fault of the device refuse the list, `OutOfMemory` and `IoError(Device)`; the
-/// decoder stands then where the last call left it, and the list can be asked for again.
+/// Lists the pages of a decoder's file, from the first one to the end of the chain, wherever the
+/// decoder is: each with its facts, or with the first error of the page under the decoder's limits;
+/// and the error by which the chain ends, if it ends by one. The decoder is then at the chain's
+/// last directory. The only errors of the list are `OutOfMemory` and an error of the device,
+/// `IoError(Device)`. After these, the decoder is where the last call left it, and the caller can
+/// list the pages again.
 pub fn pages<R: Source>(decoder: &mut Decoder<R>) -> TiffResult<PageList>
     ensures answer { Answers pages_in result (Ok (pages_of decoder.old)) decoder.old.failures decoder.new.failures }
     ensures decoder { LeavesPages result decoder.old decoder.new }

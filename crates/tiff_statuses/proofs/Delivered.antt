@@ -1,4 +1,4 @@
--- What C is told of an image that was written, and of jobs.
+-- What C gets for an image that was written, and for jobs.
 use Rattle.std.proofs.Common.{◌≡◌, ℕ, ◌<◌, ◌≤◌, ◌⊎◌, inl, inr, List, ◌++◌, length, take, drop, Option, None, Some, Result, Ok, Err, refl, sym, ap, subst, ◌∙◌, lit<, arith}
 use Rattle.std.proofs.Math.Seq.{take-append_seam, drop-append_seam}
 use Rattle.tiff_base.specs.declared.error.TiffError.{TiffError}
@@ -21,7 +21,7 @@ use Rattle.tiff_statuses.specs.Jobs.{AnswersKind, JobsTell, TellsAnswer, TellsRa
 use Rattle.tiff_statuses.specs.Status.{fault_number, format_fault_number, unsupported_fault_number, usage_fault_number, io_fault_number}
 use Rattle.tiff_statuses.specs.Writer.{Delivers, IsShown, WriterTells, WritesBy, WritesBytes, WritesNew, image_by, kind_of, samples_from_bytes, settings_of}
 
--- no fault has the number 0
+-- No error has the number 0.
 some_format : (e : TiffFormatError) → 0 < format_fault_number e
 some_format TiffSignatureNotFound = lit< tt
 some_format TiffSignatureInvalid = lit< tt
@@ -96,7 +96,7 @@ none e n is zero = let h = some_fault e in omega (arith, is, zero, h)
 
 -- ---- a file that was delivered
 
--- a fault is no file
+-- An error is no file.
 err_ok : {e : TiffError} {file : List ℕ} → let a : Result (List ℕ) TiffError = Ok file in let b : Result (List ℕ) TiffError = Err e in a ≡ b → ⊥
 err_ok h = cc
 
@@ -140,7 +140,7 @@ kept (Ok file) status old new len_old len_new (is, inl put) = inl put.1.0
 kept (Ok file) status old new len_old len_new (is, inr none_put) = inr none_put.1.1
 kept (Err e) status old new len_old len_new d = inr d.1.0
 
--- what is told of an image that was written
+-- What C gets for an image that was written.
 pub told_new : (image : NewImage) (bytes : List ℕ) (answer : Result (List ℕ) TiffError) (status : ℕ) (old new : List ℕ) (len_old len_new : ℕ)
     → WritesNew image bytes answer → Delivers answer status old new len_old len_new → WriterTells image bytes status old new len_old len_new
 told_new image bytes answer status old new len_old len_new w d = (answer, (w, d))
@@ -155,7 +155,7 @@ told_kept image bytes answer status old new len_old len_new w d = kept answer st
 
 -- ---- the file of jobs
 
--- what is told of jobs
+-- What C gets for jobs.
 pub told_jobs : (version : ℕ) (answer : Result Answer TiffError) (status : ℕ) (old new : List ℕ) (len_old len_new : ℕ) (end : JobsEnd)
     → AnswersKind (kind_of version) answer → TellsAnswer answer status old new len_old len_new end → JobsTell version status old new len_old len_new end
 told_jobs version answer status old new len_old len_new end a t = (answer, (a, t))

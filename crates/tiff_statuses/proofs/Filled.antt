@@ -1,8 +1,8 @@
--- What is put into a slice.
+-- Items that are put into a slice.
 use Rattle.std.proofs.Common.{◌≡◌, ℕ, List, ◌++◌, length, take, drop, min, ap, ◌∙◌, arith}
 use Rattle.std.proofs.lemmas.List.{drop_min, take_min}
 
--- as many as there is room for are in front
+-- As many items as fit are in front.
 pub put_front : {A : Type 0} (items old part : List A) (n : ℕ) → n ≡ min (length old) (length items) → part ≡ take n items
     → part ++ drop n old ≡ take (length old) items ++ drop (length items) old
 put_front items old part n e p =

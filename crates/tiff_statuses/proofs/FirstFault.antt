@@ -1,4 +1,4 @@
--- The first of some statuses that is a fault's.
+-- The first status of a list that is not 0.
 use Rattle.std.proofs.Common.{◌≡◌, ℕ, zero, suc, ◌+◌, ◌≤◌, List, [], ◌∷◌, ◌++◌, length, map, drop, None, Some, true, false, Result, ap, sym, ◌∙◌, refl, ⊎_elim, arith}
 use Rattle.std.proofs.lemmas.Bool.{cases_Bool, eqb-true}
 use Rattle.std.specs.List.{slice_get}
@@ -52,7 +52,7 @@ pub steps_passed : {X : Type 0} (steps : List (Result X TiffError)) (i : ℕ) �
     → 0 ≡ first_status (map status steps)
 steps_passed {X} steps i h left = sym (left ∙ ap (λ (xs : List (Result X TiffError)). first_status (map status xs)) (none_left steps i h))
 
--- one more behind the others
+-- One more status behind the others.
 pub first_behind : (ns : List ℕ) (m : ℕ) → first_status (ns ++ m ∷ []) ≡ (if first_status ns == 0 then m else first_status ns)
 first_behind [] m =
     ⊎_elim

@@ -10,7 +10,7 @@ use Rattle.tiff_pages.specs.Pages.{Pages, pages_in, pages_of}
 use Rattle.tiff_statuses.specs.List.{list_of}
 use Rattle.tiff_statuses.proofs.Slices.{answer_here}
 
--- No read failed, so an answer is the file's.
+-- No read failed, so a result is that of the file.
 pub pages_here : (file : List ℕ) (d : Decoding) (result : Result PageList TiffError) (before after : ℕ) → decoder_of file 0 ≡ Ok d
     → Answers pages_in result (Ok (pages_of d)) before after → before ≡ 0 → after ≡ 0 → AnswersWithoutSource pages_in result (list_of file)
 pages_here file d result before after h a b e =
@@ -38,7 +38,7 @@ item_there [] i x l h = absurd (omega arith)
 item_there (a ∷ xs) zero x l h = (let e : x ≡ a = h in cc)
 item_there (a ∷ xs) (suc i) x l h = (let m : i < length xs = omega (arith, l) in item_there xs i x m h)
 
--- One more is in its place.
+-- One more item is in its place.
 module _ {A B : Type 0} (f : A → B) where
   pub filled_more : (items : List A) (old out : List B) (i : ℕ) (item : A) (told : B) → out ≡ take i (map f items) ++ drop i old → slice_get items i ≡ Some item
       → told ≡ f item → i < length old → slice_set out i told ≡ take (i + 1) (map f items) ++ drop (i + 1) old

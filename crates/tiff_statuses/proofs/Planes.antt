@@ -17,7 +17,7 @@ few : (planar : PlanarConfiguration) (color : ColorType) → num_samples color <
 few Chunky color h = lit< tt
 few Planar color h = omega (arith, h)
 
--- the color of a layout is that of the page
+-- The color of a layout is the color of the page.
 same_color : (a b : ColorType) → let x : Result ColorType TiffError = Ok a in let y : Result ColorType TiffError = Ok b in x ≡ y → a ≡ b
 same_color a b h = cc
 

@@ -13,7 +13,7 @@ use Rattle.tiff_decode.specs.Machine.{Decoding}
 use Rattle.tiff_decode.specs.Outcome.{read_chunk_bytes}
 use Rattle.tiff_statuses.specs.Calls.{chunk_len, chunks_in, free_at_page, read_chunks, room_for}
 
--- an answer behind some bytes
+-- a result behind some bytes
 abbrev pub behind : List ℕ → Result (List ℕ) TiffError → Result (List ℕ) TiffError
 behind front r = r >>= λ rest. Ok (front ++ rest)
 
@@ -91,7 +91,7 @@ module _ (d : Decoding) (first end chunk at : ℕ) (old buf : List ℕ) (more : 
         ∙ behind_both (take at buf) new (chunks_in d (end - (chunk + 1)) (chunk + 1) (drop len (drop at buf)))
         ∙ (λ t. behind (sym front t) (chunks_in d (end - (chunk + 1)) (chunk + 1) (sym back t)))
 
--- all are read
+-- All chunks are read.
 pub all_read : (d : Decoding) (first end chunk at : ℕ) (old buf : List ℕ) → end ≤ chunk
     → chunks_in d (end - first) first old ≡ behind (take at buf) (chunks_in d (end - chunk) chunk (drop at buf)) → chunks_in d (end - first) first old ≡ Ok buf
 unfolding chunks_in
@@ -99,7 +99,7 @@ all_read d first end chunk at old buf l left =
     let none : end - chunk ≡ zero = omega (arith, l) in
     left ∙ ap (λ (k : ℕ). behind (take at buf) (chunks_in d k chunk (drop at buf))) none ∙ ap (λ (x : List ℕ). Ok x) (take-append-drop at buf)
 
--- the chunks of an open page
+-- The chunks of an open page.
 pub of_page : (file slice : List ℕ) (page first count end : ℕ) (d : Decoding) → free_at_page file page ≡ Ok d → end ≡ first + count → first + count < 2 ^ 32
     → chunks_in d (end - first) first slice ≡ read_chunks file page first count slice
 of_page file slice page first count end d h e l =

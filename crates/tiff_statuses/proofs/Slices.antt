@@ -1,4 +1,4 @@
--- A decoder whose reads never fail: its answers are those that the file gives, but for want of memory.
+-- A decoder whose reads never fail: its results are those of the file, unless memory is out.
 use Rattle.std.proofs.Common.{◌≡◌, ℕ, ◌<◌, true, Result, Ok, Err, arith, OnOk}
 use Rattle.tiff_base.specs.declared.error.TiffError.{TiffError}
 use Rattle.tiff_base.specs.declared.error.TiffError.TheVariants.{FormatError, UnsupportedError, IoError, UsageError, LimitsExceeded, IntSizeError, OutOfMemory}
@@ -34,7 +34,7 @@ pub gone : {X Y : Type 0} → (view : X → Y) → (o : Outcome Y) → (result :
 gone view o (Ok x) old new f a b = f.at
 gone view o (Err e) old new f a b = tt
 
--- the same of a call that takes memory only where a page is next
+-- The result of a call that allocates only where there is a next page.
 pub next_here : (result : Result (Unit {0}) TiffError) → (old new : Decoding) → FollowsBut (old.state.more ≡ true) (λ x. x) (next_image old) result old new
     → old.failures ≡ 0 → new.failures ≡ 0 → AnswersWithoutSource (λ x. x) result (next_image old).answer
 next_here (Ok x) old new f a b = f.answer
@@ -64,7 +64,7 @@ pub answer_here : {X Y : Type 0} → (view : X → Y) → (given : Result Y Tiff
 answer_here view given (Ok x) m n r a b = r
 answer_here view given (Err e) m n r a b = tag_refused (Unit {0}) view given e m n r a b
 
--- an answer that takes no memory
+-- The result of a call that doesn't allocate.
 exact : {X Y : Type 0} → (view : X → Y) → (given : Result Y TiffError) → (e : TiffError) → (m n : ℕ) → AnswersWithoutMemory view (Err e) given m n
     → m ≡ 0 → n ≡ 0 → AnswersWithoutSource view (Err e) given
 exact view given OutOfMemory m n r a b = tt

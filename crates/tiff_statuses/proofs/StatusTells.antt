@@ -1,4 +1,4 @@
--- A status tells the answer of which it is the number.
+-- A status is the number of a result.
 use Rattle.std.proofs.Common.{◌≡◌, ◌⊎◌, ℕ, Result, Ok, Err, IfOk, OnErr, inl, inr, subst, sym, ap}
 use Rattle.tiff_base.specs.declared.error.TiffError.{TiffError}
 use Rattle.tiff_base.specs.declared.error.TiffError.TheVariants.{FormatError, UnsupportedError, IoError, UsageError, LimitsExceeded, IntSizeError, OutOfMemory}
@@ -27,13 +27,13 @@ refused view (UsageError x) given n left h e = fault given n left _ h e
 refused view LimitsExceeded given n left h e = fault given n left _ h e
 refused view IntSizeError given n left h e = fault given n left _ h e
 
--- what a call leaves in a variable of the caller's
+-- What a call leaves in a variable of the caller's.
 pub tells_left : {X Y : Type 0} → (view : X → Y) → (answer : Result X TiffError) → (given : Result Y TiffError) → (n : ℕ) → (left : Y)
     → AnswersWithoutSource view answer given → n ≡ status answer → IfOk answer (λ x. left ≡ view x) → StatusTells given n left
 tells_left view (Ok x) given n left h e l = subst (λ g. StatusTells g n left) (sym h) (inl (e, l))
 tells_left view (Err f) given n left h e l = refused view f given n left h e
 
--- what a call leaves in a variable of the caller's and in a slice
+-- What a call leaves in a variable and a slice of the caller's.
 pub tells_both : {X Z : Type 0} → (answer : Result X TiffError) → (given : Result (X × Z) TiffError) → (n : ℕ) → (left : X) → (slice : Z)
     → AnswersWithoutSource (λ x. (x, slice)) answer given → n ≡ status answer → IfOk answer (λ x. left ≡ x) → StatusTells given n (left, slice)
 tells_both (Ok x) given n left slice h e l = subst (λ g. StatusTells g n (left, slice)) (sym h) (inl (e, ap (λ y. (y, slice)) l))
@@ -63,13 +63,13 @@ unput view (UsageError x) given n old new h e k = named given n old new _ h e k
 unput view LimitsExceeded given n old new h e k = named given n old new _ h e k
 unput view IntSizeError given n old new h e k = named given n old new _ h e k
 
--- what a call puts into a variable of the caller's
+-- What a call puts into a variable of the caller's.
 pub puts_told : {X Y : Type 0} → (view : X → Y) → (answer : Result X TiffError) → (given : Result Y TiffError) → (n : ℕ) → (old new : Y)
     → AnswersWithoutSource view answer given → n ≡ status answer → IfOk answer (λ x. new ≡ view x) → OnErr answer (new ≡ old) → StatusPuts given n old new
 puts_told view (Ok x) given n old new h e l k = subst (λ g. StatusPuts g n old new) (sym h) (inl (e, l))
 puts_told view (Err f) given n old new h e l k = unput view f given n old new h e k
 
--- what a call puts into a variable and a slice of the caller's
+-- What a call puts into a variable and a slice of the caller's.
 pub puts_both : {X Z : Type 0} → (answer : Result X TiffError) → (given : Result (X × Z) TiffError) → (n : ℕ) → (old new : X) → (before slice : Z)
     → AnswersWithoutSource (λ x. (x, slice)) answer given → n ≡ status answer → IfOk answer (λ x. new ≡ x) → OnErr answer (new ≡ old)
     → OnErr answer (slice ≡ before) → StatusPuts given n (old, before) (new, slice)
@@ -77,7 +77,7 @@ puts_both (Ok x) given n old new before slice h e l k s =
     subst (λ g. StatusPuts g n (old, before) (new, slice)) (sym h) (inl (e, ap (λ y. (y, slice)) l))
 puts_both (Err f) given n old new before slice h e l k s = unput (λ x. (x, slice)) f given n (old, before) (new, slice) h e (λ i. (k i, s i))
 
--- what a call leaves in one beside a slice
+-- What a call leaves in a variable beside a slice.
 pub kept_told : {X : Type 0} → (answer : Result X TiffError) → (n : ℕ) → (old new : X) → n ≡ status answer → OnErr answer (new ≡ old)
     → (n ≡ 0) ⊎ (new ≡ old)
 kept_told (Ok x) n old new e k = inl e

@@ -25,13 +25,13 @@ use Rattle.tiff_statuses.specs.declared.writer.Settings.{Settings}
 use Rattle.tiff_statuses.specs.Writer.{IsWritten, WritesImageFile, WritesBytes, file_by, image_by, samples_from_bytes}
 use Rattle.tiff_statuses.proofs.Octets.{octets_are}
 
--- an encoder that begins on nothing, by its settings
+-- A new encoder over an empty sink has its settings.
 pub begun_by : (s : Settings) (failures : ℕ) (told : List ℕ) (b p c : FileState) → told ≡ [] → b ≡ begun_file s.kind told failures
     → p ≡ with_predictor s.predictor b → c ≡ with_compression s.compression p → c ≡ file_by s failures
 begun_by s failures told b p c empty b_is p_is c_is =
     c_is ∙ ap (with_compression s.compression) (p_is ∙ ap (with_predictor s.predictor) (b_is ∙ ap (λ t. begun_file s.kind t failures) empty))
 
--- a header has bytes
+-- A header has bytes.
 some_header : (kind : FileKind) → 0 < length (header_bytes kind)
 some_header Classic = lit< tt
 some_header Big = lit< tt
@@ -44,7 +44,7 @@ module _ (s : Settings) (width height failures : ℕ) (samples : List ℕ) (last
   abbrev old : FileState
   old = file_by s failures
 
-  -- an image that such an encoder left is shown
+  -- An image that such an encoder left is shown.
   shown : LeavesImage (color_type s.color) (inner_size s.color) width height samples old last (header_model s.kind)
       → ShowsFirst s.kind last.bytes (image_by s width height samples)
   shown l =
@@ -52,7 +52,7 @@ module _ (s : Settings) (width height failures : ℕ) (samples : List ℕ) (last
       subst (λ i. ShowsFirst s.kind last.bytes (image_of_samples i samples)) (sym n.1.0)
       (first_shown (color_type s.color) (inner_size s.color) width height samples old last (header_model s.kind) (chain_of s.kind) (some_header s.kind) l s.color refl refl)
 
-  -- what it answers, and leaves on a header
+  -- what an encoder returns, and what it leaves behind a header
   abbrev Answered : Result (Unit {0}) TiffError → Type 0
   Answered r = WritesImage (color_type s.color) (inner_size s.color) width height samples r old last
 
@@ -62,7 +62,7 @@ module _ (s : Settings) (width height failures : ℕ) (samples : List ℕ) (last
   left_shown : Left (Ok tt) → ShowsFirst s.kind last.bytes (image_by s width height samples)
   left_shown l = shown (l (header_model s.kind) (header_stands s.kind) (inl (chain_of s.kind)))
 
--- what an encoder by these settings answers is written
+-- What an encoder with these settings returns is the file that was written.
 module _ (s : Settings) (width height failures : ℕ) (samples : List ℕ) (old last : FileState) (color : ColorTypeRecord) (size : ℕ)
     (is : old ≡ file_by s failures) (colored : color ≡ color_type s.color) (sized : size ≡ inner_size s.color)
     (fault : (last.fault ≡ None) ⊎ (last.fault ≡ Some sink.OutOfMemory)) where
@@ -110,7 +110,7 @@ module _ (s : Settings) (width height failures : ℕ) (samples : List ℕ) (old 
 
 -- ---- samples that bytes are
 
--- none is left over
+-- A remainder of 0 is tested as 0.
 tested : (n : ℕ) → n ≡ 0 → (n == 0) ≡ true
 tested n h = rw h refl
 
@@ -125,14 +125,14 @@ module _ (s : Settings) (width height : ℕ) (bytes : List ℕ) where
       subst (λ b. WritesBytes s width height (if b then Ok (numbers_in (inner_size s.color) bytes) else Err (UsageError (MismatchedEntryLength (inner_type s.color) (length bytes)))) answer)
       (sym (tested (length bytes % inner_size s.color) none)) w
 
-  -- samples that were made of bytes are written
+  -- Samples that were made of bytes are written.
   pub whole_written : (size : ℕ) (samples : List ℕ) (answer : Result (List ℕ) TiffError) → size ≡ inner_size s.color → length bytes % size ≡ 0
       → samples ≡ numbers_in size bytes → WritesImageFile s width height samples answer → WritesBytes s width height (samples_from_bytes s.color bytes) answer
   whole_written size samples answer is none are w =
       whole_by answer (subst (λ n. length bytes % n ≡ 0) is none)
       (subst (λ (xs : List ℕ). WritesImageFile s width height xs answer) (are ∙ ap (λ n. numbers_in n bytes) is) w)
 
-  -- bytes that are no whole number of samples are refused
+  -- Bytes that are no whole number of samples are refused.
   pub part_refused : (size : ℕ) (type : «Type») → size ≡ inner_size s.color → type ≡ inner_type s.color → (length bytes % size ≡ 0 → ⊥)
       → WritesBytes s width height (samples_from_bytes s.color bytes) (Err (UsageError (MismatchedEntryLength type (length bytes))))
   part_refused size type is typed some =
@@ -141,7 +141,7 @@ module _ (s : Settings) (width height : ℕ) (bytes : List ℕ) where
       (sym (untested (length bytes % inner_size s.color) (subst (λ n. length bytes % n ≡ 0 → ⊥) is some)))
       (ap (λ t. Err (UsageError (MismatchedEntryLength t (length bytes)))) typed)
 
-  -- bytes are samples of one byte
+  -- Bytes are samples of one byte.
   pub octets_written : (answer : Result (List ℕ) TiffError) → ((i : ℕ) → Fits w8 (get_or bytes i 0)) → inner_size s.color ≡ 1
       → WritesImageFile s width height (map (sample_number 1 (λ n. n)) bytes) answer → WritesBytes s width height (samples_from_bytes s.color bytes) answer
   octets_written answer octets one w =

@@ -1,4 +1,4 @@
--- What the pages of a file answer, by the outcomes of a decoder's calls.
+-- What the calls for C return of the pages of a file, by the outcomes of a decoder's calls.
 use Rattle.std.specs.Prelude.{ℕ, zero, suc, ◌+◌, ◌-◌, ◌^◌, ◌==◌, List, ◌++◌, length, take, drop, if◌then◌else◌, nat_le, nat_lt, Option, None, Some, Result, Ok, Err}
 use Rattle.tiff_base.specs.declared.color.ChunkType.{ChunkType}
 use Rattle.tiff_base.specs.declared.color.ChunkType.TheVariants.{Strip, Tile}
@@ -30,8 +30,8 @@ use Rattle.tiff_statuses.specs.declared.calls.Color.{Color}
 use Rattle.tiff_statuses.specs.declared.calls.Chunks.{Chunks}
 use Rattle.tiff_statuses.specs.declared.calls.PageSamples.{PageSamples}
 
--- to go to a page: the one of this number in the chain; or, of a number from 2^63 on, the directory at the offset that the
--- number is less 2^63
+-- the outcome of going to a page: to the one with this number in the chain; or, for a number from
+-- 2^63 on, to the directory at the offset that is the number less 2^63
 abbrev pub page_outcome : Decoding → ℕ → Outcome (Unit {0})
 page_outcome d page =
     if nat_lt page (2 ^ 63) then outcome.seek_to_image d page else outcome.show_directory d (record { 0 = page - 2 ^ 63 })
@@ -50,31 +50,33 @@ tags_at_offset file offset = do
   directory ← (outcome.read_directory d (record { 0 = offset })).answer
   Ok (reader_of d (Some directory))
 
--- the decoder by which tags are read: at the page of a number; or, of the directory at an offset, at the first page, with that
--- directory in place of its own, whose page is not looked at
+-- the decoder by which tags are read: at the page with this number; or, for the directory at an
+-- offset, at the first page, with that directory in place of its own; whether that directory is a
+-- page isn't asked
 abbrev pub tags_at_page : List ℕ → ℕ → Result Decoding TiffError
 tags_at_page file page = if nat_lt page (2 ^ 63) then decoder_at_page file page else tags_at_offset file (page - 2 ^ 63)
 
--- the decoder at a page under no limits: what is read into a caller's slice takes no memory by what a file claims
+-- the decoder at a page without limits: what it reads into a slice of the caller's allocates
+-- nothing by what the file claims
 abbrev pub free_at_page : List ℕ → ℕ → Result Decoding TiffError
 free_at_page file page = do
   d ← decoder_at_page file page
   Ok (record d { state = (outcome.set_limits d unlimited).next })
 
--- the sides of a page
+-- the width and the height of a page
 abbrev pub page_sides : List ℕ → ℕ → Result Sides TiffError
 page_sides file page = do
   d ← decoder_at_page file page
   sides ← (outcome.dimensions d).answer
   Ok (record { width = sides.0; height = sides.1 })
 
--- the bytes of an image in a slice
+-- a slice after the image of a page was read into it
 abbrev pub read_image_bytes : List ℕ → ℕ → List ℕ → Result (List ℕ) TiffError
 read_image_bytes file page slice = do
   d ← free_at_page file page
   (outcome.read_image_bytes d slice).answer
 
--- the bytes of an image: of one plane, and of all
+-- how many bytes an image has: in one plane, and in all planes
 abbrev pub image_layout : Decoding → Result Layout TiffError
 image_layout d = do
   layout ← (outcome.image_buffer_layout d).answer
@@ -83,7 +85,7 @@ image_layout d = do
 abbrev pub page_layout : List ℕ → ℕ → Result Layout TiffError
 page_layout file page = decoder_at_page file page >>= image_layout
 
--- the bytes of a chunk in a slice
+-- a slice after a chunk of a page was read into it
 abbrev pub read_chunk_bytes : List ℕ → ℕ → ℕ → List ℕ → Result (List ℕ) TiffError
 read_chunk_bytes file page chunk slice = do
   d ← free_at_page file page
@@ -95,12 +97,13 @@ chunk_len d i = do
   layout ← (outcome.image_chunk_buffer_layout d i).answer
   Ok layout.len
 
--- the bytes that one of several chunks takes of a slice; a slice that is shorter is refused
+-- the front of a slice that one of several chunks takes; an error where the slice is shorter
 abbrev pub room_for : ℕ → List ℕ → Result (List ℕ) TiffError
 room_for len slice =
     if nat_le len (length slice) then Ok (take len slice) else Err (UsageError (InsufficientOutputBufferSize len (length slice)))
 
--- the bytes of so many chunks from one on in a slice, one behind the other; those behind them stay
+-- a slice after `count` chunks, from the number `i` on, were read into it, one behind the other;
+-- what is behind them stays
 unfoldable pub chunks_in : Decoding → ℕ → ℕ → List ℕ → Result (List ℕ) TiffError
 chunks_in d zero i slice = Ok slice
 chunks_in d (suc count) i slice = do
@@ -110,19 +113,20 @@ chunks_in d (suc count) i slice = do
   rest ← chunks_in d count (i + 1) (drop len slice)
   Ok (chunk ++ rest)
 
--- so many chunks of a page, where the numbers of all are below 2^32
+-- a slice after `count` chunks of a page were read into it; an error unless the numbers of all are
+-- below 2^32
 abbrev pub read_chunks : List ℕ → ℕ → ℕ → ℕ → List ℕ → Result (List ℕ) TiffError
 read_chunks file page first count slice = do
   d ← free_at_page file page
   if nat_lt (first + count) (2 ^ 32) then chunks_in d count first slice else Err (UsageError (InvalidChunkIndex (2 ^ 32 - 1)))
 
--- the bytes of a coding unit in a slice
+-- a slice after a coding unit of a page was read into it
 abbrev pub read_unit_bytes : List ℕ → ℕ → ℕ → List ℕ → Result (List ℕ) TiffError
 read_unit_bytes file page unit slice = do
   d ← free_at_page file page
   (outcome.read_coding_unit_bytes d unit slice).answer
 
--- the kind of a color, as a number
+-- the number of a color's kind
 abbrev pub color_number : ColorType → ℕ
 color_number (Gray b) = 0
 color_number (RGB b) = 1
@@ -148,17 +152,18 @@ color_of_page d = do
 abbrev pub page_color : List ℕ → ℕ → Result Color TiffError
 page_color file page = decoder_at_page file page >>= color_of_page
 
--- strips are 0, tiles 1
+-- the number of a kind of chunks: 0 for strips, 1 for tiles
 abbrev pub chunk_number : ChunkType → ℕ
 chunk_number Strip = 0
 chunk_number Tile = 1
 
--- how many chunks of its kind a page has
+-- how many chunks of this kind a page has
 abbrev pub page_chunk_count : Decoding → ChunkType → Result ℕ TiffError
 page_chunk_count d Strip = (outcome.strip_count d).answer
 page_chunk_count d Tile = (outcome.tile_count d).answer
 
--- the chunks of a page, with their sides before they are cut at the edges of the image
+-- the chunks of a page, with the width and the height that they have before they are cut at the
+-- edges of the image
 abbrev pub chunks_of_page : Decoding → Result Chunks TiffError
 chunks_of_page d = do
   count ← page_chunk_count d (outcome.get_chunk_type d)
@@ -172,12 +177,14 @@ chunks_of_page d = do
 abbrev pub page_chunks : List ℕ → ℕ → Result Chunks TiffError
 page_chunks file page = decoder_at_page file page >>= chunks_of_page
 
--- whether a page's numbers are complemented where they are read: 1 of the interpretation WhiteIsZero, which is 0 in a file, else 0
+-- whether a page's numbers are complemented when they are read: 1 for the interpretation
+-- WhiteIsZero, which is 0 in a file, else 0
 abbrev pub inverted_by : ℕ → ℕ
 inverted_by meaning = if meaning == 0 then 1 else 0
 
--- the samples of a page of this color, layout and interpretation: the number of their format, as the tag SampleFormat has it; the
--- bits of one; how many a pixel shows; in how many planes; and whether they are inverted
+-- the samples of a page with this color, layout and interpretation: the number of their format, as
+-- the tag SampleFormat has it; the bits of one; how many a pixel shows; in how many planes they
+-- lie; and whether they are inverted
 abbrev pub samples_by : ColorType → BufferLayoutPreference → ℕ → PageSamples
 samples_by color layout meaning = record {
   kind = format_number layout.sample_format;
@@ -202,7 +209,7 @@ samples_of_page d = do
 abbrev pub page_samples : List ℕ → ℕ → Result PageSamples TiffError
 page_samples file page = decoder_at_page file page >>= samples_of_page
 
--- the field of a tag of a page: the number of its type, and how many values there are
+-- the field of a tag of a page: the number of its type, and how many values it has
 abbrev pub field_size : Tag → Option Field → Result FieldSize TiffError
 field_size tag found = do
   field ← ok_or_fault found (FormatError (RequiredTagNotFound tag))
@@ -213,13 +220,13 @@ tag_field file page number = do
   d ← tags_at_page file page
   field_size (tag_of number) (outcome.find_entry d (tag_of number))
 
--- the fault by which a chain ends, if it ends by one
+-- the error by which a chain ends, if it ends by one
 abbrev pub plain_end : Option TiffError → Result (Unit {0}) TiffError
 plain_end None = Ok tt
 plain_end (Some e) = Err e
 
--- how many pages a file has: one for each offset of its chain; or the first fault: of its pages in their order, and then of
--- the chain's end
+-- how many pages a file has: one for each offset of its chain; or the first error: of its pages in
+-- their order, and then of the chain's end
 abbrev pub page_count : List ℕ → Result ℕ TiffError
 page_count file = do
   d ← outcome.decoder_of file 0
@@ -233,7 +240,7 @@ tag_number_at file page number = do
   d ← tags_at_page file page
   (outcome.get_tag_u64 d (tag_of number)).answer
 
--- bytes of the values of a tag of a page, from one on, in a slice, and how many of them were copied
+-- how many bytes of a tag's values were copied, from byte `at` on, and the slice after that
 abbrev pub bytes_of_tag : Decoding → Tag → ℕ → List ℕ → Result (ℕ × List ℕ) TiffError
 bytes_of_tag d tag at slice = do
   found ← (outcome.find_tag_bytes d tag slice at).answer
@@ -245,7 +252,7 @@ tag_bytes file page number at slice = do
   d ← tags_at_page file page
   bytes_of_tag d (tag_of number) at slice
 
--- little-endian is 0, big-endian 1
+-- the number of a byte order: 0 for little-endian, 1 for big-endian
 abbrev pub order_number : ByteOrder → ℕ
 order_number LittleEndian = 0
 order_number BigEndian = 1

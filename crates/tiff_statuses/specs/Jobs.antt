@@ -1,4 +1,4 @@
--- What C is told of a list of jobs: the file that they leave, or where the list was refused.
+-- What C gets for a list of jobs: the file that the jobs leave, or where the list was refused.
 use Rattle.std.specs.Prelude.{◌≡◌, ℕ, ◌+◌, ◌==◌, ◌++◌, List, [], ◌∷◌, map, if◌then◌else◌, Option, None, Some, Result, Ok, Err}
 use Rattle.tiff_base.specs.declared.error.TiffError.{TiffError}
 use Rattle.tiff_base.specs.declared.error.TiffError.TheVariants.{FormatError, IoError, OutOfMemory}
@@ -16,7 +16,7 @@ use Rattle.tiff_statuses.specs.Writer.{Delivers, kind_of}
 
 -- ---- which job was refused
 
--- the first of some statuses that is a fault's, or 0
+-- the first status of a list that is not 0, or 0
 abbrev pub first_status : List ℕ → ℕ
 first_status [] = 0
 first_status (n ∷ ns) = if n == 0 then first_status ns else n
@@ -25,14 +25,15 @@ first_status (n ∷ ns) = if n == 0 then first_status ns else n
 abbrev pub job_status : JobReply → ℕ
 job_status reply = first_status (map status reply.steps.items ++ status reply.last ∷ [])
 
--- the first of some jobs that had a fault, by its number, counted from this one on, with its status
+-- the first job that had an error: its number, counted from `n` on, and its status
 abbrev pub first_refused : ℕ → List JobReply → Option (ℕ × ℕ)
 first_refused n [] = None
 first_refused n (reply ∷ replies) = if job_status reply == 0 then first_refused (n + 1) replies else Some (n, job_status reply)
 
 -- ---- what jobs leave
 
--- The jobs left this file on a sink that held nothing, and this is the first of them that had a fault, counted from 1.
+-- The jobs left this file on an empty sink, and `refused` is the first of them that had an error,
+-- counted from 1.
 pub record RanJobs (kind : FileKind) (jobs : List Job) (file : List ℕ) (refused : Option (ℕ × ℕ)) : Type 0 where
   pub replies : List JobReply
   pub before : ℕ
@@ -40,12 +41,13 @@ pub record RanJobs (kind : FileKind) (jobs : List Job) (file : List ℕ) (refuse
   pub leaves : LeavesJobs kind jobs replies [] before file after
   pub refused_is : refused ≡ first_refused 1 replies
 
--- A text is answered: a line of it was no job, or all its jobs were run. Which lines are jobs is told in CALLING.md, and by no clause.
+-- The answer to a text of jobs: a line of it is no job, or all its jobs were run. CALLING.md
+-- describes which lines are jobs; no clause does.
 abbrev pub AnswersJobs : FileKind → Answer → Type 0
 AnswersJobs kind (NoJob line) = Unit {0}
 AnswersJobs kind (Ran ran) = (jobs : List Job) × RanJobs kind jobs ran.file.items ran.refused
 
--- ---- what C is told
+-- ---- what C gets
 
 abbrev pub no_end : JobsEnd
 no_end = record { line = 0; job = 0 }
@@ -54,26 +56,29 @@ no_end = record { line = 0; job = 0 }
 abbrev pub Stays : List ℕ → List ℕ → ℕ → ℕ → Type 0
 Stays old new len_old len_new = (new ≡ old) × (len_new ≡ len_old)
 
--- The file of jobs is delivered where none of them had a fault; else the first that had one is told, with its status.
+-- The file of jobs is delivered if none of them had an error; else C gets the number and the status
+-- of the first job that had one.
 abbrev pub TellsRan : List ℕ → Option (ℕ × ℕ) → ℕ → List ℕ → List ℕ → ℕ → ℕ → JobsEnd → Type 0
 TellsRan file None status old new len_old len_new end = Delivers (Ok file) status old new len_old len_new × (end ≡ no_end)
 TellsRan file (Some refused) status old new len_old len_new end =
     (status ≡ refused.1) × (Stays old new len_old len_new × (end ≡ record { line = 0; job = refused.0 }))
 
--- A line that is no job is told, and nothing was run; or the fault is.
+-- C gets the number of a line that is no job, and no job was run; or it gets the error.
 abbrev pub TellsAnswer : Result Answer TiffError → ℕ → List ℕ → List ℕ → ℕ → ℕ → JobsEnd → Type 0
 TellsAnswer (Ok (Ran ran)) status old new len_old len_new end = TellsRan ran.file.items ran.refused status old new len_old len_new end
 TellsAnswer (Ok (NoJob line)) status old new len_old len_new end =
     (status ≡ fault_number (IoError InvalidInput)) × (Stays old new len_old len_new × (end ≡ record { line = line; job = 0 }))
 TellsAnswer (Err e) status old new len_old len_new end = (status ≡ fault_number e) × (Stays old new len_old len_new × (end ≡ no_end))
 
--- a text for a file of a kind is answered, or there is no memory
+-- the answer to a text of jobs for a file of this kind, or out of memory; without a kind, the
+-- version is an error
 abbrev pub AnswersKind : Option FileKind → Result Answer TiffError → Type 0
 AnswersKind None answer = answer ≡ Err (FormatError TiffSignatureInvalid)
 AnswersKind (Some kind) (Ok answer) = AnswersJobs kind answer
 AnswersKind (Some kind) (Err e) = e ≡ OutOfMemory
 
--- what C is told of jobs for a file whose header has this version, and the buffer and the length before and after
+-- the status, the buffer, the length and the end that C gets for jobs and the version in the header
+-- of their file
 abbrev pub JobsTell : ℕ → ℕ → List ℕ → List ℕ → ℕ → ℕ → JobsEnd → Type 0
 JobsTell version status old new len_old len_new end =
     (answer : Result Answer TiffError) × (AnswersKind (kind_of version) answer × TellsAnswer answer status old new len_old len_new end)

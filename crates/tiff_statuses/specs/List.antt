@@ -1,4 +1,4 @@
--- The pages of a file, as C is told of them.
+-- The pages of a file, as C gets them.
 use Rattle.std.specs.Prelude.{◌≡◌, ◌⊎◌, ℕ, ◌++◌, List, drop, length, map, take, Option, None, Some, Result, Ok, Err}
 use Rattle.tiff_base.specs.declared.color.ColorType.{ColorType}
 use Rattle.tiff_base.specs.declared.error.TiffError.{TiffError}
@@ -14,17 +14,17 @@ use Rattle.tiff_statuses.specs.declared.list.ListedPage.{ListedPage}
 use Rattle.tiff_statuses.specs.Calls.{chunk_number, color_by}
 use Rattle.tiff_statuses.specs.Status.{fault_number, status}
 
--- a color by its numbers; zeros where there is none
+-- a color by its numbers; zeros for an error
 abbrev pub color_told : Result ColorType TiffError → Color
 color_told (Ok color) = color_by color
 color_told (Err e) = record { kind = 0; bits = 0; samples = 0 }
 
--- a count; 0 where there is none
+-- a count; 0 for an error
 abbrev pub count_told : Result ℕ TiffError → ℕ
 count_told (Ok count) = count
 count_told (Err e) = 0
 
--- a page by its numbers: its facts, or the number of its fault and zeros
+-- a page by its numbers: its facts, or the number of its error and zeros
 abbrev pub page_told : ℕ → Result PageFacts TiffError → ListedPage
 page_told offset (Ok facts) = record {
   offset = offset;
@@ -54,34 +54,36 @@ page_told offset (Err e) = record {
 abbrev pub item_told : PageItem → ListedPage
 item_told item = page_told item.place.0 item.page
 
--- a slice with these items in front, as many as it has room for; what is behind them stays
+-- a slice with as many of these items in front as fit; what is behind them stays
 abbrev pub filled : {A : Type 0} → List A → List A → List A
 filled items old = take (length old) items ++ drop (length items) old
 
--- the pages of a file, and how their chain ends; or the fault of its header or its first page
+-- the pages of a file, and how their chain ends; or the error of its header or its first page
 abbrev pub list_of : List ℕ → Result Pages TiffError
 list_of file = do
   d ← decoder_of file 0
   Ok (pages_of d)
 
--- the number of the fault by which a chain ends; 0 for none
+-- the number of the error by which a chain ends; 0 for none
 abbrev pub end_status : Option TiffError → ℕ
 end_status None = 0
 end_status (Some e) = fault_number e
 
--- No page is listed, for this fault, or for want of memory.
+-- No page is listed, for this error, or since memory is out.
 pub record ListsNone (e : TiffError) (result : ℕ) (old new : List ListedPage) (count : ℕ) : Type 0 where
   pub status : (result ≡ fault_number e) ⊎ (result ≡ fault_number OutOfMemory)
   pub none : count ≡ 0
   pub stays : new ≡ old
 
--- These pages are listed, as many as there is room for, with how many they are; the status is that of the chain's end.
+-- As many of these pages as fit are listed, with how many there are; the status is that of the
+-- chain's end.
 pub record ListsAll (pages : Pages) (result : ℕ) (old new : List ListedPage) (count : ℕ) : Type 0 where
   pub status : result ≡ end_status pages.end
   pub all : count ≡ length pages.items
   pub listed : new ≡ filled (map item_told pages.items) old
 
--- what the call tells: all pages, or none for want of memory; or none for the fault of the file
+-- what the call returns and leaves: all pages, or none since memory is out; or none for the error
+-- of the file
 abbrev pub ListTells : Result Pages TiffError → ℕ → List ListedPage → List ListedPage → ℕ → Type 0
 ListTells (Ok pages) result old new count = ListsAll pages result old new count ⊎ ListsNone OutOfMemory result old new count
 ListTells (Err e) result old new count = ListsNone e result old new count

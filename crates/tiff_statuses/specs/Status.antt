@@ -1,4 +1,4 @@
--- The numbers by which C is told of faults. 0 is none of them: it says that a call is done.
+-- The numbers that C gets for errors. 0 is none of them: a call that returns 0 is done.
 use Rattle.std.specs.Prelude.{◌≡◌, ◌⊎◌, ℕ, Result, Ok, Err}
 use Rattle.tiff_base.specs.declared.error.TiffError.{TiffError}
 use Rattle.tiff_base.specs.declared.error.TiffError.TheVariants.{FormatError, UnsupportedError, IoError, UsageError, LimitsExceeded, IntSizeError, OutOfMemory}
@@ -11,7 +11,7 @@ use Rattle.tiff_base.specs.declared.error.UsageError.TheVariants.{InvalidChunkTy
 use Rattle.tiff_base.specs.declared.io.IoKind.{IoKind}
 use Rattle.tiff_base.specs.declared.io.IoKind.TheVariants.{UnexpectedEof, InvalidData, InvalidInput, WriteZero, Device}
 
--- of a file that does not have TIFF's form
+-- the number of an error of a file that doesn't have TIFF's form
 abbrev pub format_fault_number : TiffFormatError → ℕ
 format_fault_number TiffSignatureNotFound = 20
 format_fault_number TiffSignatureInvalid = 21
@@ -30,7 +30,7 @@ format_fault_number CycleInOffsets = 33
 format_fault_number SamplesPerPixelIsZero = 34
 format_fault_number (CompressedDataCorrupt a) = 35
 
--- of what is not supported
+-- the number of an error for what is not supported
 abbrev pub unsupported_fault_number : TiffUnsupportedError → ℕ
 unsupported_fault_number (FloatingPointPredictor a) = 40
 unsupported_fault_number (HorizontalPredictor a) = 41
@@ -49,7 +49,7 @@ unsupported_fault_number (UnsupportedInterpretation a) = 53
 unsupported_fault_number ChromaSubsampling = 54
 unsupported_fault_number MisalignedTileBoundaries = 55
 
--- of a call that doesn't fit
+-- the number of an error for a call that doesn't fit
 abbrev pub usage_fault_number : Usage → ℕ
 usage_fault_number (InvalidChunkType a b) = 60
 usage_fault_number (InvalidChunkIndex a) = 61
@@ -67,7 +67,7 @@ usage_fault_number (MismatchedEntryLength a b) = 72
 usage_fault_number ParentNotWritten = 73
 usage_fault_number WriterFailed = 74
 
--- of a fault of the bytes
+-- the number of an error of input or output
 abbrev pub io_fault_number : IoKind → ℕ
 io_fault_number UnexpectedEof = 10
 io_fault_number InvalidData = 11
@@ -75,7 +75,7 @@ io_fault_number InvalidInput = 12
 io_fault_number WriteZero = 13
 io_fault_number Device = 14
 
--- of any fault
+-- the number of an error of any kind
 abbrev pub fault_number : TiffError → ℕ
 fault_number (FormatError e) = format_fault_number e
 fault_number (UnsupportedError e) = unsupported_fault_number e
@@ -85,18 +85,20 @@ fault_number LimitsExceeded = 1
 fault_number IntSizeError = 2
 fault_number OutOfMemory = 3
 
--- of an answer
+-- the status of a result: 0, or the number of its error
 abbrev pub status : {X : Type 0} → Result X TiffError → ℕ
 status (Ok x) = 0
 status (Err e) = fault_number e
 
--- The status of a call tells the answer that is given: 0, and what the call left is the value; or the number of the fault. Or else
--- it is want of memory. What a call that is refused leaves in a slice isn't told.
+-- The status of a call is that of its result: 0, and what the call left is the value; or the number
+-- of the error. Or else memory is out. What a call that is refused leaves in a slice is not
+-- specified.
 abbrev pub StatusTells : {X : Type 0} → Result X TiffError → ℕ → X → Type 0
 StatusTells (Ok x) status left = ((status ≡ 0) × (left ≡ x)) ⊎ (status ≡ fault_number OutOfMemory)
 StatusTells (Err e) status left = (status ≡ fault_number e) ⊎ (status ≡ fault_number OutOfMemory)
 
--- The same of a call that puts its answer into a variable of the caller's, which holds what it held where the status isn't 0.
+-- The status of a call is that of its result, or memory is out; the call puts its value into a
+-- variable of the caller's, which stays where the status isn't 0.
 abbrev pub StatusPuts : {X : Type 0} → Result X TiffError → ℕ → X → X → Type 0
 StatusPuts (Ok x) status old new = ((status ≡ 0) × (new ≡ x)) ⊎ ((status ≡ fault_number OutOfMemory) × (new ≡ old))
 StatusPuts (Err e) status old new = ((status ≡ fault_number e) ⊎ (status ≡ fault_number OutOfMemory)) × (new ≡ old)

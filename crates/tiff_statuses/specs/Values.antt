@@ -1,4 +1,4 @@
--- The values of a tag of a page, as numbers and texts of the machine's, in a slice of the caller's.
+-- The values of a tag of a page, as numbers and texts of the machine, in a slice of the caller's.
 use Rattle.std.specs.Prelude.{ℕ, List, length, Result, Ok}
 use Rattle.tiff_base.specs.declared.error.TiffError.{TiffError}
 use Rattle.tiff_base.specs.Answers.{◌>>=◌}
@@ -7,25 +7,25 @@ use Rattle.tiff_decode.specs.Outcome as outcome
 use Rattle.tiff_statuses.specs.Calls.{tags_at_page}
 use Rattle.tiff_statuses.specs.List.{filled}
 
--- values in front of a slice, as many as it has room for, and how many there are
+-- how many values there are, and a slice with as many of them in front as fit
 abbrev pub counted : Result (List ℕ) TiffError → List ℕ → Result (ℕ × List ℕ) TiffError
 counted found slice = do
   values ← found
   Ok (length values, filled values slice)
 
--- the numbers of a tag of a page
+-- the numbers of a tag of a page, in a slice
 abbrev pub tag_numbers : List ℕ → ℕ → ℕ → List ℕ → Result (ℕ × List ℕ) TiffError
 tag_numbers file page number slice = do
   d ← tags_at_page file page
   counted (outcome.get_tag_u64_vec d (tag_of number)).answer slice
 
--- the bits of the floating numbers of a tag of a page
+-- the bits of the floating-point numbers of a tag of a page, in a slice
 abbrev pub tag_floats : List ℕ → ℕ → ℕ → List ℕ → Result (ℕ × List ℕ) TiffError
 tag_floats file page number slice = do
   d ← tags_at_page file page
   counted (outcome.get_tag_f64_vec d (tag_of number)).answer slice
 
--- the bytes of the text of a tag of a page
+-- the bytes of the text of a tag of a page, in a slice
 abbrev pub tag_text : List ℕ → ℕ → ℕ → List ℕ → Result (ℕ × List ℕ) TiffError
 tag_text file page number slice = do
   d ← tags_at_page file page

@@ -1,4 +1,4 @@
--- What is written of an image that C hands in: a file, or the first fault.
+-- What the library writes for an image that C passes: a file, or the first error.
 use Rattle.std.specs.Prelude.{◌≡◌, ◌⊎◌, ℕ, ◌<◌, ◌≤◌, ◌%◌, ◌==◌, ◌++◌, List, [], ◌∷◌, length, take, drop, slice_get, if◌then◌else◌, false, Option, None, Some, Result, Ok, Err, IfOk}
 use Rattle.tiff_base.specs.declared.error.TiffError.{TiffError}
 use Rattle.tiff_base.specs.declared.error.TiffError.TheVariants.{FormatError, UnsupportedError, IoError, UsageError, OutOfMemory}
@@ -28,9 +28,9 @@ use Rattle.tiff_statuses.specs.declared.writer.Settings.{Settings}
 use Rattle.tiff_decode.specs.NextState.{view_of_result}
 use Rattle.tiff_statuses.specs.Status.{fault_number}
 
--- ---- what is asked for
+-- ---- the settings and the samples
 
--- a kind of file by the version in its header
+-- the kind of file with this version in its header
 abbrev pub kind_of : ℕ → Option FileKind
 kind_of n = if n == 42 then Some Classic else if n == 43 then Some Big else None
 
@@ -42,11 +42,11 @@ color_types =
     ∷ RGBA8 ∷ RGBA16 ∷ RGBA32 ∷ RGBA64 ∷ RGBA32Float ∷ RGBA64Float
     ∷ CMYK8 ∷ CMYK16 ∷ CMYK32 ∷ CMYK64 ∷ CMYK32Float ∷ CMYK64Float ∷ YCbCr8 ∷ CMYKA8 ∷ []
 
--- a packing by the number of its method
+-- the compression with this number of a method
 abbrev pub packing_of : ℕ → Option Compression
 packing_of n = if n == 1 then Some Uncompressed else if n == 32773 then Some Packbits else None
 
--- what an image is written by; the first number that names nothing is the fault
+-- how to write an image, by name; or the error of the first number that names nothing
 abbrev pub settings_of : NewImage → Result Settings TiffError
 settings_of image = do
   kind ← ok_or_fault (kind_of image.version) (FormatError TiffSignatureInvalid)
@@ -55,7 +55,8 @@ settings_of image = do
   predictor ← ok_or_fault (predictor_of image.predictor) (FormatError (UnknownPredictor image.predictor))
   Ok (record { kind = kind; color = color; compression = compression; predictor = predictor })
 
--- the samples that bytes are, each number's lowest byte first; a part of one is left over
+-- the samples that bytes are, the lowest byte of each first; an error where a part of one is left
+-- over
 abbrev pub samples_from_bytes : ColorTypeName → List ℕ → Result (List ℕ) TiffError
 samples_from_bytes color bytes =
     if length bytes % inner_size color == 0 then Ok (numbers_in (inner_size color) bytes)
@@ -63,11 +64,12 @@ samples_from_bytes color bytes =
 
 -- ---- what is written
 
--- the file of an encoder that begins on nothing, with these settings; so many writes of its sink failed
+-- the file of a new encoder over an empty sink, with these settings, where so many writes of the
+-- sink failed
 abbrev pub file_by : Settings → ℕ → FileState
 file_by s failures = record (begun_file s.kind [] failures) { predictor = s.predictor; method = machine.compression_method s.compression }
 
--- an encoder that begins on nothing has it
+-- an encoder is new, over an empty sink, with these settings
 abbrev pub IsBegun : Settings → FileState → Type 0
 IsBegun s file = (failures : ℕ) × (file ≡ file_by s failures)
 
@@ -76,8 +78,8 @@ abbrev pub image_by : Settings → ℕ → ℕ → List ℕ → Image
 image_by s width height samples =
     image_of_samples (image_in (file_by s 0) (new_directory None false) (color_type s.color) (inner_size s.color) width height) samples
 
--- The answer is what an encoder's `write_image` gives over a sink that fails for want of memory alone: the file, whose first
--- page shows the image; or the fault.
+-- The answer is what an encoder's `write_image` returns over a sink that fails only when memory is
+-- out: the file, whose first page shows the image; or the error.
 pub record IsWritten (s : Settings) (width height : ℕ) (samples : List ℕ) (answer : Result (List ℕ) TiffError) : Type 0 where
   pub failures : ℕ
   pub last : FileState
@@ -86,11 +88,12 @@ pub record IsWritten (s : Settings) (width height : ℕ) (samples : List ℕ) (a
   pub file : IfOk answer (λ file. file ≡ last.bytes)
   pub shows : IfOk answer (λ file. ShowsFirst s.kind file (image_by s width height samples))
 
--- so it is, or there is no memory
+-- the image is written, or memory is out
 abbrev pub WritesImageFile : Settings → ℕ → ℕ → List ℕ → Result (List ℕ) TiffError → Type 0
 WritesImageFile s width height samples answer = (answer ≡ Err OutOfMemory) ⊎ IsWritten s width height samples answer
 
--- the same of samples that bytes are, unless they are none
+-- the image of samples that bytes are is written, or memory is out; bytes that are no samples give
+-- their error
 abbrev pub WritesBytes : Settings → ℕ → ℕ → Result (List ℕ) TiffError → Result (List ℕ) TiffError → Type 0
 WritesBytes s width height (Ok samples) answer = WritesImageFile s width height samples answer
 WritesBytes s width height (Err e) answer = answer ≡ Err e
@@ -99,32 +102,34 @@ abbrev pub WritesBy : Result Settings TiffError → ℕ → ℕ → List ℕ →
 WritesBy (Ok s) width height bytes answer = WritesBytes s width height (samples_from_bytes s.color bytes) answer
 WritesBy (Err e) width height bytes answer = answer ≡ Err e
 
--- the answer for an image that C hands in
+-- the answer for an image that C passes
 abbrev pub WritesNew : NewImage → List ℕ → Result (List ℕ) TiffError → Type 0
 WritesNew image bytes answer = WritesBy (settings_of image) image.width image.height bytes answer
 
--- ---- what C is told
+-- ---- what C gets
 
--- A file is put at the front of a buffer that has room for it, and the rest of the buffer stays; else all of it does.
+-- A file is put at the front of a buffer if it fits, and the rest of the buffer stays; else the
+-- whole buffer stays.
 abbrev pub Puts : List ℕ → ℕ → List ℕ → List ℕ → Type 0
 Puts file status old new =
     ((length file ≤ length old) × ((status ≡ 0) × (new ≡ file ++ drop (length file) old)))
     ⊎ ((length old < length file) × ((status ≡ fault_number (UsageError (InsufficientOutputBufferSize (length file) (length old)))) × (new ≡ old)))
 
--- The length of a file is told, whether there is room for it or not. Of a fault nothing is told but its number.
+-- The length of a file is delivered, whether the file fits or not. For an error, the number of the
+-- error is delivered alone.
 abbrev pub Delivers : Result (List ℕ) TiffError → ℕ → List ℕ → List ℕ → ℕ → ℕ → Type 0
 Delivers (Ok file) status old new len_old len_new = (len_new ≡ length file) × Puts file status old new
 Delivers (Err e) status old new len_old len_new = (status ≡ fault_number e) × ((new ≡ old) × (len_new ≡ len_old))
 
--- what C is told of an image that it hands in, and the buffer and the length before and after
+-- the status, the buffer and the length that C gets for an image that it passes
 abbrev pub WriterTells : NewImage → List ℕ → ℕ → List ℕ → List ℕ → ℕ → ℕ → Type 0
 WriterTells image bytes status old new len_old len_new =
     (answer : Result (List ℕ) TiffError) × (WritesNew image bytes answer × Delivers answer status old new len_old len_new)
 
 -- ---- what follows of it
 
--- The image is in the buffer: the front of that, as long as is told, is a file whose first page shows the samples that were handed
--- in; and the rest of the buffer stayed.
+-- The image is in the buffer: its first `len` bytes are a file whose first page shows the samples
+-- that were passed. The rest of the buffer stays.
 pub record IsShown (image : NewImage) (bytes old new : List ℕ) (len : ℕ) : Type 0 where
   pub settings : Settings
   pub by : settings_of image ≡ Ok settings

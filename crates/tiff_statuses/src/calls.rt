@@ -1,5 +1,5 @@
-//! The calls of a decoder on a page of a file that lies in a slice. No read of it fails, so a fault is the file's, the
-//! caller's, or want of memory.
+//! Calls of a decoder on a page of a file that lies in a slice. No read of a slice fails, so an
+//! error comes from the file or the caller, or memory is out.
 
 ghost use Rattle.std.specs.Prelude.{◌≡◌, ◌-◌, ◌^◌, ◌<◌, length, option_map, IfOk, Ok, OnOk};
 ghost use Rattle.tiff_base.specs.Answers.{Answers, AnswersWithoutMemory, AnswersWithoutSource, Gives};
@@ -23,10 +23,10 @@ use tiff_ifd::limits::Limits;
 use tiff_laws::pages::{walk_ends, walk_goes_on, walk_opens};
 use tiff_page::layout::{BufferLayoutPreference, TiffCodingUnit};
 
-// From this number on a page is told by the offset of its directory, counted from here.
+// From this number on, the number of a page is this plus the offset of its directory.
 const AT: usize = 1 << 63;
 
-/// The width and the height of a page.
+/// The width and the height of a page, in pixels.
 #[derive(Clone, Copy, Debug, PartialEq, Eq)]
 #[repr(C)]
 pub struct Sides {
@@ -34,7 +34,7 @@ pub struct Sides {
     pub height: u32,
 }
 
-/// The bytes of an image: of one plane, and of all.
+/// How many bytes an image has: in one plane, and in all planes.
 #[derive(Clone, Copy, Debug, PartialEq, Eq)]
 #[repr(C)]
 pub struct Layout {
@@ -42,7 +42,8 @@ pub struct Layout {
     pub complete_len: usize,
 }
 
-/// The color of a page: the number of its kind, the bits of a sample, and how many samples a pixel shows.
+/// The color of a page: the number of its kind, the bits of a sample, and how many samples a pixel
+/// shows.
 #[derive(Clone, Copy, Debug, PartialEq, Eq)]
 #[repr(C)]
 pub struct Color {
@@ -51,7 +52,8 @@ pub struct Color {
     pub samples: u32,
 }
 
-/// The chunks of a page: the number of their kind, how many there are, and their sides.
+/// The chunks of a page: the number of their kind, how many there are, and the width and the height
+/// of one in pixels, before chunks are cut at the edges of the image.
 #[derive(Clone, Copy, Debug, PartialEq, Eq)]
 #[repr(C)]
 pub struct Chunks {
@@ -61,8 +63,9 @@ pub struct Chunks {
     pub height: u32,
 }
 
-/// The samples of a page: the number of their format, as the tag SampleFormat has it; the bits of one; how many a pixel shows; in how
-/// many planes; and 1 where they are inverted, since 0 is white, else 0.
+/// The samples of a page: the number of their format, as the tag SampleFormat has it; the bits of
+/// one; how many a pixel shows; in how many planes they lie; and 1 where they are inverted, since 0
+/// is white in the file, else 0.
 #[derive(Clone, Copy, Debug, PartialEq, Eq)]
 #[repr(C)]
 pub struct PageSamples {
@@ -73,7 +76,7 @@ pub struct PageSamples {
     pub inverted: u32,
 }
 
-/// The field of a tag: the number of its type, and how many values there are.
+/// The field of a tag: the number of its type, and how many values it has.
 #[derive(Clone, Copy, Debug, PartialEq, Eq)]
 #[repr(C)]
 pub struct FieldSize {
@@ -81,7 +84,7 @@ pub struct FieldSize {
     pub count: u64,
 }
 
-// No read of a slice failed.
+// Proves that no read of a decoder over a slice failed.
 pub(crate) fn never_failed(decoder: &Decoder<SliceSource<'_>>)
     ensures { decoder.now.failures ≡ 0 }
 {
@@ -97,7 +100,7 @@ pub(crate) fn open_first(alloc: Global, file: &[u8]) -> TiffResult<Decoder<Slice
     Ok(decoder)
 }
 
-// Goes to a page.
+// Goes to the page with this number in the chain.
 #[tactic(auto, using(crate::proofs::Slices::here, crate::proofs::Slices::gone))]
 fn seek(decoder: &mut Decoder<SliceSource<'_>>, page: usize) -> TiffResult<()>
     ensures answer { AnswersWithoutSource (λ x. x) result (outcome.seek_to_image decoder.old page).answer }
@@ -109,7 +112,7 @@ fn seek(decoder: &mut Decoder<SliceSource<'_>>, page: usize) -> TiffResult<()>
     answer
 }
 
-// Shows the directory at an offset.
+// Shows the directory at an offset, whether it is in the chain or not.
 #[tactic(auto, using(crate::proofs::Slices::here, crate::proofs::Slices::gone))]
 fn show(decoder: &mut Decoder<SliceSource<'_>>, offset: u64) -> TiffResult<()>
     ensures answer { AnswersWithoutSource (λ x. x) result (outcome.show_directory decoder.old (record { 0 = offset })).answer }
@@ -132,7 +135,8 @@ fn go_to(decoder: &mut Decoder<SliceSource<'_>>, page: usize) -> TiffResult<()>
     show(decoder, (page - AT) as u64)
 }
 
-// A decoder at a page of a file. It is opened at the first one, whose directory isn't read again.
+// A decoder at a page of a file. It is opened at the first page; for page 0, that directory isn't
+// read again.
 pub(crate) fn open_at(
     alloc: Global,
     file: &[u8],
@@ -161,8 +165,8 @@ fn directory_here(decoder: &mut Decoder<SliceSource<'_>>, offset: u64) -> TiffRe
     answer
 }
 
-// A decoder for the tags of a page: at the page of a number; or at the first page, with the directory at an offset, whose page is
-// not looked at.
+// A decoder for the tags of a page: at the page with a number; or at the first page, together with
+// the directory at an offset. Whether that directory is a page isn't asked.
 pub(crate) fn open_tags(
     alloc: Global,
     file: &[u8],
@@ -193,14 +197,15 @@ pub(crate) fn tags_of<'a, R: Source>(
     }
 }
 
-// A decoder at a page of a file under no limits: what is read into a caller's slice takes no memory by what a file claims.
+// A decoder at a page of a file, without limits: what it reads into a slice of the caller's
+// allocates nothing by what the file claims.
 fn open_free(alloc: Global, file: &[u8], page: usize) -> TiffResult<Decoder<SliceSource<'_>>>
     ensures { AnswersWithoutSource (λ d. d) result (calls.free_at_page file.now page) }
 {
     Ok(open_at(alloc, file, page)?.with_limits(Limits::unlimited()))
 }
 
-/// The width and the height of a page.
+/// The width and the height of a page, in pixels; or the error that refuses the file or the page.
 #[tactic(auto, unfolding(tiff_decode::specs::Outcome::dimensions))]
 pub fn page_sides(alloc: Global, file: &[u8], page: usize) -> TiffResult<Sides>
     ensures { AnswersWithoutSource (λ s. s) result (calls.page_sides file.now page) }
@@ -220,14 +225,16 @@ fn image_here(decoder: &mut Decoder<SliceSource<'_>>, buffer: &mut [u8]) -> Tiff
     answer
 }
 
-/// Reads the image of a page into a slice, under no limits.
+/// Reads the image of a page into `buffer`, under no limits. The first error: of the file or the
+/// page; of its color or its layout; of a buffer shorter than one plane,
+/// `InsufficientOutputBufferSize`; of a chunk. What an error leaves in `buffer` is not specified.
 pub fn image_bytes(alloc: Global, file: &[u8], page: usize, buffer: &mut [u8]) -> TiffResult<()>
     ensures { AnswersWithoutSource (λ _. buffer.new) result (calls.read_image_bytes file.now page buffer.old) }
 {
     image_here(&mut open_free(alloc, file, page)?, buffer)
 }
 
-// The layout of a decoder's page.
+// How many bytes the image of a decoder's page has.
 #[tactic(auto, unfolding(tiff_decode::specs::Outcome::image_buffer_layout))]
 fn layout_here(decoder: &mut Decoder<SliceSource<'_>>) -> TiffResult<Layout>
     ensures { AnswersWithoutSource (λ l. l) result (calls.image_layout decoder.old) }
@@ -239,7 +246,8 @@ fn layout_here(decoder: &mut Decoder<SliceSource<'_>>) -> TiffResult<Layout>
     })
 }
 
-/// The bytes of the image of a page.
+/// How many bytes the image of a page has, in one plane and in all planes. The first error: of the
+/// file or the page; of samples without a layout.
 pub fn page_layout(alloc: Global, file: &[u8], page: usize) -> TiffResult<Layout>
     ensures { AnswersWithoutSource (λ l. l) result (calls.page_layout file.now page) }
 {
@@ -262,7 +270,9 @@ fn chunk_here(
     answer
 }
 
-/// Reads a chunk of a page into a slice, under no limits.
+/// Reads the chunk of a page with the number `chunk` into `buffer`, under no limits. The first
+/// error: of the file or the page; of its color or its layout; of a buffer shorter than the chunk,
+/// `InsufficientOutputBufferSize`; of the chunk. What an error leaves in `buffer` is not specified.
 pub fn chunk_bytes(
     alloc: Global,
     file: &[u8],
@@ -284,7 +294,8 @@ fn chunk_len(decoder: &mut Decoder<SliceSource<'_>>, chunk: u32) -> TiffResult<u
     Ok(decoder.image_chunk_buffer_layout(chunk)?.len)
 }
 
-// Reads the chunks of a decoder's page from one up to another into a slice, one behind the other.
+// Reads the chunks of a decoder's page from the number `first` up to `end`, without `end`, into a
+// slice, one behind the other.
 fn range_here(
     decoder: &mut Decoder<SliceSource<'_>>,
     first: u32,
@@ -310,7 +321,11 @@ fn range_here(
     Ok(())
 }
 
-/// Reads so many chunks of a page from one on into a slice, one behind the other, under no limits.
+/// Reads `count` chunks of a page, from the number `first` on, into `buffer`, one behind the other,
+/// under no limits. The first error: of the file or the page; `first` plus `count` of 2^32 or more,
+/// `InvalidChunkIndex`; and then, chunk by chunk, of the page's color or its layout; of a buffer
+/// that has no room left for the chunk, `InsufficientOutputBufferSize`; of the chunk. What an error
+/// leaves in `buffer` is not specified.
 pub fn range_bytes(
     alloc: Global,
     file: &[u8],
@@ -339,7 +354,10 @@ fn unit_here(decoder: &mut Decoder<SliceSource<'_>>, unit: u32, buffer: &mut [u8
     answer
 }
 
-/// Reads a coding unit of a page into a slice, under no limits.
+/// Reads the coding unit of a page with the number `unit` into `buffer`, under no limits. The first
+/// error: of the file or the page; of its color or its layout; no such unit, `InvalidCodingUnit`;
+/// of a buffer shorter than the chunk of one plane, `InsufficientOutputBufferSize`; of a chunk.
+/// What an error leaves in `buffer` is not specified.
 pub fn unit_bytes(
     alloc: Global,
     file: &[u8],
@@ -352,7 +370,7 @@ pub fn unit_bytes(
     unit_here(&mut open_free(alloc, file, page)?, unit, buffer)
 }
 
-// The kind of a color, as C is told of it.
+// The number of a color's kind for C.
 fn color_number(color: ColorType) -> u32
     ensures { result ≡ calls.color_number color }
 {
@@ -371,7 +389,7 @@ fn color_number(color: ColorType) -> u32
     }
 }
 
-// A color, as C is told of it.
+// A color by its numbers for C.
 pub(crate) fn color_by(color: ColorType) -> Color
     ensures { result ≡ calls.color_by color }
 {
@@ -382,7 +400,7 @@ pub(crate) fn color_by(color: ColorType) -> Color
     }
 }
 
-// The color of a decoder's page.
+// The color of a decoder's page, by its numbers for C.
 #[tactic(auto, unfolding(tiff_decode::specs::Outcome::colortype))]
 fn color_here(decoder: &mut Decoder<SliceSource<'_>>) -> TiffResult<Color>
     ensures { AnswersWithoutSource (λ c. c) result (calls.color_of_page decoder.old) }
@@ -390,21 +408,22 @@ fn color_here(decoder: &mut Decoder<SliceSource<'_>>) -> TiffResult<Color>
     Ok(color_by(decoder.colortype()?))
 }
 
-/// The color of a page.
+/// The color of a page, by its numbers for C. The first error: of the file or the page; of a page
+/// without a color.
 pub fn page_color(alloc: Global, file: &[u8], page: usize) -> TiffResult<Color>
     ensures { AnswersWithoutSource (λ c. c) result (calls.page_color file.now page) }
 {
     color_here(&mut open_at(alloc, file, page)?)
 }
 
-// Whether numbers of this interpretation are inverted, as C is told of it.
+// 1 where numbers of this interpretation are inverted, else 0.
 fn inverted_by(meaning: u64) -> u32
     ensures { result ≡ calls.inverted_by meaning }
 {
     if meaning == 0 { 1 } else { 0 }
 }
 
-// The samples of a color, a layout and an interpretation, as C is told of them.
+// The samples of a page with this color, layout and interpretation, by their numbers for C.
 fn samples_by(color: ColorType, layout: &BufferLayoutPreference, meaning: u64) -> PageSamples
     // A page has no more planes than samples.
     requires { layout.now.planes < 2 ^ 32 }
@@ -419,14 +438,14 @@ fn samples_by(color: ColorType, layout: &BufferLayoutPreference, meaning: u64) -
     }
 }
 
-// A color has fewer than 2^16 samples.
+// Proves that a color has fewer than 2^16 samples.
 fn samples_fit(color: &ColorType)
     ensures { num_samples color.now < 2 ^ 16 }
 {
     let _samples = color.num_samples();
 }
 
-// The samples of a decoder's page, of this color and layout.
+// The samples of a decoder's page that has this color and layout, by their numbers for C.
 fn samples_in(
     decoder: &mut Decoder<SliceSource<'_>>,
     color: ColorType,
@@ -439,7 +458,7 @@ fn samples_in(
     Ok(samples_by(color, layout, meaning))
 }
 
-// The samples of a decoder's page.
+// The samples of a decoder's page, by their numbers for C.
 #[tactic(auto, using(crate::proofs::Planes::planes_few), unfolding(tiff_decode::specs::Outcome::colortype, tiff_decode::specs::Outcome::image_buffer_layout))]
 fn samples_here(decoder: &mut Decoder<SliceSource<'_>>) -> TiffResult<PageSamples>
     ensures { AnswersWithoutSource (λ s. s) result (calls.samples_of_page decoder.old) }
@@ -450,14 +469,15 @@ fn samples_here(decoder: &mut Decoder<SliceSource<'_>>) -> TiffResult<PageSample
     samples_in(decoder, color, &layout)
 }
 
-/// The samples of a page.
+/// The samples of a page, by their numbers for C. The first error: of the file or the page; of its
+/// color or its layout.
 pub fn page_samples(alloc: Global, file: &[u8], page: usize) -> TiffResult<PageSamples>
     ensures { AnswersWithoutSource (λ s. s) result (calls.page_samples file.now page) }
 {
     samples_here(&mut open_at(alloc, file, page)?)
 }
 
-// The chunks of a decoder's page.
+// The chunks of a decoder's page, by their numbers for C.
 #[tactic(auto, unfolding(tiff_decode::specs::Outcome::strip_count, tiff_decode::specs::Outcome::tile_count))]
 fn chunks_here(decoder: &mut Decoder<SliceSource<'_>>) -> TiffResult<Chunks>
     ensures { AnswersWithoutSource (λ c. c) result (calls.chunks_of_page decoder.old) }
@@ -475,14 +495,15 @@ fn chunks_here(decoder: &mut Decoder<SliceSource<'_>>) -> TiffResult<Chunks>
     })
 }
 
-/// The chunks of a page.
+/// The chunks of a page, by their numbers for C. The first error: of the file or the page; of
+/// chunks that can't be counted.
 pub fn page_chunks(alloc: Global, file: &[u8], page: usize) -> TiffResult<Chunks>
     ensures { AnswersWithoutSource (λ c. c) result (calls.page_chunks file.now page) }
 {
     chunks_here(&mut open_at(alloc, file, page)?)
 }
 
-// The field of a tag, as C is told of it.
+// The field of a tag, by its numbers for C. No such tag: `RequiredTagNotFound`.
 fn field_size(tag: Tag, found: Option<Entry>) -> TiffResult<FieldSize>
     ensures { AnswersWithoutSource (λ f. f) result (calls.field_size tag found) }
 {
@@ -495,7 +516,8 @@ fn field_size(tag: Tag, found: Option<Entry>) -> TiffResult<FieldSize>
     }
 }
 
-/// The field of a tag of a page, by the tag's number.
+/// The field of a tag of a page, by its numbers for C. `number` is the tag's number. The first
+/// error: of the file or the page; no such tag, `RequiredTagNotFound`.
 pub fn tag_field(alloc: Global, file: &[u8], page: usize, number: u16) -> TiffResult<FieldSize>
     ensures { AnswersWithoutSource (λ f. f) result (calls.tag_field file.now page number) }
 {
@@ -505,14 +527,14 @@ pub fn tag_field(alloc: Global, file: &[u8], page: usize, number: u16) -> TiffRe
     field_size(tag, found)
 }
 
-// A file has fewer than 2^64 bytes.
+// Proves that a file has fewer than 2^64 bytes.
 fn bytes_fit<R: Source>(decoder: &Decoder<R>)
     ensures { length decoder.now.bytes < 2 ^ 64 }
 {
     let _source = decoder.inner();
 }
 
-// Goes to the next page.
+// Goes to the next page of the chain.
 #[tactic(auto, using(crate::proofs::Slices::next_here, crate::proofs::Slices::next_gone))]
 fn advance(decoder: &mut Decoder<SliceSource<'_>>) -> TiffResult<()>
     ensures answer { AnswersWithoutSource (λ x. x) result (outcome.next_image decoder.old).answer }
@@ -524,9 +546,9 @@ fn advance(decoder: &mut Decoder<SliceSource<'_>>) -> TiffResult<()>
     answer
 }
 
-// How many pages the file of a decoder at its first page has.
+// How many pages a file has, of which the decoder is at the first page.
 fn count_pages(decoder: &mut Decoder<SliceSource<'_>>) -> TiffResult<usize>
-    // It was opened on its file, and no call moved it since.
+    // The decoder was opened on its file, and no call has moved it since.
     requires { outcome.decoder_of decoder.old.bytes 0 ≡ Ok decoder.old }
     ensures { AnswersWithoutSource (λ n. n) result (calls.page_count decoder.old.bytes) }
 {
@@ -542,7 +564,8 @@ fn count_pages(decoder: &mut Decoder<SliceSource<'_>>) -> TiffResult<usize>
     Ok(count)
 }
 
-/// How many pages a file has. It ends since the file's chain does.
+/// How many pages a file has. The first error: of the header; of the pages in their order; of the
+/// chain's end. The call ends for every file, since each chain does.
 pub fn page_count(alloc: Global, file: &[u8]) -> TiffResult<usize>
     ensures { AnswersWithoutSource (λ n. n) result (calls.page_count file.now) }
 {
@@ -551,7 +574,7 @@ pub fn page_count(alloc: Global, file: &[u8]) -> TiffResult<usize>
     count_pages(&mut decoder)
 }
 
-// The number of a tag of a decoder's page, or of another directory of its file.
+// The number of a tag: of a decoder's page, or of another directory of its file.
 fn number_of<R: Source>(
     decoder: &mut Decoder<R>,
     other: &Option<Directory>,
@@ -563,7 +586,7 @@ fn number_of<R: Source>(
     tags_of(decoder, other).get_tag_u64(tag)
 }
 
-// The same of a decoder whose reads never fail.
+// The number of a tag, of a decoder whose reads never fail.
 #[tactic(auto, using(crate::proofs::Slices::answer_here))]
 fn number_here(
     decoder: &mut Decoder<SliceSource<'_>>,
@@ -578,7 +601,9 @@ fn number_here(
     answer
 }
 
-/// The number of a tag of a page, by the tag's number.
+/// The number of a tag of a page. `number` is the tag's number. The first error: of the file or the
+/// page; no such tag, `RequiredTagNotFound`; of reading the value, also of one that is no number
+/// below 2^64.
 pub fn tag_number(alloc: Global, file: &[u8], page: usize, number: u16) -> TiffResult<u64>
     ensures { AnswersWithoutSource (λ n. n) result (calls.tag_number_at file.now page number) }
 {
@@ -586,7 +611,7 @@ pub fn tag_number(alloc: Global, file: &[u8], page: usize, number: u16) -> TiffR
     number_here(&mut decoder, &other, Tag::from_u16_exhaustive(number))
 }
 
-// A field's bytes that were copied: how many, where there is the field.
+// How many bytes of a field were copied. No such field: `RequiredTagNotFound`.
 fn copied(tag: Tag, found: Option<usize>) -> TiffResult<usize>
     ensures { Gives (λ n. n) result (ok_or_fault found (FormatError (RequiredTagNotFound tag))) }
 {
@@ -596,7 +621,8 @@ fn copied(tag: Tag, found: Option<usize>) -> TiffResult<usize>
     }
 }
 
-// Copies bytes of the values of a tag of a decoder's page, or of another directory, where there is the tag.
+// Copies bytes of a tag's values, if there is the tag: of a decoder's page, or of another directory
+// of its file.
 fn part_of_tag<R: Source>(
     decoder: &mut Decoder<R>,
     other: &Option<Directory>,
@@ -610,7 +636,7 @@ fn part_of_tag<R: Source>(
     tags_of(decoder, other).find_tag_bytes(tag, buffer, at)
 }
 
-// The same of a decoder whose reads never fail.
+// Copies bytes of a tag's values, if there is the tag, by a decoder whose reads never fail.
 #[tactic(auto, using(crate::proofs::Slices::exactly_here))]
 fn part_here(
     decoder: &mut Decoder<SliceSource<'_>>,
@@ -627,7 +653,8 @@ fn part_here(
     answer
 }
 
-// The same, and how many bytes they are.
+// Copies bytes of a tag's values, by a decoder whose reads never fail, and returns how many. No
+// such tag: `RequiredTagNotFound`.
 fn bytes_here(
     decoder: &mut Decoder<SliceSource<'_>>,
     other: &Option<Directory>,
@@ -641,8 +668,12 @@ fn bytes_here(
     copied(tag, found)
 }
 
-/// Copies the bytes of the values of a tag of a page from a byte on, by the tag's number, in the file's order, as many as fit,
-/// and answers how many.
+/// Copies the bytes of the values of a tag of a page into `buffer`, in the file's byte order, from
+/// byte `at` on, as many as fit, and returns how many. `number` is the tag's number. The first
+/// error: of the file or the page; no such tag, `RequiredTagNotFound`; of values of 2^64 bytes or
+/// more, `LimitsExceeded`; of an offset of 2^64 or more, `InconsistentSizesEncountered`; of bytes
+/// to copy that lie behind the file's end, `IoError(UnexpectedEof)`. What an error leaves in
+/// `buffer` is not specified.
 pub fn tag_bytes(
     alloc: Global,
     file: &[u8],
@@ -663,7 +694,7 @@ pub fn tag_bytes(
     )
 }
 
-// A byte order, as C is told of it.
+// The number of a byte order for C.
 fn order_number(order: ByteOrder) -> u32
     ensures { result ≡ calls.order_number order }
 {
@@ -673,7 +704,8 @@ fn order_number(order: ByteOrder) -> u32
     }
 }
 
-/// The byte order of a file.
+/// The byte order of a file, by its number for C: 0 for little-endian, 1 for big-endian. The error
+/// is that of the file.
 pub fn byte_order(alloc: Global, file: &[u8]) -> TiffResult<u32>
     ensures { AnswersWithoutSource (λ n. n) result (calls.file_byte_order file.now) }
 {

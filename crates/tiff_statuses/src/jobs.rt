@@ -1,4 +1,4 @@
-//! The file of a list of jobs, as C asks for it by lines of text.
+//! The file of a list of jobs, which C passes as lines of text.
 
 ghost use Rattle.std.specs.Prelude.{◌≡◌, map, IfErr, MatchResult};
 ghost use Rattle.tiff_statuses.specs.Jobs.{AnswersJobs, AnswersKind, RanJobs, TellsAnswer, TellsRan, first_refused, first_status, job_status};
@@ -16,7 +16,8 @@ use tiff_encode::encoder::script::{Job, JobReply, StepReply, run_jobs};
 use tiff_encode::encoder::{TiffKind, TiffKindBig, TiffKindStandard};
 use tiff_lists::jobs::jobs_of;
 
-/// Where a list of jobs was refused, counted from 1: at a line that is no job, or at a job that had a fault. 0 is none.
+/// Where a list of jobs was refused, counted from 1: at a line that is no job, or at a job that had
+/// an error. 0 is none.
 #[derive(Clone, Copy, Debug, PartialEq, Eq)]
 #[repr(C)]
 pub struct JobsEnd {
@@ -26,20 +27,21 @@ pub struct JobsEnd {
 
 const NO_END: JobsEnd = JobsEnd { line: 0, job: 0 };
 
-/// What jobs left that were run: their file, and the number of the first of them that had a fault, counted from 1, with its status.
+/// What jobs left that were run: their file; and the number, from 1, of the first job that had an
+/// error, with the status of that error.
 #[derive(Drop)]
 pub struct Ran {
     pub file: Vec<u8>,
     pub refused: Option<(usize, u32)>,
 }
 
-/// What a text of jobs is answered.
+/// What came of a text of jobs.
 #[derive(Drop)]
 pub enum Answer {
-    /// The line of this number is no job; 0 where the text isn't UTF-8.
+    /// The line of this number, from 1, is no job; 0 where the text isn't UTF-8.
     NoJob(usize),
 
-    /// Its jobs were run.
+    /// The jobs of the text were run.
     Ran(Ran),
 }
 
@@ -56,7 +58,7 @@ fn steps_status(steps: &[TiffResult<StepReply>]) -> u32
     0
 }
 
-// The status of the first fault of a job, of its steps and then of its end, or 0.
+// The status of the first error of a job: of its steps, and then of its end; or 0.
 #[tactic(auto, using(crate::proofs::FirstFault::first_behind))]
 fn job_status(reply: &JobReply) -> u32
     ensures { result ≡ job_status reply.now }
@@ -69,7 +71,7 @@ fn job_status(reply: &JobReply) -> u32
     }
 }
 
-// The first job that had a fault, by its number from 1, with its status.
+// The first job that had an error: its number, from 1, and the status of that error.
 fn first_refused(replies: &[JobReply]) -> Option<(usize, u32)>
     ensures { result ≡ first_refused 1 replies.now }
 {
@@ -82,10 +84,11 @@ fn first_refused(replies: &[JobReply]) -> Option<(usize, u32)>
     None
 }
 
-// Lets a value go. A list of replies is let go here: where a function isn't generic, that is long to prove.
+// Drops a value. A list of replies is dropped here, since a proof about that is long in a function
+// that isn't generic.
 fn let_go<T: Drop>(_value: T) {}
 
-// Runs jobs over a sink that holds nothing.
+// Runs jobs over an empty sink, for a file of the kind `K`.
 #[tactic(auto, using(tiff_base::proofs::MemoryFaults::header_refused))]
 fn run_kind<K: TiffKind>(alloc: Global, jobs: &[Job]) -> TiffResult<Ran>
     ensures { MatchResult result (λ ran. RanJobs K.kind jobs.now ran.file.items ran.refused) (λ e. e ≡ TiffError.OutOfMemory) }
@@ -101,7 +104,7 @@ fn run_kind<K: TiffKind>(alloc: Global, jobs: &[Job]) -> TiffResult<Ran>
     })
 }
 
-// The same, by the kind of the file.
+// Runs jobs over an empty sink, for a file of a kind that is given as a value.
 fn run(alloc: Global, kind: FileKind, jobs: &[Job]) -> TiffResult<Ran>
     ensures { MatchResult result (λ ran. RanJobs kind jobs.now ran.file.items ran.refused) (λ e. e ≡ TiffError.OutOfMemory) }
 {
@@ -111,7 +114,8 @@ fn run(alloc: Global, kind: FileKind, jobs: &[Job]) -> TiffResult<Ran>
     }
 }
 
-// The jobs that a text lists; or the number of its first line that is none, and 0 where it isn't UTF-8.
+// The jobs that a text lists; or the number of its first line that is no job, and 0 where the text
+// isn't UTF-8.
 fn listed(alloc: Global, text: &[u8]) -> TiffResult<Result<Vec<Job>, usize>>
     ensures { IfErr result (λ e. e ≡ TiffError.OutOfMemory) }
 {
@@ -121,7 +125,7 @@ fn listed(alloc: Global, text: &[u8]) -> TiffResult<Result<Vec<Job>, usize>>
     }
 }
 
-/// Runs the jobs that a text lists, unless a line of it is none. Its only error is `OutOfMemory`.
+/// Runs the jobs that a text lists, unless a line of it is no job. Its only error is `OutOfMemory`.
 pub fn run_listed(alloc: Global, kind: FileKind, text: &[u8]) -> TiffResult<Answer>
     ensures { MatchResult result (AnswersJobs kind) (λ e. e ≡ TiffError.OutOfMemory) }
 {
@@ -131,7 +135,7 @@ pub fn run_listed(alloc: Global, kind: FileKind, text: &[u8]) -> TiffResult<Answ
     }
 }
 
-// Puts the file of jobs into a buffer where none of them had a fault.
+// Puts the file of jobs into a buffer if none of them had an error.
 fn tell_ran(ran: Ran, buffer: &mut [u8], len: &mut usize, end: &mut JobsEnd) -> u32
     ensures { TellsRan ran.file.items ran.refused result buffer.old buffer.new len.old len.new end.new }
 {
@@ -147,7 +151,10 @@ fn tell_ran(ran: Ran, buffer: &mut [u8], len: &mut usize, end: &mut JobsEnd) -> 
     }
 }
 
-/// Tells C what a text of jobs is answered, and where it was refused.
+/// Puts the file of jobs into `buffer`, its length into `len`, and where the list was refused into
+/// `end`. Returns the status: 0; the number of `IoError(InvalidInput)` for a line that is no job;
+/// the status of the first job that had an error; the number of `InsufficientOutputBufferSize` for
+/// a buffer that is too short; or the number of the error of `answer`.
 pub fn tell(
     answer: TiffResult<Answer>,
     buffer: &mut [u8],
@@ -167,7 +174,8 @@ pub fn tell(
     }
 }
 
-/// The answer to a text of jobs for a file whose header has this version; a version that is none is refused first.
+/// Runs the jobs that a text lists for a file whose header has this version. Its errors: a version
+/// that is none, `TiffSignatureInvalid`; `OutOfMemory`.
 pub fn run_version(alloc: Global, version: u16, text: &[u8]) -> TiffResult<Answer>
     ensures { AnswersKind (writer.kind_of version) result }
 {

@@ -1,6 +1,11 @@
-//! The calls of a C library in Rust: the pages of a TIFF file that lies in memory are read, and files of one image are written into
-//! memory. Each answers a status: 0 where it is done, else the number of its error. `tiff_c` exports them. A page is told by its number
-//! in the chain, from 0; or, from 2^63 on, by the offset of its directory, added to that.
+//! The calls of the C library in Rust. They read the pages of a TIFF file that lies in memory, and
+//! write files into memory, of one image or of a list of jobs. `tiff_c` exports them to C.
+//!
+//! Each call but `version` and `fault_text` returns a status: 0 if it is done, else the number of
+//! its error, as `tiff_status` in `include/mangohatch_tiff.h` of `tiff_c` lists them; any of them
+//! may return the number of `OutOfMemory`. `page` is the number of a page in the file's chain, from
+//! 0; or, from 2^63 on, 2^63 plus the offset of a directory. The calls that read a tag don't ask
+//! whether the directory at an offset is a page.
 #![tactic(auto)]
 
 ghost use Rattle.std.specs.Prelude.{◌≡◌, ◌⊎◌};
@@ -28,7 +33,8 @@ use crate::list::{ListedPage, list_into};
 use crate::status::{done, given, text_of};
 use crate::writer::{NewImage, deliver, write_new};
 
-/// The width and the height of a page.
+/// Puts the width and the height of a page, in pixels, into `sides`. Returns 0, or the number of
+/// the error that refuses the file or the page. An error leaves `sides` as it was.
 #[tactic(auto, using(crate::proofs::StatusTells::puts_told))]
 pub fn page_sides(alloc: Global, file: &[u8], page: usize, sides: &mut Sides) -> u32
     ensures { StatusPuts (calls.page_sides file.now page) result sides.old sides.new }
@@ -36,7 +42,11 @@ pub fn page_sides(alloc: Global, file: &[u8], page: usize, sides: &mut Sides) ->
     given(calls::page_sides(alloc, file, page), sides)
 }
 
-/// Reads the image of a page into a slice.
+/// Reads the image of a page into `buffer`, under no limits: rows from the top, each of whole
+/// bytes, samples with their lowest byte first; of a planar page as many planes as fit whole, one
+/// behind the other. Returns 0, or the number of the first error: of the file or the page; of its
+/// color or its layout; of a buffer shorter than one plane, `InsufficientOutputBufferSize`; of a
+/// chunk. What an error leaves in `buffer` is not specified.
 #[tactic(auto, using(crate::proofs::StatusTells::tells_left))]
 pub fn read_image_bytes(alloc: Global, file: &[u8], page: usize, buffer: &mut [u8]) -> u32
     ensures { StatusTells (calls.read_image_bytes file.now page buffer.old) result buffer.new }
@@ -44,7 +54,8 @@ pub fn read_image_bytes(alloc: Global, file: &[u8], page: usize, buffer: &mut [u
     done(calls::image_bytes(alloc, file, page, buffer))
 }
 
-/// The color of a page.
+/// Puts the color of a page into `color`. Returns 0, or the number of the first error: of the file
+/// or the page; of a page without a color. An error leaves `color` as it was.
 #[tactic(auto, using(crate::proofs::StatusTells::puts_told))]
 pub fn page_color(alloc: Global, file: &[u8], page: usize, color: &mut Color) -> u32
     ensures { StatusPuts (calls.page_color file.now page) result color.old color.new }
@@ -52,7 +63,9 @@ pub fn page_color(alloc: Global, file: &[u8], page: usize, color: &mut Color) ->
     given(calls::page_color(alloc, file, page), color)
 }
 
-/// The samples of a page.
+/// Puts what the samples of a page are, and how they lie, into `samples`. Returns 0, or the number
+/// of the first error: of the file or the page; of its color or its layout. An error leaves
+/// `samples` as it was.
 #[tactic(auto, using(crate::proofs::StatusTells::puts_told))]
 pub fn page_samples(alloc: Global, file: &[u8], page: usize, samples: &mut PageSamples) -> u32
     ensures { StatusPuts (calls.page_samples file.now page) result samples.old samples.new }
@@ -60,7 +73,9 @@ pub fn page_samples(alloc: Global, file: &[u8], page: usize, samples: &mut PageS
     given(calls::page_samples(alloc, file, page), samples)
 }
 
-/// The strips or the tiles of a page.
+/// Puts the kind, the count and the sides of a page's strips or tiles into `chunks`. Returns 0, or
+/// the number of the first error: of the file or the page; of chunks that can't be counted. An
+/// error leaves `chunks` as it was.
 #[tactic(auto, using(crate::proofs::StatusTells::puts_told))]
 pub fn page_chunks(alloc: Global, file: &[u8], page: usize, chunks: &mut Chunks) -> u32
     ensures { StatusPuts (calls.page_chunks file.now page) result chunks.old chunks.new }
@@ -68,7 +83,9 @@ pub fn page_chunks(alloc: Global, file: &[u8], page: usize, chunks: &mut Chunks)
     given(calls::page_chunks(alloc, file, page), chunks)
 }
 
-/// The bytes of the image of a page: of one plane, and of all.
+/// Puts how many bytes the image of a page has, in one plane and in all planes, into `layout`.
+/// Returns 0, or the number of the first error: of the file or the page; of samples without a
+/// layout. An error leaves `layout` as it was.
 #[tactic(auto, using(crate::proofs::StatusTells::puts_told))]
 pub fn page_layout(alloc: Global, file: &[u8], page: usize, layout: &mut Layout) -> u32
     ensures { StatusPuts (calls.page_layout file.now page) result layout.old layout.new }
@@ -76,7 +93,10 @@ pub fn page_layout(alloc: Global, file: &[u8], page: usize, layout: &mut Layout)
     given(calls::page_layout(alloc, file, page), layout)
 }
 
-/// Reads a chunk of a page into a slice.
+/// Reads the chunk of a page with the number `chunk`, from 0, into `buffer`, under no limits, as it
+/// is in the image and in one plane. Returns 0, or the number of the first error: of the file or
+/// the page; of its color or its layout; of a buffer shorter than the chunk,
+/// `InsufficientOutputBufferSize`; of the chunk. What an error leaves in `buffer` is not specified.
 #[tactic(auto, using(crate::proofs::StatusTells::tells_left))]
 pub fn read_chunk_bytes(
     alloc: Global,
@@ -90,7 +110,11 @@ pub fn read_chunk_bytes(
     done(calls::chunk_bytes(alloc, file, page, chunk, buffer))
 }
 
-/// Reads so many chunks of a page from one on into a slice, one behind the other.
+/// Reads `count` chunks of a page, from the number `first` on, into `buffer`, one behind the other,
+/// under no limits. Returns 0, or the number of the first error: of the file or the page; `first`
+/// plus `count` of 2^32 or more, `InvalidChunkIndex`; and then, chunk by chunk, of the page's color
+/// or its layout; of a buffer that has no room left for the chunk, `InsufficientOutputBufferSize`;
+/// of the chunk. What an error leaves in `buffer` is not specified.
 #[tactic(auto, using(crate::proofs::StatusTells::tells_left))]
 pub fn read_chunks(
     alloc: Global,
@@ -105,7 +129,11 @@ pub fn read_chunks(
     done(calls::range_bytes(alloc, file, page, first, count, buffer))
 }
 
-/// Reads a coding unit of a page into a slice.
+/// Reads the coding unit of a page with the number `unit`, from 0, into `buffer`, under no limits:
+/// its chunk in each plane, one behind the other, as many as fit whole. Returns 0, or the number of
+/// the first error: of the file or the page; of its color or its layout; no such unit,
+/// `InvalidCodingUnit`; of a buffer shorter than the chunk of one plane,
+/// `InsufficientOutputBufferSize`; of a chunk. What an error leaves in `buffer` is not specified.
 #[tactic(auto, using(crate::proofs::StatusTells::tells_left))]
 pub fn read_coding_unit_bytes(
     alloc: Global,
@@ -119,7 +147,9 @@ pub fn read_coding_unit_bytes(
     done(calls::unit_bytes(alloc, file, page, unit, buffer))
 }
 
-/// The field of a tag of a page, by the tag's number.
+/// Puts the number of the type of a tag, and how many values it has, into `field`. `number` is the
+/// tag's number. Returns 0, or the number of the first error: of the file or the page; no such tag,
+/// `RequiredTagNotFound`. An error leaves `field` as it was.
 #[tactic(auto, using(crate::proofs::StatusTells::puts_told))]
 pub fn tag_field(alloc: Global, file: &[u8], page: usize, number: u16, field: &mut FieldSize) -> u32
     ensures { StatusPuts (calls.tag_field file.now page number) result field.old field.new }
@@ -127,7 +157,10 @@ pub fn tag_field(alloc: Global, file: &[u8], page: usize, number: u16, field: &m
     given(calls::tag_field(alloc, file, page, number), field)
 }
 
-/// The number of a tag of a page, by the tag's number.
+/// Puts the value of a tag, which has to have one, into `value`. `number` is the tag's number.
+/// Returns 0, or the number of the first error: of the file or the page; no such tag,
+/// `RequiredTagNotFound`; of reading the value, also of one that is no number below 2^64. An error
+/// leaves `value` as it was.
 #[tactic(auto, using(crate::proofs::StatusTells::puts_told))]
 pub fn tag_number(alloc: Global, file: &[u8], page: usize, number: u16, value: &mut u64) -> u32
     ensures { StatusPuts (calls.tag_number_at file.now page number) result value.old value.new }
@@ -135,7 +168,13 @@ pub fn tag_number(alloc: Global, file: &[u8], page: usize, number: u16, value: &
     given(calls::tag_number(alloc, file, page, number), value)
 }
 
-/// Copies the bytes of the values of a tag of a page from a byte on, by the tag's number.
+/// Copies the bytes of the values of a tag into `buffer`, in the file's byte order, from byte `at`
+/// on, as many as fit, and puts how many into `written`. `number` is the tag's number. Returns 0,
+/// or the number of the first error: of the file or the page; no such tag, `RequiredTagNotFound`;
+/// of values of 2^64 bytes or more, `LimitsExceeded`; of an offset of 2^64 or more,
+/// `InconsistentSizesEncountered`; of bytes to copy that lie behind the file's end,
+/// `IoError(UnexpectedEof)`. An error leaves `written` as it was; what it leaves in `buffer` is not
+/// specified.
 #[tactic(auto, using(crate::proofs::StatusTells::tells_both, crate::proofs::StatusTells::kept_told))]
 pub fn tag_bytes(
     alloc: Global,
@@ -155,7 +194,11 @@ pub fn tag_bytes(
     )
 }
 
-/// Puts the numbers of a tag of a page into a slice, by the tag's number, as many as it has room for, and tells how many there are.
+/// Puts the values of a tag into `numbers`, from the first one on, as many as fit, and how many
+/// there are into `count`, even if not all fit. `number` is the tag's number. Returns 0, or the
+/// number of the first error: of the file or the page; no such tag, `RequiredTagNotFound`; of
+/// reading the values, also of values that are no numbers below 2^64. An error leaves `numbers` and
+/// `count` as they were.
 #[tactic(auto, using(crate::proofs::StatusTells::puts_both))]
 pub fn tag_numbers(
     alloc: Global,
@@ -173,7 +216,11 @@ pub fn tag_numbers(
     )
 }
 
-/// The same of the bits of its floating numbers.
+/// Puts the bits of a tag's values, floating-point numbers of 8 bytes, into `numbers`, from the
+/// first one on, as many as fit, and how many there are into `count`, even if not all fit. `number`
+/// is the tag's number. Returns 0, or the number of the first error: of the file or the page; no
+/// such tag, `RequiredTagNotFound`; of reading the values, also of values of another type. An error
+/// leaves `numbers` and `count` as they were.
 #[tactic(auto, using(crate::proofs::StatusTells::puts_both))]
 pub fn tag_floats(
     alloc: Global,
@@ -191,7 +238,11 @@ pub fn tag_floats(
     )
 }
 
-/// The same of the bytes of its text.
+/// Puts the bytes of a tag's text into `text`, from the first one on, as many as fit, and how many
+/// there are into `len`, even if not all fit. `number` is the tag's number. Returns 0, or the
+/// number of the first error: of the file or the page; no such tag, `RequiredTagNotFound`; of
+/// reading the text, also of values that are no text. An error leaves `text` and `len` as they
+/// were.
 #[tactic(auto, using(crate::proofs::StatusTells::puts_both))]
 pub fn tag_text(
     alloc: Global,
@@ -206,7 +257,8 @@ pub fn tag_text(
     given(values::tag_text(alloc, file, page, number, text), len)
 }
 
-/// The byte order of a file.
+/// Puts the byte order of a file into `order`: 0 for little-endian, 1 for big-endian. Returns 0, or
+/// the number of the error that refuses the file. An error leaves `order` as it was.
 #[tactic(auto, using(crate::proofs::StatusTells::puts_told))]
 pub fn byte_order(alloc: Global, file: &[u8], order: &mut u32) -> u32
     ensures { StatusPuts (calls.file_byte_order file.now) result order.old order.new }
@@ -214,7 +266,9 @@ pub fn byte_order(alloc: Global, file: &[u8], order: &mut u32) -> u32
     given(calls::byte_order(alloc, file), order)
 }
 
-/// How many pages a file has.
+/// Puts how many pages a file has, along its chain of directories, into `pages`. Returns 0, or the
+/// number of the first error: of the header; of the pages in their order; of the chain's end. An
+/// error leaves `pages` as it was.
 #[tactic(auto, using(crate::proofs::StatusTells::puts_told))]
 pub fn page_count(alloc: Global, file: &[u8], pages: &mut usize) -> u32
     ensures { StatusPuts (calls.page_count file.now) result pages.old pages.new }
@@ -222,14 +276,23 @@ pub fn page_count(alloc: Global, file: &[u8], pages: &mut usize) -> u32
     given(calls::page_count(alloc, file), pages)
 }
 
-/// Lists the pages of a file.
+/// Puts the pages of a file into `pages`, along its chain of directories, as many as fit, and how
+/// many there are into `count`, even if not all fit. Returns 0, or the number of the error by which
+/// the chain ends. If the file's header or first page is refused, or memory is out, it returns that
+/// error. `count` is then 0, and `pages` is as it was.
 pub fn list_pages(alloc: Global, file: &[u8], pages: &mut [ListedPage], count: &mut usize) -> u32
     ensures { ListTells (list_of file.now) result pages.old pages.new count.new }
 {
     list_into(alloc, file, pages, count)
 }
 
-/// Writes a file of one image into a slice, and tells how many bytes it has.
+/// Writes a file of one image into `buffer`, and puts how many bytes the file has into `len`.
+/// `samples` are little-endian, row by row, the samples of a pixel side by side. Returns 0, or the
+/// number of the first error: of the version, the color type, the method and the predictor of
+/// `image`, `TiffSignatureInvalid`, `IoError(InvalidInput)`, `UnsupportedCompressionMethod` and
+/// `UnknownPredictor`; of a part of a sample that is left over, `MismatchedEntryLength`; of the
+/// encoder's `write_image`; of a buffer that is too short, `InsufficientOutputBufferSize`. An error
+/// leaves `buffer` as it was, and `len` too, unless only the buffer is too short.
 #[tactic(auto, using(crate::proofs::Delivered::told_new, crate::proofs::Delivered::told_shown, crate::proofs::Delivered::told_kept))]
 pub fn write_image(
     alloc: Global,
@@ -240,14 +303,19 @@ pub fn write_image(
 ) -> u32
     ensures answer { writer.WriterTells image.now samples.now result buffer.old buffer.new len.old len.new }
 
-    // What is done is shown, and what is not done is not begun.
+    // Status 0: the buffer holds a file that shows the image. Any other status: the buffer stays.
     ensures shows { result ≡ 0 → IsShown image.now samples.now buffer.old buffer.new len.new }
     ensures stays { (result ≡ 0) ⊎ (buffer.new ≡ buffer.old) }
 {
     deliver(write_new(alloc, image, samples), buffer, len)
 }
 
-/// Writes the file of the jobs that a text lists into a slice, and tells how many bytes it has; or where the list was refused.
+/// Writes the file of the jobs that the text `jobs` lists into `buffer`, puts how many bytes the
+/// file has into `len`, and puts where the list is refused into `end`. Returns 0, or the number of
+/// the first error: of the version, `TiffSignatureInvalid`; of a text that isn't UTF-8, or of its
+/// first line that is no job, `IoError(InvalidInput)`; of the first job that has an error; of a
+/// buffer that is too short, `InsufficientOutputBufferSize`. An error leaves `buffer` as it was,
+/// and `len` too, unless only the buffer is too short.
 #[tactic(auto, using(crate::proofs::Delivered::told_jobs, crate::proofs::Delivered::kept_jobs))]
 pub fn write_jobs(
     alloc: Global,
@@ -263,14 +331,16 @@ pub fn write_jobs(
     tell(run_version(alloc, version, jobs), buffer, len, end)
 }
 
-/// The version of these calls, as the header for C tells it: it is raised where a call changes or is added.
+/// Returns the version of these calls, which is `MANGOHATCH_TIFF_VERSION` of the header for C. It
+/// is raised when a call changes or is added.
 pub fn version() -> u32
     ensures { result ≡ 2 }
 {
     2
 }
 
-/// Writes the text of a status into a slice, as much of it as fits, and answers how many bytes it has.
+/// Writes the text of a status into `buffer`, as much of it as fits, and returns how many bytes the
+/// whole text has. The text of a number that is no status says so.
 pub fn fault_text(status: u32, buffer: &mut [u8]) -> usize {
     let text = text_of(status).as_bytes();
     let n = text.len().min(buffer.len());

@@ -1,4 +1,4 @@
-//! All pages of a file, by one opening and one walk along its chain.
+//! All pages of a file, listed for C. One call opens the file once and walks along its chain once.
 
 ghost use Rattle.std.specs.Prelude.{◌≡◌, map};
 ghost use Rattle.tiff_base.specs.Answers.{AnswersWithoutSource};
@@ -13,9 +13,11 @@ use tiff_base::color::{ChunkType, ColorType};
 use tiff_base::error::{TiffError, TiffResult};
 use tiff_pages::pages::{PageFacts, PageItem, PageList, pages};
 
-/// A page of a file: the offset of its directory; 0, or the number of its first fault, and then zeros behind it; its sides; the number of
-/// its method; 0 and its color, or the number of the fault by which it has none, and zeros; the number of its chunks' kind; and 0
-/// and how many they are, or the number of the fault by which they aren't counted, and 0.
+/// A page of a file, as C gets it: the offset of its directory, and the number of its first error,
+/// or 0. If that isn't 0, all fields behind `status` are 0. Else they are the page's width and
+/// height in pixels and the number of its method; 0 and its color, or the number of the error by
+/// which it has no color, and zeros; the number of its chunks' kind; 0 and how many chunks it has,
+/// or the number of the error by which they aren't counted, and 0.
 #[derive(Clone, Copy, Debug, PartialEq, Eq)]
 #[repr(C)]
 pub struct ListedPage {
@@ -37,7 +39,7 @@ const NO_COLOR: Color = Color {
     samples: 0,
 };
 
-// A color, as C is told of it.
+// A color by its numbers for C; all 0 for an error.
 fn color_told(color: &TiffResult<ColorType>) -> Color
     ensures { result ≡ list.color_told color.now }
 {
@@ -47,7 +49,7 @@ fn color_told(color: &TiffResult<ColorType>) -> Color
     }
 }
 
-// A count, as C is told of it.
+// A count of chunks for C; 0 for an error.
 fn count_told(count: &TiffResult<u32>) -> u32
     ensures { result ≡ list.count_told count.now }
 {
@@ -57,7 +59,7 @@ fn count_told(count: &TiffResult<u32>) -> u32
     }
 }
 
-// The facts of a page, as C is told of them.
+// The facts of a page that isn't refused, as C gets them.
 fn facts_told(offset: u64, facts: &PageFacts) -> ListedPage
     ensures { result ≡ list.page_told offset (Ok facts.now) }
 {
@@ -78,7 +80,7 @@ fn facts_told(offset: u64, facts: &PageFacts) -> ListedPage
     }
 }
 
-// A page, as C is told of it.
+// A page, as C gets it: its facts, or the number of its error and zeros.
 fn item_told(item: &PageItem) -> ListedPage
     ensures { result ≡ list.item_told item.now }
 {
@@ -100,7 +102,7 @@ fn item_told(item: &PageItem) -> ListedPage
     }
 }
 
-// Puts as many pages into a slice as it has room for.
+// Puts as many pages into a slice as fit; the elements behind them stay.
 fn fill(out: &mut [ListedPage], items: &[PageItem])
     ensures { out.new ≡ list.filled (map list.item_told items.now) out.old }
 {
@@ -110,7 +112,7 @@ fn fill(out: &mut [ListedPage], items: &[PageItem])
     }
 }
 
-// The pages of a file.
+// Opens a file and lists its pages.
 #[tactic(auto, using(crate::proofs::Listed::pages_here))]
 fn list_pages(alloc: Global, file: &[u8]) -> TiffResult<PageList>
     ensures { AnswersWithoutSource pages_in result (list.list_of file.now) }
@@ -122,7 +124,7 @@ fn list_pages(alloc: Global, file: &[u8]) -> TiffResult<PageList>
     listed
 }
 
-// The number of the fault by which a chain ends.
+// The number of the error by which a chain ends, or 0.
 fn end_status(end: &Option<TiffError>) -> u32
     ensures { result ≡ list.end_status end.now }
 {
@@ -132,7 +134,9 @@ fn end_status(end: &Option<TiffError>) -> u32
     }
 }
 
-/// Puts the pages of a file into a slice, as many as it has room for, and tells how many there are: none where the file isn't opened.
+/// Puts the pages of a file into `out`, as many as fit, and how many there are into `count`.
+/// Returns the number of the error by which the chain ends, or 0. If the file isn't opened or
+/// memory is out, it returns the number of that error. `count` is then 0, and `out` is as it was.
 pub fn list_into(alloc: Global, file: &[u8], out: &mut [ListedPage], count: &mut usize) -> u32
     ensures { list.ListTells (list.list_of file.now) result out.old out.new count.new }
 {

@@ -1,4 +1,4 @@
-//! Samples are made of little-endian bytes.
+//! How samples are made of little-endian bytes.
 
 ghost use Rattle.std.specs.Prelude.{◌≡◌, ◌^◌, ◌%◌, ◌<◌, length, map, IfOk};
 ghost use Rattle.std.specs.Int.{w8, w16, w32, w64};
@@ -11,14 +11,14 @@ ghost use Rattle.tiff_page.specs.Pixels.{numbers_in, width_of};
 use std::alloc::{AllocError, Global};
 use tiff_value::encoder::differences::Sample;
 
-/// A number of so many bytes.
+/// An unsigned number of `N` bytes.
 pub trait Number<const N: usize> {
     ghost use Rattle.std.specs.Prelude.{◌≡◌, ◌^◌, ◌<◌};
     ghost use Rattle.tiff_base.specs.declared.tags.ByteOrder.TheVariants.{LittleEndian};
     ghost use Rattle.tiff_base.specs.Number.{number};
     ghost use Rattle.tiff_page.specs.Pixels.{width_of};
 
-    /// The number that bytes are, the lowest first.
+    /// The number that bytes are, the lowest byte first.
     fn of(bytes: [u8; N]) -> u64
         ensures value { result ≡ number LittleEndian (width_of N) bytes.entry }
         ensures small { result < 256 ^ N };
@@ -64,7 +64,7 @@ impl Number<8> for u64 {
     }
 }
 
-// The sample of some bytes.
+// The sample that `N` bytes are.
 #[tactic(auto, using(crate::proofs::Octets::cut_whole))]
 fn sample_of<S: Sample, U: Number<N>, const N: usize>(bytes: [u8; N]) -> S
     requires { type_size S.value_type ≡ N }
@@ -73,7 +73,8 @@ fn sample_of<S: Sample, U: Number<N>, const N: usize>(bytes: [u8; N]) -> S
     S::cut(U::of(bytes))
 }
 
-/// The samples of so many bytes that some bytes are; none is left over. Room for all is taken once.
+/// The samples that bytes are, `N` bytes each, with no byte left over. It allocates once, for all
+/// samples.
 #[tactic(auto, using(crate::proofs::PieceNumbers::next_number, crate::proofs::PieceNumbers::all_whole))]
 pub fn samples_of<S: Sample, U: Number<N>, const N: usize>(
     alloc: Global,

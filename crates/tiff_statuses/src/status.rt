@@ -1,4 +1,4 @@
-//! Each fault has a number, and a text.
+//! The number and the text of each error.
 
 ghost use Rattle.std.specs.Prelude.{◌≡◌, IfOk, OnErr};
 ghost use Rattle.tiff_statuses.specs.Status as spec;
@@ -6,14 +6,15 @@ ghost use Rattle.tiff_statuses.specs.Status as spec;
 use tiff_base::error::{TiffError, TiffFormatError, TiffResult, TiffUnsupportedError, UsageError};
 use tiff_base::io::IoKind;
 
-/// What a call answers C: that it is done, or why not. The numbers are those of `tiff_status` in `include/mangohatch_tiff.h`.
+/// What a call returns to C: that it is done, or its error. The numbers are those of `tiff_status`
+/// in `include/mangohatch_tiff.h`.
 #[derive(Clone, Copy, Debug, PartialEq, Eq)]
 pub enum Status {
     Done = 0,
     LimitsExceeded = 1,
     IntSizeError = 2,
     OutOfMemory = 3,
-    /// A fault that has no number yet; never answered.
+    /// An error that has no number yet; no call returns it.
     LaterFault = 4,
     UnexpectedEof = 10,
     InvalidData = 11,
@@ -69,7 +70,7 @@ pub enum Status {
     WriterFailed = 74,
 }
 
-// The number of a file that does not have TIFF's form.
+// The number of an error of a file that doesn't have TIFF's form.
 fn format_number(fault: &TiffFormatError) -> u32
     ensures { result ≡ spec.format_fault_number fault.now }
 {
@@ -95,7 +96,7 @@ fn format_number(fault: &TiffFormatError) -> u32
     status as u32
 }
 
-// The number of what is not supported.
+// The number of an error for what is not supported.
 fn unsupported_number(fault: &TiffUnsupportedError) -> u32
     ensures { result ≡ spec.unsupported_fault_number fault.now }
 {
@@ -122,7 +123,7 @@ fn unsupported_number(fault: &TiffUnsupportedError) -> u32
     status as u32
 }
 
-// The number of a call that doesn't fit.
+// The number of an error for a call that doesn't fit.
 fn usage_number(fault: &UsageError) -> u32
     ensures { result ≡ spec.usage_fault_number fault.now }
 {
@@ -147,7 +148,7 @@ fn usage_number(fault: &UsageError) -> u32
     status as u32
 }
 
-// The number of a fault of the bytes.
+// The number of an error of input or output.
 fn io_number(fault: &IoKind) -> u32
     ensures { result ≡ spec.io_fault_number fault.now }
 {
@@ -161,7 +162,7 @@ fn io_number(fault: &IoKind) -> u32
     status as u32
 }
 
-/// The number of a fault.
+/// The number of an error; 0 is none.
 pub fn fault_number(fault: &TiffError) -> u32
     ensures { result ≡ spec.fault_number fault.now }
 {
@@ -176,7 +177,7 @@ pub fn fault_number(fault: &TiffError) -> u32
     }
 }
 
-/// The number of an answer.
+/// The status of a result: 0, or the number of its error.
 pub fn status_of<T: Drop>(answer: &TiffResult<T>) -> u32
     ensures { result ≡ spec.status answer.now }
 {
@@ -186,7 +187,7 @@ pub fn status_of<T: Drop>(answer: &TiffResult<T>) -> u32
     }
 }
 
-/// The status of a call that leaves what it answers in a variable of the caller's.
+/// The status of a call without a value: 0, or the number of its error.
 pub fn done(answer: TiffResult<()>) -> u32
     ensures { result ≡ spec.status answer }
 {
@@ -196,7 +197,8 @@ pub fn done(answer: TiffResult<()>) -> u32
     }
 }
 
-/// Puts what is answered in its place, and gives the status. A fault leaves `out` as it was.
+/// Puts the value of a result into `out`, and returns the status: 0, or the number of its error. An
+/// error leaves `out` as it was.
 pub fn given<T: Copy + Drop>(answer: TiffResult<T>, out: &mut T) -> u32
     ensures status { result ≡ spec.status answer }
     ensures put { IfOk answer (λ x. out.new ≡ x) }
@@ -365,7 +367,7 @@ const TEXTS: [(Status, &str); 57] = [
     (Status::WriterFailed, "an earlier write failed"),
 ];
 
-/// The text of a status, by its number; of another number, that there is none.
+/// The text of a status, by its number. The text of a number that is no status says so.
 pub fn text_of(number: u32) -> &'static str {
     for (status, text) in &TEXTS {
         if *status as u32 == number {

@@ -1,4 +1,5 @@
-//! The values of a tag of a page, put into a slice of the caller's in the machine's order, as many as it has room for.
+//! The values of a tag of a page, put into a slice of the caller's in the machine's byte order, as
+//! many as fit.
 
 ghost use Rattle.std.specs.Prelude.{◌≡◌, map, string_bytes, OnErr};
 ghost use Rattle.tiff_base.specs.Answers.{Answers, AnswersWithoutSource};
@@ -16,7 +17,7 @@ use tiff_base::io::{SliceSource, Source};
 use tiff_base::tags::{Bits64, Tag};
 use tiff_decode::decoder::Decoder;
 
-// Puts as many items into a slice as it has room for.
+// Puts as many items into a slice as fit; the elements behind them stay.
 #[tactic(auto, using(crate::proofs::Filled::put_front))]
 fn fill<T: Copy>(out: &mut [T], items: &[T])
     ensures { out.new ≡ filled items.now out.old }
@@ -25,7 +26,8 @@ fn fill<T: Copy>(out: &mut [T], items: &[T])
     out[..count].copy_from_slice(&items[..count]);
 }
 
-// The same of the bits of floating numbers.
+// Puts the bits of as many floating-point numbers into a slice as fit; the elements behind them
+// stay.
 fn fill_bits(out: &mut [u64], items: &[Bits64])
     ensures { out.new ≡ filled (map bits_64 items.now) out.old }
 {
@@ -35,7 +37,7 @@ fn fill_bits(out: &mut [u64], items: &[Bits64])
     }
 }
 
-// The numbers of a tag of a decoder's page, or of another directory of its file.
+// The numbers of a tag: of a decoder's page, or of another directory of its file.
 fn numbers_of<R: Source>(
     decoder: &mut Decoder<R>,
     other: &Option<Directory>,
@@ -47,7 +49,7 @@ fn numbers_of<R: Source>(
     tags_of(decoder, other).get_tag_u64_vec(tag)
 }
 
-// The same of a decoder whose reads never fail.
+// The numbers of a tag, of a decoder whose reads never fail.
 #[tactic(auto, using(crate::proofs::Slices::answer_here))]
 fn numbers_here(
     decoder: &mut Decoder<SliceSource<'_>>,
@@ -62,7 +64,7 @@ fn numbers_here(
     answer
 }
 
-// Puts them into a slice, and answers how many there are.
+// Puts the numbers of a tag into a slice, as many as fit, and returns how many there are.
 fn put_numbers(
     decoder: &mut Decoder<SliceSource<'_>>,
     other: &Option<Directory>,
@@ -77,7 +79,10 @@ fn put_numbers(
     Ok(numbers.len())
 }
 
-/// Puts the numbers of a tag of a page into a slice, by the tag's number, and answers how many there are.
+/// Puts the numbers of a tag of a page into `out`, as many as fit, and returns how many there are.
+/// `number` is the tag's number. The first error: of the file or the page; no such tag,
+/// `RequiredTagNotFound`; of reading the values, also of values that are no numbers below 2^64. An
+/// error leaves `out` as it was.
 pub fn tag_numbers(
     alloc: Global,
     file: &[u8],
@@ -93,7 +98,8 @@ pub fn tag_numbers(
     put_numbers(&mut decoder, &other, tag, out)
 }
 
-// The bits of the floating numbers of a tag of a decoder's page, or of another directory of its file.
+// The bits of a tag's floating-point numbers: of a decoder's page, or of another directory of its
+// file.
 fn floats_of<R: Source>(
     decoder: &mut Decoder<R>,
     other: &Option<Directory>,
@@ -105,7 +111,7 @@ fn floats_of<R: Source>(
     tags_of(decoder, other).get_tag_f64_vec(tag)
 }
 
-// The same of a decoder whose reads never fail.
+// The bits of a tag's floating-point numbers, of a decoder whose reads never fail.
 #[tactic(auto, using(crate::proofs::Slices::answer_here))]
 fn floats_here(
     decoder: &mut Decoder<SliceSource<'_>>,
@@ -120,7 +126,8 @@ fn floats_here(
     answer
 }
 
-// Puts them into a slice, and answers how many there are.
+// Puts the bits of a tag's floating-point numbers into a slice, as many as fit, and returns how
+// many there are.
 fn put_floats(
     decoder: &mut Decoder<SliceSource<'_>>,
     other: &Option<Directory>,
@@ -135,7 +142,10 @@ fn put_floats(
     Ok(floats.len())
 }
 
-/// Puts the bits of the floating numbers of a tag of a page into a slice, by the tag's number, and answers how many there are.
+/// Puts the bits of the floating-point numbers of a tag of a page into `out`, as many as fit, and
+/// returns how many there are. `number` is the tag's number. The first error: of the file or the
+/// page; no such tag, `RequiredTagNotFound`; of reading the values, also of values that aren't
+/// floating-point numbers of 8 bytes. An error leaves `out` as it was.
 pub fn tag_floats(
     alloc: Global,
     file: &[u8],
@@ -151,7 +161,7 @@ pub fn tag_floats(
     put_floats(&mut decoder, &other, tag, out)
 }
 
-// The text of a tag of a decoder's page, or of another directory of its file.
+// The text of a tag: of a decoder's page, or of another directory of its file.
 fn text_of<R: Source>(
     decoder: &mut Decoder<R>,
     other: &Option<Directory>,
@@ -163,7 +173,7 @@ fn text_of<R: Source>(
     tags_of(decoder, other).get_tag_ascii_string(tag)
 }
 
-// The same of a decoder whose reads never fail.
+// The text of a tag, of a decoder whose reads never fail.
 #[tactic(auto, using(crate::proofs::Slices::answer_here))]
 fn text_here(
     decoder: &mut Decoder<SliceSource<'_>>,
@@ -178,7 +188,7 @@ fn text_here(
     answer
 }
 
-// Puts its bytes into a slice, and answers how many there are.
+// Puts the bytes of a tag's text into a slice, as many as fit, and returns how many there are.
 fn put_text(
     decoder: &mut Decoder<SliceSource<'_>>,
     other: &Option<Directory>,
@@ -194,7 +204,10 @@ fn put_text(
     Ok(bytes.len())
 }
 
-/// Puts the bytes of the text of a tag of a page into a slice, by the tag's number, and answers how many there are.
+/// Puts the bytes of the text of a tag of a page into `out`, as many as fit, and returns how many
+/// there are. `number` is the tag's number. The first error: of the file or the page; no such tag,
+/// `RequiredTagNotFound`; of reading the text, also of values that are no text. An error leaves
+/// `out` as it was.
 pub fn tag_text(
     alloc: Global,
     file: &[u8],

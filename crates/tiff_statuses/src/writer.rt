@@ -1,4 +1,4 @@
-//! A file of one image, as C asks for it.
+//! A file of one image, whose parameters and samples C passes.
 
 ghost use Rattle.std.specs.Prelude.{◌≡◌, ◌<◌, map, slice_get, MatchResult, MatchOption, IfOk};
 ghost use Rattle.tiff_base.specs.Types.{type_size};
@@ -23,8 +23,9 @@ use tiff_value::encoder::colortype::{
 };
 use tiff_value::encoder::tiff_value::TiffValue;
 
-/// An image that is written, by the numbers of TIFF: the color type by its number in `COLOR_TYPES`, the sides in pixels, the
-/// version of the header, and the values of the tags Compression and Predictor.
+/// How to write an image, by the numbers of TIFF: the color type by its number in `COLOR_TYPES`,
+/// the width and the height in pixels, the version of the header, and the values of the tags
+/// Compression and Predictor.
 #[derive(Clone, Copy, Debug, PartialEq, Eq)]
 #[repr(C)]
 pub struct NewImage {
@@ -36,7 +37,7 @@ pub struct NewImage {
     pub predictor: u16,
 }
 
-/// What an image is written by.
+/// How an image is written, by name.
 #[derive(Clone, Copy, Drop)]
 pub struct Settings {
     pub kind: FileKind,
@@ -45,7 +46,7 @@ pub struct Settings {
     pub predictor: Predictor,
 }
 
-// The color types, in the order of their numbers.
+// The color types, in the order of their numbers for C.
 const COLOR_TYPES: [ColorTypeName; 30] = [
     ColorTypeName::Gray8,
     ColorTypeName::Gray16,
@@ -79,10 +80,11 @@ const COLOR_TYPES: [ColorTypeName; 30] = [
     ColorTypeName::CMYKA8,
 ];
 
-// Room for what a file of few strips has beside its samples; one of more strips takes more room as it grows.
+// Room for what a file of few strips has besides its samples. A file of more strips allocates more
+// as it grows.
 const FRAME: usize = 4096;
 
-/// A kind of file, by the version in its header.
+/// The kind of file that has this version in its header: 42 or 43.
 pub fn kind_of(version: u16) -> Option<FileKind>
     ensures { result ≡ writer.kind_of version }
 {
@@ -93,7 +95,7 @@ pub fn kind_of(version: u16) -> Option<FileKind>
     }
 }
 
-// A color type, by its number.
+// The color type of a number, if there is one.
 fn color_of(number: u32) -> Option<ColorTypeName>
     ensures { result ≡ slice_get writer.color_types number }
 {
@@ -105,7 +107,7 @@ fn color_of(number: u32) -> Option<ColorTypeName>
     }
 }
 
-// A packing, by the number of its method.
+// The compression of the number of a method, if this library writes that method.
 fn packing_of(method: u16) -> Option<Compression>
     ensures { result ≡ writer.packing_of method }
 {
@@ -116,7 +118,7 @@ fn packing_of(method: u16) -> Option<Compression>
     }
 }
 
-// What an image is written by; or the fault of the first number that names nothing.
+// How to write an image, by name; or the error of the first number that names nothing.
 fn settings_of(image: &NewImage) -> TiffResult<Settings>
     ensures { MatchResult result (λ s. writer.settings_of image.now ≡ Ok s) (λ e. writer.settings_of image.now ≡ Err e) }
 {
@@ -141,7 +143,8 @@ fn settings_of(image: &NewImage) -> TiffResult<Settings>
     })
 }
 
-// An encoder that begins in memory, with room for so many bytes.
+// A new encoder over memory, with these settings and with room for `room` bytes. Its only error is
+// `OutOfMemory`.
 #[tactic(auto, using(crate::proofs::Writing::begun_by, tiff_base::proofs::MemoryFaults::header_refused))]
 fn begin<K: TiffKind>(
     alloc: Global,
@@ -159,7 +162,7 @@ fn begin<K: TiffKind>(
     Ok(predicted.with_compression(settings.compression))
 }
 
-// A file of one image of a color type.
+// A file of one image of the color type `C`, written from samples.
 #[tactic(auto, using(crate::proofs::Writing::file_written, crate::proofs::Writing::fault_written, tiff_base::proofs::MemoryFaults::only_memory))]
 fn write_samples<K: TiffKind, C: NamedColorType>(
     alloc: Global,
@@ -182,7 +185,7 @@ fn write_samples<K: TiffKind, C: NamedColorType>(
     Ok(file)
 }
 
-// The same of little-endian samples of so many bytes each.
+// A file of one image of the color type `C`, written from little-endian samples of `N` bytes each.
 #[tactic(auto, using(crate::proofs::Writing::whole_written, crate::proofs::Writing::part_refused))]
 fn write_pieces<K: TiffKind, C: NamedColorType, U: Number<N>, const N: usize>(
     alloc: Global,
@@ -212,7 +215,8 @@ fn write_pieces<K: TiffKind, C: NamedColorType, U: Number<N>, const N: usize>(
     write_samples::<K, C>(alloc, settings, width, height, &samples)
 }
 
-// The same, by the name of a color type.
+// A file of one image, written from little-endian samples, of the color type that the settings
+// name.
 #[tactic(auto, using(crate::proofs::Writing::octets_written), unfolding(tiff_value::specs::ColorTypes::inner_type))]
 fn write_named<K: TiffKind>(
     alloc: Global,
@@ -280,7 +284,11 @@ fn write_named<K: TiffKind>(
     }
 }
 
-/// The file of an image of these samples, which are little-endian bytes, row by row and pixel by pixel; or the fault.
+/// The file of an image with these samples, which are little-endian bytes, row by row and pixel by
+/// pixel. Returns the first error otherwise: of the version, `TiffSignatureInvalid`; of the color
+/// type, `IoError(InvalidInput)`; of the method, `UnsupportedCompressionMethod`; of the predictor,
+/// `UnknownPredictor`; of a part of a sample that is left over, `MismatchedEntryLength`;
+/// `OutOfMemory`; or of the encoder's `write_image`.
 pub fn write_new(alloc: Global, image: &NewImage, bytes: &[u8]) -> TiffResult<Vec<u8>>
     ensures { WritesNew image.now bytes.now (view_of_result (λ v. v.items) result) }
 {
@@ -294,7 +302,7 @@ pub fn write_new(alloc: Global, image: &NewImage, bytes: &[u8]) -> TiffResult<Ve
     }
 }
 
-// Puts a file at the front of a buffer, where that has room for it.
+// Puts a file at the front of a buffer if the file fits; else the buffer stays. Returns the status.
 fn put(file: &[u8], buffer: &mut [u8]) -> u32
     ensures { Puts file.now result buffer.old buffer.new }
 {
@@ -308,7 +316,9 @@ fn put(file: &[u8], buffer: &mut [u8]) -> u32
     Status::Done as u32
 }
 
-/// Puts a file at the front of a buffer that has room for it, tells its length in any case, and gives the status.
+/// Puts a file at the front of a buffer if the file fits, and its length into `len` in any case.
+/// Returns the status: 0, or the number of the error of `answer`, or of
+/// `InsufficientOutputBufferSize`. For an error of `answer`, `buffer` and `len` stay.
 pub fn deliver(answer: TiffResult<Vec<u8>>, buffer: &mut [u8], len: &mut usize) -> u32
     ensures { Delivers (view_of_result (λ v. v.items) answer) result buffer.old buffer.new len.old len.new }
 {

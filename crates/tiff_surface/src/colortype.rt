@@ -29,7 +29,7 @@ fn cut<S: Sample>(number: u64) -> S {
     S::cut(number)
 }
 
-/// Adds the lines of rows of each type of integers, and of one of three samples a pixel.
+/// Adds the lines of rows of each integer type, and of a row of three samples a pixel.
 pub fn add_lines(report: &mut Report) {
     add_row::<Gray8>(report, &[1, 3, 2]);
     add_row::<Gray16>(report, &[1, 3, 2]);

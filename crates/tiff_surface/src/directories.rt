@@ -6,7 +6,7 @@ use tiff::encoder::{DirectoryEncoder, Slice, Text, TiffEncoder, TiffKind};
 use tiff::io::{MemorySink, Sink};
 use tiff::tags::{Tag, Type, ValueBuffer};
 
-// Values that are handed in as they are.
+// Writes values that are passed as they are.
 fn add_values<W: Sink, K: TiffKind>(
     report: &mut Report,
     directory: &mut DirectoryEncoder<'_, W, K>,
@@ -21,7 +21,7 @@ fn add_values<W: Sink, K: TiffKind>(
     report.line("DirectoryEncoder::write_data", answer);
 }
 
-// Values that are handed in as bytes.
+// Writes values that are passed as bytes.
 fn add_buffers<W: Sink, K: TiffKind>(
     report: &mut Report,
     directory: &mut DirectoryEncoder<'_, W, K>,
@@ -35,7 +35,7 @@ fn add_buffers<W: Sink, K: TiffKind>(
     report.line("DirectoryEncoder::write_data_buf", answer);
 }
 
-// A directory with all that is written into it.
+// Writes a directory with all its values.
 fn add_directory<W: Sink, K: TiffKind>(
     report: &mut Report,
     encoder: &mut TiffEncoder<W, K>,

@@ -16,12 +16,12 @@ fn add_entries(report: &mut Report) {
     report.line("KeyCount::compare", KeyCount::new().compare(3, 4));
 }
 
-// An entry of so many bytes.
+// An entry of `count` bytes.
 fn bytes(count: u32) -> Entry {
     Entry::new(Type::BYTE, count, [0; 4])
 }
 
-// Each entry's count, in their order.
+// The count of each entry, in their order.
 fn add_counts(report: &mut Report, call: &str, directory: &Directory) {
     for (tag, entry) in directory.iter() {
         report.line(call, (tag, entry.count()));
@@ -41,7 +41,7 @@ fn add_fields(report: &mut Report, directory: &mut Directory) {
     add_counts(report, "Directory::iter", directory);
 }
 
-// What a directory answers of its fields.
+// What a directory returns of its fields.
 fn add_answers(report: &mut Report, directory: &mut Directory) {
     report.line("Directory::get", directory.get(Tag::ImageWidth));
     report.line("Directory::contains", directory.contains(Tag::ImageWidth));

@@ -6,7 +6,7 @@ use tiff::TiffResult;
 use tiff::error::{TiffError, TiffFormatError, TiffUnsupportedError, UsageError};
 use tiff::io::{DeviceFault, IoKind};
 
-// Faults of each kind as what every call answers.
+// Errors of each kind, converted to the error that every call returns.
 fn add_kinds(report: &mut Report) {
     let format = TiffFormatError::InvalidDimensions(0, 5);
     report.line("TiffError::from(TiffFormatError)", TiffError::from(format));
@@ -26,30 +26,30 @@ fn add_kinds(report: &mut Report) {
     report.line("TiffError::LimitsExceeded", TiffError::LimitsExceeded);
 }
 
-// A text of bytes that are none, as a fault.
+// The error of a text that isn't UTF-8.
 fn text_fault(alloc: Global) -> TiffResult<String> {
     let bytes = Vec::from_slice(alloc, &[0xff])?;
     Ok(String::from_utf8(bytes)?)
 }
 
-// A part of a text of bytes that are none, as a fault.
+// The error of a part of a text that isn't UTF-8.
 fn part_fault(bytes: &[u8]) -> TiffResult<&str> {
     Ok(std::str::from_utf8(bytes)?)
 }
 
-// A number that is too great, as a fault.
+// The error of a number that is too large.
 fn number_fault(number: u32) -> TiffResult<u8> {
     Ok(u8::try_from(number)?)
 }
 
-// Faults of std as what every call answers.
+// Errors of std, converted to the error that every call returns.
 fn add_conversions(report: &mut Report) {
     report.line("TiffError::from(FromUtf8Error)", text_fault(report.alloc()));
     report.line("TiffError::from(Utf8Error)", part_fault(&[0xff]));
     report.line("TiffError::from(TryFromIntError)", number_fault(256));
 }
 
-/// Adds the lines of faults.
+/// Adds the lines of errors.
 pub fn add_lines(report: &mut Report) {
     add_kinds(report);
     add_conversions(report);

@@ -1,4 +1,5 @@
-//! `tiff::decoder`: the fields of a directory that is read apart, and the page of one that isn't in the chain.
+//! `tiff::decoder`: the fields of a directory that is read apart, and the page of a directory that
+//! isn't in the chain.
 
 use crate::report::Report;
 use std::alloc::Global;
@@ -8,7 +9,7 @@ use tiff::directory::{Directory, Entry};
 use tiff::io::{MemorySource, Source};
 use tiff::tags::{IfdPointer, Tag, Type};
 
-// One pixel of one bit.
+// A page of one pixel of one bit.
 const PAGE: [u8; 75] = [
     0x49, 0x49, 0x2a, 0x00, 0x08, 0x00, 0x00, 0x00, // header
     0x05, 0x00, // directory of 5 entries
@@ -21,7 +22,7 @@ const PAGE: [u8; 75] = [
     0x80, // the sample
 ];
 
-// Behind that page, a directory that no other links to: two pixels of one bit.
+// A directory behind that page, to which no other links: two pixels of one bit.
 const SHOWN: [u8; 66] = [
     0x05, 0x00, // directory of 5 entries
     0x00, 0x01, 0x03, 0x00, 0x01, 0x00, 0x00, 0x00, 0x02, 0x00, 0x00, 0x00, // ImageWidth
@@ -38,7 +39,7 @@ const FLOAT: Tag = Tag::Unknown(65002);
 
 const DOUBLE: Tag = Tag::Unknown(65003);
 
-// Fields of several types. The bytes and the double are the front of the file's header.
+// Fields of several types. The bytes and the double lie at the front of the file's header.
 fn directory(alloc: Global) -> TiffResult<Directory> {
     let fields = [
         (Tag::ImageWidth, Entry::new(Type::SHORT, 1, [3, 0, 0, 0])),
@@ -93,7 +94,7 @@ fn add_page<R: Source>(report: &mut Report, decoder: &mut Decoder<R>, directory:
     add_fields(report, decoder.read_directory_tags(directory));
 }
 
-// The page of a directory out of the chain, and its samples; what is refused leaves them.
+// The page of a directory that isn't in the chain, and its samples; an error leaves them.
 fn add_shown<R: Source>(report: &mut Report, decoder: &mut Decoder<R>) -> TiffResult<()> {
     let shown = decoder.show_directory(IfdPointer(75));
     report.line("Decoder::show_directory", shown);

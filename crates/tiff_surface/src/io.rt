@@ -6,7 +6,7 @@ use tiff::io::{BufferedSource, SliceSource, Source};
 
 const BYTES: [u8; 5] = [1, 2, 3, 4, 5];
 
-// What a source answers to a read of three bytes from the fourth byte on, and the bytes.
+// What a source returns for a read of three bytes from the fourth byte on, and the bytes.
 fn add_read<S: Source>(report: &mut Report, call: &str, source: &mut S) {
     let mut buf = [0u8; 3];
     report.line(call, source.read_at(3, &mut buf));

@@ -6,7 +6,7 @@ use tiff::encoder::writer::TiffWriter;
 use tiff::encoder::{TiffKind, TiffKindBig, TiffKindStandard};
 use tiff::io::{MemorySink, Sink};
 
-// The header of a kind, a count of entries and an offset.
+// The header of a kind of file, a count of entries and an offset.
 fn add_parts<K: TiffKind, W: Sink>(report: &mut Report, writer: &mut TiffWriter<W>) {
     report.line("TiffKind::write_header", K::write_header(writer));
     let answer = K::write_entry_count(writer, 3);
@@ -14,7 +14,7 @@ fn add_parts<K: TiffKind, W: Sink>(report: &mut Report, writer: &mut TiffWriter<
     report.line("TiffKind::write_offset", K::write_offset(writer, 513));
 }
 
-// What a kind is, what it makes of offsets, and the bytes of its parts.
+// What a kind of file is, what it makes of offsets, and the bytes of its parts.
 fn add_kind<K: TiffKind>(report: &mut Report)
 where
     K::OffsetType: Debug + Drop,
@@ -28,7 +28,7 @@ where
     report.line("TiffKind", writer.into_inner().into_vec());
 }
 
-/// Adds the lines of both kinds.
+/// Adds the lines of both kinds of files.
 pub fn add_lines(report: &mut Report) {
     add_kind::<TiffKindStandard>(report);
     add_kind::<TiffKindBig>(report);

@@ -1,5 +1,6 @@
-//! Names each public name of `tiff` by its path, makes public calls that no list of calls or of jobs makes, and prints each with its
-//! answer. It stands on `tiff` alone, so every name that it uses is reached from there.
+//! Names each public name of `tiff` by its path, makes public calls that no list of calls or of
+//! jobs makes, and prints each with its result. The program depends on `tiff` alone, so every name
+//! that it uses is reached from there.
 #![tactic(auto)]
 
 mod color;
@@ -21,7 +22,7 @@ mod writer;
 use report::Report;
 use tiff::TiffResult;
 
-// The lines that take no file.
+// Adds the lines of what needs no file.
 fn add_parts(report: &mut Report) -> TiffResult<()> {
     error::add_lines(report);
     color::add_lines(report)?;
@@ -30,7 +31,7 @@ fn add_parts(report: &mut Report) -> TiffResult<()> {
     ifd::add_lines(report)
 }
 
-// The lines of reading and writing.
+// Adds the lines of reading and writing.
 fn add_files(report: &mut Report) -> TiffResult<()> {
     values::add_lines(report);
     colortype::add_lines(report);

@@ -1,4 +1,5 @@
-//! Every public name of `tiff` by its path: types and traits as exports, calls as values. No call is made here.
+//! Every public name of `tiff` by its path: types and traits as exports, calls as values. Nothing
+//! is called here.
 
 mod decoder;
 mod directory;

@@ -1,9 +1,9 @@
-//! The lines of calls and their answers.
+//! The lines of calls and their results.
 
 use std::alloc::Global;
 use std::fmt::{Debug, Write};
 
-/// Lines of calls and their answers.
+/// Lines of calls and their results.
 #[derive(Drop)]
 pub struct Report {
     alloc: Global,
@@ -13,7 +13,7 @@ pub struct Report {
 }
 
 impl Report {
-    /// No line yet.
+    /// A report without lines.
     pub fn new(alloc: Global) -> Self {
         Report {
             alloc,
@@ -22,18 +22,18 @@ impl Report {
         }
     }
 
-    /// What calls take their memory from.
+    /// The allocator of the calls.
     pub fn alloc(&self) -> Global {
         self.alloc
     }
 
-    /// Adds the line of a call and its answer.
+    /// Adds the line of a call and its result.
     pub fn line<T: Debug + Drop>(&mut self, call: &str, answer: T) {
         let written = writeln!(self.text, "{call}: {answer:?}");
         self.lost = self.lost || written.is_err();
     }
 
-    /// The lines, if there was memory for each.
+    /// The lines, if there was memory for each; else `None`.
     pub fn into_text(self) -> Option<String> {
         let Report {
             alloc: _,

@@ -79,7 +79,7 @@ fn add_small(report: &mut Report) {
     );
 }
 
-// A pointer's digits.
+// The digits of a pointer, with small letters.
 #[derive(Clone, Copy)]
 struct Lower(IfdPointer);
 
@@ -89,7 +89,7 @@ impl Display for Lower {
     }
 }
 
-// The same, with capital letters.
+// The digits of a pointer, with capital letters.
 #[derive(Clone, Copy)]
 struct Upper(IfdPointer);
 

@@ -11,7 +11,7 @@ use tiff::tags::{
     PlanarConfiguration, Predictor, ResolutionUnit, SampleFormat, Type,
 };
 
-// The type of a value's field, and the bytes of each of its parts.
+// The type of a value's field, and how many bytes each of its parts has.
 fn form_of<T: TiffValue>() -> (Type, u8) {
     (T::FIELD_TYPE, T::BYTE_LEN)
 }
@@ -23,7 +23,8 @@ fn written<T: TiffValue>(alloc: Global, value: &T) -> TiffResult<Vec<u8>> {
     Ok(writer.into_inner().into_vec())
 }
 
-// The form, the count, the number of bytes and the bytes of a value, and what it is written as.
+// The form, the count, the number of bytes and the bytes of a value, and the bytes that it is
+// written as.
 fn add_value<T: TiffValue + Drop>(report: &mut Report, name: &str, value: T) {
     let alloc = report.alloc();
     report.line(name, (form_of::<T>(), value.count(), value.bytes()));

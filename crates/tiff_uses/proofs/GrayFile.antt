@@ -1,4 +1,4 @@
--- What the file of a gray page is, or why there is none, of an encoder that began on nothing.
+-- The file of a gray page, or the error, by a new encoder over an empty sink.
 use Rattle.std.proofs.Common.{◌≡◌, ◌⊎◌, ℕ, List, [], map, None, Some, Result, IfOk, inr, ap, ◌∙◌, subst}
 use Rattle.tiff_base.specs.declared.error.TiffError.{TiffError}
 use Rattle.tiff_base.specs.declared.io.SinkFault.TheVariants as sink

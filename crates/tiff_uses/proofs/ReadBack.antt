@@ -35,7 +35,7 @@ same_ok x y e = cc
 same_some : (x y : ℕ) → (let a : Option ℕ = Some x in let b : Option ℕ = Some y in a ≡ b) → x ≡ y
 same_some x y e = cc
 
--- a file was opened, its first page was sought without limits, and its image was read
+-- A file was opened, its first page was sought without limits, and its image was read.
 first_read : WalkOpens → WalkSeeks → (file : List ℕ) (opened free at : Decoding) (image : Decoded) → decoder_of file 0 ≡ Ok (record opened { readable = None; failures = 0 })
     → free ≡ record opened { state = (set_limits opened unlimited).next } → GivesOutcome (Ok tt) (seek_to_image free 0) free at
     → (read_image at).answer ≡ Ok image → IsFirstImage file image
@@ -67,7 +67,7 @@ first_read opens seeks file opened free at image h e s r =
           (subst (λ b. I b at.order at.state.limits) (a.along.same.bytes ∙ bytes) r));
     }
 
--- so is what the call that reads it answers
+-- The result of the call that reads the image is that image.
 pub image_is_first : WalkOpens → WalkSeeks → (file : List ℕ) (opened free at new : Decoding) (result : Result DecodingResult TiffError)
     → decoder_of file 0 ≡ Ok (record opened { readable = None; failures = 0 }) → free ≡ record opened { state = (set_limits opened unlimited).next }
     → GivesOutcome (Ok tt) (seek_to_image free 0) free at → Follows decoded_as (read_image at) result at new
@@ -75,7 +75,7 @@ pub image_is_first : WalkOpens → WalkSeeks → (file : List ℕ) (opened free 
 image_is_first opens seeks file opened free at new (Ok image) h e s f = first_read opens seeks file opened free at (decoded_as image) h e s f.answer
 image_is_first opens seeks file opened free at new (Err fault) h e s f = tt
 
--- its samples are those of the image that was written behind the header
+-- The samples of the image are those of the image that was written behind the header.
 comes_back : FirstShown → WrittenIsRead → (color : ColorTypeRecord) (size width height : ℕ) (samples : List ℕ) (old new : FileState) (m : Model)
     → LeavesImage color size width height samples old new m → (name : ColorTypeName) → color ≡ color_type name → size ≡ inner_size name
     → AreNumbers size samples → old.chain ≡ header_link old.kind → 0 < end_of old → (file : List ℕ) (image : Decoded) → file ≡ new.bytes
@@ -97,7 +97,7 @@ comes_back shown_first is_read color size width height samples old new m l name 
     subst (λ (p : PageRecord). image_of new.bytes LittleEndian p unlimited ≡ Ok image) page_is at_first in
     is_read color size width height samples old new m l name shown.offset unlimited image shown.shows c s small whole image_is
 
--- so are those of what the call that reads them answers
+-- The samples that the call returns are those of the image that was written.
 pub all_come_back : FirstShown → WrittenIsRead → (color : ColorTypeRecord) (size width height : ℕ) (samples : List ℕ) (old new : FileState) (m : Model)
     → LeavesImage color size width height samples old new m → (name : ColorTypeName) → color ≡ color_type name → size ≡ inner_size name
     → AreNumbers size samples → old.chain ≡ header_link old.kind → 0 < end_of old → (file : List ℕ) (result : Result DecodingResult TiffError)

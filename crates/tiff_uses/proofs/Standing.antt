@@ -1,4 +1,4 @@
--- A decoder that goes along the chain of a file, and the sides of the pages that it came by.
+-- A decoder walks along the chain of a file, and collects the sides of the pages.
 use Rattle.std.proofs.Common.{◌≡◌, ℕ, zero, suc, ◌-◌, ◌<◌, List, [], ◌∷◌, ◌++◌, length, map, take, drop, Option, None, Some, false, true, Result, Ok, Err, refl, ap, sym, ◌∙◌, subst}
 use Rattle.std.proofs.lemmas.List.{length-map, map-append}
 use Rattle.std.specs.List.{slice_get}
@@ -6,7 +6,7 @@ use Rattle.tiff_base.specs.declared.error.TiffError.{TiffError}
 use Rattle.tiff_base.specs.declared.error.TiffError.TheVariants.{FormatError, UnsupportedError, IoError, LimitsExceeded, IntSizeError, UsageError, OutOfMemory}
 use Rattle.tiff_base.specs.declared.io.IoKind.TheVariants.{UnexpectedEof, InvalidData, InvalidInput, WriteZero, Device}
 use Rattle.tiff_base.specs.Answers.{◌>>=◌, IsCause}
-use Rattle.tiff_base.proofs.Causes.{cause_along}
+use Rattle.tiff.proofs.Causes.{cause_along}
 use Rattle.tiff_base.specs.Directory.{directory_at}
 use Rattle.tiff_base.specs.Field.{DirectoryRecord}
 use Rattle.tiff_page.specs.Page.{PageRecord}
@@ -19,7 +19,7 @@ use Rattle.tiff_uses.specs.Pages.{FileAnswers, each_sides, page_sides, sides_at,
 abbrev ok : ℕ × ℕ → Result (ℕ × ℕ) TiffError
 ok s = Ok s
 
--- the decoder as it was opened, of which no read had failed
+-- the decoder as it was opened, before any read failed
 abbrev pub begun : Decoding → Decoding
 begun d = record d { readable = None; failures = 0 }
 
@@ -38,7 +38,7 @@ asked : (d new : Decoding) (s : ℕ × ℕ) → FollowsWithoutEither (λ x. x) (
 unfolding dimensions
 asked d new s f = (f.1, f.0)
 
--- one more pair of sides
+-- One more pair of sides is collected.
 one_more : (start d : Decoding) (offset : ℕ) (s : ℕ × ℕ) (before sides : List (ℕ × ℕ)) → PageAnswers start offset (Ok tt) d → Ok (d.state.page.width, d.state.page.height) ≡ ok s
     → sides ≡ before ++ s ∷ [] → map ok sides ≡ map ok before ++ sides_at start offset ∷ []
 one_more start d offset s before sides p is e =
@@ -47,7 +47,7 @@ one_more start d offset s before sides p is e =
 
 -- ---- the steps of the caller
 
--- it stands where it was opened
+-- The decoder stands where it was opened.
 abbrev along_begun : (d : Decoding) (n : ℕ) → IsAlong (begun d) n (begun d) → IsAlong (begun d) n d
 along_begun d n a = record {
   same = record { bytes = refl; kind = refl; order = refl; first = refl; limits = refl };
@@ -59,7 +59,7 @@ along_begun d n a = record {
   more = a.more;
 }
 
--- the file was opened, and the sides of its first page were listed
+-- The file was opened, and the sides of its first page were collected.
 pub first_listed : WalkOpens → (d new : Decoding) (s : ℕ × ℕ) (none sides : List (ℕ × ℕ)) → decoder_of d.bytes 0 ≡ Ok (begun d)
     → FollowsWithoutEither (λ x. x) (dimensions d) (Ok s) d new → none ≡ [] → sides ≡ none ++ s ∷ [] → Standing (begun d) sides new
 first_listed opens d new s none sides h f n e =
@@ -71,7 +71,7 @@ first_listed opens d new s none sides h f n e =
     subst S (sym told.0)
     (listed_first (sides_at start) start d a (map ok none) (map ok sides) (ap (map ok) n) (one_more start start a.offset s none sides at.arrives.page told.1 e))
 
--- the next page was entered, and its sides were listed
+-- The next page was entered, and its sides were collected.
 pub next_listed : WalkGoesOn → (start old mid new : Decoding) (s : ℕ × ℕ) (before sides : List (ℕ × ℕ)) → Standing start before old → old.state.more ≡ true
     → GivesOutcome (Ok tt) (next_image old) old mid → FollowsWithoutEither (λ x. x) (dimensions mid) (Ok s) mid new → sides ≡ before ++ s ∷ [] → Standing start sides new
 next_listed goes_on start old mid new s before sides l more g f e =
@@ -85,9 +85,9 @@ next_listed goes_on start old mid new s before sides l more g f e =
         subst S (sym told.0)
         (listed_next (sides_at start) start old mid (map ok before) (map ok sides) l w.along (one_more start mid w.along.offset s before sides w.page told.1 e))
 
--- ---- the first fault
+-- ---- the first error
 
--- the sides of pages that are all told
+-- The sides of pages without an error.
 each_told : (d : Decoding) (offsets : List ℕ) (sides : List (ℕ × ℕ)) → map ok sides ≡ map (sides_at d) offsets → each_sides d offsets ≡ Ok sides
 each_told d [] [] h = refl
 each_told d [] (s ∷ sides) h = absurd (cc)
@@ -98,7 +98,7 @@ each_told d (offset ∷ offsets) (s ∷ sides) h =
     ap (λ (r : Result (ℕ × ℕ) TiffError). r >>= λ x. each_sides d offsets >>= λ xs. Ok (x ∷ xs)) first
     ∙ ap (λ (r : Result (List (ℕ × ℕ)) TiffError). r >>= λ xs. Ok (s ∷ xs)) (each_told d offsets sides others)
 
--- behind pages whose sides are told one has a fault
+-- Behind pages without an error, one page has an error.
 each_refused : (d : Decoding) (before : List ℕ) (sides : List (ℕ × ℕ)) (offset : ℕ) (behind : List ℕ) (e : TiffError) → map ok sides ≡ map (sides_at d) before
     → sides_at d offset ≡ Err e → each_sides d (before ++ offset ∷ behind) ≡ Err e
 each_refused d [] [] offset behind e h f = ap (λ (r : Result (ℕ × ℕ) TiffError). r >>= λ x. each_sides d behind >>= λ xs. Ok (x ∷ xs)) f
@@ -110,7 +110,7 @@ each_refused d (other ∷ before) (s ∷ sides) offset behind e h f =
     ap (λ (r : Result (ℕ × ℕ) TiffError). r >>= λ x. each_sides d (before ++ offset ∷ behind) >>= λ xs. Ok (x ∷ xs)) first
     ∙ ap (λ (r : Result (List (ℕ × ℕ)) TiffError). r >>= λ xs. Ok (s ∷ xs)) (each_refused d before sides offset behind e others f)
 
--- the fault of a page is that of its sides
+-- The error of a page is the error of its sides.
 module _ (start : Decoding) (e : TiffError) where
   abbrev page_by : DirectoryRecord → Result PageRecord TiffError
   page_by x = page_in start.kind start.order start.bytes start.state.limits x
@@ -122,13 +122,13 @@ module _ (start : Decoding) (e : TiffError) where
   sides_refused : (offset : ℕ) → page_at start offset ≡ Err e → sides_at start offset ≡ Err e
   sides_refused offset h = by_directory (directory_at start.kind start.order start.bytes offset) h
 
--- what stands behind others begins with the one that is sought
+-- What stands behind other items begins with the one at the index.
 from_next : (ps : List ℕ) (i p : ℕ) → slice_get ps i ≡ Some p → ps ≡ take i ps ++ p ∷ drop (suc i) ps
 from_next [] i p h = absurd (cc)
 from_next (q ∷ qs) zero p h = (let e : q ≡ p = cc in ap (λ (x : ℕ). x ∷ qs) e)
 from_next (q ∷ qs) (suc i) p h = ap (λ (xs : List ℕ). q ∷ xs) (from_next qs i p h)
 
--- the sides of a file's pages, by those of its chain and by the chain's end
+-- The sides of a file's pages, by those of its chain and by the chain's end.
 sides_by : (file : List ℕ) (start : Decoding) (told : Result (List (ℕ × ℕ)) TiffError) (end : Option TiffError) → decoder_of file 0 ≡ Ok start
     → each_sides start (chain_of start).offsets ≡ told → (chain_of start).end ≡ end → page_sides file ≡ told >>= told_at end
 sides_by file start told end h t e =
@@ -136,7 +136,7 @@ sides_by file start told end h t e =
     ∙ ap (λ (r : Result (List (ℕ × ℕ)) TiffError). r >>= told_at (chain_of start).end) t
     ∙ ap (λ (x : Option TiffError). told >>= told_at x) e
 
--- past the last page
+-- Behind the last page, all sides are collected.
 pub all_sides : WalkEnds → (file : List ℕ) (start d : Decoding) (sides : List (ℕ × ℕ)) → decoder_of file 0 ≡ Ok start → Standing start sides d → d.state.more ≡ false
     → page_sides file ≡ Ok sides
 all_sides ends file start d sides h l more =
@@ -144,7 +144,7 @@ all_sides ends file start d sides h l more =
     let all = listed_all (sides_at start) start d (map ok sides) l None end in
     sides_by file start (Ok sides) None h (each_told start (chain_of start).offsets sides all) end.is_end
 
--- the next page has a fault, or the chain ends by one
+-- The next page has an error, or the chain ends by one.
 stopped : (file : List ℕ) (start old new : Decoding) (sides : List (ℕ × ℕ)) (e : TiffError) (l : Standing start sides old) (next : Option ℕ) → decoder_of file 0 ≡ Ok start
     → GoesOn start l.number next old (Err e) new → page_sides file ≡ Err e
 stopped file start old new sides e l (Some offset) h w =
@@ -164,7 +164,7 @@ refused goes_on file start old sides e h l more a =
     stopped file start old new sides e l (slice_get (chain_of start).offsets (suc l.number)) h
     (goes_on start old new l.number (Err e) l.along more (record { answer = a; at = refl }))
 
--- what a call that was refused tells of the whole
+-- The error of a call on the way is the error of the whole.
 by_fault : {Y given : Type 0} (wanting : Type 0) (o : Outcome Y) (old new : Decoding) (e : TiffError) → (o.answer ≡ Err e → given) → Refused wanting e o old new
     → IsCause (Unit {0}) (Unit {0}) e given
 by_fault wanting o old new OutOfMemory f h = tt
@@ -179,13 +179,13 @@ by_fault wanting o old new LimitsExceeded f h = f h.answer
 by_fault wanting o old new IntSizeError f h = f h.answer
 by_fault wanting o old new (UsageError x) f h = f h.answer
 
--- a fault of going on is that of the whole
+-- An error of going on is the error of the whole.
 pub refused_next : WalkGoesOn → (file : List ℕ) (start old new : Decoding) (sides : List (ℕ × ℕ)) (wanting : Type 0) (e : TiffError) → decoder_of file 0 ≡ Ok start
     → Standing start sides old → old.state.more ≡ true → Refused wanting e (next_image old) old new
     → FileAnswers {X = List (ℕ × ℕ)} (λ x. x) (Err e) (page_sides file)
 refused_next goes_on file start old new sides wanting e h l more = by_fault wanting (next_image old) old new e (refused goes_on file start old sides e h l more)
 
--- a page has sides
+-- A page has sides.
 pub sides_told_always : (given : Type 0) (d new : Decoding) (e : TiffError) → FollowsWithoutEither {X = ℕ × ℕ} (λ x. x) (dimensions d) (Err e) d new
     → IsCause (Unit {0}) (Unit {0}) e given
 unfolding dimensions
@@ -194,7 +194,7 @@ sides_told_always given d new e f = cause_along {wanting = ⊥} {failed = ⊥} {
     never : ok (d.state.page.width, d.state.page.height) ≡ Err e → ⊥
     never h = cc
 
--- fewer offsets are left
+-- With one more page entered, fewer offsets are left.
 pub fewer_left : WalkGoesOn → (start old mid new : Decoding) (s : ℕ × ℕ) (before sides : List (ℕ × ℕ)) → Standing start before old → old.state.more ≡ true
     → GivesOutcome (Ok tt) (next_image old) old mid → FollowsWithoutEither (λ x. x) (dimensions mid) (Ok s) mid new → sides ≡ before ++ s ∷ []
     → length (chain_of start).offsets - length sides < length (chain_of start).offsets - length before

@@ -4,7 +4,8 @@ use Rattle.tiff.specs.Machine.{Decoding}
 use Rattle.tiff_page.specs.Layout.{LayoutRecord}
 use Rattle.tiff_laws.specs.Whole.{HasRoom, IsMadeOfChunks}
 
--- A slice was made of the chunks of the page: of each plane that it takes, and it takes one.
+-- A slice was made of the chunks of the page, in each plane that fits into the slice; at least one
+-- plane does.
 pub record IsImageOfChunks (d : Decoding) (buf made : List ℕ) : Type 0 where
   pub layout : LayoutRecord
   pub room : HasRoom d.state.page layout (length buf)

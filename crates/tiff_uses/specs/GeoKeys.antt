@@ -1,6 +1,6 @@
--- Geographic keys (GeoTIFF 1.0): the directory of the keys begins with four numbers, of which the last is how many keys
--- there are; then four for each key: its number, where its values stand (0: the one value is in the entry itself), how many they
--- are, and the value.
+-- Geographic keys (GeoTIFF 1.0). The directory of the keys begins with four numbers, of which the
+-- last is how many keys there are. Four numbers follow for each key: its number, where its values
+-- stand (0: the one value is in the entry itself), how many they are, and the value.
 use Rattle.std.specs.Prelude.{◌==◌, ◌&&◌, ℕ, zero, suc, List, ◌∷◌, Option, None, Some, Result, Ok, if◌then◌else◌}
 use Rattle.tiff_base.specs.declared.error.TiffError.{TiffError}
 use Rattle.tiff_base.specs.declared.tags.Tag.TheVariants.{GeoKeyDirectoryTag}
@@ -8,7 +8,7 @@ use Rattle.tiff_base.specs.Answers.{◌>>=◌}
 use Rattle.tiff.specs.Machine.{Decoding}
 use Rattle.tiff.specs.Outcome.{get_tag_u16_vec}
 
--- the value of the first of so many entries that has this key, and its value in it
+-- the value of the first of `n` entries that has this key with its value in the entry
 abbrev pub value_in : ℕ → ℕ → List ℕ → Option ℕ
 value_in id zero entries = None
 value_in id (suc n) (key ∷ location ∷ count ∷ value ∷ entries) =
@@ -20,7 +20,7 @@ abbrev pub key_value : ℕ → List ℕ → Option ℕ
 key_value id (version ∷ revision ∷ minor ∷ count ∷ entries) = value_in id count entries
 key_value id numbers = None
 
--- the value of a key of the page, or the fault of the tag
+-- the value of a key of the page, or the error of the tag
 abbrev pub geo_key : Decoding → ℕ → Result (Option ℕ) TiffError
 geo_key d id = do
   numbers ← (get_tag_u16_vec d GeoKeyDirectoryTag).answer

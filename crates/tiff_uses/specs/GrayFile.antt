@@ -1,4 +1,4 @@
--- A file of one gray page that is written into memory, or why there is none.
+-- A file of one gray page that is written into memory, or the error.
 use Rattle.std.specs.Prelude.{◌≡◌, ◌⊎◌, ℕ, List, [], None, Some, Result, Err, IfOk, map}
 use Rattle.tiff_base.specs.declared.error.TiffError.{TiffError}
 use Rattle.tiff_base.specs.declared.error.TiffError.TheVariants.{OutOfMemory}
@@ -11,8 +11,8 @@ use Rattle.tiff_decode.specs.NextState.{view_of_result}
 use Rattle.tiff_encode.specs.Machine.{FileState, begun_file}
 use Rattle.tiff_encode.specs.ImageData.{WritesImage}
 
--- What `write_image` gives for gray samples of 8 bits behind the header of a new file, over a sink that fails for want of memory
--- alone: the file, or the first cause that refuses the image.
+-- What `write_image` returns for gray samples of 8 bits behind the header of a new file, over a
+-- sink that fails only when memory is out: the file, or the first error of the image.
 pub record WritesGray (width height : ℕ) (samples : List ℕ) (answer : Result (List ℕ) TiffError) : Type 0 where
   pub failures : ℕ
   pub last : FileState
@@ -21,6 +21,6 @@ pub record WritesGray (width height : ℕ) (samples : List ℕ) (answer : Result
   pub fault : (last.fault ≡ None) ⊎ (last.fault ≡ Some sink.OutOfMemory)
   pub file : IfOk answer (λ file. file ≡ last.bytes)
 
--- so it is, or there is no memory
+-- the gray page is written, or memory is out
 abbrev pub AnswersGray : ℕ → ℕ → List ℕ → Result (List ℕ) TiffError → Type 0
 AnswersGray width height samples answer = (answer ≡ Err OutOfMemory) ⊎ WritesGray width height samples answer

@@ -30,14 +30,14 @@ use tiff::tags::Tag;
 use tiff_laws::decoder::{image_is_its_chunks, read_where_chunks};
 use tiff_laws::pages::{walk_ends, walk_goes_on, walk_opens, walk_seeks};
 
-/// The samples of a file's first page, or the first fault.
+/// The samples of a file's first page, or the first error.
 pub fn first_image(alloc: Global, file: Vec<u8>) -> TiffResult<DecodingResult>
     ensures { FileAnswers decoded_as result (first_image file.items) }
 {
     Decoder::new(alloc, MemorySource::new(file))?.read_image()
 }
 
-/// The samples of a strip or a tile of a page, each by its number from 0, or the first fault.
+/// The samples of a strip or a tile of a page, or the first error. `page` and `chunk` count from 0.
 pub fn page_chunk(
     alloc: Global,
     file: Vec<u8>,
@@ -51,8 +51,9 @@ pub fn page_chunk(
     decoder.read_chunk(chunk)
 }
 
-/// The width of a page, by the page's number from 0, and how many rows each of its strips has. It has no contract: that it is
-/// proved says that no file makes it abort, read past an end or run on.
+/// The width of a page, in pixels, and how many rows each of its strips has; or the first error.
+/// `page` counts from 0. The function has no contract: that it is proved says that no file makes it
+/// abort, read past an end or run on.
 pub fn strips_of(alloc: Global, file: Vec<u8>, page: usize) -> TiffResult<(u32, u32)> {
     let mut decoder = Decoder::new(alloc, MemorySource::new(file))?;
     decoder.seek_to_image(page)?;
@@ -61,9 +62,9 @@ pub fn strips_of(alloc: Global, file: Vec<u8>, page: usize) -> TiffResult<(u32, 
     Ok((width, rows))
 }
 
-// The width and the height of each page, from a decoder at its file's first page on.
+// The width and the height of each page, by a decoder that is at its file's first page.
 fn sides_along(alloc: Global, decoder: &mut Decoder<MemorySource>) -> TiffResult<Vec<(u32, u32)>>
-    // It was opened on its file, and no call moved it since.
+    // The decoder was opened on its file, and no call has moved it since.
     requires { decoder_of decoder.old.bytes 0 ≡ Ok (record decoder.old { readable = None; failures = 0 }) }
     ensures { FileAnswers (λ v. v.items) result (pages.page_sides decoder.old.bytes) }
 {
@@ -79,8 +80,9 @@ fn sides_along(alloc: Global, decoder: &mut Decoder<MemorySource>) -> TiffResult
     Ok(sides)
 }
 
-/// The width and the height of each page, along the file's chain; or the first fault, of the pages in their order and then of the
-/// chain's end. It ends since the chain does.
+/// The width and the height of each page, in pixels, along the file's chain; or the first error: of
+/// the pages in their order, and then of the chain's end. The call ends for every file, since each
+/// chain does.
 pub fn page_sides(alloc: Global, file: Vec<u8>) -> TiffResult<Vec<(u32, u32)>>
     ensures { FileAnswers (λ v. v.items) result (pages.page_sides file.items) }
 {
@@ -89,7 +91,7 @@ pub fn page_sides(alloc: Global, file: Vec<u8>) -> TiffResult<Vec<(u32, u32)>>
     sides_along(alloc, &mut decoder)
 }
 
-// The value of a key in a directory of keys.
+// The value of a key in a directory of keys, if the directory has the key.
 fn value_of(numbers: &[u16], id: u16) -> Option<u16>
     ensures { result ≡ key_value id numbers.now }
 {
@@ -109,8 +111,8 @@ fn value_of(numbers: &[u16], id: u16) -> Option<u16>
     None
 }
 
-/// The value of a geographic key of the decoder's page, where its value is in its entry. A page without keys:
-/// `RequiredTagNotFound`. The decoder stays where it is.
+/// The value of a geographic key of the decoder's page, if the page has the key with its value in
+/// the entry of the key. A page without keys: `RequiredTagNotFound`. The decoder stays where it is.
 pub fn geo_key<R: Source>(decoder: &mut Decoder<R>, id: u16) -> TiffResult<Option<u16>>
     ensures answer { Answers (λ value. value) result (geo_key decoder.old id) decoder.old.failures decoder.new.failures }
     ensures state { decoder.new ≡ record decoder.old { failures = decoder.new.failures } }
@@ -120,8 +122,9 @@ pub fn geo_key<R: Source>(decoder: &mut Decoder<R>, id: u16) -> TiffResult<Optio
     Ok(value_of(&numbers, id))
 }
 
-/// Reads the image of the decoder's page into a slice, which is then made of the chunks of one plane at least, each as it is
-/// read alone; or answers the first fault. The decoder stays where it is, and nothing is asked of it.
+/// Reads the image of the decoder's page into a slice; or returns the first error. The slice is
+/// then made of the chunks of at least one plane, each as it is read alone. The call requires
+/// nothing of the decoder, and leaves it where it is.
 pub fn image_of_chunks<R: Source>(decoder: &mut Decoder<R>, buffer: &mut [u8]) -> TiffResult<()>
     ensures answer { Follows (λ _. buffer.new) (read_image_bytes decoder.old buffer.old) result decoder.old decoder.new }
     ensures made { OnOk result (IsImageOfChunks decoder.old buffer.old buffer.new) }
@@ -132,10 +135,10 @@ pub fn image_of_chunks<R: Source>(decoder: &mut Decoder<R>, buffer: &mut [u8]) -
     decoder.read_image_bytes(buffer)
 }
 
-// Room for what a file has beside its samples; one of many strips takes more as it grows.
+// Room for what a file has besides its samples. A file of many strips allocates more as it grows.
 const FRAME: usize = 4096;
 
-/// A file of one gray page, which shows the samples; or the first cause that refuses it, as `write_image` tells it.
+/// A file of one gray page that shows the samples; or the first error, as `write_image` returns it.
 #[tactic(auto, using(tiff_base::proofs::MemoryFaults::header_refused))]
 pub fn gray_file(alloc: Global, width: u32, height: u32, samples: &[u8]) -> TiffResult<Vec<u8>>
     ensures answer { AnswersGray width height samples.now (view_of_result (λ v. v.items) result) }
@@ -149,7 +152,8 @@ pub fn gray_file(alloc: Global, width: u32, height: u32, samples: &[u8]) -> Tiff
     Ok(file)
 }
 
-/// Makes the samples of an image of unsigned bytes zeros, from one on; an image of other numbers stays as it is.
+/// Sets the samples of an image of unsigned bytes to 0, from the index `start` on. An image of
+/// other numbers stays as it is.
 pub fn clear_from(image: &mut DecodingResult, start: usize)
     requires { start ≤ length (decoded_as image.old).numbers }
     ensures { decoded_as image.new ≡ cleared_from start (decoded_as image.old) }
@@ -171,8 +175,9 @@ fn first_without_limits(alloc: Global, file: Vec<u8>) -> TiffResult<DecodingResu
     decoder.read_image()
 }
 
-/// Writes an image of a color type into a file in memory, and reads it back without limits. Where as many samples were handed in as the
-/// image has, those that come back are the same, in their order.
+/// Writes an image of a color type into a file in memory, and reads it back without limits; or
+/// returns the first error. If the caller passes as many samples as the image has, the same samples
+/// come back, in their order.
 pub fn written_and_read<C: NamedColorType>(
     alloc: Global,
     width: u32,

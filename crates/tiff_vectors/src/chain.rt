@@ -8,7 +8,7 @@ use tiff_base::tags::{ByteOrder, IfdPointer};
 use tiff_ifd::cycles::IfdCycles;
 use tiff_ifd::stream::EndianReader;
 
-// Links from one offset to another, and what adding each answers.
+// Links from one offset to another, and what adding each returns.
 const LINKS: [(u64, Option<u64>, &str); 8] = [
     (8, Some(20), "Ok(true)"),
     (8, Some(20), "Ok(false)"),
@@ -20,7 +20,7 @@ const LINKS: [(u64, Option<u64>, &str); 8] = [
     (40, Some(40), "Err(FormatError(CycleInOffsets))"),
 ];
 
-// What adding a link answers.
+// The result of adding a link.
 fn inserted(
     alloc: Global,
     links: &mut IfdCycles,
@@ -44,7 +44,7 @@ fn links_that_close_a_cycle_are_refused(rt: HostRuntime) {
     }
 }
 
-// Numbers read one after another, and the first again as another number.
+// Numbers read one after another, and the first one again as another number.
 fn numbers_read(alloc: Global, reader: &mut EndianReader<MemorySource>) -> TiffResult<String> {
     let first = reader.read_i16()?;
     let cut = reader.read_u64();
@@ -54,7 +54,7 @@ fn numbers_read(alloc: Global, reader: &mut EndianReader<MemorySource>) -> TiffR
     Ok(format!(in alloc; "{first} {cut:?} {second:#010x} {again}")?)
 }
 
-// What a reader of six bytes tells.
+// What a reader of six bytes returns.
 fn numbers_told(alloc: Global) -> TiffResult<String> {
     let bytes = copy_of(alloc, &[0xff, 0xfe, 1, 2, 3, 4])?;
     let mut reader = EndianReader::new(MemorySource::new(bytes), ByteOrder::BigEndian);

@@ -1,4 +1,4 @@
-//! Calls of values that no list of calls asks for.
+//! Calls of values that no list of calls makes.
 
 use crate::expect::expect_text;
 use std::alloc::Global;

@@ -1,4 +1,5 @@
-//! What no list of jobs says of directories: texts with a zero, parents that no job wrote, and offsets that no kind has.
+//! Calls of directories that no list of jobs makes: texts with a zero, parents that no job wrote,
+//! and offsets that no kind of file has.
 
 use crate::expect::{empty_sink, expect_text};
 use std::alloc::Global;
@@ -11,7 +12,8 @@ use tiff_encode::encoder::{DirectoryOffset, TiffEncoder, TiffKind, TiffKindBig, 
 use tiff_value::encoder::colortype::Gray8;
 use tiff_value::encoder::tiff_value::{Slice, Text};
 
-// What texts with a zero are answered, where the end of the file is then, and what the directory answers at its end.
+// The results for texts with a zero, then the end of the file, and the result at the directory's
+// end.
 fn refuse_texts<W: Sink, K: TiffKind>(
     alloc: Global,
     encoder: &mut TiffEncoder<W, K>,
@@ -39,7 +41,7 @@ fn texts_with_a_zero_are_refused(rt: HostRuntime) {
     );
 }
 
-// What a directory is answered at its end whose parent was never written.
+// The result at the end of a directory whose parent was never written.
 fn lose_parent<W: Sink, K: TiffKind>(
     alloc: Global,
     encoder: &mut TiffEncoder<W, K>,
@@ -61,7 +63,7 @@ fn parent_lost<K: TiffKind>(alloc: Global) -> TiffResult<String> {
     Ok(format!(in alloc; "{told} {file:?}")?)
 }
 
-// The file has its header then, and no directory.
+// The file then has its header, and no directory.
 #[test]
 fn parents_are_written_before(rt: HostRuntime) {
     let classic = "Err(UsageError(ParentNotWritten)) [73, 73, 42, 0, 0, 0, 0, 0]";
@@ -71,7 +73,7 @@ fn parents_are_written_before(rt: HostRuntime) {
     expect_text(&rt, 1, parent_lost::<TiffKindBig>(rt.alloc()), big);
 }
 
-// Where a directory of two tags stands.
+// Writes a directory of two tags, and returns its offset.
 fn write_sides<W: Sink>(
     encoder: &mut TiffEncoder<W, TiffKindStandard>,
 ) -> TiffResult<DirectoryOffset<TiffKindStandard>> {
@@ -84,7 +86,8 @@ fn write_sides<W: Sink>(
     ended
 }
 
-// The same by its offset and its entries, in a new file; and whether both are equal.
+// The offset of a directory in a new file, also by its offset and its entries; and whether both are
+// equal.
 fn offsets_compared(alloc: Global) -> TiffResult<String> {
     let mut encoder = TiffEncoder::new(alloc, empty_sink(alloc))?;
     let written = write_sides(&mut encoder)?;
@@ -102,13 +105,13 @@ fn an_offset_that_is_made_is_the_one_that_was_written(rt: HostRuntime) {
     expect_text(&rt, 0, offsets_compared(rt.alloc()), "IfdPointer(8) 8 true");
 }
 
-// What the offset of a directory without entries answers.
+// The result of making the offset of a directory without entries.
 fn offset_told<K: TiffKind>(alloc: Global, offset: u64) -> TiffResult<String> {
     let answer = DirectoryOffset::<K>::new(IfdPointer(offset), &Directory::empty(alloc));
     Ok(format!(in alloc; "{:?}", answer.map(|o| o.pointer))?)
 }
 
-// Offsets of directories, and what they answer in each kind.
+// Offsets of directories, and the result of each in each kind of file.
 const OFFSETS: [(u64, &str, &str); 4] = [
     (
         0,
@@ -142,7 +145,7 @@ fn offsets_of_directories_fit_the_kind(rt: HostRuntime) {
     }
 }
 
-// Where a directory of one tag stands that is linked from nowhere yet.
+// Writes a directory of one tag that no other links to yet, and returns its offset.
 fn write_small<W: Sink, K: TiffKind>(
     encoder: &mut TiffEncoder<W, K>,
 ) -> TiffResult<DirectoryOffset<K>> {
@@ -153,7 +156,7 @@ fn write_small<W: Sink, K: TiffKind>(
     ended
 }
 
-// A page of two columns, with a directory linked from SubIfd.
+// Writes a page of two columns whose SubIfd links to a directory.
 fn write_page<W: Sink, K: TiffKind>(
     encoder: &mut TiffEncoder<W, K>,
     linked: &DirectoryOffset<K>,
@@ -165,7 +168,7 @@ fn write_page<W: Sink, K: TiffKind>(
     ended
 }
 
-// An image of three columns, linked from a directory.
+// Writes an image of three columns to which a directory links.
 fn write_reduced<W: Sink, K: TiffKind>(
     encoder: &mut TiffEncoder<W, K>,
     parent: &DirectoryOffset<K>,
@@ -181,7 +184,7 @@ fn write_family<W: Sink, K: TiffKind>(encoder: &mut TiffEncoder<W, K>) -> TiffRe
     write_reduced(encoder, &small)
 }
 
-// The file of all three.
+// The file of the page, the directory and the image.
 fn family_file<K: TiffKind>(alloc: Global) -> TiffResult<Vec<u8>> {
     let mut encoder: TiffEncoder<MemorySink, K> = TiffEncoder::new_generic(
         alloc,
@@ -193,8 +196,8 @@ fn family_file<K: TiffKind>(alloc: Global) -> TiffResult<Vec<u8>> {
     Ok(file)
 }
 
-// Where the image stands that the directory linked from SubIfd links to, how wide it is, where its strip stands, and what it
-// links to.
+// The offset of the image to which the directory of SubIfd links, its width, the offset of its
+// strip, and its link.
 fn reduced_told(
     alloc: Global,
     decoder: &mut Decoder<MemorySource>,
@@ -210,7 +213,8 @@ fn reduced_told(
     Ok(format!(in alloc; "{next:?} {width} {strip} {end:?}")?)
 }
 
-// Where the page and the directory linked from SubIfd stand, what the page links to, and all that of the image.
+// The offsets of the page and of the directory of SubIfd, the link of the page, and the same facts
+// of the image.
 fn family_told<K: TiffKind>(alloc: Global) -> TiffResult<String> {
     let source = MemorySource::new(family_file::<K>(alloc)?);
     let mut decoder = Box::new(alloc, Decoder::new(alloc, source)?)?;

@@ -1,5 +1,5 @@
-//! Sources and sinks that answer a byte at a time, and that fail once: a call that is made again is answered. A source that
-//! keeps how far it was asked.
+//! Sources and sinks that read or write one byte at a time and fail once: a call that is made again
+//! succeeds. A source that keeps how far it was read.
 
 ghost use Rattle.std.specs.Prelude.{◌≡◌, ◌+◌, Some, []};
 
@@ -7,7 +7,7 @@ use std::marker::Model;
 use std::snapshot::Snapshot;
 use tiff_base::io::{DeviceFault, MemorySink, MemorySource, Sink, SinkFault, Source};
 
-// What a count remembers: itself, before it was last added to.
+// A count that remembers itself as it was before it was last added to.
 #[derive(Drop)]
 struct Steps {
     last: Option<Snapshot<Steps>>,
@@ -46,14 +46,14 @@ impl Failures {
     }
 }
 
-// How many calls are answered before the one that fails, where that is still to come.
+// How many calls succeed before the one that fails, if that one is still to come.
 #[derive(Drop)]
 struct Countdown {
     left: Option<u64>,
 }
 
 impl Countdown {
-    // Counts a call, and whether it is the one that fails.
+    // Counts a call, and returns whether it is the one that fails.
     fn is_over(&mut self) -> bool {
         match self.left {
             Some(0) => {
@@ -69,7 +69,7 @@ impl Countdown {
     }
 }
 
-/// A source in memory that gives one byte at a time, and fails once, after `left` reads.
+/// A source in memory that reads one byte at a time, and fails once, after `left` reads.
 #[derive(Drop)]
 pub struct FailingSource {
     inner: MemorySource,
@@ -78,7 +78,7 @@ pub struct FailingSource {
 }
 
 impl FailingSource {
-    /// The bytes of a source; so many reads are answered.
+    /// A source with the bytes of `inner`, of which `left` reads succeed.
     pub fn new(inner: MemorySource, left: u64) -> Self {
         FailingSource {
             inner,
@@ -111,7 +111,7 @@ impl Source for FailingSource {
     }
 }
 
-/// A source in memory that keeps how far it was asked.
+/// A source in memory that keeps how far it was read.
 #[derive(Drop)]
 pub struct WatchedSource {
     inner: MemorySource,
@@ -119,12 +119,12 @@ pub struct WatchedSource {
 }
 
 impl WatchedSource {
-    /// The bytes of a source, of which none was asked for yet.
+    /// A source with the bytes of `inner`, of which no read was asked yet.
     pub fn new(inner: MemorySource) -> Self {
         WatchedSource { inner, furthest: 0 }
     }
 
-    /// The offset behind the furthest byte that it was asked for.
+    /// The offset behind the furthest byte that a read was asked for.
     pub fn furthest(&self) -> u64 {
         self.furthest
     }
@@ -145,7 +145,7 @@ impl Source for WatchedSource {
     }
 }
 
-/// A sink in memory that takes one byte at a time, and fails once, after `left` writes.
+/// A sink in memory that writes one byte at a time, and fails once, after `left` writes.
 #[derive(Drop)]
 pub struct FailingSink {
     inner: MemorySink,
@@ -155,7 +155,7 @@ pub struct FailingSink {
 }
 
 impl FailingSink {
-    /// The bytes of a sink; so many writes are taken.
+    /// A sink with the bytes of `inner`, of which `left` writes succeed.
     pub fn new(inner: MemorySink, left: u64) -> Self {
         FailingSink {
             inner,
@@ -165,7 +165,7 @@ impl FailingSink {
         }
     }
 
-    /// The bytes.
+    /// The bytes of the sink.
     pub fn into_vec(self) -> Vec<u8> {
         let FailingSink {
             inner,

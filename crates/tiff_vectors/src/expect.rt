@@ -1,12 +1,12 @@
-//! What tests expect of answers, and what they begin with. The first are their assertions: a test that calls them owns
-//! nothing at its exits, so it is cheap to prove.
+//! What tests expect of results, and what tests begin with. The assertions stand here since a test
+//! that calls them owns nothing at its exits, so it is cheap to prove.
 
 use std::alloc::Global;
 use std::process::Abort;
 use tiff_base::error::TiffResult;
 use tiff_base::io::MemorySink;
 
-/// Stops unless a text is answered, and is the one that is wanted in this row.
+/// Aborts unless the result is the text that this row wants.
 pub fn expect_text(rt: &impl Abort, row: u64, told: TiffResult<String>, wanted: &str) {
     match told {
         Ok(told) => assert_eq!(rt; told.as_str(), wanted, "{row}"),
@@ -14,7 +14,7 @@ pub fn expect_text(rt: &impl Abort, row: u64, told: TiffResult<String>, wanted: 
     }
 }
 
-/// Stops unless bytes are answered, and are those that are wanted in this row.
+/// Aborts unless the result is the bytes that this row wants.
 pub fn expect_bytes(rt: &impl Abort, row: u64, bytes: TiffResult<Vec<u8>>, wanted: &[u8]) {
     match bytes {
         Ok(bytes) => assert_eq!(rt; bytes.as_slice(), wanted, "{row}"),
@@ -22,7 +22,7 @@ pub fn expect_bytes(rt: &impl Abort, row: u64, bytes: TiffResult<Vec<u8>>, wante
     }
 }
 
-/// Stops unless yes is answered in this row.
+/// Aborts unless the result is true in this row.
 pub fn expect_true(rt: &impl Abort, row: u64, answer: TiffResult<bool>) {
     match answer {
         Ok(answer) => assert!(rt; answer, "{row}"),
@@ -30,7 +30,7 @@ pub fn expect_true(rt: &impl Abort, row: u64, answer: TiffResult<bool>) {
     }
 }
 
-/// Stops unless two texts are answered, and are the same.
+/// Aborts unless the results are two equal texts.
 pub fn expect_same(
     rt: &impl Abort,
     row: u64,
@@ -43,7 +43,7 @@ pub fn expect_same(
     }
 }
 
-/// What is told beside bytes, if they are as wanted, and both lists of bytes if not.
+/// The text that came beside bytes, if the bytes are as wanted; else both lists of bytes.
 pub fn told_with(
     alloc: Global,
     written: TiffResult<(String, Vec<u8>)>,
@@ -58,7 +58,7 @@ pub fn told_with(
     }
 }
 
-/// A list of these bytes.
+/// A list with these bytes.
 pub fn copy_of(alloc: Global, bytes: &[u8]) -> TiffResult<Vec<u8>> {
     Ok(Vec::from_slice(alloc, bytes)?)
 }

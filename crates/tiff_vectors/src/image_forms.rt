@@ -19,9 +19,9 @@ use tiff_value::encoder::colortype::{
 };
 use tiff_value::encoder::tiff_value::TiffValue;
 
-// A sample that can be made.
+// A sample that can be made of a number.
 trait Made: Drop {
-    // The one whose bytes are the lowest of a number's.
+    // The sample whose bytes are the lowest bytes of a number.
     fn made(n: u64) -> Self;
 }
 
@@ -91,12 +91,12 @@ impl Made for Bits64 {
     }
 }
 
-// The number of a sample: three samples in a row have the same, and all its bytes vary.
+// The number of a sample. Three samples in a row have the same number, and all its bytes vary.
 fn number(index: u64) -> u64 {
     (index / 3).wrapping_mul(0x9e37_79b9_7f4a_7c15)
 }
 
-// So many samples.
+// The first `count` samples.
 fn samples_made<T: Made>(alloc: Global, count: u64) -> TiffResult<Vec<T>> {
     let mut samples = Vec::new(alloc);
     for index in 0..count {
@@ -105,13 +105,14 @@ fn samples_made<T: Made>(alloc: Global, count: u64) -> TiffResult<Vec<T>> {
     Ok(samples)
 }
 
-// The index of a sample among all samples of an image, by its index among those of its planes.
+// The index of a sample among all samples of an image, by its index among those of the planes.
 fn index_in_planes(index: u64, pixels: u64, samples: u64) -> u64 {
     let (pixel, plane) = (index % pixels.max(1), index / pixels.max(1));
     pixel.saturating_mul(samples).saturating_add(plane)
 }
 
-// The bytes of the samples of an image, of so many bytes each, the lowest first: pixel by pixel.
+// The bytes of the samples of an image, pixel by pixel, `size` bytes for each sample, the lowest
+// first.
 fn bytes_of_pixels(alloc: Global, count: u64, size: usize) -> TiffResult<Vec<u8>> {
     let mut bytes = Vec::new(alloc);
     for index in 0..count {
@@ -121,7 +122,8 @@ fn bytes_of_pixels(alloc: Global, count: u64, size: usize) -> TiffResult<Vec<u8>
     Ok(bytes)
 }
 
-// The same, plane by plane.
+// The bytes of the samples of an image, plane by plane, `size` bytes for each sample, the lowest
+// first.
 fn bytes_of_planes(alloc: Global, pixels: u64, samples: u64, size: usize) -> TiffResult<Vec<u8>> {
     let mut bytes = Vec::new(alloc);
     for index in 0..pixels.saturating_mul(samples) {
@@ -141,7 +143,7 @@ enum Form {
     PlanarTiles,
 }
 
-// How an image is cut, packed and predicted, and its sides.
+// How an image is cut, packed and predicted, and its width and height.
 #[derive(Clone, Copy, Drop)]
 struct Shape {
     form: Form,
@@ -163,10 +165,10 @@ const METHODS: [Compression; 2] = [Compression::Uncompressed, Compression::Packb
 
 const SIDES: [(u32, u32); 3] = [(1, 1), (17, 5), (20, 20)];
 
-// How many shapes there are, of samples that aren't predicted.
+// How many shapes there are whose samples aren't predicted.
 const PLAIN: usize = 30;
 
-// A shape, of which there are sixty: the second thirty are predicted.
+// The shape with this number, of sixty; the second thirty are predicted.
 fn shape_of(k: usize) -> Shape {
     let (width, height) = SIDES[k / 10 % 3];
     Shape {
@@ -183,7 +185,7 @@ fn shape_of(k: usize) -> Shape {
 }
 
 impl Shape {
-    // Whether it has planes.
+    // Whether the shape has planes.
     fn is_planar(self) -> bool {
         matches!(self.form, Form::Planes | Form::PlanarTiles)
     }
@@ -193,7 +195,7 @@ impl Shape {
     }
 }
 
-// Cuts an image so.
+// Cuts an image in this form.
 fn cut<C: ColorType, W: Sink, K: TiffKind>(
     image: &mut ImageEncoder<'_, W, C, K>,
     form: Form,
@@ -210,7 +212,7 @@ fn cut<C: ColorType, W: Sink, K: TiffKind>(
     }
 }
 
-// Writes an image of these samples.
+// Writes an image with these samples.
 fn draw<C: ColorType, W: Sink, K: TiffKind>(
     encoder: &mut TiffEncoder<W, K>,
     shape: Shape,
@@ -222,7 +224,7 @@ fn draw<C: ColorType, W: Sink, K: TiffKind>(
     set.and(written)
 }
 
-// The file of an image of these samples.
+// The file of an image with these samples.
 fn drawn<C: ColorType, K: TiffKind>(
     alloc: Global,
     shape: Shape,
@@ -238,7 +240,7 @@ fn drawn<C: ColorType, K: TiffKind>(
     Ok(file)
 }
 
-// The file of an image of made samples.
+// The file of an image with made samples.
 fn made_file<C: ColorType, K: TiffKind>(alloc: Global, shape: Shape) -> TiffResult<Vec<u8>>
 where
     C::Inner: Made,
@@ -250,7 +252,7 @@ where
     drawn::<C, K>(alloc, shape, &samples)
 }
 
-// The bytes that are read of it.
+// The bytes that a reader returns of an image with made samples.
 fn made_bytes<C: ColorType>(alloc: Global, shape: Shape) -> TiffResult<Vec<u8>> {
     let samples = C::BITS_PER_SAMPLE.len() as u64;
     let size = usize::from(C::Inner::BYTE_LEN);
@@ -275,7 +277,7 @@ fn planes(alloc: Global, decoder: &mut Decoder<MemorySource>) -> TiffResult<Vec<
     Ok(bytes)
 }
 
-// The color of a page, and whether its samples are the ones that are wanted.
+// The color of a page, and whether its samples are the wanted ones.
 fn compared(
     alloc: Global,
     decoder: &mut Decoder<MemorySource>,
@@ -286,7 +288,7 @@ fn compared(
     Ok(format!(in alloc; "{color:?} {}", read.as_slice() == wanted)?)
 }
 
-// The same of the page of an image of made samples.
+// The color of the page of an image with made samples, and whether its samples come back.
 fn kept<C: ColorType, K: TiffKind>(alloc: Global, shape: Shape) -> TiffResult<String>
 where
     C::Inner: Made,
@@ -296,7 +298,7 @@ where
     compared(alloc, &mut decoder, &wanted)
 }
 
-// The same of a color type by its name.
+// The color and the test of an image with made samples, by the name of its color type.
 fn named_kept<K: TiffKind>(alloc: Global, name: ColorTypeName, shape: Shape) -> TiffResult<String> {
     match name {
         ColorTypeName::Gray8 => kept::<Gray8, K>(alloc, shape),
@@ -313,7 +315,7 @@ fn named_kept<K: TiffKind>(alloc: Global, name: ColorTypeName, shape: Shape) -> 
     }
 }
 
-// The same of those of red, green and blue.
+// The color and the test of an image with made samples, of the color types of red, green and blue.
 fn rgb_kept<K: TiffKind>(alloc: Global, name: ColorTypeName, shape: Shape) -> TiffResult<String> {
     match name {
         ColorTypeName::RGB8 => kept::<RGB8, K>(alloc, shape),
@@ -332,7 +334,7 @@ fn rgb_kept<K: TiffKind>(alloc: Global, name: ColorTypeName, shape: Shape) -> Ti
     }
 }
 
-// The same of the others.
+// The color and the test of an image with made samples, of the other color types.
 fn print_kept<K: TiffKind>(alloc: Global, name: ColorTypeName, shape: Shape) -> TiffResult<String> {
     match name {
         ColorTypeName::CMYK8 => kept::<CMYK8, K>(alloc, shape),
@@ -373,7 +375,7 @@ const WHOLE: [(ColorTypeName, &str); 22] = [
     (ColorTypeName::CMYKA8, "CMYKA(8) true"),
 ];
 
-// The same of floating numbers, which aren't predicted.
+// Color types of floating-point numbers, which aren't predicted, and what is read of them.
 const FLOATING: [(ColorTypeName, &str); 8] = [
     (ColorTypeName::Gray32Float, "Gray(32) true"),
     (ColorTypeName::Gray64Float, "Gray(64) true"),
@@ -385,7 +387,7 @@ const FLOATING: [(ColorTypeName, &str); 8] = [
     (ColorTypeName::CMYK64Float, "CMYK(64) true"),
 ];
 
-// Expects what is read of a color type in so many shapes.
+// Expects this result for a color type, in so many shapes.
 fn expect_kept<K: TiffKind>(
     rt: &impl Abort,
     alloc: Global,

@@ -1,4 +1,5 @@
-//! Bytes turned, complemented and made differences many at once, beside loops that take one after another.
+//! Bytes that are turned, complemented and made differences many at once, compared with loops that
+//! take one after another.
 
 ghost use Rattle.std.specs.Prelude.{◌<◌, length};
 
@@ -25,7 +26,7 @@ fn bytes() -> [u8; 80] {
     row
 }
 
-// The byte that stands at a place once each whole number of so many bytes is turned.
+// The byte at a place after each whole number of `size` bytes was turned.
 fn turned_at(row: &[u8], size: usize, at: usize) -> u8
     requires size { 0 < size }
     requires at { at < length row.now }
@@ -80,7 +81,8 @@ fn rows_of_each_length_are_complemented(rt: HostRuntime) {
     }
 }
 
-// The bytes of a row's differences, one number after another; none where the row is shorter than the stride.
+// The bytes of a row's differences, one number after another; none if the row is shorter than the
+// stride.
 fn plain_bytes(alloc: Global, size: usize, len: usize, stride: usize) -> TiffResult<Vec<u8>> {
     let mut bytes = Vec::new(alloc);
     let some = if len < stride { 0 } else { len };
@@ -106,7 +108,7 @@ fn samples<T: Sample>(alloc: Global, len: usize) -> TiffResult<Vec<T>> {
     Ok(row)
 }
 
-// The bytes of a row's differences, by both calls that make these.
+// The bytes of a row's differences, by both calls that make them.
 fn both_bytes<T: Sample>(
     alloc: Global,
     len: usize,

@@ -1,4 +1,4 @@
-//! Slices, lists and buffers that a caller lends to a decoder, with contents of its own.
+//! Slices, lists and buffers that a caller lends to a decoder, with contents of their own.
 
 use crate::expect::{empty_sink, expect_bytes, expect_text};
 use std::alloc::Global;
@@ -14,7 +14,8 @@ use tiff_page::layout::{BufferLayoutPreference, DecodingSampleType, TiffCodingUn
 use tiff_value::buffer::ValueBuffer;
 use tiff_value::encoder::colortype::RGB8;
 
-// Two pixels of two gray samples, in planes, one strip each, big-endian; the field of the unnamed tag is cut.
+// A page of two pixels of two gray samples, in planes of one strip each, big-endian. The field of
+// the unnamed tag is cut.
 const PAGE: [u8; 166] = [
     0x4d, 0x4d, 0x00, 0x2a, 0x00, 0x00, 0x00, 0x1c, // header
     0x07, 0x08, 0x09, 0x0a, // samples
@@ -59,7 +60,8 @@ fn a_decoder_is_shown(rt: HostRuntime) {
     );
 }
 
-// Where a copy of a value of eight bytes begins, how many it copies, and the slice of three nines afterwards.
+// Where a copy of a value of eight bytes begins, how many it copies, and the slice of three nines
+// afterwards.
 const COPIES: [(u64, &str); 4] = [
     (3, "Some(3) [2, 0, 0]"),
     (7, "Some(1) [2, 9, 9]"),
@@ -84,7 +86,7 @@ fn a_copy_leaves_the_rest_of_a_slice(rt: HostRuntime) {
     }
 }
 
-// Whether the page has a tag, and the type, the count and the bytes of the buffer then.
+// Whether the page has a tag, and then the type, the count and the bytes of the buffer.
 fn held(
     alloc: Global,
     decoder: &mut Decoder<MemorySource>,
@@ -116,14 +118,14 @@ fn a_buffer_holds_the_bytes_of_a_field(rt: HostRuntime) {
     expect_text(&rt, 2, cut, "Err(IoError(UnexpectedEof)) SHORT 0 []");
 }
 
-// What finding a number below 2^16, and a list of them, answers.
+// The results of finding a number below 2^16, and a list of such numbers.
 fn found_u16(alloc: Global, decoder: &mut Decoder<MemorySource>, tag: Tag) -> TiffResult<String> {
     let one = decoder.find_tag_unsigned::<u16>(tag);
     let list = decoder.find_tag_unsigned_vec::<u16>(tag);
     Ok(format!(in alloc; "{one:?} {list:?}")?)
 }
 
-// Tags, and what finding them as numbers below 2^16 answers.
+// Tags, and the results of finding them as numbers below 2^16.
 const NUMBERS: [(Tag, &str); 3] = [
     (Tag::ImageWidth, "Ok(Some(2)) Ok(Some([2]))"),
     (
@@ -151,7 +153,7 @@ fn limited(alloc: Global, limit: usize) -> TiffResult<Box<Decoder<MemorySource>>
     Ok(Box::new(alloc, decoder.with_limits(limits))?)
 }
 
-// What finding a list of two numbers answers under a limit.
+// The result of finding a list of two numbers under a limit.
 fn found_under(alloc: Global, limit: usize) -> TiffResult<String> {
     let answer = limited(alloc, limit)?.find_tag(Tag::StripOffsets);
     Ok(format!(in alloc; "{answer:?}")?)
@@ -164,21 +166,22 @@ fn a_decoder_is_made_with_limits(rt: HostRuntime) {
     expect_text(&rt, 63, found_under(rt.alloc(), 63), "Err(LimitsExceeded)");
 }
 
-// A slice of so many bytes 0xAA after the image was read into it.
+// A slice of `len` bytes 0xAA after the image was read into it.
 fn image_in(alloc: Global, decoder: &mut Decoder<MemorySource>, len: usize) -> TiffResult<Vec<u8>> {
     let mut bytes = vec![in alloc; 0xAAu8; len]?;
     decoder.read_image_bytes(&mut bytes)?;
     Ok(bytes)
 }
 
-// A slice of so many bytes 0xAA after the one coding unit was read into it.
+// A slice of `len` bytes 0xAA after the one coding unit was read into it.
 fn unit_in(alloc: Global, decoder: &mut Decoder<MemorySource>, len: usize) -> TiffResult<Vec<u8>> {
     let mut bytes = vec![in alloc; 0xAAu8; len]?;
     decoder.read_coding_unit_bytes(TiffCodingUnit(0), &mut bytes)?;
     Ok(bytes)
 }
 
-// Slices that the image, or the unit, leaves: as many whole planes as fit, and the rest as it was.
+// Slices after the image, or the unit, was read into them: as many whole planes as fit, and the
+// rest as it was.
 const SLICES: [&[u8]; 4] = [&[7, 8], &[7, 8, 0xAA], &[7, 8, 9, 10], &[7, 8, 9, 10, 0xAA]];
 
 #[test]
@@ -192,7 +195,7 @@ fn the_rest_of_a_slice_stays(rt: HostRuntime) {
     }
 }
 
-// The samples of the second plane, which are read into a list of others, in rows of four bytes.
+// The samples of the second plane, read into a list of other samples, in rows of four bytes.
 fn listed(alloc: Global, decoder: &mut Decoder<MemorySource>) -> TiffResult<String> {
     let mut list = DecodingResult::U16(vec![in alloc; 5; 9]?);
     decoder.read_chunk_to_buffer(&mut list, 1, 4)?;
@@ -206,7 +209,7 @@ fn a_list_takes_the_type_and_the_length_of_a_chunk(rt: HostRuntime) {
     expect_text(&rt, 0, told, "U8([9, 10, 0, 0])");
 }
 
-// Writes 374 by 499 pixels of three colors, in planes.
+// Writes an image of 374 by 499 pixels of three colors, in planes.
 fn write_planes<W: Sink, K: TiffKind>(
     encoder: &mut TiffEncoder<W, K>,
     samples: &[u8],
@@ -218,7 +221,7 @@ fn write_planes<W: Sink, K: TiffKind>(
     ended
 }
 
-// A decoder of them.
+// A decoder of the image in planes.
 fn planes_opened(alloc: Global) -> TiffResult<Box<Decoder<MemorySource>>> {
     let samples = vec![in alloc; 42u8; 559_878]?;
     let mut encoder = TiffEncoder::new(alloc, empty_sink(alloc))?;
@@ -228,7 +231,7 @@ fn planes_opened(alloc: Global) -> TiffResult<Box<Decoder<MemorySource>>> {
     Ok(Box::new(alloc, decoder)?)
 }
 
-// How many bytes of the image are read under a limit, and how many planes its layout names.
+// How many bytes of the image are read under a limit, and how many planes its layout has.
 fn read_under(
     alloc: Global,
     decoder: &mut Decoder<MemorySource>,
@@ -244,7 +247,7 @@ fn read_under(
     Ok(format!(in alloc; "{len} bytes, {planes} planes")?)
 }
 
-// All planes are read where the limit lets them, and else the first.
+// All planes are read if the limit allows it, else the first one.
 #[test]
 fn planes_are_read_under_limits(rt: HostRuntime) {
     let mut decoder = planes_opened(rt.alloc()).expect(&rt, "the planes");
@@ -268,7 +271,7 @@ fn layout_of(
     Ok(layout)
 }
 
-// What resizing a list to a layout answers, and the list afterwards.
+// The result of resizing a list to a layout, and the list afterwards.
 fn resized(
     alloc: Global,
     list: &mut DecodingResult,
@@ -278,7 +281,8 @@ fn resized(
     Ok(format!(in alloc; "{answer:?} {list:?}")?)
 }
 
-// The same, for the layout of the page with another number type and length.
+// The result of resizing a list to the page's layout with another number type and length, and the
+// list afterwards.
 fn resized_as(
     alloc: Global,
     decoder: &mut Decoder<MemorySource>,
@@ -290,7 +294,7 @@ fn resized_as(
     resized(alloc, list, &layout)
 }
 
-// Number types and lengths of a layout, and what resizing a list to it one after another leaves.
+// Number types and lengths of a layout, and the list after it is resized to them one after another.
 const LAYOUTS: [(Option<DecodingSampleType>, usize, &str); 3] = [
     (Some(DecodingSampleType::U16), 3, "Ok(()) U16([0, 0])"),
     (
@@ -323,7 +327,7 @@ fn put(buffer: &mut DecodingBuffer<'_>, n: u16) {
     }
 }
 
-// The length and the bytes of a buffer from sample 1 of two on, once a number stands there.
+// The length and the bytes of a buffer from sample 1 of two on, after a number was put there.
 fn written(alloc: Global, list: &mut DecodingResult, n: u16) -> TiffResult<String> {
     *list = DecodingResult::U16(vec![in alloc; 0; 2]?);
     let mut buffer = list.as_buffer(1);

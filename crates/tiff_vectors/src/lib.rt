@@ -1,5 +1,5 @@
-//! Sources and sinks that answer in pieces or fail, and tests that cross the crates: those that no list of calls or of jobs
-//! can say.
+//! Sources and sinks that succeed in pieces or fail, and tests that cross the crates: those that no
+//! list of calls or of jobs can make.
 #![tactic(auto)]
 
 #[cfg(test)]
@@ -23,8 +23,6 @@ mod packed;
 mod packing;
 #[cfg(test)]
 mod places;
-#[cfg(test)]
-mod program;
 #[cfg(test)]
 mod reach;
 #[cfg(test)]

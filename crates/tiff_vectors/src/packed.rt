@@ -20,7 +20,8 @@ fn source(alloc: Global, bytes: &[u8]) -> TiffResult<MemorySource> {
     Ok(MemorySource::new(Vec::from_slice(alloc, bytes)?))
 }
 
-// All that a reader gives in pieces of some size, and the fault behind it, if any.
+// All bytes that a reader returns in pieces of some size, and the error behind them, if there is
+// one.
 fn read_all<R: Source>(
     alloc: Global,
     reader: &mut PackBitsReader<R>,
@@ -38,7 +39,8 @@ fn read_all<R: Source>(
     Ok((bytes, None))
 }
 
-// The bytes that a reader gives in pieces of some size, and the fault behind them, if any.
+// The bytes that a reader returns in pieces of some size, and the error behind them, if there is
+// one, as a text.
 fn told<R: Source>(
     alloc: Global,
     reader: &mut PackBitsReader<R>,
@@ -48,7 +50,7 @@ fn told<R: Source>(
     Ok(format!(in alloc; "{bytes:?} {fault:?}")?)
 }
 
-// What a reader of packed bytes gives in pieces, and what it gives behind that.
+// What a reader of packed bytes returns in pieces, and what it returns behind that.
 fn told_twice(alloc: Global, packed: &[u8], length: u64, piece: usize) -> TiffResult<String> {
     let mut reader = PackBitsReader::new(source(alloc, packed)?, 0, length);
     let first = told(alloc, &mut reader, piece)?;
@@ -60,7 +62,7 @@ const WHOLE: &str = "None";
 
 const BROKEN: &str = "Some(IoError(UnexpectedEof))";
 
-// Packed bytes, their length, what they unpack to, and the fault at their end.
+// Packed bytes, their length, what they unpack to, and the error at their end.
 const ROWS: [(&[u8], u64, &[u8], &str); 9] = [
     (&THREE_RUNS, 15, &UNPACKED, WHOLE),
     (&[0x02, 0x80, 0x00], 3, &[0x80, 0x00], WHOLE),
@@ -73,7 +75,7 @@ const ROWS: [(&[u8], u64, &[u8], &str); 9] = [
     (&[], 0, &[], WHOLE),
 ];
 
-// What such a reader is to give.
+// What a reader of packed bytes has to return.
 fn wanted(alloc: Global, unpacked: &[u8], fault: &str) -> TiffResult<String> {
     Ok(format!(in alloc; "{unpacked:?} {fault}, [] {fault}")?)
 }
@@ -88,13 +90,14 @@ fn packed_rows_unpack_in_pieces(rt: HostRuntime) {
     }
 }
 
-// What a source of the three runs gives that answers so many reads, a byte each.
+// The bytes and the error of a reader of the three runs, over a source of which `left` reads
+// succeed, a byte each.
 fn told_slowly(alloc: Global, left: u64) -> TiffResult<(Vec<u8>, Option<TiffError>)> {
     let slow = FailingSource::new(source(alloc, &THREE_RUNS)?, left);
     read_all(alloc, &mut PackBitsReader::new(slow, 0, 15), 7)
 }
 
-// The bytes of a source that answers so many reads, beside its fault as a text.
+// The bytes of such a reader, with its error as a text.
 fn slowly_written(alloc: Global, left: u64) -> TiffResult<(String, Vec<u8>)> {
     let (bytes, fault) = told_slowly(alloc, left)?;
     Ok((format!(in alloc; "{fault:?}")?, bytes))
@@ -107,7 +110,8 @@ fn a_source_that_gives_single_bytes_is_unpacked(rt: HostRuntime) {
     expect_text(&rt, 1000, told, "None");
 }
 
-// Whether a source that fails behind so many reads gives the front of the bytes, and then its fault.
+// Whether a reader over a source that fails after `left` reads returns the front of the bytes, and
+// then the error of the source.
 fn is_cut_short(alloc: Global, left: u64) -> TiffResult<bool> {
     let (bytes, fault) = told_slowly(alloc, left)?;
     let failed = matches!(fault, Some(TiffError::IoError(IoKind::Device)));
@@ -121,7 +125,7 @@ fn a_source_that_fails_is_told(rt: HostRuntime) {
     }
 }
 
-// How many bytes an empty read gives, and what comes behind it.
+// How many bytes an empty read returns, and what comes behind it.
 fn read_behind_nothing(
     alloc: Global,
     reader: &mut PackBitsReader<MemorySource>,
@@ -136,7 +140,7 @@ fn told_behind_nothing(alloc: Global) -> TiffResult<String> {
     read_behind_nothing(alloc, &mut reader)
 }
 
-// What is to be told then.
+// What has to come of an empty read and behind it.
 fn wanted_behind_nothing(alloc: Global) -> TiffResult<String> {
     Ok(format!(in alloc; "0 {UNPACKED:?} {WHOLE}")?)
 }
@@ -147,7 +151,7 @@ fn an_empty_read_passes_nothing(rt: HostRuntime) {
     expect_same(&rt, 0, told, wanted_behind_nothing(rt.alloc()));
 }
 
-// A row of three, the refusal of another one, and the one byte that is left.
+// A row of three bytes, the error of another row, and the one byte that is left.
 fn fill_rows(alloc: Global, reader: &mut PackBitsReader<MemorySource>) -> TiffResult<String> {
     let mut row = [0u8; 3];
     reader.read_exact(&mut row)?;

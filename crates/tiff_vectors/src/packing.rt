@@ -1,4 +1,4 @@
-//! Which packed list is written for bytes, of those that may be.
+//! Of the packed lists that bytes may have, the one that is written.
 
 use crate::expect::{expect_bytes, expect_true};
 use std::alloc::Global;
@@ -14,7 +14,7 @@ fn stored(alloc: Global, compressor: &mut Compressor, bytes: &[u8]) -> TiffResul
     Ok(writer.into_inner().into_vec())
 }
 
-// Some bytes, and then all from one to the one before another.
+// Some bytes, and then all bytes from one up to another, without the last one.
 type Piece = (&'static [u8], u8, u8);
 
 fn joined(alloc: Global, pieces: &[Piece]) -> TiffResult<Vec<u8>> {
@@ -28,7 +28,7 @@ fn joined(alloc: Global, pieces: &[Piece]) -> TiffResult<Vec<u8>> {
     Ok(out)
 }
 
-// Whether these bytes are packed so.
+// Whether these bytes are packed as wanted.
 fn is_packed_so(alloc: Global, bytes: &[Piece], wanted: &[Piece]) -> TiffResult<bool> {
     let bytes = joined(alloc, bytes)?;
     let wanted = joined(alloc, wanted)?;

@@ -1,4 +1,4 @@
-//! Where a tag number stands among fields in ascending number, and where it would be put.
+//! Where a tag number stands among fields in ascending order, or where it would be put.
 
 use crate::expect::expect_text;
 use std::alloc::Global;
@@ -11,7 +11,7 @@ fn field() -> Entry {
     Entry::new(Type::SHORT, 1, [0; 4])
 }
 
-// The answer as a text.
+// A result, as a text.
 fn shown(alloc: Global, answer: Result<usize, usize>) -> TiffResult<String> {
     Ok(format!(in alloc; "{answer:?}")?)
 }
@@ -21,13 +21,13 @@ fn in_none(alloc: Global, number: u16) -> TiffResult<String> {
     shown(alloc, find_place(&[], number, &mut KeyCount::new()))
 }
 
-// The same under the number 256 alone.
+// The place of a number among one field, with the number 256.
 fn in_one(alloc: Global, number: u16) -> TiffResult<String> {
     let fields = [(256, field())];
     shown(alloc, find_place(&fields, number, &mut KeyCount::new()))
 }
 
-// The same under five numbers.
+// The place of a number among five fields.
 fn in_five(alloc: Global, number: u16) -> TiffResult<String> {
     let fields = [
         (254, field()),
@@ -39,7 +39,8 @@ fn in_five(alloc: Global, number: u16) -> TiffResult<String> {
     shown(alloc, find_place(&fields, number, &mut KeyCount::new()))
 }
 
-// Numbers, and their places among no fields, under 256 alone, and under 254, 256, 257, 273 and 65535.
+// Numbers, and their places among no fields, among 256 alone, and among 254, 256, 257, 273 and
+// 65535.
 const PLACES: [(u16, &str, &str, &str); 9] = [
     (0, "Err(0)", "Err(0)", "Err(0)"),
     (254, "Err(0)", "Err(0)", "Ok(0)"),

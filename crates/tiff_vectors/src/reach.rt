@@ -1,4 +1,5 @@
-//! How far a source is asked: no further than a directory reaches, and then no further than the bytes that the rows need.
+//! How far a source is read: no further than a directory reaches, and then no further than the
+//! bytes that the rows need.
 
 use crate::doubles::WatchedSource;
 use crate::expect::expect_text;
@@ -12,7 +13,7 @@ use tiff_ifd::value_reader::ValueReader;
 use tiff_page::pixels::read_image;
 use tiff_page::read_page::read_page;
 
-// Four by two gray pixels in a strip, which lists twice the bytes that its rows need.
+// A page of four by two gray pixels in a strip, which lists twice the bytes that its rows need.
 const PLAIN: [u8; 138] = [
     0x49, 0x49, 0x2a, 0x00, 0x08, 0x00, 0x00, 0x00, // header
     0x09, 0x00, // directory
@@ -29,7 +30,8 @@ const PLAIN: [u8; 138] = [
     0xf9, 0x05, 0x01, 0x02, 0x03, 0x04, 0x06, 0x07, 0x08, 0x09, 0x0a, 0x0b, 0x0c, 0x0d, 0x0e, 0x0f, // data
 ];
 
-// The same, packed: two runs of four pixels, and bytes behind them, of which the strip lists ten in all.
+// A packed page of four by two gray pixels: two runs of four pixels, and bytes behind them; the
+// strip lists ten bytes in all.
 const PACKED: [u8; 134] = [
     0x49, 0x49, 0x2a, 0x00, 0x08, 0x00, 0x00, 0x00, // header
     0x09, 0x00, // directory
@@ -46,7 +48,7 @@ const PACKED: [u8; 134] = [
     0xfd, 0x05, 0xfd, 0x05, 0x00, 0x09, 0x00, 0x09, 0x00, 0x09, 0x00, 0x09, // data
 ];
 
-// How far a file is asked for its first page, and for its pixels, which follow.
+// How far a file is read for its first page, and then for its pixels.
 fn reached(alloc: Global, file: &[u8]) -> TiffResult<String> {
     let mut source = WatchedSource::new(MemorySource::new(Vec::from_slice(alloc, file)?));
     let header = read_header(&mut source)?;

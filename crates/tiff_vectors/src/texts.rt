@@ -1,5 +1,5 @@
-//! Texts of faults that no list of calls or of jobs is answered, and faults that are compared; texts of sources, sinks and
-//! readers.
+//! Texts of errors that no reply to a list of calls or of jobs has, and errors that are compared;
+//! texts of sources, sinks and readers.
 
 use crate::doubles::FailingSource;
 use crate::expect::{copy_of, expect_text, expect_true};
@@ -28,7 +28,7 @@ fn faults_have_texts(rt: HostRuntime) {
     );
 }
 
-// The fault of samples of two formats.
+// The error of samples of two formats.
 fn unsupported(alloc: Global, first: u16, second: u16) -> TiffResult<TiffUnsupportedError> {
     let formats = [
         SampleFormat::from_u16_exhaustive(first),
@@ -44,7 +44,7 @@ fn hash_of<T: Hash>(x: &T) -> u64 {
     state.finish()
 }
 
-// Whether two such faults are equal, and of one hash.
+// Whether the errors of two pairs of formats are equal, and have the same hash.
 fn are_equal(alloc: Global, first: (u16, u16), second: (u16, u16)) -> TiffResult<bool> {
     let first = unsupported(alloc, first.0, first.1)?;
     let second = unsupported(alloc, second.0, second.1)?;

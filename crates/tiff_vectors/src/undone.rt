@@ -1,18 +1,18 @@
-//! Rows of a chunk are undone.
+//! The predictor of rows of a chunk is undone.
 
-use tiff_page::predictors::{invert, turn_numbers, undo_byte_plane, undo_horizontal};
+use tiff_page::predictors::{invert, to_little_endian, undo_float_predictor, undo_horizontal};
 
 #[test]
 fn numbers_are_turned_to_little_endian(rt: HostRuntime) {
     let row = [1, 2, 3, 4, 5, 6, 7, 8];
     let mut out = [0; 8];
-    turn_numbers(&row, 1, &mut out);
+    to_little_endian(&row, 1, &mut out);
     assert_eq!(rt; out, [1, 2, 3, 4, 5, 6, 7, 8]);
-    turn_numbers(&row, 2, &mut out);
+    to_little_endian(&row, 2, &mut out);
     assert_eq!(rt; out, [2, 1, 4, 3, 6, 5, 8, 7]);
-    turn_numbers(&row, 4, &mut out);
+    to_little_endian(&row, 4, &mut out);
     assert_eq!(rt; out, [4, 3, 2, 1, 8, 7, 6, 5]);
-    turn_numbers(&row, 8, &mut out);
+    to_little_endian(&row, 8, &mut out);
     assert_eq!(rt; out, [8, 7, 6, 5, 4, 3, 2, 1]);
 }
 
@@ -36,12 +36,12 @@ fn differences_carry_within_a_number_alone(rt: HostRuntime) {
     assert_eq!(rt; row, [9, 0, 0, 0, 0, 0, 0, 0x80, 10, 0, 0, 0, 0, 0, 0, 0]);
 }
 
-// 1.0 and 2.0 as floating numbers of 32 bits: 3F800000 and 40000000.
+// 1.0 and 2.0 as floating-point numbers of 32 bits are 3F800000 and 40000000.
 #[test]
 fn byte_planes_are_joined(rt: HostRuntime) {
     let mut row = [0x3F, 0x01, 0x40, 0x80, 0x00, 0x00, 0x00, 0x00];
     let mut room = [0; 8];
-    undo_byte_plane(&mut row, &mut room, 4, 1);
+    undo_float_predictor(&mut row, &mut room, 4, 1);
     assert_eq!(rt; row, [0x00, 0x00, 0x80, 0x3F, 0x00, 0x00, 0x00, 0x40]);
 }
 

@@ -10,8 +10,8 @@ use tiff_uses::{
     first_image, geo_key, gray_file, image_of_chunks, page_chunk, page_sides, written_and_read,
 };
 
-// A file of one page, 1 by 1, of 8 bits and gray: its one strip is the last byte. Its directory of keys, at offset 98, holds two: 1024
-// (GTModelType) is 2, and 2048 (GeographicType) is 4326.
+// A file of one page of 1 by 1 pixels, 8 bits, gray; its one strip is the last byte. Its directory
+// of keys, at offset 98, has two keys: 1024 (GTModelType) is 2, and 2048 (GeographicType) is 4326.
 const WITH_KEYS: &[u8] = b"II\x2a\0\x08\0\0\0\
 \x07\0\
 \0\x01\x03\0\x01\0\0\0\x01\0\0\0\
@@ -27,7 +27,7 @@ const WITH_KEYS: &[u8] = b"II\x2a\0\x08\0\0\0\
 \0\x08\0\0\x01\0\xe6\x10\
 \x07";
 
-// Whether these are samples of 8 bits, and these.
+// Whether these are samples of 8 bits, with these numbers.
 fn are(samples: &DecodingResult, want: &[u8]) -> bool {
     match samples {
         DecodingResult::U8(samples) => samples.as_slice() == want,
@@ -55,7 +55,7 @@ fn image_in(alloc: Global, file: Vec<u8>, buffer: &mut [u8]) -> TiffResult<()> {
     image_of_chunks(&mut decoder, buffer)
 }
 
-// Whether colors of 16 bits that are written come back.
+// Whether samples of 16 bits that are written come back.
 fn comes_back(alloc: Global, samples: &[u16]) -> TiffResult<bool> {
     match written_and_read::<RGB16>(alloc, 2, 1, samples)? {
         DecodingResult::U16(read) => Ok(read.as_slice() == samples),

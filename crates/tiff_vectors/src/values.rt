@@ -1,4 +1,4 @@
-//! The parts of field values that no file is needed for.
+//! The parts of field values that need no file.
 
 use std::test::Fail;
 use tiff_base::directory::{Directory, Entry};

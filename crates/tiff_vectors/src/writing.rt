@@ -1,4 +1,4 @@
-//! The header of a BigTIFF file, and a writer that goes back over what stands.
+//! The header of a BigTIFF file, and a writer that goes back over bytes that it wrote.
 
 use crate::doubles::FailingSink;
 use crate::expect::{copy_of, empty_sink, expect_bytes, expect_text, told_with};
@@ -17,7 +17,7 @@ fn header_written(alloc: Global) -> TiffResult<Vec<u8>> {
     Ok(big.into_inner().into_vec())
 }
 
-// The same, by the call for both kinds.
+// The header of a BigTIFF file, by the call for both kinds.
 fn generic_written(alloc: Global) -> TiffResult<Vec<u8>> {
     let generic: TiffEncoder<MemorySink, TiffKindBig> = TiffEncoder::new_generic(
         alloc,
@@ -33,7 +33,7 @@ fn big_headers_are_written(rt: HostRuntime) {
     expect_bytes(&rt, 1, generic_written(rt.alloc()), &header);
 }
 
-// Writes numbers over the bytes that stood and on.
+// Writes numbers over the bytes that are there, and behind them.
 fn write_numbers(writer: &mut TiffWriter<FailingSink>) -> TiffResult<()> {
     writer.write_u8(9)?;
     writer.pad_word_boundary()?;
@@ -42,14 +42,14 @@ fn write_numbers(writer: &mut TiffWriter<FailingSink>) -> TiffResult<()> {
     writer.write_u64(0x0807060504030201)
 }
 
-// How much was written last, where the writer is, and what going past the end answers.
+// How much was written last, where the writer is, and the result of going behind the end.
 fn told_of_writer(alloc: Global, writer: &mut TiffWriter<FailingSink>) -> TiffResult<String> {
     let (last, offset) = (writer.last_written(), writer.offset());
     let past = writer.goto_offset(15);
     Ok(format!(in alloc; "{last} {offset} {past:?}")?)
 }
 
-// Writes the numbers, and then over the front, and tells of the writer between.
+// Writes the numbers, and then over the front; returns what the writer says between both.
 fn write_over(alloc: Global, writer: &mut TiffWriter<FailingSink>) -> TiffResult<String> {
     write_numbers(writer)?;
     let told = told_of_writer(alloc, writer);
@@ -58,7 +58,7 @@ fn write_over(alloc: Global, writer: &mut TiffWriter<FailingSink>) -> TiffResult
     told
 }
 
-// What is told of a writer of seven bytes that stood, and its bytes once all is written.
+// What a writer over seven bytes says of itself, and its bytes after all is written.
 fn written_over(alloc: Global) -> TiffResult<(String, Vec<u8>)> {
     let inner = MemorySink::new(vec![in alloc; 7, 8]?);
     let mut writer = TiffWriter::new(FailingSink::new(inner, 100));

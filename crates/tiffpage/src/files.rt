@@ -20,7 +20,7 @@ impl<'a, R: Machine + AllocGlobal + Input> MachineFiles<'a, R> {
     }
 }
 
-// A fault of the machine.
+// The error of the machine, as an error of `tiff`.
 fn fault(kind: ErrorKind) -> TiffError {
     match kind {
         ErrorKind::OutOfMemory => TiffError::OutOfMemory,
@@ -35,7 +35,7 @@ fn input<R: AllocGlobal + Input>(rt: &R) -> io::Result<Vec<u8>> {
     Ok(bytes)
 }
 
-// Whether a name is that of a device, a link or the like, which is written where it stands.
+// Whether a name is that of a device, a link or the like, which is written in place.
 fn is_no_plain_file<R: Machine>(rt: &R, name: &str) -> bool {
     match fs::symlink_metadata(rt, name) {
         Ok(found) => !found.is_file(),
@@ -43,7 +43,8 @@ fn is_no_plain_file<R: Machine>(rt: &R, name: &str) -> bool {
     }
 }
 
-// Fills a new file that lies beside that of a name, gives it the permissions of that one where it is there, and puts it in its place.
+// Fills a new file beside the one with the name, gives it the permissions of that one, if there is
+// one, and puts it in its place.
 fn fill_and_rename<R: Machine>(
     rt: &R,
     mut file: R::File,
@@ -59,8 +60,8 @@ fn fill_and_rename<R: Machine>(
     fs::rename(rt, beside, name)
 }
 
-// Makes a file of these bytes, whole or not at all: what stood under its name stays where it can't be written. Where no file can lie
-// beside it, it is written where it stands.
+// Makes a file with these bytes, whole or not at all: if it can't be written, the file that had the
+// name stays. If no file can be made beside it, it is written in place.
 fn write_whole<R: Machine + AllocGlobal>(rt: &R, name: &str, bytes: &[u8]) -> io::Result<()> {
     let beside = format!(in rt.alloc(); "{name}.tiffpage-part")?;
     if is_no_plain_file(rt, name) {

@@ -1,5 +1,6 @@
-//! Writes the bytes of a file as a gray TIFF page, and the samples and the picture of a page into a file, lists the entries of a page
-//! and the pages of a file, reads every page whole, makes the calls of a list, and writes a file by the jobs of one.
+//! The program `tiffpage`. It writes the bytes of a file as a gray TIFF page, and the samples or
+//! the picture of a page into a file; it lists the entries of a page and the pages of a file, and
+//! reads every page whole; it makes the calls of a list, and writes the file of a list of jobs.
 #![tactic(auto)]
 
 mod files;

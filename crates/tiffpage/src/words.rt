@@ -3,12 +3,14 @@
 use std::env::{Env, FillError};
 use std::io;
 
-// The size of the buffer that a word is read into first, and how often it is doubled at most.
+// The size of the buffer into which a word is read first, and how often that size is doubled at
+// most.
 const FIRST_SIZE: usize = 4096;
 
 const DOUBLINGS: u32 = 40;
 
-// The bytes of the word at a place, if there is one. It is at most as long as the last buffer, far longer than a machine takes.
+// The bytes of the word at a place, if there is one. The word is at most as long as the last
+// buffer, which is far longer than a machine accepts.
 fn word_bytes<R: Env + AllocGlobal>(rt: &R, place: usize) -> io::Result<Option<Vec<u8>>> {
     for doubled in 0..DOUBLINGS {
         let mut word = vec![in rt.alloc(); 0; FIRST_SIZE << doubled]?;
@@ -24,7 +26,8 @@ fn word_bytes<R: Env + AllocGlobal>(rt: &R, place: usize) -> io::Result<Option<V
     Err(io::Error::from(io::ErrorKind::InvalidInput))
 }
 
-/// The words behind the program's name; or the place of the first one that is no UTF-8, which is 1 for the first of all.
+/// The words behind the program's name; or the place of the first one that isn't UTF-8, where 1 is
+/// the first of all.
 pub fn words<R: Env + AllocGlobal>(rt: &R) -> io::Result<Result<Vec<String>, usize>> {
     let mut words = Vec::new(rt.alloc());
     for place in 1..usize::MAX {

@@ -12,7 +12,7 @@ use Rattle.tiff_base.specs.declared.tags.PlanarConfiguration.TheVariants.{Chunky
 use Rattle.tiff_page.specs.Counts.{planes_of, all_chunks}
 use Rattle.tiff_page.specs.Laws.{HasSides}
 use Rattle.tiff_page.specs.Page.{PageRecord}
-use Rattle.tiff_page.specs.Pixels.{each_to, planar_or, stored_samples}
+use Rattle.tiff_page.specs.Pixels.{tabulate, planar_or, stored_samples}
 use Rattle.tiff_page.specs.Rect.{RectRecord, rect, chunks_of_plane}
 use Rattle.tiff_page.proofs.PositionLaws.{chunks_within}
 use Rattle.tiff_page.proofs.Rows.{each_same}
@@ -24,11 +24,11 @@ use Rattle.tiff_encode.specs.Parts.{IsPatch, pixel_sample, row_sample}
 
 module _ {X : Type 0} (number : X → ℕ) (before : List X) where
   -- one more
-  pub one_pushed : (old new : List X) (x : X) (f : ℕ → ℕ) (n : ℕ) → map number old ≡ map number before ++ each_to n f
-      → new ≡ old ++ x ∷ [] → number x ≡ f n → map number new ≡ map number before ++ each_to (n + 1) f
+  pub one_pushed : (old new : List X) (x : X) (f : ℕ → ℕ) (n : ℕ) → map number old ≡ map number before ++ tabulate n f
+      → new ≡ old ++ x ∷ [] → number x ≡ f n → map number new ≡ map number before ++ tabulate (n + 1) f
   one_pushed old new x f n h e v =
       ap (map number) e ∙ map-append number old (x ∷ []) ∙ (λ j. h j ++ v j ∷ [])
-      ∙ append_assoc (map number before) (each_to n f) (f n ∷ [])
+      ∙ append_assoc (map number before) (tabulate n f) (f n ∷ [])
       ∙ ap (λ xs. map number before ++ xs) (sym (map-range_with_len_more f 0 n n (omega arith)))
 
 -- the number of a sample of a list
@@ -41,24 +41,24 @@ plane_within column count samples plane len l p w =
     let a : (column + 1) * samples ≤ count * samples = mul-le-mul_right samples (omega (arith, l)) in omega (arith, a, p, w)
 
 -- the first, and those behind them
-each_more : (a b : ℕ) (f : ℕ → ℕ) → each_to (a + b) f ≡ each_to a f ++ each_to b (λ n. f (a + n))
-each_more a zero f = (let e : a + 0 ≡ a = omega arith in ap (λ n. each_to n f) e ∙ sym (append-nil (each_to a f)))
+each_more : (a b : ℕ) (f : ℕ → ℕ) → tabulate (a + b) f ≡ tabulate a f ++ tabulate b (λ n. f (a + n))
+each_more a zero f = (let e : a + 0 ≡ a = omega arith in ap (λ n. tabulate n f) e ∙ sym (append-nil (tabulate a f)))
 each_more a (suc b) f =
     let e : a + suc b ≡ a + b + 1 = omega arith in
     let g : ℕ → ℕ = λ n. f (a + n) in
     let s : suc b ≡ b + 1 = omega arith in
-    ap (λ n. each_to n f) e ∙ map-range_with_len_more f 0 (a + b) (a + b) (omega arith)
+    ap (λ n. tabulate n f) e ∙ map-range_with_len_more f 0 (a + b) (a + b) (omega arith)
     ∙ ap (λ xs. xs ++ f (a + b) ∷ []) (each_more a b f)
-    ∙ append_assoc (each_to a f) (each_to b g) (f (a + b) ∷ [])
-    ∙ ap (λ xs. each_to a f ++ xs) (sym (ap (λ n. each_to n g) s ∙ map-range_with_len_more g 0 b b (omega arith)))
+    ∙ append_assoc (tabulate a f) (tabulate b g) (f (a + b) ∷ [])
+    ∙ ap (λ xs. tabulate a f ++ xs) (sym (ap (λ n. tabulate n g) s ∙ map-range_with_len_more g 0 b b (omega arith)))
 
 -- a part of a list
-pub each_of : (xs : List ℕ) (first n : ℕ) → first + n ≤ length xs → take n (drop first xs) ≡ each_to n (λ j. slice_index xs (first + j))
+pub each_of : (xs : List ℕ) (first n : ℕ) → first + n ≤ length xs → take n (drop first xs) ≡ tabulate n (λ j. slice_index xs (first + j))
 each_of xs first n l =
     let f : ℕ → ℕ = λ j. slice_index xs (first + j) in
     let m : length (drop first xs) ≡ length xs - first = length-drop first xs in
     let k : length (take n (drop first xs)) ≡ n = length-take-le n (drop first xs) (omega (arith, l, m)) in
-    ext_get_or 0 (take n (drop first xs)) (each_to n f) (k ∙ sym (length-map-range_with_len f 0 n))
+    ext_get_or 0 (take n (drop first xs)) (tabulate n f) (k ∙ sym (length-map-range_with_len f 0 n))
     (λ i b.
     let c : i < n = subst (λ z. i < z) k b in
     get_or-take n (drop first xs) i 0 c ∙ get_or-drop first xs i 0 ∙ sym (get_or-map-range_with_len f 0 n i i 0 c (omega arith)))
@@ -118,10 +118,10 @@ module _ (p : PageRecord) (numbers : List ℕ) (r : RectRecord) (row : ℕ) wher
       (((r.y + row) * p.width + (r.x + n / planar_or planar 1 p.samples)) * p.samples + planar_or planar r.plane (n % planar_or planar 1 p.samples))
 
   abbrev row_by : PlanarConfiguration → List ℕ
-  row_by planar = each_to (r.width * planar_or planar 1 p.samples) (sample_by planar)
+  row_by planar = tabulate (r.width * planar_or planar 1 p.samples) (sample_by planar)
 
   abbrev pixel_row : List ℕ
-  pixel_row = each_to (r.width * stored_samples p) (pixel_sample p numbers r row)
+  pixel_row = tabulate (r.width * stored_samples p) (pixel_sample p numbers r row)
 
   module _ (within : start + r.width * p.samples ≤ length numbers) where
     abbrev pixels : List ℕ
@@ -137,7 +137,7 @@ module _ (p : PageRecord) (numbers : List ℕ) (r : RectRecord) (row : ℕ) wher
 
     -- one sample of each
     pub planar_row : p.planar ≡ Planar → r.plane < p.samples
-        → each_to r.width (λ column. slice_index pixels (column * p.samples + r.plane)) ≡ pixel_row
+        → tabulate r.width (λ column. slice_index pixels (column * p.samples + r.plane)) ≡ pixel_row
     planar_row planar one =
         each_same r.width (λ column. slice_index pixels (column * p.samples + r.plane)) (sample_by Planar)
         (λ n l.
@@ -146,7 +146,7 @@ module _ (p : PageRecord) (numbers : List ℕ) (r : RectRecord) (row : ℕ) wher
         get_or-take (r.width * p.samples) (drop start numbers) at 0 (plane_within n r.width p.samples r.plane (r.width * p.samples) l one (omega arith))
         ∙ get_or-drop start numbers at 0
         ∙ ap (slice_index numbers) (sym (at_pixel ((r.y + row) * p.width) r.x (n / 1) p.samples r.plane at (ap (λ q. q * p.samples + r.plane) e))))
-        ∙ (let w : r.width ≡ r.width * 1 = omega arith in ap (λ n. each_to n (sample_by Planar)) w)
+        ∙ (let w : r.width ≡ r.width * 1 = omega arith in ap (λ n. tabulate n (sample_by Planar)) w)
         ∙ sym (ap row_by planar)
 
   -- ---- a row of a chunk
@@ -166,7 +166,7 @@ module _ (p : PageRecord) (numbers : List ℕ) (r : RectRecord) (row : ℕ) wher
         let q : r.width ≤ (r.width * stored + m) / stored = (le-div_iff_mul-le {k = stored} {x = r.width} {y = r.width * stored + m} (factor_some n stored m l)).1 (omega arith) in
         rw (lt-ltb row r.height some, le-ltb ((r.width * stored + m) / stored) r.width q) refl
 
-    pub filled_row : pixel_row ++ each_to (p.chunk_width * stored - r.width * stored) (λ _. 0) ≡ each_to (row_samples p) (row_sample p numbers r row)
+    pub filled_row : pixel_row ++ tabulate (p.chunk_width * stored - r.width * stored) (λ _. 0) ≡ tabulate (row_samples p) (row_sample p numbers r row)
     filled_row =
         let a : ℕ = r.width * stored in
         let b : ℕ = p.chunk_width * stored - r.width * stored in
@@ -176,7 +176,7 @@ module _ (p : PageRecord) (numbers : List ℕ) (r : RectRecord) (row : ℕ) wher
         (λ j. each_same a (pixel_sample p numbers r row) (row_sample p numbers r row) (λ n l. sym (inside n l)) j
         ++ each_same b (λ _. 0) (λ m. row_sample p numbers r row (a + m)) (λ m l. sym (beyond (p.chunk_width - r.width) m (subst (λ n. m < n) gap l))) j)
         ∙ sym (each_more a b (row_sample p numbers r row))
-        ∙ ap (λ n. each_to n (row_sample p numbers r row)) all
+        ∙ ap (λ n. tabulate n (row_sample p numbers r row)) all
 
 -- ---- the rows of a chunk
 
@@ -186,19 +186,19 @@ module _ (p : PageRecord) (numbers : List ℕ) (k : ℕ) where
   by_row n = row_sample p numbers (rect p k) (n / row_samples p) (n % row_samples p)
 
   -- one more row
-  pub more_rows : (n : ℕ) → each_to (n * row_samples p) by_row ++ each_to (row_samples p) (row_sample p numbers (rect p k) n)
-      ≡ each_to ((n + 1) * row_samples p) by_row
+  pub more_rows : (n : ℕ) → tabulate (n * row_samples p) by_row ++ tabulate (row_samples p) (row_sample p numbers (rect p k) n)
+      ≡ tabulate ((n + 1) * row_samples p) by_row
   more_rows n =
       let row : ℕ = row_samples p in
       let e : n * row + row ≡ (n + 1) * row = omega arith in
-      ap (λ xs. each_to (n * row) by_row ++ xs)
+      ap (λ xs. tabulate (n * row) by_row ++ xs)
       (each_same row (row_sample p numbers (rect p k) n) (λ m. by_row (n * row + m))
       (λ m l. sym (λ j. row_sample p numbers (rect p k) (div-mul-add n row m l j) (mod-mul-add n row m l j))))
       ∙ sym (each_more (n * row) row by_row)
-      ∙ ap (λ z. each_to z by_row) e
+      ∙ ap (λ z. tabulate z by_row) e
 
   -- all rows are what is cut out
-  pub all_rows : each_to (chunk_rows p k * row_samples p) by_row ≡ cut_out p numbers k
+  pub all_rows : tabulate (chunk_rows p k * row_samples p) by_row ≡ cut_out p numbers k
   unfolding cut_out
   all_rows =
       each_same (chunk_samples p k) by_row _ (λ n l. ap (λ m. cond (nat_lt (n / row_samples p) (rect p k).height && nat_lt (n % row_samples p / stored_samples p) (rect p k).width)
@@ -232,17 +232,17 @@ told_on E (Err e) f h = h
 -- a row was appended
 pub row_pushed : (p : PageRecord) (numbers : List ℕ) (r : RectRecord) (row gap : ℕ) (before mid now : List ℕ) → row < r.height → r.width ≤ p.chunk_width
     → gap ≡ p.chunk_width * stored_samples p - r.width * stored_samples p
-    → mid ≡ before ++ each_to (r.width * stored_samples p) (pixel_sample p numbers r row) → now ≡ mid ++ each_to gap (λ _. 0)
-    → now ≡ before ++ each_to (row_samples p) (row_sample p numbers r row)
+    → mid ≡ before ++ tabulate (r.width * stored_samples p) (pixel_sample p numbers r row) → now ≡ mid ++ tabulate gap (λ _. 0)
+    → now ≡ before ++ tabulate (row_samples p) (row_sample p numbers r row)
 row_pushed p numbers r row gap before mid now some narrow g m n =
-    let pixels : List ℕ = each_to (r.width * stored_samples p) (pixel_sample p numbers r row) in
-    let zeros : ℕ → List ℕ = λ n. each_to n (λ _. 0) in
+    let pixels : List ℕ = tabulate (r.width * stored_samples p) (pixel_sample p numbers r row) in
+    let zeros : ℕ → List ℕ = λ n. tabulate n (λ _. 0) in
     n ∙ ap (λ xs. xs ++ zeros gap) m ∙ append_assoc before pixels (zeros gap)
     ∙ ap (λ xs. before ++ xs) (ap (λ n. pixels ++ zeros n) g ∙ filled_row p numbers r row some narrow)
 
 -- and one behind others
 pub rows_pushed : (p : PageRecord) (numbers : List ℕ) (k n : ℕ) (r : RectRecord) (before now : List ℕ) → r ≡ rect p k
-    → before ≡ each_to (n * row_samples p) (by_row p numbers k) → now ≡ before ++ each_to (row_samples p) (row_sample p numbers r n)
-    → now ≡ each_to ((n + 1) * row_samples p) (by_row p numbers k)
+    → before ≡ tabulate (n * row_samples p) (by_row p numbers k) → now ≡ before ++ tabulate (row_samples p) (row_sample p numbers r n)
+    → now ≡ tabulate ((n + 1) * row_samples p) (by_row p numbers k)
 rows_pushed p numbers k n r before now e b h =
-    h ∙ (λ j. b j ++ each_to (row_samples p) (row_sample p numbers (e j) n)) ∙ more_rows p numbers k n
+    h ∙ (λ j. b j ++ tabulate (row_samples p) (row_sample p numbers (e j) n)) ∙ more_rows p numbers k n

@@ -13,7 +13,7 @@ use Rattle.tiff_base.specs.declared.tags.PlanarConfiguration.TheVariants.{Chunky
 use Rattle.tiff_page.specs.Page.{PageRecord}
 use Rattle.tiff_page.specs.Rect.{rect}
 use Rattle.tiff_page.specs.Pixels.{stored_samples}
-use Rattle.tiff_encode.specs.Machine.{FileState, OpenImage, Form}
+use Rattle.tiff_encode.specs.Machine.{FileState, OpenImage, ChunkLayout}
 use Rattle.tiff_encode.specs.Drawn.{IsForm}
 use Rattle.tiff_encode.specs.Chunks.{all_samples, image_page, is_tile, is_planar, is_in_order, chunk_rows, row_samples, chunk_samples, chunks_left, cut_out, part, parts_left}
 use Rattle.tiff_encode.specs.Causes.{image_samples, write_image_data_cause}
@@ -71,7 +71,7 @@ AreReady many most k [] = Unit {0}
 AreReady many most k (xs ∷ others) = IsReady many most k xs × AreReady many most (k + 1) others
 
 -- chunks in the image's order are strips of whole rows
-strips_form : (form : Form) → is_in_order form ≡ true → (form.chunk_type ≡ Strip) × (form.planar ≡ Chunky)
+strips_form : (form : ChunkLayout) → is_in_order form ≡ true → (form.chunk_type ≡ Strip) × (form.planar ≡ Chunky)
 strips_form form h = by form.chunk_type form.planar h refl refl where
   by : (c : ChunkType) (p : PlanarConfiguration) → (not (is_tile c) && not (is_planar p)) ≡ true → form.chunk_type ≡ c → form.planar ≡ p
       → (form.chunk_type ≡ Strip) × (form.planar ≡ Chunky)

@@ -14,7 +14,7 @@ use Rattle.tiff_base.specs.declared.tags.Tag.TheVariants as tag
 use Rattle.tiff_base.specs.Tags.{tag_number}
 use Rattle.tiff_value.specs.Data.{Scalars, u32s, planars, extras, data_of}
 use Rattle.tiff_encode.specs.Model.{In, Model}
-use Rattle.tiff_encode.specs.Machine.{FileState, OpenDirectory, Form, OpenImage, Writing, gives, by_cause, ◌>>=◌}
+use Rattle.tiff_encode.specs.Machine.{FileState, OpenDirectory, ChunkLayout, OpenImage, Writing, gives, by_cause, ◌>>=◌}
 use Rattle.tiff_encode.specs.Drawn.{IsForm}
 use Rattle.tiff_encode.specs.Chunks.{is_tile, is_begun}
 use Rattle.tiff_encode.specs.Causes.{unless_ended, is_no_side, extra_samples_cause, rows_per_strip_cause, tiles_cause, planar_cause}
@@ -133,7 +133,7 @@ extra_kept extra file m i next samples h a =
 -- ---- how it is cut
 
 -- by another form, that the values tell
-cut_kept : (kind : FileKind) (m : Model) (i : OpenImage) (d : OpenDirectory) (form : Form) (later : Given) (samples : List (List ℕ))
+cut_kept : (kind : FileKind) (m : Model) (i : OpenImage) (d : OpenDirectory) (form : ChunkLayout) (later : Given) (samples : List (List ℕ))
     → IsOpen i → HoldsChunks kind m i samples → is_begun i ≡ false → IsForm i.width form → HoldsValues m d.fields later
     → TellsOpen (record i { directory = d; form = form }) later
     → HoldsOpen kind m (record i { directory = d; form = form }) samples
@@ -159,7 +159,7 @@ cut_kept kind m i d form later samples s c b f o t =
 rows_kept : (rows : ℕ) → rows < 2 ^ 32 → KeepsOpen (λ i. set_rows_per_strip i rows)
 unfolding set_rows_per_strip rows_per_strip_cause
 rows_kept rows l file m i next samples h a =
-    let form : Form = strips_of i.width rows i.form.planar in
+    let form : ChunkLayout = strips_of i.width rows i.form.planar in
     let call : OpenDirectory → OpenImage = λ d. record i { directory = d; form = form } in
     one_set call tag.RowsPerStrip (u32s (rows ∷ [])) (rows_per_strip_cause file i rows) file m i next samples h a
     (λ d n c g o.
@@ -189,7 +189,7 @@ rows_kept rows l file m i next samples h a =
 planar_kept : KeepsOpen planar
 unfolding planar planar_cause
 planar_kept file m i next samples h a =
-    let form : Form = record i.form { planar = Planar } in
+    let form : ChunkLayout = record i.form { planar = Planar } in
     let call : OpenDirectory → OpenImage = λ d. record i { directory = d; form = form } in
     one_set call tag.PlanarConfiguration (planars (Planar ∷ [])) (planar_cause file i) file m i next samples h a
     (λ d n c g o.
@@ -223,7 +223,7 @@ side n h = above n (neither (n == 0) _ h).0
 tiles_kept : (width length : ℕ) → width < 2 ^ 32 → length < 2 ^ 32 → KeepsOpen (λ i. tiles i width length)
 unfolding tiles tiles_cause
 tiles_kept width length w l file m i next samples h a =
-    let form : Form = tiles_of width length i.form.planar in
+    let form : ChunkLayout = tiles_of width length i.form.planar in
     let values : List (Tag × Scalars) = (tag.TileWidth, u32s (width ∷ [])) ∷ (tag.TileLength, u32s (length ∷ [])) ∷ [] in
     let first : Writing OpenDirectory = write_tags i.directory values in
     let call : OpenDirectory → OpenImage = λ d. record i { directory = without_field d tag.RowsPerStrip; form = form } in

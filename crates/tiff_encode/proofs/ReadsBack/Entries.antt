@@ -25,7 +25,7 @@ use Rattle.tiff_page.specs.Page.{PageRecord}
 use Rattle.tiff_page.specs.Counts.{all_chunks, parts}
 use Rattle.tiff_page.specs.Rect.{chunks_of_plane}
 use Rattle.tiff_page.specs.Layout.{LayoutRecord, row_bits, row_bytes, samples_in_chunk, planes, wide, whole_chunks, layout_of, sample_type_from, sample_type_of, size_of}
-use Rattle.tiff_page.specs.PixelFault.{is_whole, depth_fault, form_fault, chunk_fault, samples_fault}
+use Rattle.tiff_page.specs.PixelFault.{is_byte_multiple, depth_fault, form_fault, chunk_fault, limit_fault}
 use Rattle.tiff_page.specs.Row.{IsSize}
 use Rattle.tiff_page.specs.Pixels.{is_short, image_region, numbers_in}
 use Rattle.tiff_page.specs.Buffers.{planes_layout}
@@ -36,7 +36,7 @@ use Rattle.tiff_page.proofs.Sizes.{planes_some}
 use Rattle.tiff_page.proofs.Rows.{by_size, some_size}
 use Rattle.tiff_page.proofs.PositionLaws.{no_fault}
 use Rattle.tiff_page.proofs.Planes.{layout_gives, color_shows, first_plane_fault}
-use Rattle.tiff_page.proofs.Portions.{placed_in_zeros}
+use Rattle.tiff_page.proofs.Requests.{placed_in_zeros}
 use Rattle.tiff_page.proofs.Planes as plane
 use Rattle.tiff_encode.specs.Shows.{Image, Shows}
 use Rattle.tiff_encode.specs.ReadsBack.{samples_shown, HasSamplesOf, IsReadable, LetsPass, ReadsShown, ReadsBack}
@@ -59,8 +59,8 @@ type_sized Void size t s = λ e. absurd cc
 type_sized (Unknown n) size t s = λ e. absurd cc
 
 -- such samples are of whole bytes
-whole_size : (size : ℕ) → IsSize size → is_whole (8 * size) ≡ true
-whole_size size s = by_size (λ n. is_whole (8 * n) ≡ true) size refl refl refl refl s
+whole_size : (size : ℕ) → IsSize size → is_byte_multiple (8 * size) ≡ true
+whole_size size s = by_size (λ n. is_byte_multiple (8 * n) ≡ true) size refl refl refl refl s
 
 -- a plane shows no more samples than a color has
 shown_few : (planar : PlanarConfiguration) (color : ColorType) → 0 < num_samples color → samples_in_chunk planar color ≤ num_samples color
@@ -86,7 +86,7 @@ samples_give file p limits color part len d e =
     let zeros : List ℕ = replicate len 0 in
     let all : List ℕ = bytes_with_region file LittleEndian p color part.region part.stride part.planes zeros in
     let type = bind_ok (sample_type_of p) _ _ e in
-    let passed = bind_ok (samples_fault limits (size_of type.0) len) _ _ type.1.1 in
+    let passed = bind_ok (limit_fault limits (size_of type.0) len) _ _ type.1.1 in
     let made = bind_ok (fill_buffer file LittleEndian p limits color part zeros) _ _ passed.1.1 in
     let whole = bind_ok (part_fault file LittleEndian p limits color part) _ _ made.1.0 in
     let here : all ≡ made.0 = ok_inj all made.0 whole.1.1 in
@@ -197,7 +197,7 @@ module _ (kind : FileKind) (file : List ℕ) (offset : ℕ) (i : Image) (size : 
         rw (s.is_color, lt-ltb (row * p.chunk_height) (2 ^ 64) l.rows, lt-ltb all (2 ^ 64) plane_fits, aligned_is, r.chroma) refl
 
     -- the samples are not too many
-    samples_pass : samples_fault limits (size_of type) all ≡ Ok tt
+    samples_pass : limit_fault limits (size_of type) all ≡ Ok tt
     samples_pass =
         let some_bytes : 0 < size = some_size size h.is_size in
         let e : samples * size ≡ samples * size + 0 = omega arith in
@@ -219,7 +219,7 @@ module _ (kind : FileKind) (file : List ℕ) (offset : ℕ) (i : Image) (size : 
     depth_is : depth_fault p color ≡ Ok tt
     unfolding depth_fault
     depth_is =
-        let w : is_whole p.depth ≡ true = ap is_whole deep ∙ whole_size size h.is_size in
+        let w : is_byte_multiple p.depth ≡ true = ap is_byte_multiple deep ∙ whole_size size h.is_size in
         rw (w, r.plain) refl
 
     form_is : (k : ℕ) → k < chunks_of_plane p → form_fault p limits color k ≡ Ok tt

@@ -15,7 +15,7 @@ use Rattle.tiff_base.specs.Number.{number}
 use Rattle.tiff_page.specs.Page.{PageRecord}
 use Rattle.tiff_page.specs.Layout.{row_bits, row_bytes, samples_in_chunk}
 use Rattle.tiff_page.specs.Row.{IsSize}
-use Rattle.tiff_page.specs.Pixels.{each_to, width_of, planar_or, shown_sample, number_byte, region_byte, image_region, byte_at, numbers_in}
+use Rattle.tiff_page.specs.Pixels.{tabulate, width_of, planar_or, shown_sample, number_byte, region_byte, image_region, byte_at, numbers_in}
 use Rattle.tiff_page.proofs.ChunkRows.{bits_are}
 use Rattle.tiff_page.proofs.Rows.{each_same, digits, little_digits, some_size}
 
@@ -68,7 +68,7 @@ module _ (file : List ℕ) (p : PageRecord) (color : ColorType) (size : ℕ) (de
   at i = unwrap_or (byte_at file LittleEndian p color (image_region p) stride 1 i) 0
 
   abbrev pub bytes : List ℕ
-  bytes = each_to (stride * p.height) at
+  bytes = tabulate (stride * p.height) at
 
   -- the bytes of the image are those of its samples
   pub all_are : stride * p.height ≡ p.height * p.width * s * size
@@ -195,7 +195,7 @@ module _ (file : List ℕ) (p : PageRecord) (color : ColorType) (size : ℕ) (de
 
     -- the bytes of the number, put together
     pub number_there : shown_sample file LittleEndian p (n / s % p.width) (n / s / p.width) (n % s) < 256 ^ size
-        → number LittleEndian (width_of size) (each_to size (λ j. slice_index bytes (n * size + j)))
+        → number LittleEndian (width_of size) (tabulate size (λ j. slice_index bytes (n * size + j)))
         ≡ shown_sample file LittleEndian p (n / s % p.width) (n / s / p.width) (n % s)
     number_there below =
         let x : ℕ = shown_sample file LittleEndian p (n / s % p.width) (n / s / p.width) (n % s) in
@@ -220,10 +220,10 @@ module _ (file : List ℕ) (p : PageRecord) (color : ColorType) (size : ℕ) (de
   -- and each is the sample
   pub numbers_are : (f : ℕ → ℕ) → ((n : ℕ) → n < p.height * p.width * s → shown_sample file LittleEndian p (n / s % p.width) (n / s / p.width) (n % s) ≡ f n)
       → ((n : ℕ) → f n < 256 ^ size)
-      → numbers_in size bytes ≡ each_to (p.height * p.width * s) f
+      → numbers_in size bytes ≡ tabulate (p.height * p.width * s) f
   unfolding numbers_in
   numbers_are f shows small =
-      let number_at : ℕ → ℕ = λ n. number LittleEndian (width_of size) (each_to size (λ j. slice_index bytes (n * size + j))) in
-      ap (λ (m : ℕ). each_to m number_at) count_is
+      let number_at : ℕ → ℕ = λ n. number LittleEndian (width_of size) (tabulate size (λ j. slice_index bytes (n * size + j))) in
+      ap (λ (m : ℕ). tabulate m number_at) count_is
       ∙ each_same (p.height * p.width * s) number_at f (λ n b.
       number_there n b (subst (λ (m : ℕ). m < 256 ^ size) (sym (shows n b)) (small n)) ∙ shows n b)

@@ -22,8 +22,8 @@ use Rattle.tiff_page.specs.declared.layout.DecodingSampleType.{DecodingSampleTyp
 use Rattle.tiff_page.specs.declared.layout.DecodingSampleType.TheVariants.{U8, U16, U32, U64, F32, F64, I8, I16, I32, I64}
 use Rattle.tiff_page.specs.Page.{PageRecord}
 use Rattle.tiff_page.specs.Layout.{samples_in_chunk, first_is_alpha, photometric, no_color, color_from, color_of, whole_chroma, sample_type_from, sample_type_of}
-use Rattle.tiff_page.specs.PixelFault.{is_plain, is_number, fault_of_predictor, predictor_fault, method_fault, white_from, white_fault}
-use Rattle.tiff_page.specs.Pixels.{each_to}
+use Rattle.tiff_page.specs.PixelFault.{is_supported_color, is_number, fault_of_predictor, predictor_fault, method_fault, white_from, inversion_fault}
+use Rattle.tiff_page.specs.Pixels.{tabulate}
 use Rattle.tiff_page.proofs.Rows.{each_same}
 use Rattle.tiff_page.proofs.Planes.{given_if}
 use Rattle.tiff_encode.specs.Machine.{OpenImage}
@@ -81,7 +81,7 @@ numbered (Unknown k) d t e = absurd cc
 
 -- it is plain, and its chroma is whole
 abbrev IsTaken : PageRecord → Result ColorType TiffError → Type 0
-IsTaken p (Ok c) = (is_plain c ≡ true) × (whole_chroma p c ≡ Ok c)
+IsTaken p (Ok c) = (is_supported_color c ≡ true) × (whole_chroma p c ≡ Ok c)
 IsTaken p (Err e) = Unit {0}
 
 module _ (p : PageRecord) where
@@ -168,7 +168,7 @@ module _ (i : OpenImage) (w : IsOpen i) (p : PageRecord)
       )
 
   pub readable : (c : ColorType) → color_of p ≡ Ok c → IsReadable p c
-  unfolding color_of sample_type_of predictor_fault white_fault
+  unfolding color_of sample_type_of predictor_fault inversion_fault
   readable c e =
       let f : Family = is_of.family in
       let from : color_from (meaning_of f) p ≡ Ok c = ap (λ (m : PhotometricInterpretation). color_from m p) (sym interpretation_is) ∙ e in
@@ -213,7 +213,7 @@ shown_in_order i samples p color wide all long =
     omega (arith, a, b, div-add-mod' k s) in
     let count : length samples ≡ n = long ∙ ap (λ (m : ℕ). p.height * p.width * m) (sym all) in
     each_same n at (λ k. slice_index samples k) (λ k b. ap (λ (m : ℕ). slice_index samples m) (offset k))
-    ∙ ext_get_or 0 (each_to n (λ k. slice_index samples k)) samples
+    ∙ ext_get_or 0 (tabulate n (λ k. slice_index samples k)) samples
     (length-map-range_with_len (λ k. slice_index samples k) 0 n ∙ sym count)
     (λ k b.
     let c : k < n = subst (λ (m : ℕ). k < m) (length-map-range_with_len (λ j. slice_index samples j) 0 n) b in

@@ -7,7 +7,7 @@ use Rattle.std.specs.Int.{w8, w16, w32, w64}
 use Rattle.std.specs.List.{flat_map}
 use Rattle.tiff_base.specs.declared.tags.ByteOrder.TheVariants.{LittleEndian}
 use Rattle.tiff_base.specs.Number.{number, le}
-use Rattle.tiff_page.specs.Pixels.{each_to, width_of}
+use Rattle.tiff_page.specs.Pixels.{tabulate, width_of}
 use Rattle.tiff_encode.proofs.Slices.{number-le, length-le}
 use Rattle.tiff_encode.proofs.Shown.Color.{IsSize}
 
@@ -33,11 +33,11 @@ number_back size x s =
 
 -- the bytes that stand where a number was written
 bytes_there : (size x at : ℕ) (bytes rest : List ℕ) (f : ℕ → ℕ) → drop at bytes ≡ le size x ++ rest
-    → ((j : ℕ) → j < size → f j ≡ get_or bytes (at + j) 0) → each_to size f ≡ le size x
+    → ((j : ℕ) → j < size → f j ≡ get_or bytes (at + j) 0) → tabulate size f ≡ le size x
 bytes_there size x at bytes rest f e h =
-    let l : length (each_to size f) ≡ size = length-map-range_with_len f 0 size in
+    let l : length (tabulate size f) ≡ size = length-map-range_with_len f 0 size in
     let k : length (le size x) ≡ size = length-le 0 size x in
-    ext_get_or 0 (each_to size f) (le size x) (l ∙ sym k) (λ j b.
+    ext_get_or 0 (tabulate size f) (le size x) (l ∙ sym k) (λ j b.
     let c : j < size = omega (arith, b, l) in
     get_or-map-range_with_len f 0 size j j 0 c (omega arith)
     ∙ h j c
@@ -69,7 +69,7 @@ stands_there n (x ∷ xs) rest (suc k) h =
 pub number_found : (size : ℕ) (numbers rest : List ℕ) (k : ℕ) (f : ℕ → ℕ) → IsSize size → k < length numbers
     → get_or numbers k 0 < 256 ^ size
     → ((j : ℕ) → j < size → f j ≡ get_or (flat_map (le size) numbers ++ rest) (k * size + j) 0)
-    → number LittleEndian (width_of size) (each_to size f) ≡ get_or numbers k 0
+    → number LittleEndian (width_of size) (tabulate size f) ≡ get_or numbers k 0
 number_found size numbers rest k f s h b e =
     let i = stands_there size numbers rest k h in
     ap (number LittleEndian (width_of size))

@@ -21,7 +21,7 @@ use Rattle.tiff_value.specs.Differences.{stored_difference, differences}
 use Rattle.tiff_value.specs.Packed.{IsStored}
 use Rattle.tiff_value.proofs.Packing.{unpacks}
 use Rattle.tiff_page.specs.Page.{PageRecord}
-use Rattle.tiff_page.specs.Pixels.{each_to, width_of, stored_samples, stored_row_bytes, data_by_method, chunk_data, stored_row, number_size, row_number, number_by, stored_number}
+use Rattle.tiff_page.specs.Pixels.{tabulate, width_of, stored_samples, stored_row_bytes, data_by_method, chunk_data, stored_row, number_size, row_number, number_by, stored_number}
 use Rattle.tiff_page.proofs.ChunkRows.{bits_are}
 use Rattle.tiff_encode.specs.Machine.{OpenImage}
 use Rattle.tiff_encode.specs.Chunks.{image_page, row_samples}
@@ -156,7 +156,7 @@ module _ (i : OpenImage) (c : IsColored i) where
           ∙ get_or-drop (row * stored_row_bytes p) here (q * i.size + j) 0
           ∙ ap (λ (m : ℕ). slice_index here m) z
           ∙ ap (λ (b : List ℕ). get_or b (n * i.size + j) 0) (begins ∙ ap (λ (b : List ℕ). b ++ rest) bytes_are) in
-          ap (λ (m : ℕ). number LittleEndian (width_of m) (each_to m (f m))) size_is
+          ap (λ (m : ℕ). number LittleEndian (width_of m) (tabulate m (f m))) size_is
           ∙ number_found i.size kept_all rest n (f i.size) c.is_size (omega (arith, h, long))
           (subst (λ (m : ℕ). m < 256 ^ i.size) (sym there) fits) e
           ∙ there

@@ -13,7 +13,7 @@ ghost use Rattle.tiff_encode.specs.Model.{IsLink, Model, Stands};
 use crate::encoder::TiffEncoder;
 use crate::encoder::drawing::Drawing;
 use crate::encoder::kind::{DirectoryOffset, TiffKind, TiffKindStandard};
-use crate::encoder::open::{Fields, State};
+use crate::encoder::open::{Fields, HasDirectory};
 use tiff_base::directory::{Directory, Entry};
 use tiff_base::error::{TiffError, TiffResult};
 use tiff_base::io::Sink;
@@ -102,7 +102,7 @@ fn fits_short(buffer: &ValueBuffer)
     let _length = buffer.as_bytes().len();
 }
 
-impl<'a, W: Sink, K: TiffKind, D: State> DirectoryEncoder<'a, W, K, D> {
+impl<'a, W: Sink, K: TiffKind, D: HasDirectory> DirectoryEncoder<'a, W, K, D> {
     /// Writes a value's bytes, and answers the entry that holds them or their offset; the directory stays. The first cause
     /// that holds: an earlier fault of the sink: `UsageError(WriterFailed)`; a text that can't be written:
     /// `FormatError(InvalidTag)`; a count, or the offset of a value that doesn't fit into the entry, past 4 bytes in a

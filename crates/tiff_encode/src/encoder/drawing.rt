@@ -10,7 +10,7 @@ ghost use Rattle.tiff_encode.specs.Causes.{image_samples, is_past_chunks};
 ghost use Rattle.tiff_encode.specs.Chunks.{all_samples, chunk_rows, chunks_left, image_page, is_begun, is_in_order, is_left, next_chunk_sample_count, next_strip_sample_count};
 
 use crate::encoder::chunk_rooms::ChunkRooms;
-use crate::encoder::open::{Fields, State};
+use crate::encoder::open::{Fields, HasDirectory};
 use crate::encoder::settings::Compression;
 use std::marker::{Model, PhantomData};
 use tiff_base::color::ChunkType;
@@ -22,7 +22,7 @@ use tiff_value::encoder::colortype::ColorType;
 /// How an image is cut: into strips or tiles; their width and their height, which strips have but for the last of a plane;
 /// and whether a chunk has all samples of its pixels or those of one plane.
 #[derive(Clone, Copy, Drop)]
-pub struct Form {
+pub struct ChunkLayout {
     pub chunk_type: ChunkType,
     pub chunk_width: u32,
     pub chunk_height: u32,
@@ -46,7 +46,7 @@ pub struct Drawing<C: ColorType> {
     pub(crate) extra: Vec<ExtraSamples>,
     pub(crate) predictor: Predictor,
     pub(crate) compression: Compression,
-    pub(crate) form: Form,
+    pub(crate) form: ChunkLayout,
     pub(crate) chunks: Vec<Chunk>,
     pub(crate) rooms: ChunkRooms,
     pub(crate) color: PhantomData<C>,
@@ -80,7 +80,7 @@ impl<C: ColorType> Model for Drawing<C> {
     ghost invariant = { λ i. IsDrawn i.width i.height (length C.described.bits) (length i.extra.items) i.form };
 }
 
-impl<C: ColorType> State for Drawing<C> {
+impl<C: ColorType> HasDirectory for Drawing<C> {
     ghost use Rattle.std.specs.Prelude.{refl};
     ghost use Rattle.tiff_encode.specs.Calls.{with_directory_of};
 

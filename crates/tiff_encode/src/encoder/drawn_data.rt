@@ -3,7 +3,7 @@
 ghost use Rattle.std.specs.Prelude.{◌≡◌, ℕ, ◌+◌, ◌*◌, ◌^◌, ◌<◌, ◌≤◌, ◌++◌, length, map, replicate, slice_index, MatchResult, None, Some, false, true};
 ghost use Rattle.tiff_base.specs.Types.{type_size};
 ghost use Rattle.tiff_page.specs.Counts.{all_chunks};
-ghost use Rattle.tiff_page.specs.Pixels.{each_to, stored_samples};
+ghost use Rattle.tiff_page.specs.Pixels.{tabulate, stored_samples};
 ghost use Rattle.tiff_page.specs.Rect.{rect};
 ghost use Rattle.tiff_value.specs.ColorType.{sample_number};
 ghost use Rattle.tiff_encode.specs.Causes.{image_samples, write_image_data_cause};
@@ -25,7 +25,7 @@ use tiff_value::encoder::differences::Sample;
 // Appends samples of zeros.
 fn push_zeros<T: Sample>(count: u64, out: &mut Vec<T>) -> TiffResult<()>
     ensures { MatchResult result (λ _. map (sample_number (type_size T.value_type) T.bits) out.new.items ≡ map
-        (sample_number (type_size T.value_type) T.bits) out.old.items ++ each_to count (λ _. 0)) (λ e. e ≡ TiffError.OutOfMemory) }
+        (sample_number (type_size T.value_type) T.bits) out.old.items ++ tabulate count (λ _. 0)) (λ e. e ≡ TiffError.OutOfMemory) }
 {
     for _ in 0..count {
         out.push(T::zero())?;
@@ -44,7 +44,7 @@ fn push_plane<T: Sample>(
     requires one { plane < samples }
     requires whole { count * samples ≤ length pixels.now }
     ensures { MatchResult result (λ _. map (sample_number (type_size T.value_type) T.bits) out.new.items ≡ map
-        (sample_number (type_size T.value_type) T.bits) out.old.items ++ each_to count
+        (sample_number (type_size T.value_type) T.bits) out.old.items ++ tabulate count
         (λ column. slice_index (map (sample_number (type_size T.value_type) T.bits) pixels.now) (column * samples + plane)))
         (λ e. e ≡ TiffError.OutOfMemory) }
 {
@@ -100,7 +100,7 @@ impl<C: ColorType> Drawing<C> {
         requires fits { image_samples self.now < 2 ^ 64 }
         requires whole { image_samples self.now ≤ length samples.now }
         ensures { MatchResult result
-            (λ _. map (sample_number (type_size C.Inner.value_type) C.Inner.bits) out.new.items ≡ map (sample_number (type_size C.Inner.value_type) C.Inner.bits) out.old.items ++ each_to (patch.width * stored_samples (image_page self.now)) (pixel_sample (image_page self.now) (map (sample_number (type_size C.Inner.value_type) C.Inner.bits) samples.now) (rect_of patch) row))
+            (λ _. map (sample_number (type_size C.Inner.value_type) C.Inner.bits) out.new.items ≡ map (sample_number (type_size C.Inner.value_type) C.Inner.bits) out.old.items ++ tabulate (patch.width * stored_samples (image_page self.now)) (pixel_sample (image_page self.now) (map (sample_number (type_size C.Inner.value_type) C.Inner.bits) samples.now) (rect_of patch) row))
             (λ e. e ≡ TiffError.OutOfMemory) }
     {
         let width = u64::from(self.width);
@@ -132,7 +132,7 @@ impl<C: ColorType> Drawing<C> {
         requires fits { image_samples self.now < 2 ^ 64 }
         requires whole { image_samples self.now ≤ length samples.now }
         ensures { MatchResult result
-            (λ _. map (sample_number (type_size C.Inner.value_type) C.Inner.bits) out.new.items ≡ map (sample_number (type_size C.Inner.value_type) C.Inner.bits) out.old.items ++ each_to (row_samples (image_page self.now)) (row_sample (image_page self.now) (map (sample_number (type_size C.Inner.value_type) C.Inner.bits) samples.now) (rect_of patch) row))
+            (λ _. map (sample_number (type_size C.Inner.value_type) C.Inner.bits) out.new.items ≡ map (sample_number (type_size C.Inner.value_type) C.Inner.bits) out.old.items ++ tabulate (row_samples (image_page self.now)) (row_sample (image_page self.now) (map (sample_number (type_size C.Inner.value_type) C.Inner.bits) samples.now) (rect_of patch) row))
             (λ e. e ≡ TiffError.OutOfMemory) }
     {
         let stored = self.stored_samples();

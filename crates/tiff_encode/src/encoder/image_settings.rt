@@ -13,7 +13,7 @@ ghost use Rattle.tiff_encode.specs.Tagging.{StopsResolving, fields_of};
 
 use crate::encoder::TiffEncoder;
 use crate::encoder::directory_encoder::DirectoryEncoder;
-use crate::encoder::drawing::{Drawing, Form};
+use crate::encoder::drawing::{ChunkLayout, Drawing};
 use crate::encoder::kind::TiffKind;
 use crate::encoder::limits::check_field;
 use crate::encoder::tagging::TagValue;
@@ -194,7 +194,7 @@ impl<W: Sink, K: TiffKind> TiffEncoder<W, K> {
     {
         self.check_rows_per_strip(image, rows)?;
         self.set_tag(&mut image.directory, Tag::RowsPerStrip, &rows)?;
-        image.form = Form {
+        image.form = ChunkLayout {
             chunk_type: ChunkType::Strip,
             chunk_width: image.width,
             chunk_height: rows,
@@ -222,7 +222,7 @@ impl<W: Sink, K: TiffKind> TiffEncoder<W, K> {
         self.set_tags(&mut fields, &sides)?;
         fields.remove(Tag::RowsPerStrip);
         image.directory = fields;
-        image.form = Form {
+        image.form = ChunkLayout {
             chunk_type: ChunkType::Tile,
             chunk_width: width,
             chunk_height: length,

@@ -14,7 +14,7 @@ ghost use Rattle.tiff_encode.specs.FileBytes.{resolutions_offset};
 
 use crate::encoder::TiffEncoder;
 use crate::encoder::chunk_rooms::ChunkRooms;
-use crate::encoder::drawing::{Drawing, Form};
+use crate::encoder::drawing::{ChunkLayout, Drawing};
 use crate::encoder::kind::TiffKind;
 use crate::encoder::open::Fields;
 use crate::encoder::settings::Compression;
@@ -141,7 +141,7 @@ impl<W: Sink, K: TiffKind> TiffEncoder<W, K> {
             extra: Vec::new(self.alloc),
             predictor: self.predictor,
             compression: self.compression,
-            form: Form {
+            form: ChunkLayout {
                 chunk_type: ChunkType::Strip,
                 chunk_width: width,
                 chunk_height: rows,

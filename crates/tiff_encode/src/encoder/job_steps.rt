@@ -11,7 +11,7 @@ ghost use Rattle.tiff_encode.specs.Stepping.{Moves};
 
 use crate::encoder::directory_encoder::DirectoryEncoder;
 use crate::encoder::kind::TiffKind;
-use crate::encoder::open::{Fields, State};
+use crate::encoder::open::{Fields, HasDirectory};
 use crate::encoder::script::{DirectoryStep, JobBuffer, JobValue, StepReply};
 use tiff_base::error::TiffResult;
 use tiff_base::io::Sink;
@@ -29,7 +29,7 @@ pub(crate) fn put<T: Drop>(items: &mut Vec<T>, item: T)
     }
 }
 
-impl<'a, W: Sink, K: TiffKind, D: State> DirectoryEncoder<'a, W, K, D> {
+impl<'a, W: Sink, K: TiffKind, D: HasDirectory> DirectoryEncoder<'a, W, K, D> {
     // `write_tag` of a value of a job.
     fn write_job_tag(&mut self, tag: Tag, value: &JobValue) -> TiffResult<()>
         ensures same_reference { self.new.encoder.ghost_name ≡ self.old.encoder.ghost_name }

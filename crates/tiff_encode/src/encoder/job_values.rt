@@ -33,7 +33,7 @@ pub(crate) fn cut_samples<S: Sample>(alloc: Global, numbers: &[u64]) -> TiffResu
 }
 
 // How a value of any type is handed to a state, which gives an answer.
-trait Hand<E, A> {
+trait ValueVisitor<E, A> {
     ghost use Rattle.std.specs.Prelude.{Result, Ok, string_bytes};
     ghost use Rattle.tiff_base.specs.declared.error.TiffError.{TiffError};
     ghost use Rattle.tiff_value.specs.Data.{FieldData, data_of, text_data};
@@ -51,7 +51,7 @@ trait Hand<E, A> {
 }
 
 // A value of a job is handed to a state.
-fn hand_in<E, A, H: Hand<E, A>>(state: &mut E, value: &JobValue) -> TiffResult<A>
+fn hand_in<E, A, H: ValueVisitor<E, A>>(state: &mut E, value: &JobValue) -> TiffResult<A>
     ensures { H.hands (value_data value.now) state.old result state.new }
 {
     match value {
@@ -83,7 +83,7 @@ fn hand_in<E, A, H: Hand<E, A>>(state: &mut E, value: &JobValue) -> TiffResult<A
 // By `write_entry`.
 pub(super) struct ForField;
 
-impl<W: Sink, K: TiffKind> Hand<TiffEncoder<W, K>, Entry> for ForField {
+impl<W: Sink, K: TiffKind> ValueVisitor<TiffEncoder<W, K>, Entry> for ForField {
     ghost use Rattle.tiff_base.specs.Field.{Field};
     ghost use Rattle.tiff_encode.specs.Calls as calls;
     ghost use Rattle.tiff_encode.specs.Ends.{Ends};
@@ -105,7 +105,7 @@ impl<W: Sink, K: TiffKind> Hand<TiffEncoder<W, K>, Entry> for ForField {
 // The same without room for the entry.
 pub(super) struct ForNoField;
 
-impl<W: Sink, K: TiffKind> Hand<TiffEncoder<W, K>, Entry> for ForNoField {
+impl<W: Sink, K: TiffKind> ValueVisitor<TiffEncoder<W, K>, Entry> for ForNoField {
     ghost use Rattle.tiff_base.specs.Field.{Field};
     ghost use Rattle.tiff_encode.specs.Calls as calls;
     ghost use Rattle.tiff_encode.specs.Ends.{Ends};
@@ -127,7 +127,7 @@ impl<W: Sink, K: TiffKind> Hand<TiffEncoder<W, K>, Entry> for ForNoField {
 // By `write_data`.
 pub(super) struct ForData;
 
-impl<W: Sink, K: TiffKind> Hand<TiffEncoder<W, K>, u64> for ForData {
+impl<W: Sink, K: TiffKind> ValueVisitor<TiffEncoder<W, K>, u64> for ForData {
     ghost use Rattle.std.specs.Prelude.{ℕ};
     ghost use Rattle.tiff_encode.specs.Calls as calls;
     ghost use Rattle.tiff_encode.specs.Ends.{Ends};

@@ -176,7 +176,7 @@ fn run_directory<W: Sink, K: TiffKind>(
 // ---- images
 
 // The steps of an image that is open, and its end; there is room for their replies.
-fn lead_image<W: Sink, K: TiffKind, C: ColorType>(
+fn run_image_steps<W: Sink, K: TiffKind, C: ColorType>(
     encoder: &mut TiffEncoder<W, K>,
     state: Drawing<C>,
     job: &ImageJob,
@@ -206,7 +206,7 @@ fn run_image<W: Sink, K: TiffKind, C: NamedColorType>(
     match encoder.new_image::<C>(width, height) {
         Ok(image) => {
             let DirectoryEncoder { encoder, state } = image;
-            return lead_image(encoder, state, job, steps);
+            return run_image_steps(encoder, state, job, steps);
         }
         Err(fault) => {
             return JobReply {

@@ -35,7 +35,7 @@ impl Model for Fields {
 }
 
 /// What is open in an encoder's file: a directory, alone or with what an image has (this project's).
-pub trait State {
+pub trait HasDirectory {
     ghost use Rattle.std.specs.Prelude.{◌≡◌};
     ghost use Rattle.tiff_encode.specs.Machine.{OpenDirectory};
 
@@ -68,7 +68,7 @@ pub trait State {
     ghost with_its_own: { (s : Self) → with_directory s (open_directory s) ≡ s };
 }
 
-impl State for Fields {
+impl HasDirectory for Fields {
     ghost use Rattle.std.specs.Prelude.{refl};
 
     ghost open_directory = { λ d. d };

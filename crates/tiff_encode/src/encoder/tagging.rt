@@ -10,7 +10,7 @@ ghost use Rattle.tiff_encode.specs.Tagging.{StopsInPart, write_fields};
 use crate::encoder::TiffEncoder;
 use crate::encoder::kind::TiffKind;
 use crate::encoder::limits::fill;
-use crate::encoder::open::{Fields, State};
+use crate::encoder::open::{Fields, HasDirectory};
 use std::marker::Model;
 use tiff_base::error::TiffResult;
 use tiff_base::io::Sink;

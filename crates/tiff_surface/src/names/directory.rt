@@ -17,7 +17,7 @@ fn name_entries() {
     let _call = find_place;
 }
 
-// What a directory tells.
+// Calls that ask a directory.
 fn name_queries() {
     let _call = Directory::get;
     let _call = Directory::contains;
@@ -29,7 +29,7 @@ fn name_queries() {
     let _call = Directory::first_after;
 }
 
-// What makes and changes a directory.
+// Calls that make or change a directory.
 fn name_changes<I: IntoIterator<Item = (Tag, Entry)>>() {
     let _call = Directory::empty;
     let _call = Directory::from_entries;

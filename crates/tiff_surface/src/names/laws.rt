@@ -1,4 +1,4 @@
-//! The laws of `tiff::encoder`, functions that do nothing and state what holds.
+//! The laws of `tiff::encoder`: functions that do nothing and state what holds.
 
 use tiff::encoder::{data_laws, fit_laws, image_laws, laws, reading_laws};
 
@@ -20,7 +20,7 @@ fn name_files() {
     let _law = laws::ends_link_parent;
 }
 
-// How what calls do is joined.
+// How the effects of calls are joined.
 fn name_deeds() {
     let _law = laws::deeds_stand;
     let _law = laws::deeds_grow;
@@ -53,7 +53,7 @@ fn name_images() {
     let _law = image_laws::ends_shown;
 }
 
-// What the calls of an image do fits the file that they find.
+// The effects of an image's calls fit the file that they find.
 fn name_fits() {
     let _law = fit_laws::new_image_fits;
     let _law = fit_laws::settings_fit;
@@ -62,7 +62,7 @@ fn name_fits() {
     let _law = fit_laws::finish_image_fits;
 }
 
-// What stands where samples were written, and what is read of them.
+// Samples that were written stand in the file, and are read back.
 fn name_data() {
     let _law = data_laws::data_leaves;
     let _law = data_laws::parts_show;

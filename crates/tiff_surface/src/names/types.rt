@@ -1,11 +1,11 @@
-//! The types and traits.
+//! The public types and traits of `tiff`.
 
 pub use tiff::{
     ColorType, Directory, SampleBits, SampleFormats, TiffError, TiffFormatError, TiffResult,
     TiffUnsupportedError, UsageError,
 };
 
-/// Of `tiff::directory`, `tiff::error` and `tiff::io`.
+/// The types of `tiff::directory`, `tiff::error` and `tiff::io`.
 pub mod base {
     pub use tiff::directory::{Directory, Entry, Iter, KeyCount};
     pub use tiff::error::{
@@ -17,7 +17,7 @@ pub mod base {
     };
 }
 
-/// Of `tiff::tags`.
+/// The types of `tiff::tags`.
 pub mod tags {
     pub use tiff::tags::{
         Bits16, Bits32, Bits64, ByteOrder, CompressionMethod, ExtraSamples, FileKind, IfdPointer,
@@ -26,7 +26,7 @@ pub mod tags {
     };
 }
 
-/// Of `tiff::decoder`.
+/// The types of `tiff::decoder`.
 pub mod decoder {
     pub use tiff::decoder::cycles::IfdCycles;
     pub use tiff::decoder::ifd::{Entry, Value};
@@ -38,7 +38,7 @@ pub mod decoder {
     };
 }
 
-/// Of `tiff::encoder`.
+/// The types of `tiff::encoder`.
 pub mod encoder {
     pub use tiff::encoder::script::{
         DirectoryEnd, DirectoryJob, DirectoryStep, EndReply, ImageEnd, ImageJob, ImageStep, Job,
@@ -52,14 +52,14 @@ pub mod encoder {
     };
 }
 
-/// Of `tiff::encoder::compression`.
+/// The types of `tiff::encoder::compression`.
 pub mod compression {
     pub use tiff::encoder::compression::{
         Compression, CompressionAlgorithm, Compressor, Packbits, Uncompressed,
     };
 }
 
-/// Of `tiff::encoder::colortype`.
+/// The types of `tiff::encoder::colortype`.
 pub mod colortype {
     pub use tiff::encoder::colortype::{
         CMYK8, CMYK16, CMYK32, CMYK32Float, CMYK64, CMYK64Float, CMYKA8, ColorType, ColorTypeName,

@@ -12,7 +12,7 @@ other_key key location id h = grind (arith, nat_tests)
 whole : (n : ℕ) (xs : List ℕ) → n ≡ length xs → take n xs ≡ xs
 whole n xs e = ap (λ (m : ℕ). take m xs) e ∙ take-length xs
 
--- an entry that isn't the key's is passed over
+-- An entry of another key is skipped.
 passed : (id n i : ℕ) (left : List ℕ) → i < n → 4 ≤ length left → (get_or left 0 0 ≡ id → get_or left 1 0 ≡ 0 → ⊥)
     → value_in id (n - i) left ≡ value_in id (n - (i + 1)) (take (length left - 4) (drop 4 left))
 passed id n i [] l m h = absurd (omega arith)

@@ -4,8 +4,8 @@ use Rattle.tiff_base.specs.declared.tags.FileKind.TheVariants.{Classic}
 use Rattle.tiff_base.specs.Types.{type_size}
 use Rattle.tiff_value.specs.ColorType.{sample_number}
 use Rattle.tiff_encode.specs.Model.{header_link}
-use Rattle.tiff_encode.proofs.Samples.{are_numbers}
-use Rattle.tiff_encode.proofs.Shown.Gray.{header_chain}
+use Rattle.tiff.proofs.Samples.{are_numbers}
+use Rattle.tiff.proofs.Gray.{header_chain}
 use Rattle.tiff_uses.proofs.ReadBack.{all_come_back}
 use Rattle.tiff_uses.proofs.written_and_read.Goals as goal
 

@@ -2,33 +2,33 @@ use Rattle.std.proofs.Common.{◌||◌, ◌≡◌, ◌∙◌, ◌*◌, ◌/◌, 
 use Rattle.std.proofs.Math.Bool.{or-true}
 use Rattle.tiff_page.specs.PageView as view
 use Rattle.tiff_page.specs.Pixels.{stored_samples, is_byte_plane, joined_number}
-use Rattle.tiff_page.specs.Row.{IsSize, Became}
+use Rattle.tiff_page.specs.Row.{IsSize, RowReplaced}
 use Rattle.tiff_page.proofs.OutputRow.{joined_numbers, stored_count, stored_whole, no_byte_plane, undone_numbers}
 use Rattle.tiff_page.proofs.Rows.{some_size}
-use Rattle.tiff_page.specs.OutputRow.{is_turned}
+use Rattle.tiff_page.specs.OutputRow.{needs_swap}
 use Rattle.tiff_page.proofs.output_row.undo_whole.Goals as goal
 
 pub returns-in-FloatingPoint-clause-numbers : goal.returns-in-FloatingPoint-clause-numbers
 returns-in-FloatingPoint-clause-numbers c =
     let e : c.from.result ≡ c.args.page.now.depth / 8 = c.from.ensures in
     let s : c.from-in-FloatingPoint.result ≡ stored_samples (view.page c.args.page.now) = c.from-in-FloatingPoint.ensures ∙ c.stored_samples-stored.ensures.count in
-    let b : Became (c.args.page.now.depth / 8) (joined_number (c.args.page.now.depth / 8) c.from-in-FloatingPoint.result (length c.args.row.now / (c.args.page.now.depth / 8)) c.args.row.now)
-    c.args.row.now c.undo_byte_plane.new.row =
-    subst (λ (n : ℕ). Became n (joined_number n c.from-in-FloatingPoint.result (length c.args.row.now / n) c.args.row.now) c.args.row.now c.undo_byte_plane.new.row) e c.undo_byte_plane.ensures in
-    joined_numbers c.args.order (view.page c.args.page.now) c.args.row.now c.undo_byte_plane.new.row c.in-FloatingPoint.is
+    let b : RowReplaced (c.args.page.now.depth / 8) (joined_number (c.args.page.now.depth / 8) c.from-in-FloatingPoint.result (length c.args.row.now / (c.args.page.now.depth / 8)) c.args.row.now)
+    c.args.row.now c.undo_float_predictor.new.row =
+    subst (λ (n : ℕ). RowReplaced n (joined_number n c.from-in-FloatingPoint.result (length c.args.row.now / n) c.args.row.now) c.args.row.now c.undo_float_predictor.new.row) e c.undo_float_predictor.ensures in
+    joined_numbers c.args.order (view.page c.args.page.now) c.args.row.now c.undo_float_predictor.new.row c.in-FloatingPoint.is
     (stored_count (view.page c.args.page.now) (length c.args.row.now) c.requires.size c.requires.deep c.requires.row)
-    (subst (λ (n : ℕ). Became (c.args.page.now.depth / 8) (joined_number (c.args.page.now.depth / 8) n (length c.args.row.now / (c.args.page.now.depth / 8)) c.args.row.now)
-    c.args.row.now c.undo_byte_plane.new.row) s b)
+    (subst (λ (n : ℕ). RowReplaced (c.args.page.now.depth / 8) (joined_number (c.args.page.now.depth / 8) n (length c.args.row.now / (c.args.page.now.depth / 8)) c.args.row.now)
+    c.args.row.now c.undo_float_predictor.new.row) s b)
 
-pub undo_byte_plane-requires : goal.undo_byte_plane-requires
-undo_byte_plane-requires c =
+pub undo_float_predictor-requires : goal.undo_float_predictor-requires
+undo_float_predictor-requires c =
     let e : c.from.result ≡ c.args.page.now.depth / 8 = c.from.ensures in
     record {
       size = subst IsSize (sym e) c.requires.size;
       stored = omega arith;
       whole = subst (λ (n : ℕ). length c.args.row.now / n * n ≡ length c.args.row.now) (sym e)
           (stored_whole (view.page c.args.page.now) (length c.args.row.now) c.requires.size c.requires.deep c.requires.row);
-      room = c.requires.room (ap (λ p. is_byte_plane p || is_turned c.args.order c.args.page.now.depth) c.in-FloatingPoint.is);
+      room = c.requires.room (ap (λ p. is_byte_plane p || needs_swap c.args.order c.args.page.now.depth) c.in-FloatingPoint.is);
     }
 
 pub turn_whole-requires : goal.turn_whole-requires

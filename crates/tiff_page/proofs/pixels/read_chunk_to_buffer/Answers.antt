@@ -20,4 +20,4 @@ pub returns-clause-asked : goal.returns-clause-asked
 returns-clause-asked g c =
     let p = view.page c.args.page.now in
     let l = layout c.in_ok-layout.layout in
-    strided_asked p (planes_layout p (rect p c.args.index).width (rect p c.args.index).height) c.args.index c.args.stride l (g.R.Source.told c.args.source.now) _ c.in_ok-layout.ensures.answer c.samples_of.ensures.asked
+    strided_asked p (planes_layout p (rect p c.args.index).width (rect p c.args.index).height) c.args.index c.args.stride l (g.R.Source.told c.args.source.now) _ c.in_ok-layout.ensures.answer c.read_samples.ensures.asked

@@ -21,4 +21,4 @@ pub returns-clause-asked : goal.returns-clause-asked
 returns-clause-asked g c =
     let p = view.page c.args.page.now in
     let l = layout c.in_ok-layout.layout in
-    laid_asked p (planes_layout p p.width p.height) (λ l. image_part p 1 l.row_bytes) l (image_part p 1 l.row_bytes) (g.R.Source.told c.args.source.now) _ c.in_ok-layout.ensures.answer refl c.samples_of.ensures.asked
+    laid_asked p (planes_layout p p.width p.height) (λ l. image_part p 1 l.row_bytes) l (image_part p 1 l.row_bytes) (g.R.Source.told c.args.source.now) _ c.in_ok-layout.ensures.answer refl c.read_samples.ensures.asked

@@ -4,7 +4,7 @@ use Rattle.tiff_statuses.specs.Calls.{chunks_in}
 use Rattle.tiff_statuses.proofs.Ranges.{behind}
 use Rattle.tiff_statuses.proofs.calls.range_here.Given as goal
 
--- the chunks so far are in front, and those that are left are read behind them
+-- The chunks that were read are in front, and those that are left are read behind them.
 abbrev pub invariant-loop-chunk : goal.invariant-loop-chunk
 invariant-loop-chunk l =
     record {

@@ -9,7 +9,7 @@ use Rattle.tiff_statuses.specs.declared.calls.PageSamples.{PageSamples}
 use Rattle.tiff_statuses.specs.Calls.{samples_in, samples_of_page}
 use Rattle.tiff_statuses.proofs.calls.samples_here.Goals as goal
 
--- what is told of the color and the layout of a page is told of the page
+-- What holds for the color and the layout of a page holds for the page.
 told : (d e f : Decoding) (color : ColorType) (layout : BufferLayoutPreference) (result : Result PageSamples TiffError) → e ≡ d → f ≡ e
     → (colortype d).answer ≡ Ok color → (image_buffer_layout e).answer ≡ Ok layout
     → AnswersWithoutSource {X = PageSamples} (λ s. s) result (samples_in f color layout)

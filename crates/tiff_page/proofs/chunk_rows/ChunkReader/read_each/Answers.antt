@@ -30,14 +30,14 @@ loop-row-init g c =
       stands = front_stands p c.args.self.now.index (0 * stored_row_bytes p) c.front-position.result c.front-position.ensures.readable;
       position = λ z. c.front-position.ensures.rest bytes c.args.self.now.order ∙ ap (λ (m : ℕ). drop m (chunk_data bytes c.args.self.now.order p c.args.self.now.index)) none;
       enough = λ z. Prim.absurd (omega (arith, z));
-      written = no_row (chunk_byte (g.R.Source.told c.args.source.now).bytes c.args.self.now.order (view.page c.args.self.now.page.now) c.args.self.now.color c.args.self.now.index) c.args.corner.stride c.args.corner.top c.args.corner.left (row_bytes (view.page c.args.self.now.page.now) c.args.self.now.color (rect (view.page c.args.self.now.page.now) c.args.self.now.index).width) (g.W.RowWriter.bytes c.args.buf.now);
+      written = no_row (chunk_byte (g.R.Source.told c.args.source.now).bytes c.args.self.now.order (view.page c.args.self.now.page.now) c.args.self.now.color c.args.self.now.index) c.args.destination.stride c.args.destination.top c.args.destination.left (row_bytes (view.page c.args.self.now.page.now) c.args.self.now.color (rect (view.page c.args.self.now.page.now) c.args.self.now.index).width) (g.W.RowSink.bytes c.args.buf.now);
     }
 
 pub overflow_add-at : goal.overflow_add-at
 overflow_add-at g c =
     let h = c.args.self.now.high in
     let height = (rect (view.page c.args.self.now.page.now) c.args.self.now.index).height in
-    let l = row_below c.args.corner.top height c.args.corner.stride ((c.args.corner.top + height) * c.args.corner.stride) c.loop-row.row c.requires.some (omega arith) (omega (arith, h, c.loop-row-test.true)) in
+    let l = row_below c.args.destination.top height c.args.destination.stride ((c.args.destination.top + height) * c.args.destination.stride) c.loop-row.row c.requires.some (omega arith) (omega (arith, h, c.loop-row-test.true)) in
     omega (arith, l, c.requires.few)
 
 pub read_row-requires-clause-width : goal.read_row-requires-clause-width
@@ -67,8 +67,8 @@ read_row-requires-clause-room g c =
     let h = c.args.self.now.high in
     let len = row_bytes p c.args.self.now.color (rect p c.args.self.now.index).width in
     let n : c.row_len-len.result ≡ len = c.row_len-len.ensures.value ∙ ap (row_bytes p c.args.self.now.color) w in
-    let size = length (g.W.RowWriter.bytes c.loop-row.buf) in
-    let fits = row_room c.args.corner.stride c.args.corner.top (rect p c.args.self.now.index).height c.loop-row.row c.args.corner.left len size (omega (arith, h, c.loop-row-test.true)) c.requires.columns (omega (arith, c.requires.rows, c.loop-row.invariant.written.0)) in
+    let size = length (g.W.RowSink.bytes c.loop-row.buf) in
+    let fits = row_room c.args.destination.stride c.args.destination.top (rect p c.args.self.now.index).height c.loop-row.row c.args.destination.left len size (omega (arith, h, c.loop-row-test.true)) c.requires.columns (omega (arith, c.requires.rows, c.loop-row.invariant.written.0)) in
     omega (arith, fits, n)
 
 pub read_row-requires-clause-fits : goal.read_row-requires-clause-fits
@@ -78,8 +78,8 @@ read_row-requires-clause-fits g c =
     let h = c.args.self.now.high in
     let len = row_bytes p c.args.self.now.color (rect p c.args.self.now.index).width in
     let n : c.row_len-len.result ≡ len = c.row_len-len.ensures.value ∙ ap (row_bytes p c.args.self.now.color) w in
-    let size = (c.args.corner.top + (rect p c.args.self.now.index).height) * c.args.corner.stride in
-    let fits = row_room c.args.corner.stride c.args.corner.top (rect p c.args.self.now.index).height c.loop-row.row c.args.corner.left len size (omega (arith, h, c.loop-row-test.true)) c.requires.columns (omega arith) in
+    let size = (c.args.destination.top + (rect p c.args.self.now.index).height) * c.args.destination.stride in
+    let fits = row_room c.args.destination.stride c.args.destination.top (rect p c.args.self.now.index).height c.loop-row.row c.args.destination.left len size (omega (arith, h, c.loop-row-test.true)) c.requires.columns (omega arith) in
     omega (arith, fits, n, c.requires.few)
 
 pub loop-row-preserved : goal.loop-row-preserved
@@ -90,9 +90,9 @@ loop-row-preserved g c =
     let color = c.args.self.now.color in
     let k = c.args.self.now.index in
     let len = row_bytes p color (rect p k).width in
-    let corner = c.args.corner in
+    let destination = c.args.destination in
     let row = c.loop-row.row in
-    let at = (corner.top + row) * corner.stride + corner.left in
+    let at = (destination.top + row) * destination.stride + destination.left in
     let h = c.args.self.now.high in
     let w = c.args.self.now.wide in
     let n : c.row_len-len.result ≡ len = c.row_len-len.ensures.value ∙ ap (row_bytes p color) w in
@@ -114,10 +114,10 @@ loop-row-preserved g c =
     let held = row_held bytes order p color k sides stored listed row left rest given.row some rl (out ∙ n) from given.takes in
     let now : (row + 1 - 1) * stored_row_bytes p ≡ row * stored_row_bytes p = ap (λ (m : ℕ). m * stored_row_bytes p) (omega arith) in
     let value = chunk_byte bytes order p color k in
-    let old = g.W.RowWriter.bytes c.args.buf.now in
-    let mid = g.W.RowWriter.bytes c.loop-row.buf in
-    let new = g.W.RowWriter.bytes c.read_row.new.out in
-    let after = row_put_there value corner.stride corner.top row corner.left len at given.row old mid new
+    let old = g.W.RowSink.bytes c.args.buf.now in
+    let mid = g.W.RowSink.bytes c.loop-row.buf in
+    let new = g.W.RowSink.bytes c.read_row.new.out in
+    let after = row_put_there value destination.stride destination.top row destination.left len at given.row old mid new
     c.requires.columns refl (out ∙ n)
     (λ b bl. row_bytes_are bytes order p color k sides stored listed row left rest given.row rl (out ∙ n) from given.takes b bl)
     c.loop-row.invariant.written given.put in
@@ -140,10 +140,10 @@ returns-clause-ok g c =
     let bytes = (g.R.Source.told c.args.source.now).bytes in
     let p = view.page c.args.self.now.page.now in
     let len = row_bytes p c.args.self.now.color (rect p c.args.self.now.index).width in
-    let corner = c.args.corner in
+    let destination = c.args.destination in
     let h = c.args.self.now.high in
     let e : c.loop-row.row ≡ (rect p c.args.self.now.index).height = omega (arith, h, c.loop-row-test.false, c.loop-row.auto.row-end) in
-    subst (λ (m : ℕ). Writes (IsIn corner.stride corner.top m corner.left len) (in_rect (chunk_byte bytes c.args.self.now.order p c.args.self.now.color c.args.self.now.index) corner.stride corner.top corner.left) (g.W.RowWriter.bytes c.args.buf.now) (g.W.RowWriter.bytes c.loop-row.buf)) e c.loop-row.invariant.written
+    subst (λ (m : ℕ). Writes (IsIn destination.stride destination.top m destination.left len) (in_rect (chunk_byte bytes c.args.self.now.order p c.args.self.now.color c.args.self.now.index) destination.stride destination.top destination.left) (g.W.RowSink.bytes c.args.buf.now) (g.W.RowSink.bytes c.loop-row.buf)) e c.loop-row.invariant.written
 
 pub returns-in_err-rest-clause-asked : goal.returns-in_err-rest-clause-asked
 returns-in_err-rest-clause-asked g c =

@@ -21,5 +21,5 @@ invariant-loop-row g l =
       stands : StandsAt p l.self.index (l.row * stored_row_bytes p) l.position;
       position : l.row < (rect p l.self.index).height → bytes_left bytes l.position ≡ drop (l.row * stored_row_bytes p) stored;
       enough : 0 < l.row → (l.row - 1) * stored_row_bytes p + needed_of_row p l.self.color len ≤ length stored;
-      written : Writes (IsIn l.corner.stride l.corner.top l.row l.corner.left len) (in_rect (chunk_byte bytes l.self.order p l.self.color l.self.index) l.corner.stride l.corner.top l.corner.left) (g.W.RowWriter.bytes l.fn.buf) (g.W.RowWriter.bytes l.buf);
+      written : Writes (IsIn l.destination.stride l.destination.top l.row l.destination.left len) (in_rect (chunk_byte bytes l.self.order p l.self.color l.self.index) l.destination.stride l.destination.top l.destination.left) (g.W.RowSink.bytes l.fn.buf) (g.W.RowSink.bytes l.buf);
     }

@@ -6,4 +6,4 @@ use Rattle.tiff_page.proofs.chunk_rows.ChunkReader.read_numbers.Goals as goal
 pub returns-clause-numbers : goal.returns-clause-numbers
 returns-clause-numbers g c =
     numbers_stood (g.R.Source.told c.args.source.now).bytes c.args.self.now.order (view.page c.args.self.now.page.now) c.args.position _ _ c.read.new.buf c.read.result
-    (sym c.is_turned.ensures ∙ c.if-is_turned.false) (omega arith) c.read.ensures.taken
+    (sym c.needs_swap.ensures ∙ c.if-needs_swap.false) (omega arith) c.read.ensures.taken

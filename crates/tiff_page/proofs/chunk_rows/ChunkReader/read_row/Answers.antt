@@ -3,6 +3,6 @@ use Rattle.tiff_page.specs.PageView as view
 use Rattle.tiff_page.proofs.RowRead.{row_of_numbers}
 use Rattle.tiff_page.proofs.chunk_rows.ChunkReader.read_row.Goals as goal
 
-pub read_handed-requires-clause-whole : goal.read_handed-requires-clause-whole
-read_handed-requires-clause-whole g c =
+pub read_finished-requires-clause-whole : goal.read_finished-requires-clause-whole
+read_finished-requires-clause-whole g c =
     row_of_numbers (view.page c.args.self.now.page.now) c.args.self.now.color c.args.self.now.width (length c.args.out.now) c.requires.read.stored c.requires.out

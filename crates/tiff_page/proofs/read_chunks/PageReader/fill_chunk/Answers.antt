@@ -5,7 +5,7 @@ use Rattle.tiff_base.specs.declared.error.TiffError.TheVariants.{IoError}
 use Rattle.tiff_base.specs.declared.io.IoKind.TheVariants.{UnexpectedEof}
 use Rattle.tiff_base.proofs.Told.{same_bytes}
 use Rattle.tiff_page.specs.PixelCalls.{chunk_part}
-use Rattle.tiff_page.specs.PixelFault.{unless}
+use Rattle.tiff_page.specs.PixelFault.{fail_if}
 use Rattle.tiff_page.specs.Pixels.{is_short}
 use Rattle.tiff_page.specs.Layout.{LayoutRecord, row_bytes}
 use Rattle.tiff_page.specs.Laws.{HasSides}
@@ -52,7 +52,7 @@ pub read_rows-requires-clause-some : goal.read_rows-requires-clause-some
 read_rows-requires-clause-some g c =
     let p = c.args.self.now.page.now in
     let l = stride_some (g.R.Source.told c.args.source.now).bytes c.args.self.now.order (view.page p) c.args.self.now.limits.now (layout c.args.next.part.layout) (sides_of p) p.sampled p.deep c.requires.laid in
-    omega (arith, l, c.image_corner-corner.ensures.stride)
+    omega (arith, l, c.image_destination-destination.ensures.stride)
 
 pub read_rows-requires-clause-columns : goal.read_rows-requires-clause-columns
 read_rows-requires-clause-columns g c =
@@ -60,7 +60,7 @@ read_rows-requires-clause-columns g c =
     let i = c.from.result * c.chunks_of_plane-chunks.result + c.args.next.chunk in
     let q : i ≡ c.loop-plane.plane * chunks_of_plane (view.page p) + c.args.next.chunk = λ t. c.from.ensures t * c.chunks_of_plane-chunks.ensures.count t + c.args.next.chunk in
     let l = columns_in (g.R.Source.told c.args.source.now).bytes c.args.self.now.order (view.page p) c.args.self.now.limits.now (layout c.args.next.part.layout) (sides_of p) p.sampled p.deep c.requires.laid c.args.next.part.planes c.args.next.chunk c.requires.chunk c.loop-plane.plane i q c.in_ok-form_fault.ensures.answer in
-    omega (arith, l, c.image_corner-corner.ensures.left, c.image_corner-corner.ensures.stride)
+    omega (arith, l, c.image_destination-destination.ensures.left, c.image_destination-destination.ensures.stride)
 
 pub read_rows-requires-clause-rows : goal.read_rows-requires-clause-rows
 read_rows-requires-clause-rows g c =
@@ -69,10 +69,10 @@ read_rows-requires-clause-rows g c =
     let q : i ≡ c.loop-plane.plane * chunks_of_plane (view.page p) + c.args.next.chunk = λ t. c.from.ensures t * c.chunks_of_plane-chunks.ensures.count t + c.args.next.chunk in
     let l = subst
     (λ (m : ℕ).
-    (top_of (view.page p) c.args.next.part.layout.color c.args.next.part.layout.row_bytes c.loop-plane.plane c.args.next.chunk + (rect (view.page p) m).height) * c.args.next.part.layout.row_bytes ≤ length (g.W.RowWriter.bytes c.args.buf.now))
+    (top_of (view.page p) c.args.next.part.layout.color c.args.next.part.layout.row_bytes c.loop-plane.plane c.args.next.chunk + (rect (view.page p) m).height) * c.args.next.part.layout.row_bytes ≤ length (g.W.RowSink.bytes c.args.buf.now))
     (sym q) (c.requires.room c.loop-plane.plane c.loop-plane-test.true) in
-    let same = g.met.W.RowWriter.same_length c.loop-plane.buf c.args.buf.now c.loop-plane.auto.buf in
-    rw (c.image_corner-corner.ensures.top, c.image_corner-corner.ensures.stride) (omega (arith, l, same))
+    let same = g.met.W.RowSink.same_length c.loop-plane.buf c.args.buf.now c.loop-plane.auto.buf in
+    rw (c.image_destination-destination.ensures.top, c.image_destination-destination.ensures.stride) (omega (arith, l, same))
 
 pub read_rows-requires-clause-few : goal.read_rows-requires-clause-few
 read_rows-requires-clause-few g c =
@@ -81,14 +81,14 @@ read_rows-requires-clause-few g c =
     let q : i ≡ c.loop-plane.plane * chunks_of_plane (view.page p) + c.args.next.chunk = λ t. c.from.ensures t * c.chunks_of_plane-chunks.ensures.count t + c.args.next.chunk in
     let size = c.args.next.part.planes * c.args.next.part.layout.plane_stride in
     let l = rows_in (g.R.Source.told c.args.source.now).bytes c.args.self.now.order (view.page p) c.args.self.now.limits.now (layout c.args.next.part.layout) (sides_of p) p.sampled p.deep c.requires.laid c.args.next.part.planes c.args.next.chunk c.requires.chunk c.loop-plane.plane i size q c.loop-plane-test.true (omega arith) in
-    rw (c.image_corner-corner.ensures.top, c.image_corner-corner.ensures.stride) (omega (arith, l, c.requires.few))
+    rw (c.image_destination-destination.ensures.top, c.image_destination-destination.ensures.stride) (omega (arith, l, c.requires.few))
 
 pub returns-in_err-read_rows-clause-answer : goal.returns-in_err-read_rows-clause-answer
 returns-in_err-read_rows-clause-answer g c =
     let p = c.args.self.now.page.now in
     let i = c.from.result * c.chunks_of_plane-chunks.result + c.args.next.chunk in
     let q : i ≡ c.loop-plane.plane * chunks_of_plane (view.page p) + c.args.next.chunk = λ t. c.from.ensures t * c.chunks_of_plane-chunks.ensures.count t + c.args.next.chunk in
-    let given = subst (λ (bytes : List ℕ). IsCause (Unit {0}) (g.R.Source.failures c.loop-plane.source < g.R.Source.failures c.read_rows.new.source) c.in_err-read_rows.field-0.0 (unless (is_short bytes c.args.self.now.order (view.page p) c.args.next.part.layout.color i) (IoError UnexpectedEof) ≡ Err c.in_err-read_rows.field-0.0)) (same_bytes c.loop-plane.invariant.same) c.in_err-read_rows.ensures.answer in
+    let given = subst (λ (bytes : List ℕ). IsCause (Unit {0}) (g.R.Source.failures c.loop-plane.source < g.R.Source.failures c.read_rows.new.source) c.in_err-read_rows.field-0.0 (fail_if (is_short bytes c.args.self.now.order (view.page p) c.args.next.part.layout.color i) (IoError UnexpectedEof) ≡ Err c.in_err-read_rows.field-0.0)) (same_bytes c.loop-plane.invariant.same) c.in_err-read_rows.ensures.answer in
     let answered = err_from_is_err_and c.from_residual-in_err-read_rows.result c.from_residual-in_err-read_rows.ensures.1 in
     rw (answered.1, answered.2) (rows_cause (g.R.Source.told c.args.source.now).bytes c.args.self.now.order (view.page p) c.args.self.now.limits.now (layout c.args.next.part.layout) (sides_of p) p.sampled p.deep c.requires.laid
     c.args.next.part.planes c.args.next.chunk c.requires.chunk _ _ c.loop-plane.plane i c.in_err-read_rows.field-0.0 q (λ f. omega (arith, f, c.loop-plane.invariant.count)) c.loop-plane-test.true c.loop-plane.invariant.none c.in_ok-form_fault.ensures.answer given)
@@ -99,16 +99,16 @@ loop-plane-preserved g c =
     let i = c.from.result * c.chunks_of_plane-chunks.result + c.args.next.chunk in
     let q : i ≡ c.loop-plane.plane * chunks_of_plane (view.page p) + c.args.next.chunk = λ t. c.from.ensures t * c.chunks_of_plane-chunks.ensures.count t + c.args.next.chunk in
     let same = (same_bytes c.loop-plane.invariant.same) in
-    let given = subst (λ (bytes : List ℕ). unless (is_short bytes c.args.self.now.order (view.page p) c.args.next.part.layout.color i) (IoError UnexpectedEof) ≡ Ok tt) same c.in_ok-read_rows.ensures.answer in
-    let wrote = moved c.args.self.now.order (view.page p) c.args.next.part.layout.color i (rect (view.page p) i).height (row_bytes (view.page p) c.args.next.part.layout.color (rect (view.page p) i).width) (g.W.RowWriter.bytes c.loop-plane.buf) (g.W.RowWriter.bytes c.read_rows.new.buf) (g.R.Source.told c.loop-plane.source).bytes (g.R.Source.told c.args.source.now).bytes
-    c.image_corner-corner.result.stride c.args.next.part.layout.row_bytes c.image_corner-corner.result.top (top_of (view.page p) c.args.next.part.layout.color c.args.next.part.layout.row_bytes c.loop-plane.plane c.args.next.chunk)
-    c.image_corner-corner.result.left (left_of (view.page p) c.args.next.part.layout.color c.args.next.part.layout.row_bytes c.loop-plane.plane c.args.next.chunk)
-    same c.image_corner-corner.ensures.stride c.image_corner-corner.ensures.top c.image_corner-corner.ensures.left c.in_ok-read_rows.ensures.ok in
+    let given = subst (λ (bytes : List ℕ). fail_if (is_short bytes c.args.self.now.order (view.page p) c.args.next.part.layout.color i) (IoError UnexpectedEof) ≡ Ok tt) same c.in_ok-read_rows.ensures.answer in
+    let wrote = moved c.args.self.now.order (view.page p) c.args.next.part.layout.color i (rect (view.page p) i).height (row_bytes (view.page p) c.args.next.part.layout.color (rect (view.page p) i).width) (g.W.RowSink.bytes c.loop-plane.buf) (g.W.RowSink.bytes c.read_rows.new.buf) (g.R.Source.told c.loop-plane.source).bytes (g.R.Source.told c.args.source.now).bytes
+    c.image_destination-destination.result.stride c.args.next.part.layout.row_bytes c.image_destination-destination.result.top (top_of (view.page p) c.args.next.part.layout.color c.args.next.part.layout.row_bytes c.loop-plane.plane c.args.next.chunk)
+    c.image_destination-destination.result.left (left_of (view.page p) c.args.next.part.layout.color c.args.next.part.layout.row_bytes c.loop-plane.plane c.args.next.chunk)
+    same c.image_destination-destination.ensures.stride c.image_destination-destination.ensures.top c.image_destination-destination.ensures.left c.in_ok-read_rows.ensures.ok in
     record {
       same = c.in_ok-read_rows.ensures.kept.told ∙ c.loop-plane.invariant.same;
       count = omega (arith, c.in_ok-read_rows.ensures.kept.swallowed, c.loop-plane.invariant.count);
       none = plane_none (g.R.Source.told c.args.source.now).bytes c.args.self.now.order (view.page p) c.args.self.now.limits.now (layout c.args.next.part.layout) (sides_of p) p.sampled p.deep c.requires.laid c.args.next.part.planes c.args.next.chunk c.requires.chunk c.loop-plane.plane i q c.loop-plane.invariant.none c.in_ok-form_fault.ensures.answer given;
-      written = λ before a. plane_written (g.R.Source.told c.args.source.now).bytes c.args.self.now.order (view.page p) c.args.self.now.limits.now (layout c.args.next.part.layout) (sides_of p) p.sampled p.deep c.requires.laid c.args.next.part.planes c.args.next.chunk c.requires.chunk c.loop-plane.plane i before (g.W.RowWriter.bytes c.loop-plane.buf) (g.W.RowWriter.bytes c.read_rows.new.buf) q c.loop-plane-test.true c.in_ok-form_fault.ensures.answer
+      written = λ before a. plane_written (g.R.Source.told c.args.source.now).bytes c.args.self.now.order (view.page p) c.args.self.now.limits.now (layout c.args.next.part.layout) (sides_of p) p.sampled p.deep c.requires.laid c.args.next.part.planes c.args.next.chunk c.requires.chunk c.loop-plane.plane i before (g.W.RowSink.bytes c.loop-plane.buf) (g.W.RowSink.bytes c.read_rows.new.buf) q c.loop-plane-test.true c.in_ok-form_fault.ensures.answer
           (c.loop-plane.invariant.written before a) wrote;
     }
 
@@ -116,7 +116,7 @@ pub returns-clause-ok : goal.returns-clause-ok
 returns-clause-ok g c =
     let p = c.args.self.now.page.now in
     let e : c.loop-plane.plane ≡ c.args.next.part.planes = omega (arith, c.loop-plane-test.false, c.loop-plane.auto.plane-end) in
-    λ before a. subst (λ (m : ℕ). Writes (IsBefore (view.page p) c.args.next.part.layout.color c.args.next.part.layout.row_bytes c.args.next.part.planes c.args.next.chunk m) (image_byte (view.page p) c.args.next.part.layout.color c.args.next.part.layout.row_bytes (g.R.Source.told c.args.source.now).bytes c.args.self.now.order) before (g.W.RowWriter.bytes c.loop-plane.buf)) e (c.loop-plane.invariant.written before a)
+    λ before a. subst (λ (m : ℕ). Writes (IsBefore (view.page p) c.args.next.part.layout.color c.args.next.part.layout.row_bytes c.args.next.part.planes c.args.next.chunk m) (image_byte (view.page p) c.args.next.part.layout.color c.args.next.part.layout.row_bytes (g.R.Source.told c.args.source.now).bytes c.args.self.now.order) before (g.W.RowSink.bytes c.loop-plane.buf)) e (c.loop-plane.invariant.written before a)
 
 pub returns-in_err-read_rows-clause-asked : goal.returns-in_err-read_rows-clause-asked
 returns-in_err-read_rows-clause-asked g c =

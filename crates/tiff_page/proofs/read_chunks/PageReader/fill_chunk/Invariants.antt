@@ -17,6 +17,6 @@ invariant-loop-plane g l =
       same : g.R.Source.told l.source ≡ g.R.Source.told l.fn.source;
       count : g.R.Source.failures l.source ≡ g.R.Source.failures l.fn.source;
       none : each_below (λ plane. chunk_fault p l.self.limits.now (is_short bytes l.self.order p color) color (plane * chunks_of_plane p + (0 + l.next.chunk))) l.plane ≡ Ok tt;
-      written : (before : List ℕ) → Writes (IsBefore p color stride l.next.part.planes l.next.chunk 0) (image_byte p color stride bytes l.self.order) before (g.W.RowWriter.bytes l.fn.buf)
-          → Writes (IsBefore p color stride l.next.part.planes l.next.chunk l.plane) (image_byte p color stride bytes l.self.order) before (g.W.RowWriter.bytes l.buf);
+      written : (before : List ℕ) → Writes (IsBefore p color stride l.next.part.planes l.next.chunk 0) (image_byte p color stride bytes l.self.order) before (g.W.RowSink.bytes l.fn.buf)
+          → Writes (IsBefore p color stride l.next.part.planes l.next.chunk l.plane) (image_byte p color stride bytes l.self.order) before (g.W.RowSink.bytes l.buf);
     }

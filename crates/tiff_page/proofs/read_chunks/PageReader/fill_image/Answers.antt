@@ -33,7 +33,7 @@ returns-in_err-fill_chunk-clause-answer g c =
     (same_bytes c.loop-chunk.invariant.same) c.in_err-fill_chunk.ensures.answer in
     let answered = err_from_is_err_and c.from_residual.result c.from_residual.ensures.1 in
     rw (answered.1, answered.2) (chunk_cause file c.args.self.now.order (view.page p) c.args.self.now.limits.now (layout c.args.part.layout) (sides_of p) p.sampled p.deep c.requires.laid c.args.part.planes
-    _ _ c.loop-chunk.chunk (g.W.RowWriter.bytes c.args.buf.now) c.in_err-fill_chunk.field-0.0 (λ f. omega (arith, f, c.loop-chunk.invariant.count)) (omega (arith, c.loop-chunk-test.true, c.chunks_of_plane-chunk-end.ensures.count)) c.loop-chunk.invariant.none given)
+    _ _ c.loop-chunk.chunk (g.W.RowSink.bytes c.args.buf.now) c.in_err-fill_chunk.field-0.0 (λ f. omega (arith, f, c.loop-chunk.invariant.count)) (omega (arith, c.loop-chunk-test.true, c.chunks_of_plane-chunk-end.ensures.count)) c.loop-chunk.invariant.none given)
 
 pub loop-chunk-preserved : goal.loop-chunk-preserved
 loop-chunk-preserved g c =
@@ -48,15 +48,15 @@ loop-chunk-preserved g c =
     same c.in_ok-fill_chunk.ensures.answer in
     let wrote = subst
     (λ (bytes : List ℕ).
-    (before : List ℕ) → Writes (IsBefore (view.page p) color stride c.args.part.planes c.loop-chunk.chunk 0) (image_byte (view.page p) color stride bytes c.args.self.now.order) before (g.W.RowWriter.bytes c.loop-chunk.buf)
-    → Writes (IsBefore (view.page p) color stride c.args.part.planes c.loop-chunk.chunk c.args.part.planes) (image_byte (view.page p) color stride bytes c.args.self.now.order) before (g.W.RowWriter.bytes c.fill_chunk.new.buf))
+    (before : List ℕ) → Writes (IsBefore (view.page p) color stride c.args.part.planes c.loop-chunk.chunk 0) (image_byte (view.page p) color stride bytes c.args.self.now.order) before (g.W.RowSink.bytes c.loop-chunk.buf)
+    → Writes (IsBefore (view.page p) color stride c.args.part.planes c.loop-chunk.chunk c.args.part.planes) (image_byte (view.page p) color stride bytes c.args.self.now.order) before (g.W.RowSink.bytes c.fill_chunk.new.buf))
     same c.in_ok-fill_chunk.ensures.ok in
     record {
       same = c.in_ok-fill_chunk.ensures.kept.told ∙ c.loop-chunk.invariant.same;
       count = omega (arith, c.in_ok-fill_chunk.ensures.kept.swallowed, c.loop-chunk.invariant.count);
       none = one_more (of_chunk file c.args.self.now.order (view.page p) c.args.self.now.limits.now (layout c.args.part.layout) (sides_of p) p.sampled p.deep c.requires.laid c.args.part.planes) c.loop-chunk.chunk c.loop-chunk.invariant.none given;
-      written = planes_written (view.page p) color stride c.args.part.planes c.loop-chunk.chunk (image_byte (view.page p) color stride file c.args.self.now.order) (g.W.RowWriter.bytes c.args.buf.now) (g.W.RowWriter.bytes c.fill_chunk.new.buf)
-          (wrote (g.W.RowWriter.bytes c.args.buf.now) c.loop-chunk.invariant.written);
+      written = planes_written (view.page p) color stride c.args.part.planes c.loop-chunk.chunk (image_byte (view.page p) color stride file c.args.self.now.order) (g.W.RowSink.bytes c.args.buf.now) (g.W.RowSink.bytes c.fill_chunk.new.buf)
+          (wrote (g.W.RowSink.bytes c.args.buf.now) c.loop-chunk.invariant.written);
     }
 
 pub returns-clause-answer : goal.returns-clause-answer
@@ -64,14 +64,14 @@ returns-clause-answer g c =
     let p = c.args.self.now.page.now in
     let file = (g.R.Source.told c.args.source.now).bytes in
     let e : c.loop-chunk.chunk ≡ chunks_of_plane (view.page p) = omega (arith, c.loop-chunk-test.false, c.loop-chunk.auto.chunk-end, c.chunks_of_plane-chunk-end.ensures.count) in
-    image_filled file c.args.self.now.order (view.page p) c.args.self.now.limits.now (layout c.args.part.layout) (sides_of p) p.sampled p.deep c.requires.laid c.args.part.planes (g.W.RowWriter.bytes c.args.buf.now) (g.W.RowWriter.bytes c.loop-chunk.buf) c.requires.some
+    image_filled file c.args.self.now.order (view.page p) c.args.self.now.limits.now (layout c.args.part.layout) (sides_of p) p.sampled p.deep c.requires.laid c.args.part.planes (g.W.RowSink.bytes c.args.buf.now) (g.W.RowSink.bytes c.loop-chunk.buf) c.requires.some
     (subst (λ (m : ℕ). each_below (of_chunk file c.args.self.now.order (view.page p) c.args.self.now.limits.now (layout c.args.part.layout) (sides_of p) p.sampled p.deep c.requires.laid c.args.part.planes) m ≡ Ok tt) e c.loop-chunk.invariant.none)
-    (subst (λ (m : ℕ). Writes (IsBefore (view.page p) c.args.part.layout.color c.args.part.layout.row_bytes c.args.part.planes m 0) (image_byte (view.page p) c.args.part.layout.color c.args.part.layout.row_bytes file c.args.self.now.order) (g.W.RowWriter.bytes c.args.buf.now) (g.W.RowWriter.bytes c.loop-chunk.buf)) e c.loop-chunk.invariant.written)
+    (subst (λ (m : ℕ). Writes (IsBefore (view.page p) c.args.part.layout.color c.args.part.layout.row_bytes c.args.part.planes m 0) (image_byte (view.page p) c.args.part.layout.color c.args.part.layout.row_bytes file c.args.self.now.order) (g.W.RowSink.bytes c.args.buf.now) (g.W.RowSink.bytes c.loop-chunk.buf)) e c.loop-chunk.invariant.written)
 
 pub fill_chunk-requires-clause-room : goal.fill_chunk-requires-clause-room
 fill_chunk-requires-clause-room g c =
     let p = c.args.self.now.page.now in
-    let same = g.met.W.RowWriter.same_length c.loop-chunk.buf c.args.buf.now c.loop-chunk.auto.buf in
+    let same = g.met.W.RowSink.same_length c.loop-chunk.buf c.args.buf.now c.loop-chunk.auto.buf in
     let in_plane : c.loop-chunk.chunk < chunks_of_plane (view.page p) = omega (arith, c.loop-chunk-test.true, c.chunks_of_plane-chunk-end.ensures.count) in
     λ plane below.
     rows_in (g.R.Source.told c.args.source.now).bytes c.args.self.now.order (view.page p) c.args.self.now.limits.now (layout c.args.part.layout) (sides_of p) p.sampled p.deep c.requires.laid c.args.part.planes c.loop-chunk.chunk in_plane plane

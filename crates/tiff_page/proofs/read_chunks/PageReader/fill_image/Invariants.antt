@@ -17,5 +17,5 @@ invariant-loop-chunk g l =
       same : g.R.Source.told l.source ≡ g.R.Source.told l.fn.source;
       count : g.R.Source.failures l.source ≡ g.R.Source.failures l.fn.source;
       none : each_below (λ j. each_below (λ plane. chunk_fault p l.self.limits.now (is_short bytes l.self.order p color) color (plane * chunks_of_plane p + (0 + j))) l.part.planes) l.chunk ≡ Ok tt;
-      written : Writes (IsBefore p color stride l.part.planes l.chunk 0) (image_byte p color stride bytes l.self.order) (g.W.RowWriter.bytes l.fn.buf) (g.W.RowWriter.bytes l.buf);
+      written : Writes (IsBefore p color stride l.part.planes l.chunk 0) (image_byte p color stride bytes l.self.order) (g.W.RowSink.bytes l.fn.buf) (g.W.RowSink.bytes l.buf);
     }

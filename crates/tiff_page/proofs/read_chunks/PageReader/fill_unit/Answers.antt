@@ -7,7 +7,7 @@ use Rattle.tiff_base.proofs.Told.{same_bytes}
 use Rattle.tiff_page.specs.Laws.{HasSides}
 use Rattle.tiff_page.specs.Pixels.{is_short}
 use Rattle.tiff_page.specs.PixelCalls.{chunk_part}
-use Rattle.tiff_page.specs.PixelFault.{each_below, unless}
+use Rattle.tiff_page.specs.PixelFault.{each_below, fail_if}
 use Rattle.tiff_page.specs.BufferPositions.{Writes, IsInUnit, unit_byte}
 use Rattle.tiff_page.specs.Rect.{rect, chunks_of_plane}
 use Rattle.tiff_page.specs.PageView as view
@@ -27,7 +27,7 @@ returns-in_err-form_fault-clause-answer g c =
     let q : i ≡ c.loop-plane.plane * chunks_of_plane (view.page p) + c.args.unit.index = λ t. c.from.ensures t * c.chunks_of_plane-chunks.ensures.count t + c.args.unit.index in
     let answered = err_from_is_err_and c.from_residual.result c.from_residual.ensures.1 in
     rw (answered.1, answered.2) (unit_form_cause (g.R.Source.told c.args.source.now).bytes c.args.self.now.order (view.page p) c.args.self.now.limits.now c.args.unit.color (sides_of p) p.sampled p.deep c.requires.colored c.args.unit.stride c.args.unit.index c.args.unit.planes c.requires.which
-    _ c.loop-plane.plane i (g.W.RowWriter.bytes c.args.buf.now) c.in_err-form_fault.field-0.0 q c.loop-plane-test.true c.loop-plane.invariant.none c.in_err-form_fault.ensures.answer)
+    _ c.loop-plane.plane i (g.W.RowSink.bytes c.args.buf.now) c.in_err-form_fault.field-0.0 q c.loop-plane-test.true c.loop-plane.invariant.none c.in_err-form_fault.ensures.answer)
 
 pub read_rows-requires-clause-read : goal.read_rows-requires-clause-read
 read_rows-requires-clause-read g c =
@@ -65,7 +65,7 @@ read_rows-requires-clause-rows g c =
     let t : c.from-in-loop-plane.result * c.chunk_data_dimensions-rows.result.1 ≡ c.loop-plane.plane * (rect (view.page p) c.args.unit.index).height = λ z. c.from-in-loop-plane.ensures z * (c.chunk_data_dimensions-rows.ensures.size z).1 in
     let size = c.args.unit.planes * ((rect (view.page p) c.args.unit.index).height * c.args.unit.stride) in
     let l = unit_rows (g.R.Source.told c.args.source.now).bytes c.args.self.now.order (view.page p) c.args.self.now.limits.now c.args.unit.color (sides_of p) p.sampled p.deep c.requires.colored c.args.unit.stride c.args.unit.index c.args.unit.planes c.requires.which c.loop-plane.plane i (c.from-in-loop-plane.result * c.chunk_data_dimensions-rows.result.1) size q c.loop-plane-test.true t (omega arith) in
-    let same = g.met.W.RowWriter.same_length c.loop-plane.buf c.args.buf.now c.loop-plane.auto.buf in
+    let same = g.met.W.RowSink.same_length c.loop-plane.buf c.args.buf.now c.loop-plane.auto.buf in
     omega (arith, l, same, c.requires.room)
 
 pub read_rows-requires-clause-few : goal.read_rows-requires-clause-few
@@ -83,10 +83,10 @@ returns-in_err-read_rows-clause-answer g c =
     let p = c.args.self.now.page.now in
     let i = c.from.result * c.chunks_of_plane-chunks.result + c.args.unit.index in
     let q : i ≡ c.loop-plane.plane * chunks_of_plane (view.page p) + c.args.unit.index = λ t. c.from.ensures t * c.chunks_of_plane-chunks.ensures.count t + c.args.unit.index in
-    let given = subst (λ (bytes : List ℕ). IsCause (Unit {0}) (g.R.Source.failures c.loop-plane.source < g.R.Source.failures c.read_rows.new.source) c.in_err-read_rows.field-0.0 (unless (is_short bytes c.args.self.now.order (view.page p) c.args.unit.color i) (IoError UnexpectedEof) ≡ Err c.in_err-read_rows.field-0.0)) (same_bytes c.loop-plane.invariant.same) c.in_err-read_rows.ensures.answer in
+    let given = subst (λ (bytes : List ℕ). IsCause (Unit {0}) (g.R.Source.failures c.loop-plane.source < g.R.Source.failures c.read_rows.new.source) c.in_err-read_rows.field-0.0 (fail_if (is_short bytes c.args.self.now.order (view.page p) c.args.unit.color i) (IoError UnexpectedEof) ≡ Err c.in_err-read_rows.field-0.0)) (same_bytes c.loop-plane.invariant.same) c.in_err-read_rows.ensures.answer in
     let answered = err_from_is_err_and c.from_residual-in_err-read_rows.result c.from_residual-in_err-read_rows.ensures.1 in
     rw (answered.1, answered.2) (unit_rows_cause (g.R.Source.told c.args.source.now).bytes c.args.self.now.order (view.page p) c.args.self.now.limits.now c.args.unit.color (sides_of p) p.sampled p.deep c.requires.colored c.args.unit.stride c.args.unit.index c.args.unit.planes c.requires.which
-    _ _ c.loop-plane.plane i (g.W.RowWriter.bytes c.args.buf.now) c.in_err-read_rows.field-0.0 q (λ f. omega (arith, f, c.loop-plane.invariant.count)) c.loop-plane-test.true c.loop-plane.invariant.none c.in_ok-form_fault.ensures.answer given)
+    _ _ c.loop-plane.plane i (g.W.RowSink.bytes c.args.buf.now) c.in_err-read_rows.field-0.0 q (λ f. omega (arith, f, c.loop-plane.invariant.count)) c.loop-plane-test.true c.loop-plane.invariant.none c.in_ok-form_fault.ensures.answer given)
 
 pub loop-plane-preserved : goal.loop-plane-preserved
 loop-plane-preserved g c =
@@ -95,12 +95,12 @@ loop-plane-preserved g c =
     let q : i ≡ c.loop-plane.plane * chunks_of_plane (view.page p) + c.args.unit.index = λ t. c.from.ensures t * c.chunks_of_plane-chunks.ensures.count t + c.args.unit.index in
     let t : c.from-in-loop-plane.result * c.chunk_data_dimensions-rows.result.1 ≡ c.loop-plane.plane * (rect (view.page p) c.args.unit.index).height = λ z. c.from-in-loop-plane.ensures z * (c.chunk_data_dimensions-rows.ensures.size z).1 in
     let same = (same_bytes c.loop-plane.invariant.same) in
-    let given = subst (λ (bytes : List ℕ). unless (is_short bytes c.args.self.now.order (view.page p) c.args.unit.color i) (IoError UnexpectedEof) ≡ Ok tt) same c.in_ok-read_rows.ensures.answer in
+    let given = subst (λ (bytes : List ℕ). fail_if (is_short bytes c.args.self.now.order (view.page p) c.args.unit.color i) (IoError UnexpectedEof) ≡ Ok tt) same c.in_ok-read_rows.ensures.answer in
     record {
       same = c.in_ok-read_rows.ensures.kept.told ∙ c.loop-plane.invariant.same;
       count = omega (arith, c.in_ok-read_rows.ensures.kept.swallowed, c.loop-plane.invariant.count);
       none = unit_none (g.R.Source.told c.args.source.now).bytes c.args.self.now.order (view.page p) c.args.self.now.limits.now c.args.unit.color (sides_of p) p.sampled p.deep c.requires.colored c.args.unit.stride c.args.unit.index c.args.unit.planes c.requires.which c.loop-plane.plane i q c.loop-plane.invariant.none c.in_ok-form_fault.ensures.answer given;
-      written = unit_more (g.R.Source.told c.args.source.now).bytes c.args.self.now.order (view.page p) c.args.self.now.limits.now c.args.unit.color (sides_of p) p.sampled p.deep c.requires.colored c.args.unit.stride c.args.unit.index c.args.unit.planes c.requires.which c.loop-plane.plane i (c.from-in-loop-plane.result * c.chunk_data_dimensions-rows.result.1) (g.R.Source.told c.loop-plane.source).bytes (g.W.RowWriter.bytes c.args.buf.now) (g.W.RowWriter.bytes c.loop-plane.buf) (g.W.RowWriter.bytes c.read_rows.new.buf) q c.loop-plane-test.true t same
+      written = unit_more (g.R.Source.told c.args.source.now).bytes c.args.self.now.order (view.page p) c.args.self.now.limits.now c.args.unit.color (sides_of p) p.sampled p.deep c.requires.colored c.args.unit.stride c.args.unit.index c.args.unit.planes c.requires.which c.loop-plane.plane i (c.from-in-loop-plane.result * c.chunk_data_dimensions-rows.result.1) (g.R.Source.told c.loop-plane.source).bytes (g.W.RowSink.bytes c.args.buf.now) (g.W.RowSink.bytes c.loop-plane.buf) (g.W.RowSink.bytes c.read_rows.new.buf) q c.loop-plane-test.true t same
           c.loop-plane.invariant.written c.in_ok-read_rows.ensures.ok;
     }
 
@@ -108,9 +108,9 @@ pub returns-clause-answer : goal.returns-clause-answer
 returns-clause-answer g c =
     let p = c.args.self.now.page.now in
     let e : c.loop-plane.plane ≡ c.args.unit.planes = omega (arith, c.loop-plane-test.false, c.loop-plane.auto.plane-end) in
-    unit_filled (g.R.Source.told c.args.source.now).bytes c.args.self.now.order (view.page p) c.args.self.now.limits.now c.args.unit.color (sides_of p) p.sampled p.deep c.requires.colored c.args.unit.stride c.args.unit.index c.args.unit.planes c.requires.which (g.W.RowWriter.bytes c.args.buf.now) (g.W.RowWriter.bytes c.loop-plane.buf) c.requires.columns
+    unit_filled (g.R.Source.told c.args.source.now).bytes c.args.self.now.order (view.page p) c.args.self.now.limits.now c.args.unit.color (sides_of p) p.sampled p.deep c.requires.colored c.args.unit.stride c.args.unit.index c.args.unit.planes c.requires.which (g.W.RowSink.bytes c.args.buf.now) (g.W.RowSink.bytes c.loop-plane.buf) c.requires.columns
     (subst (λ (m : ℕ). each_below (in_unit (g.R.Source.told c.args.source.now).bytes c.args.self.now.order (view.page p) c.args.self.now.limits.now c.args.unit.color (sides_of p) p.sampled p.deep c.requires.colored c.args.unit.stride c.args.unit.index c.args.unit.planes c.requires.which) m ≡ Ok tt) e c.loop-plane.invariant.none)
-    (subst (λ (m : ℕ). Writes (IsInUnit (view.page p) c.args.unit.color c.args.unit.stride c.args.unit.index m) (unit_byte (g.R.Source.told c.args.source.now).bytes c.args.self.now.order (view.page p) c.args.unit.color c.args.unit.stride c.args.unit.index) (g.W.RowWriter.bytes c.args.buf.now) (g.W.RowWriter.bytes c.loop-plane.buf)) e c.loop-plane.invariant.written)
+    (subst (λ (m : ℕ). Writes (IsInUnit (view.page p) c.args.unit.color c.args.unit.stride c.args.unit.index m) (unit_byte (g.R.Source.told c.args.source.now).bytes c.args.self.now.order (view.page p) c.args.unit.color c.args.unit.stride c.args.unit.index) (g.W.RowSink.bytes c.args.buf.now) (g.W.RowSink.bytes c.loop-plane.buf)) e c.loop-plane.invariant.written)
 
 pub returns-in_err-read_rows-clause-asked : goal.returns-in_err-read_rows-clause-asked
 returns-in_err-read_rows-clause-asked g c =

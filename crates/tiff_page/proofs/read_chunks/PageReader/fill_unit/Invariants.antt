@@ -15,5 +15,5 @@ invariant-loop-plane g l =
       same : g.R.Source.told l.source ≡ g.R.Source.told l.fn.source;
       count : g.R.Source.failures l.source ≡ g.R.Source.failures l.fn.source;
       none : each_below (λ plane. chunk_fault p l.self.limits.now (is_short bytes l.self.order p l.unit.color) l.unit.color (plane * chunks_of_plane p + (l.unit.index + 0))) l.plane ≡ Ok tt;
-      written : Writes (IsInUnit p l.unit.color l.unit.stride l.unit.index l.plane) (unit_byte bytes l.self.order p l.unit.color l.unit.stride l.unit.index) (g.W.RowWriter.bytes l.fn.buf) (g.W.RowWriter.bytes l.buf);
+      written : Writes (IsInUnit p l.unit.color l.unit.stride l.unit.index l.plane) (unit_byte bytes l.self.order p l.unit.color l.unit.stride l.unit.index) (g.W.RowSink.bytes l.fn.buf) (g.W.RowSink.bytes l.buf);
     }

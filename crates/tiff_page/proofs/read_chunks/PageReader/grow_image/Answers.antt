@@ -34,7 +34,7 @@ returns-in_err-fill_chunk-clause-answer g c =
     (same_bytes c.loop-chunk.invariant.same) c.in_err-fill_chunk.ensures.answer in
     let answered = err_from_is_err_and c.from_residual-in_err-fill_chunk.result c.from_residual-in_err-fill_chunk.ensures.1 in
     rw (answered.1, answered.2) (chunk_cause file c.args.self.now.order (view.page p) c.args.self.now.limits.now (layout c.args.part.layout) (sides_of p) p.sampled p.deep c.requires.laid c.args.part.planes
-    _ _ c.loop-chunk.chunk (replicate (g.W.RowWriter.whole c.args.len) 0) c.in_err-fill_chunk.field-0.0 (λ f. omega (arith, f, c.loop-chunk.invariant.count)) (omega (arith, c.loop-chunk-test.true, c.chunks_of_plane-chunk-end.ensures.count)) c.loop-chunk.invariant.none given)
+    _ _ c.loop-chunk.chunk (replicate (g.W.RowSink.whole c.args.len) 0) c.in_err-fill_chunk.field-0.0 (λ f. omega (arith, f, c.loop-chunk.invariant.count)) (omega (arith, c.loop-chunk-test.true, c.chunks_of_plane-chunk-end.ensures.count)) c.loop-chunk.invariant.none given)
 
 pub loop-chunk-preserved : goal.loop-chunk-preserved
 loop-chunk-preserved g c =
@@ -44,8 +44,8 @@ loop-chunk-preserved g c =
     let color = c.args.part.layout.color in
     let stride = c.args.part.layout.row_bytes in
     let planes = c.args.part.planes in
-    let bytes = g.W.RowWriter.bytes in
-    let total = g.W.RowWriter.whole c.args.len in
+    let bytes = g.W.RowSink.bytes in
+    let total = g.W.RowSink.whole c.args.len in
     let i = c.loop-chunk.invariant in
     let same = (same_bytes i.same) in
     let given = subst
@@ -59,11 +59,11 @@ loop-chunk-preserved g c =
     same c.in_ok-fill_chunk.ensures.ok in
     let end = c.bytes_up_to.result in
     let grew = ap bytes c.deref_mut.ensures.value ∙ c.in_ok-grow.ensures in
-    let enough = g.met.W.RowWriter.enough end c.args.len (omega (arith, c.bytes_up_to.ensures.within, c.requires.room)) in
-    let within = grown_within total (g.W.RowWriter.whole end) (bytes c.loop-chunk.list.items) (bytes c.deref_mut.result.now) grew i.within enough.1 in
+    let enough = g.met.W.RowSink.enough end c.args.len (omega (arith, c.bytes_up_to.ensures.within, c.requires.room)) in
+    let within = grown_within total (g.W.RowSink.whole end) (bytes c.loop-chunk.list.items) (bytes c.deref_mut.result.now) grew i.within enough.1 in
     let filled = grown_filled total _ (bytes c.loop-chunk.list.items) (bytes c.deref_mut.result.now) grew within.0 in
     let back = all_written c.fill_chunk.new.buf c.grow.new.list.items c.grow.new.list.len (search rules) in
-    let long = g.met.W.RowWriter.same_length c.fill_chunk.new.buf c.deref_mut.result.now c.fill_chunk.auto.buf in
+    let long = g.met.W.RowSink.same_length c.fill_chunk.new.buf c.deref_mut.result.now c.fill_chunk.auto.buf in
     let holds = holds_more (view.page p) color stride planes c.loop-chunk.chunk end (length (bytes c.deref_mut.result.now)) (omega (arith, enough.0, within.1)) c.bytes_up_to.ensures.holds in
     let was = subst (λ (xs : List ℕ). Writes (IsBefore (view.page p) color stride planes c.loop-chunk.chunk 0) (image_byte (view.page p) color stride file order) (replicate total 0) xs) (sym filled) i.written in
     let in_plane : c.loop-chunk.chunk < chunks_of_plane (view.page p) = omega (arith, c.loop-chunk-test.true, c.chunks_of_plane-chunk-end.ensures.count) in
@@ -83,13 +83,13 @@ pub returns-clause-answer : goal.returns-clause-answer
 returns-clause-answer g c =
     let p = c.args.self.now.page.now in
     let file = (g.R.Source.told c.args.source.now).bytes in
-    let total = g.W.RowWriter.whole c.args.len in
+    let total = g.W.RowSink.whole c.args.len in
     let e : c.loop-chunk.chunk ≡ chunks_of_plane (view.page p) = omega (arith, c.loop-chunk-test.false, c.loop-chunk.auto.chunk-end, c.chunks_of_plane-chunk-end.ensures.count) in
     let full = c.in_ok-grow-2.ensures in
-    image_filled file c.args.self.now.order (view.page p) c.args.self.now.limits.now (layout c.args.part.layout) (sides_of p) p.sampled p.deep c.requires.laid c.args.part.planes (replicate total 0) (g.W.RowWriter.bytes c.grow-2.new.list.items) c.requires.some
+    image_filled file c.args.self.now.order (view.page p) c.args.self.now.limits.now (layout c.args.part.layout) (sides_of p) p.sampled p.deep c.requires.laid c.args.part.planes (replicate total 0) (g.W.RowSink.bytes c.grow-2.new.list.items) c.requires.some
     (subst (λ (m : ℕ). each_below (of_chunk file c.args.self.now.order (view.page p) c.args.self.now.limits.now (layout c.args.part.layout) (sides_of p) p.sampled p.deep c.requires.laid c.args.part.planes) m ≡ Ok tt) e c.loop-chunk.invariant.none)
     (subst (λ (xs : List ℕ). Writes (IsBefore (view.page p) c.args.part.layout.color c.args.part.layout.row_bytes c.args.part.planes (chunks_of_plane (view.page p)) 0) (image_byte (view.page p) c.args.part.layout.color c.args.part.layout.row_bytes file c.args.self.now.order) (replicate total 0) xs) (sym full)
-    (subst (λ (m : ℕ). Writes (IsBefore (view.page p) c.args.part.layout.color c.args.part.layout.row_bytes c.args.part.planes m 0) (image_byte (view.page p) c.args.part.layout.color c.args.part.layout.row_bytes file c.args.self.now.order) (replicate total 0) (filled_to total (g.W.RowWriter.bytes c.loop-chunk.list.items))) e c.loop-chunk.invariant.written))
+    (subst (λ (m : ℕ). Writes (IsBefore (view.page p) c.args.part.layout.color c.args.part.layout.row_bytes c.args.part.planes m 0) (image_byte (view.page p) c.args.part.layout.color c.args.part.layout.row_bytes file c.args.self.now.order) (replicate total 0) (filled_to total (g.W.RowSink.bytes c.loop-chunk.list.items))) e c.loop-chunk.invariant.written))
 
 pub returns-in_err-fill_chunk-clause-asked : goal.returns-in_err-fill_chunk-clause-asked
 returns-in_err-fill_chunk-clause-asked g c =

@@ -15,11 +15,11 @@ invariant-loop-chunk g l =
     let p = view.page l.self.page.now in
     let color = l.part.layout.color in
     let stride = l.part.layout.row_bytes in
-    let total = g.W.RowWriter.whole l.len in
+    let total = g.W.RowSink.whole l.len in
     record {
       same : g.R.Source.told l.source ≡ g.R.Source.told l.fn.source;
       count : g.R.Source.failures l.source ≡ g.R.Source.failures l.fn.source;
       none : each_below (λ j. each_below (λ plane. chunk_fault p l.self.limits.now (is_short bytes l.self.order p color) color (plane * chunks_of_plane p + (0 + j))) l.part.planes) l.chunk ≡ Ok tt;
-      within : length (g.W.RowWriter.bytes l.list.items) ≤ total;
-      written : Writes (IsBefore p color stride l.part.planes l.chunk 0) (image_byte p color stride bytes l.self.order) (replicate total 0) (filled_to total (g.W.RowWriter.bytes l.list.items));
+      within : length (g.W.RowSink.bytes l.list.items) ≤ total;
+      written : Writes (IsBefore p color stride l.part.planes l.chunk 0) (image_byte p color stride bytes l.self.order) (replicate total 0) (filled_to total (g.W.RowSink.bytes l.list.items));
     }

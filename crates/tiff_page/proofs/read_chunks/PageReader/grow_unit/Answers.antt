@@ -8,20 +8,20 @@ use Rattle.tiff_page.proofs.read_chunks.PageReader.grow_unit.Goals as goal
 
 pub fill_unit-requires-clause-room : goal.fill_unit-requires-clause-room
 fill_unit-requires-clause-room g c =
-    let bytes = g.W.RowWriter.bytes in
-    let total = g.W.RowWriter.whole c.args.len in
+    let bytes = g.W.RowSink.bytes in
+    let total = g.W.RowSink.whole c.args.len in
     let grew = ap bytes c.deref_mut.ensures.value ∙ c.in_ok-grow.ensures in
-    let none = ap (λ (xs : List g.row.T.Denot). length (bytes xs)) c.requires.none ∙ ap (λ (xs : List ℕ). length xs) g.met.W.RowWriter.none in
+    let none = ap (λ (xs : List g.row.T.Denot). length (bytes xs)) c.requires.none ∙ ap (λ (xs : List ℕ). length xs) g.met.W.RowSink.none in
     let within = grown_within total total (bytes c.args.list.now.items) (bytes c.deref_mut.result.now) grew (omega (arith, none)) (omega arith) in
-    let enough = g.met.W.RowWriter.enough c.args.len c.args.len (omega arith) in
+    let enough = g.met.W.RowSink.enough c.args.len c.args.len (omega arith) in
     omega (arith, within.1, enough.0, c.requires.room)
 
 pub returns-clause-answer : goal.returns-clause-answer
 returns-clause-answer g c =
     let p = c.args.self.now.page.now in
-    let bytes = g.W.RowWriter.bytes in
-    let total = g.W.RowWriter.whole c.args.len in
-    let empty = ap bytes c.requires.none ∙ g.met.W.RowWriter.none in
+    let bytes = g.W.RowSink.bytes in
+    let total = g.W.RowSink.whole c.args.len in
+    let empty = ap bytes c.requires.none ∙ g.met.W.RowSink.none in
     let zeros = ap bytes c.deref_mut.ensures.value ∙ c.in_ok-grow.ensures ∙ none_filled total (bytes c.args.list.now.items) empty in
     let back = all_written c.fill_unit.new.buf c.grow.new.list.items c.grow.new.list.len (search rules) in
     let given : List ℕ → Type 0 = λ zs.

@@ -16,8 +16,8 @@ pub returns-in_ok-write_job_tag-in-WriteTag-clause-moves : goal.returns-in_ok-wr
 returns-in_ok-write_job_tag-in-WriteTag-clause-moves g c =
     let old : FileState = c.args.self.now.encoder.now in
     let new : FileState = c.write_job_tag.new.self.encoder.now in
-    let d : OpenDirectory = g.D.State.open_directory c.args.self.now.state in
-    let e : OpenDirectory = g.D.State.open_directory c.write_job_tag.new.self.state in
+    let d : OpenDirectory = g.D.HasDirectory.open_directory c.args.self.now.state in
+    let e : OpenDirectory = g.D.HasDirectory.open_directory c.write_job_tag.new.self.state in
     let call : Writing OpenDirectory = calls.write_tag d c.in-WriteTag.tag (value_data c.in-WriteTag.value) in
     stepped_by d e old new (Ok reply.Nothing) c.args.step.now (step.WriteTag c.in-WriteTag.tag c.in-WriteTag.value) c.in-WriteTag.is
     (changed d e old new call (tag_adds d c.in-WriteTag.tag (value_data c.in-WriteTag.value) old) c.in_ok-write_job_tag-in-WriteTag.ensures.answer c.in_ok-write_job_tag-in-WriteTag.ensures.leaves)
@@ -27,18 +27,18 @@ returns-in_err-write_job_tag-in-WriteTag-clause-moves g c =
     let p = err_from_is_err_and c.from_residual.result c.from_residual.ensures.1 in
     let old : FileState = c.args.self.now.encoder.now in
     let new : FileState = c.write_job_tag.new.self.encoder.now in
-    let d : OpenDirectory = g.D.State.open_directory c.args.self.now.state in
-    let e : OpenDirectory = g.D.State.open_directory c.write_job_tag.new.self.state in
+    let d : OpenDirectory = g.D.HasDirectory.open_directory c.args.self.now.state in
+    let e : OpenDirectory = g.D.HasDirectory.open_directory c.write_job_tag.new.self.state in
     let call : Writing OpenDirectory = calls.write_tag d c.in-WriteTag.tag (value_data c.in-WriteTag.value) in
     rw (p.1, p.2) (stepped_by d e old new (Err c.in_err-write_job_tag-in-WriteTag.field-0.0) c.args.step.now (step.WriteTag c.in-WriteTag.tag c.in-WriteTag.value) c.in-WriteTag.is
-    (unchanged d e old new call c.in_err-write_job_tag-in-WriteTag.field-0.0 (tag_adds d c.in-WriteTag.tag (value_data c.in-WriteTag.value) old) c.in_err-write_job_tag-in-WriteTag.ensures.answer c.in_err-write_job_tag-in-WriteTag.ensures.leaves (ap g.D.State.open_directory c.in_err-write_job_tag-in-WriteTag.ensures.stays)))
+    (unchanged d e old new call c.in_err-write_job_tag-in-WriteTag.field-0.0 (tag_adds d c.in-WriteTag.tag (value_data c.in-WriteTag.value) old) c.in_err-write_job_tag-in-WriteTag.ensures.answer c.in_err-write_job_tag-in-WriteTag.ensures.leaves (ap g.D.HasDirectory.open_directory c.in_err-write_job_tag-in-WriteTag.ensures.stays)))
 
 pub returns-in_ok-write_job_tag_buf-in-WriteTagBuf-clause-moves : goal.returns-in_ok-write_job_tag_buf-in-WriteTagBuf-clause-moves
 returns-in_ok-write_job_tag_buf-in-WriteTagBuf-clause-moves g c =
     let old : FileState = c.args.self.now.encoder.now in
     let new : FileState = c.write_job_tag_buf.new.self.encoder.now in
-    let d : OpenDirectory = g.D.State.open_directory c.args.self.now.state in
-    let e : OpenDirectory = g.D.State.open_directory c.write_job_tag_buf.new.self.state in
+    let d : OpenDirectory = g.D.HasDirectory.open_directory c.args.self.now.state in
+    let e : OpenDirectory = g.D.HasDirectory.open_directory c.write_job_tag_buf.new.self.state in
     let call : Writing OpenDirectory = calls.write_tag_buf d c.in-WriteTagBuf.tag (buffer_in c.in-WriteTagBuf.buffer) in
     stepped_by d e old new (Ok reply.Nothing) c.args.step.now (step.WriteTagBuf c.in-WriteTagBuf.tag c.in-WriteTagBuf.buffer) c.in-WriteTagBuf.is
     (changed d e old new call (tag_buf_adds d c.in-WriteTagBuf.tag (buffer_in c.in-WriteTagBuf.buffer) old) c.in_ok-write_job_tag_buf-in-WriteTagBuf.ensures.answer c.in_ok-write_job_tag_buf-in-WriteTagBuf.ensures.leaves)
@@ -48,17 +48,17 @@ returns-in_err-write_job_tag_buf-in-WriteTagBuf-clause-moves g c =
     let p = err_from_is_err_and c.from_residual-in_err-write_job_tag_buf-in-WriteTagBuf.result c.from_residual-in_err-write_job_tag_buf-in-WriteTagBuf.ensures.1 in
     let old : FileState = c.args.self.now.encoder.now in
     let new : FileState = c.write_job_tag_buf.new.self.encoder.now in
-    let d : OpenDirectory = g.D.State.open_directory c.args.self.now.state in
-    let e : OpenDirectory = g.D.State.open_directory c.write_job_tag_buf.new.self.state in
+    let d : OpenDirectory = g.D.HasDirectory.open_directory c.args.self.now.state in
+    let e : OpenDirectory = g.D.HasDirectory.open_directory c.write_job_tag_buf.new.self.state in
     let call : Writing OpenDirectory = calls.write_tag_buf d c.in-WriteTagBuf.tag (buffer_in c.in-WriteTagBuf.buffer) in
     rw (p.1, p.2) (stepped_by d e old new (Err c.in_err-write_job_tag_buf-in-WriteTagBuf.field-0.0) c.args.step.now (step.WriteTagBuf c.in-WriteTagBuf.tag c.in-WriteTagBuf.buffer) c.in-WriteTagBuf.is
-    (unchanged d e old new call c.in_err-write_job_tag_buf-in-WriteTagBuf.field-0.0 (tag_buf_adds d c.in-WriteTagBuf.tag (buffer_in c.in-WriteTagBuf.buffer) old) c.in_err-write_job_tag_buf-in-WriteTagBuf.ensures.answer c.in_err-write_job_tag_buf-in-WriteTagBuf.ensures.leaves (ap g.D.State.open_directory c.in_err-write_job_tag_buf-in-WriteTagBuf.ensures.stays)))
+    (unchanged d e old new call c.in_err-write_job_tag_buf-in-WriteTagBuf.field-0.0 (tag_buf_adds d c.in-WriteTagBuf.tag (buffer_in c.in-WriteTagBuf.buffer) old) c.in_err-write_job_tag_buf-in-WriteTagBuf.ensures.answer c.in_err-write_job_tag_buf-in-WriteTagBuf.ensures.leaves (ap g.D.HasDirectory.open_directory c.in_err-write_job_tag_buf-in-WriteTagBuf.ensures.stays)))
 
 pub returns-in_ok-offset-in-WriteData-clause-moves : goal.returns-in_ok-offset-in-WriteData-clause-moves
 returns-in_ok-offset-in-WriteData-clause-moves g c =
     let old : FileState = c.args.self.now.encoder.now in
     let new : FileState = c.append_job_value.new.self in
-    let d : OpenDirectory = g.D.State.open_directory c.args.self.now.state in
+    let d : OpenDirectory = g.D.HasDirectory.open_directory c.args.self.now.state in
     let call : Writing ℕ = calls.write_data (value_data c.in-WriteData.value) in
     stepped_by d d old new (Ok (reply.Number c.in_ok-offset-in-WriteData.offset)) c.args.step.now (step.WriteData c.in-WriteData.value) c.in-WriteData.is
     (replied d d old new reply.Number call c.in_ok-offset-in-WriteData.offset (data_adds (value_data c.in-WriteData.value) old) c.in_ok-offset-in-WriteData.ensures.answer c.in_ok-offset-in-WriteData.ensures.leaves refl)
@@ -68,7 +68,7 @@ returns-in_err-offset-in-WriteData-clause-moves g c =
     let p = err_from_is_err_and c.from_residual-in_err-offset-in-WriteData.result c.from_residual-in_err-offset-in-WriteData.ensures.1 in
     let old : FileState = c.args.self.now.encoder.now in
     let new : FileState = c.append_job_value.new.self in
-    let d : OpenDirectory = g.D.State.open_directory c.args.self.now.state in
+    let d : OpenDirectory = g.D.HasDirectory.open_directory c.args.self.now.state in
     let call : Writing ℕ = calls.write_data (value_data c.in-WriteData.value) in
     rw (p.1, p.2) (stepped_by d d old new (Err c.in_err-offset-in-WriteData.field-0.0) c.args.step.now (step.WriteData c.in-WriteData.value) c.in-WriteData.is
     (unreplied d d old new reply.Number call c.in_err-offset-in-WriteData.field-0.0 (data_adds (value_data c.in-WriteData.value) old) c.in_err-offset-in-WriteData.ensures.answer c.in_err-offset-in-WriteData.ensures.leaves refl))
@@ -77,7 +77,7 @@ pub returns-in_ok-offset-in-WriteDataBuf-clause-moves : goal.returns-in_ok-offse
 returns-in_ok-offset-in-WriteDataBuf-clause-moves g c =
     let old : FileState = c.args.self.now.encoder.now in
     let new : FileState = c.append_job_buffer.new.self in
-    let d : OpenDirectory = g.D.State.open_directory c.args.self.now.state in
+    let d : OpenDirectory = g.D.HasDirectory.open_directory c.args.self.now.state in
     let call : Writing ℕ = calls.write_data_buf (buffer_in c.in-WriteDataBuf.buffer) in
     stepped_by d d old new (Ok (reply.Number c.in_ok-offset-in-WriteDataBuf.offset)) c.args.step.now (step.WriteDataBuf c.in-WriteDataBuf.buffer) c.in-WriteDataBuf.is
     (replied d d old new reply.Number call c.in_ok-offset-in-WriteDataBuf.offset (data_buf_adds (buffer_in c.in-WriteDataBuf.buffer) old) c.in_ok-offset-in-WriteDataBuf.ensures.answer c.in_ok-offset-in-WriteDataBuf.ensures.leaves refl)
@@ -87,7 +87,7 @@ returns-in_err-offset-in-WriteDataBuf-clause-moves g c =
     let p = err_from_is_err_and c.from_residual-in_err-offset-in-WriteDataBuf.result c.from_residual-in_err-offset-in-WriteDataBuf.ensures.1 in
     let old : FileState = c.args.self.now.encoder.now in
     let new : FileState = c.append_job_buffer.new.self in
-    let d : OpenDirectory = g.D.State.open_directory c.args.self.now.state in
+    let d : OpenDirectory = g.D.HasDirectory.open_directory c.args.self.now.state in
     let call : Writing ℕ = calls.write_data_buf (buffer_in c.in-WriteDataBuf.buffer) in
     rw (p.1, p.2) (stepped_by d d old new (Err c.in_err-offset-in-WriteDataBuf.field-0.0) c.args.step.now (step.WriteDataBuf c.in-WriteDataBuf.buffer) c.in-WriteDataBuf.is
     (unreplied d d old new reply.Number call c.in_err-offset-in-WriteDataBuf.field-0.0 (data_buf_adds (buffer_in c.in-WriteDataBuf.buffer) old) c.in_err-offset-in-WriteDataBuf.ensures.answer c.in_err-offset-in-WriteDataBuf.ensures.leaves refl))
@@ -96,7 +96,7 @@ pub returns-in_ok-entry-in-WriteEntry-clause-moves : goal.returns-in_ok-entry-in
 returns-in_ok-entry-in-WriteEntry-clause-moves g c =
     let old : FileState = c.args.self.now.encoder.now in
     let new : FileState = c.place_job_value.new.self in
-    let d : OpenDirectory = g.D.State.open_directory c.args.self.now.state in
+    let d : OpenDirectory = g.D.HasDirectory.open_directory c.args.self.now.state in
     let call : Writing Field = calls.write_entry (value_data c.in-WriteEntry.value) in
     stepped_by d d old new (Ok (reply.Written c.in_ok-entry-in-WriteEntry.entry)) c.args.step.now (step.WriteEntry c.in-WriteEntry.value) c.in-WriteEntry.is
     (replied d d old new reply.Written call c.in_ok-entry-in-WriteEntry.entry (entry_adds (value_data c.in-WriteEntry.value) old) c.in_ok-entry-in-WriteEntry.ensures.answer c.in_ok-entry-in-WriteEntry.ensures.leaves refl)
@@ -106,7 +106,7 @@ returns-in_err-entry-in-WriteEntry-clause-moves g c =
     let p = err_from_is_err_and c.from_residual-in_err-entry-in-WriteEntry.result c.from_residual-in_err-entry-in-WriteEntry.ensures.1 in
     let old : FileState = c.args.self.now.encoder.now in
     let new : FileState = c.place_job_value.new.self in
-    let d : OpenDirectory = g.D.State.open_directory c.args.self.now.state in
+    let d : OpenDirectory = g.D.HasDirectory.open_directory c.args.self.now.state in
     let call : Writing Field = calls.write_entry (value_data c.in-WriteEntry.value) in
     rw (p.1, p.2) (stepped_by d d old new (Err c.in_err-entry-in-WriteEntry.field-0.0) c.args.step.now (step.WriteEntry c.in-WriteEntry.value) c.in-WriteEntry.is
     (unreplied d d old new reply.Written call c.in_err-entry-in-WriteEntry.field-0.0 (entry_adds (value_data c.in-WriteEntry.value) old) c.in_err-entry-in-WriteEntry.ensures.answer c.in_err-entry-in-WriteEntry.ensures.leaves refl))
@@ -115,7 +115,7 @@ pub returns-in_ok-entry-in-WriteEntryBuf-clause-moves : goal.returns-in_ok-entry
 returns-in_ok-entry-in-WriteEntryBuf-clause-moves g c =
     let old : FileState = c.args.self.now.encoder.now in
     let new : FileState = c.place_job_buffer.new.self in
-    let d : OpenDirectory = g.D.State.open_directory c.args.self.now.state in
+    let d : OpenDirectory = g.D.HasDirectory.open_directory c.args.self.now.state in
     let call : Writing Field = calls.write_entry_buf (buffer_in c.in-WriteEntryBuf.buffer) in
     stepped_by d d old new (Ok (reply.Written c.in_ok-entry-in-WriteEntryBuf.entry)) c.args.step.now (step.WriteEntryBuf c.in-WriteEntryBuf.buffer) c.in-WriteEntryBuf.is
     (replied d d old new reply.Written call c.in_ok-entry-in-WriteEntryBuf.entry (entry_buf_adds (buffer_in c.in-WriteEntryBuf.buffer) old) c.in_ok-entry-in-WriteEntryBuf.ensures.answer c.in_ok-entry-in-WriteEntryBuf.ensures.leaves refl)
@@ -125,7 +125,7 @@ returns-in_err-entry-in-WriteEntryBuf-clause-moves g c =
     let p = err_from_is_err_and c.from_residual-in_err-entry-in-WriteEntryBuf.result c.from_residual-in_err-entry-in-WriteEntryBuf.ensures.1 in
     let old : FileState = c.args.self.now.encoder.now in
     let new : FileState = c.place_job_buffer.new.self in
-    let d : OpenDirectory = g.D.State.open_directory c.args.self.now.state in
+    let d : OpenDirectory = g.D.HasDirectory.open_directory c.args.self.now.state in
     let call : Writing Field = calls.write_entry_buf (buffer_in c.in-WriteEntryBuf.buffer) in
     rw (p.1, p.2) (stepped_by d d old new (Err c.in_err-entry-in-WriteEntryBuf.field-0.0) c.args.step.now (step.WriteEntryBuf c.in-WriteEntryBuf.buffer) c.in-WriteEntryBuf.is
     (unreplied d d old new reply.Written call c.in_err-entry-in-WriteEntryBuf.field-0.0 (entry_buf_adds (buffer_in c.in-WriteEntryBuf.buffer) old) c.in_err-entry-in-WriteEntryBuf.ensures.answer c.in_err-entry-in-WriteEntryBuf.ensures.leaves refl))
@@ -134,21 +134,21 @@ pub returns-in_ok-entry-in-WriteEntryBytes-clause-moves : goal.returns-in_ok-ent
 returns-in_ok-entry-in-WriteEntryBytes-clause-moves g c =
     let old : FileState = c.args.self.now.encoder.now in
     let new : FileState = c.write_entry_bytes.new.self.encoder.now in
-    let d : OpenDirectory = g.D.State.open_directory c.args.self.now.state in
-    let e : OpenDirectory = g.D.State.open_directory c.write_entry_bytes.new.self.state in
+    let d : OpenDirectory = g.D.HasDirectory.open_directory c.args.self.now.state in
+    let e : OpenDirectory = g.D.HasDirectory.open_directory c.write_entry_bytes.new.self.state in
     let call : Writing Field = calls.write_entry_bytes c.in-WriteEntryBytes.field_type c.deref.result.now in
     stepped_by d e old new (Ok (reply.Written c.in_ok-entry-in-WriteEntryBytes.entry)) c.args.step.now (step.WriteEntryBytes c.in-WriteEntryBytes.field_type c.in-WriteEntryBytes.bytes) c.in-WriteEntryBytes.is
     (subst (λ xs. Moves (λ s t. Replies reply.Written (calls.write_entry_bytes c.in-WriteEntryBytes.field_type xs) d (Ok (reply.Written c.in_ok-entry-in-WriteEntryBytes.entry)) s t e) old new) c.deref.ensures.value
-    (replied d e old new reply.Written call c.in_ok-entry-in-WriteEntryBytes.entry (entry_bytes_adds c.in-WriteEntryBytes.field_type c.deref.result.now old) c.in_ok-entry-in-WriteEntryBytes.ensures.answer c.in_ok-entry-in-WriteEntryBytes.ensures.leaves (ap g.D.State.open_directory c.in_ok-entry-in-WriteEntryBytes.ensures.stays)))
+    (replied d e old new reply.Written call c.in_ok-entry-in-WriteEntryBytes.entry (entry_bytes_adds c.in-WriteEntryBytes.field_type c.deref.result.now old) c.in_ok-entry-in-WriteEntryBytes.ensures.answer c.in_ok-entry-in-WriteEntryBytes.ensures.leaves (ap g.D.HasDirectory.open_directory c.in_ok-entry-in-WriteEntryBytes.ensures.stays)))
 
 pub returns-in_err-entry-in-WriteEntryBytes-clause-moves : goal.returns-in_err-entry-in-WriteEntryBytes-clause-moves
 returns-in_err-entry-in-WriteEntryBytes-clause-moves g c =
     let p = err_from_is_err_and c.from_residual-in_err-entry-in-WriteEntryBytes.result c.from_residual-in_err-entry-in-WriteEntryBytes.ensures.1 in
     let old : FileState = c.args.self.now.encoder.now in
     let new : FileState = c.write_entry_bytes.new.self.encoder.now in
-    let d : OpenDirectory = g.D.State.open_directory c.args.self.now.state in
-    let e : OpenDirectory = g.D.State.open_directory c.write_entry_bytes.new.self.state in
+    let d : OpenDirectory = g.D.HasDirectory.open_directory c.args.self.now.state in
+    let e : OpenDirectory = g.D.HasDirectory.open_directory c.write_entry_bytes.new.self.state in
     let call : Writing Field = calls.write_entry_bytes c.in-WriteEntryBytes.field_type c.deref.result.now in
     rw (p.1, p.2) (stepped_by d e old new (Err c.in_err-entry-in-WriteEntryBytes.field-0.0) c.args.step.now (step.WriteEntryBytes c.in-WriteEntryBytes.field_type c.in-WriteEntryBytes.bytes) c.in-WriteEntryBytes.is
     (subst (λ xs. Moves (λ s t. Replies reply.Written (calls.write_entry_bytes c.in-WriteEntryBytes.field_type xs) d (Err c.in_err-entry-in-WriteEntryBytes.field-0.0) s t e) old new) c.deref.ensures.value
-    (unreplied d e old new reply.Written call c.in_err-entry-in-WriteEntryBytes.field-0.0 (entry_bytes_adds c.in-WriteEntryBytes.field_type c.deref.result.now old) c.in_err-entry-in-WriteEntryBytes.ensures.answer c.in_err-entry-in-WriteEntryBytes.ensures.leaves (ap g.D.State.open_directory c.in_err-entry-in-WriteEntryBytes.ensures.stays))))
+    (unreplied d e old new reply.Written call c.in_err-entry-in-WriteEntryBytes.field-0.0 (entry_bytes_adds c.in-WriteEntryBytes.field_type c.deref.result.now old) c.in_err-entry-in-WriteEntryBytes.ensures.answer c.in_err-entry-in-WriteEntryBytes.ensures.leaves (ap g.D.HasDirectory.open_directory c.in_err-entry-in-WriteEntryBytes.ensures.stays))))

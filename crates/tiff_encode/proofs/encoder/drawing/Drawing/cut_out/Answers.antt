@@ -1,7 +1,7 @@
 use Rattle.std.proofs.Common.{◌≡◌, ◌*◌, ◌≤◌, map, ap, sym, ◌∙◌, subst, arith}
 use Rattle.tiff_base.specs.Types.{type_size}
 use Rattle.tiff_page.specs.Laws.{HasSides}
-use Rattle.tiff_page.specs.Pixels.{each_to}
+use Rattle.tiff_page.specs.Pixels.{tabulate}
 use Rattle.tiff_value.specs.ColorType.{sample_number}
 use Rattle.tiff_encode.specs.Chunks.{chunk_rows, image_page, row_samples}
 use Rattle.tiff_encode.specs.Parts.{rect_of, IsPatch}
@@ -31,4 +31,4 @@ returns g c =
     let last : c.rows_of-rows.result ≤ c.loop-at.at = c.loop-at-test.false in
     let within = c.loop-at.auto.at-end in
     let rows : c.loop-at.at ≡ chunk_rows p c.args.chunk = (let same : c.loop-at.at ≡ c.rows_of-rows.result = omega (arith, last, within) in same ∙ c.rows_of-rows.ensures.count) in
-    c.loop-at.invariant ∙ ap (λ n. each_to (n * row_samples p) (by_row p numbers c.args.chunk)) rows ∙ all_rows p numbers c.args.chunk
+    c.loop-at.invariant ∙ ap (λ n. tabulate (n * row_samples p) (by_row p numbers c.args.chunk)) rows ∙ all_rows p numbers c.args.chunk

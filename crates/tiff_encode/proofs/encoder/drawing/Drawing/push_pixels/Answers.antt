@@ -3,7 +3,7 @@ use Rattle.std.proofs.lemmas.List.{length-map, map-append}
 use Rattle.std.specs.Prelude.{slice_index}
 use Rattle.tiff_base.specs.declared.error.TiffError.TheVariants.{OutOfMemory}
 use Rattle.tiff_base.specs.Types.{type_size}
-use Rattle.tiff_page.specs.Pixels.{each_to}
+use Rattle.tiff_page.specs.Pixels.{tabulate}
 use Rattle.tiff_value.specs.ColorType.{sample_number}
 use Rattle.tiff_encode.specs.Causes.{image_samples}
 use Rattle.tiff_encode.specs.Chunks.{image_page}
@@ -82,7 +82,7 @@ returns-in-Planar g c =
     let planar = sym (ap (λ i. i.form.planar) c.self.view_is) ∙ c.in-Planar.is in
     let pixels : ℕ → ℕ → List ℕ = λ wide all.
     map number (take (((r.y + c.args.row) * wide + r.x) * all + r.width * all - ((r.y + c.args.row) * wide + r.x) * all) (drop (((r.y + c.args.row) * wide + r.x) * all) c.args.samples.now)) in
-    let row : List ℕ → ℕ → List ℕ = λ xs all. each_to r.width (λ column. slice_index xs (column * all + r.plane)) in
+    let row : List ℕ → ℕ → List ℕ = λ xs all. tabulate r.width (λ column. slice_index xs (column * all + r.plane)) in
     let same = (λ j. row (pixels (wide j) (all j)) (all j))
     ∙ ap (λ xs. row xs p.samples) (numbers_of number c.args.samples.now (((r.y + c.args.row) * p.width + r.x) * p.samples) (r.width * p.samples))
     ∙ planar_row p numbers r c.args.row whole planar (c.requires.part.plane planar) in

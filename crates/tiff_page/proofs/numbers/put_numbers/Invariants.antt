@@ -1,7 +1,0 @@
-use Rattle.std.proofs.Common.{map}
-use Rattle.tiff_page.specs.NumberBytes.{NumbersArePut}
-use Rattle.tiff_page.proofs.numbers.put_numbers.Given as goal
-
--- the numbers so far are put
-abbrev pub invariant-loop-k : goal.invariant-loop-k
-invariant-loop-k g l = NumbersArePut g.row.N l.first l.row l.k (map g.T.Number.bits l.fn.numbers) (map g.T.Number.bits l.numbers)
