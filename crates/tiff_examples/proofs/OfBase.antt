@@ -1,9 +1,5 @@
 -- What the definitions of `tiff_base` give, worked out.
-pub mod Number
-pub mod Header
-pub mod Tags
 pub mod Runs
 pub mod Directory
-pub mod FieldBytes
 pub mod SourceAndSink
 pub mod Answers

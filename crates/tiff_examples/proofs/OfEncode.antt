@@ -13,4 +13,3 @@ pub mod ImageData
 pub mod ImageDataWholes
 pub mod Tagging
 pub mod JobLists
-pub mod Stored

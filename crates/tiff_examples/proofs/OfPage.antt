@@ -1,9 +1,3 @@
 -- What the definitions of `tiff_page` give, worked out.
-pub mod Layout
-pub mod Pixels
-pub mod Buffers
-pub mod PixelCalls
-pub mod EarlyFaults
 pub mod Reach
-pub mod Checks
 pub mod Row

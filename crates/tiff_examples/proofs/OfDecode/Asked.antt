@@ -11,13 +11,11 @@ use Rattle.tiff_base.specs.declared.tags.ByteOrder.TheVariants.{LittleEndian}
 use Rattle.tiff_base.specs.declared.tags.FileKind.TheVariants.{Classic}
 use Rattle.tiff_base.specs.declared.tags.Tag.TheVariants as tag
 use Rattle.tiff_base.specs.declared.tags.«Type».TheVariants.{LONG}
-use Rattle.tiff_base.specs.Directory.{directory_at, entries_from, entry_of, last_of_each}
+use Rattle.tiff_base.specs.Directory.{directory_at}
 use Rattle.tiff_base.specs.Field.{DirectoryRecord, Field}
-use Rattle.tiff_base.specs.Header.{Header, header_at}
-use Rattle.tiff_base.specs.Number.{number}
-use Rattle.tiff_base.specs.SourceAndSink.{SourceRecord, answers_for}
-use Rattle.tiff_base.specs.Tags.{type_of}
-use Rattle.tiff_ifd.specs.Chain.{IsChain, chain, link_from}
+use Rattle.tiff_base.specs.Header.{Header}
+use Rattle.tiff_base.specs.SourceAndSink.{SourceRecord}
+use Rattle.tiff_ifd.specs.Chain.{IsChain, link_from}
 use Rattle.tiff_ifd.specs.Stretches.{DirectoryReadable, LinkReadable}
 use Rattle.tiff_ifd.specs.Walk.{ChainBegins, Walked, link_behind}
 use Rattle.tiff_page.specs.Reach.{PageReadable}
@@ -30,6 +28,7 @@ use Rattle.tiff_examples.proofs.OfIfd.Stretches.{count_in}
 use Rattle.tiff_examples.proofs.OfIfd.Walk.{ends_there, goes_on, offset_of}
 use Rattle.tiff_examples.proofs.Stretches.{in_first, in_later}
 use Rattle.tiff_examples.proofs.TagsHeld.{page_held, tag_held, tag_unheld}
+use Rattle.tiff.proofs.OnLiterals.{tiff_on_literals}
 
 abbrev header_in : Result Header TiffError → Header
 header_in (Ok header) = header
@@ -46,7 +45,7 @@ gray_page : (source : SourceRecord) → PageReadable source Classic LittleEndian
 gray_page source = page_held source (reverse gray_entries) None (record { placed = λ w. absurd (omega (arith, w)) }) refl
 
 gray_entry : (stretches : List (ℕ × ℕ)) → DirectoryReadable (s.gray_source stretches) Classic LittleEndian 25 → EntryReadable (s.gray_source stretches) Classic LittleEndian 25
-unfolding directory_at number entries_from entry_of type_of last_of_each
+unfolding tiff_on_literals
 gray_entry stretches d = record {
   directory = d;
   page = λ directory e.
@@ -55,7 +54,7 @@ gray_entry stretches d = record {
 
 -- its directory has 174 bytes
 gray_directory : DirectoryReadable (s.gray_source ((0, 8) ∷ (25, 174) ∷ [])) Classic LittleEndian 25
-unfolding number
+unfolding tiff_on_literals
 gray_directory = record {
   count = λ k l h. in_later (0, 8) ((25, 174) ∷ []) k (in_first 25 174 [] k l (omega (arith, h)));
   entries = λ n e k l h.
@@ -64,7 +63,7 @@ gray_directory = record {
 }
 
 pub opens : s.opens
-unfolding header_at number
+unfolding tiff_on_literals
 opens = record {
   header = λ k l h. in_first 0 8 ((25, 174) ∷ []) k l h;
   first = λ header e.
@@ -73,14 +72,10 @@ opens = record {
 }
 
 pub opens_cut : s.opens_cut
-unfolding answers_for header_at number
+unfolding tiff_on_literals
 opens_cut = λ r.
     let header : Header = record { order = LittleEndian; kind = Classic; first = 25 } in
     false≢true ((r.first header refl).directory.entries 14 refl 198 (omega arith) (omega arith))
-
-pub opens_headless : s.opens_headless
-unfolding answers_for number
-opens_headless = λ r. false≢true (r.header 7 (omega arith) (omega arith))
 
 abbrev offsets : Field
 offsets = of LONG 3 (0x20 ∷ 0x00 ∷ 0x00 ∷ 0x00 ∷ 0x00 ∷ 0x00 ∷ 0x00 ∷ 0x00 ∷ [])
@@ -90,7 +85,7 @@ placed = s.placed_source ((14, 30) ∷ [])
 
 -- a directory of one entry
 placed_directory : DirectoryReadable placed Classic LittleEndian 14
-unfolding number
+unfolding tiff_on_literals
 placed_directory = record {
   count = λ k l h. in_first 14 30 [] k l (omega (arith, h));
   entries = λ n e k l h.
@@ -99,7 +94,7 @@ placed_directory = record {
 }
 
 pub enters : s.enters
-unfolding directory_at number entries_from entry_of type_of last_of_each
+unfolding tiff_on_literals
 enters = record {
   directory = placed_directory;
   page = λ directory e.
@@ -108,7 +103,7 @@ enters = record {
 }
 
 pub enters_cut : s.enters_cut
-unfolding answers_for directory_at number entries_from entry_of type_of last_of_each
+unfolding tiff_on_literals
 enters_cut = λ r.
     let source : SourceRecord = s.placed_source ((14, 29) ∷ []) in
     let directory : DirectoryRecord = directory_in (directory_at Classic LittleEndian s.placed_file 14) in
@@ -119,7 +114,7 @@ enters_cut = λ r.
 
 -- the count and the link of the only directory
 gray_link : LinkReadable (s.gray_source ((25, 2) ∷ (195, 4) ∷ [])) Classic LittleEndian 25
-unfolding number
+unfolding tiff_on_literals
 gray_link = record {
   count = λ k l h. in_first 25 2 ((195, 4) ∷ []) k l h;
   link = λ n e k l h.
@@ -130,7 +125,7 @@ gray_link = record {
 -- a walk has it before it, or nothing
 on_gray : (offsets : List ℕ) (next : Option ℕ) → ChainBegins Classic LittleEndian gray_file 25 (record { offsets = offsets; next = next }) → length offsets ≤ 1
     → (at : ℕ) → next ≡ Some at → 25 ≡ at
-unfolding chain directory_at number
+unfolding tiff_on_literals
 on_gray [] next b l at n =
     let link = link_from Classic LittleEndian gray_file in
     let on : IsChain link [] next (25 ∷ []) None = subst (λ rest. IsChain link [] next rest None) (sym b.offsets) b.goes_on in
@@ -142,7 +137,7 @@ on_gray (x ∷ []) next b l at n =
 on_gray (x ∷ y ∷ zs) next b l at n = absurd (omega (arith, l))
 
 pub seeks_1 : s.seeks_1
-unfolding chain directory_at number
+unfolding tiff_on_literals
 seeks_1 = record {
   way = record {
     link = λ w b l. record {
@@ -154,18 +149,18 @@ seeks_1 = record {
 
 -- the walk that begins at it
 begins_gray : ChainBegins Classic LittleEndian gray_file 25 (record { offsets = []; next = Some 25 })
-unfolding chain directory_at number
+unfolding tiff_on_literals
 begins_gray = record { linked = refl; rest = 25 ∷ []; offsets = refl; goes_on = (refl, None, refl, refl) }
 
 pub seeks_1_cut : s.seeks_1_cut
-unfolding answers_for number
+unfolding tiff_on_literals
 seeks_1_cut = λ r.
     let walk : Walked = record { offsets = []; next = Some 25 } in
     false≢true (((r.way.link walk begins_gray (omega arith)).link 25 refl).link 14 refl 198 (omega arith) (omega arith))
 
 -- all bytes of the directory
 gray_alone : DirectoryReadable (s.gray_source ((25, 174) ∷ [])) Classic LittleEndian 25
-unfolding number
+unfolding tiff_on_literals
 gray_alone = record {
   count = λ k l h. in_first 25 174 [] k l (omega (arith, h));
   entries = λ n e k l h.
@@ -174,7 +169,7 @@ gray_alone = record {
 }
 
 link_alone : LinkReadable (s.gray_source ((25, 174) ∷ [])) Classic LittleEndian 25
-unfolding number
+unfolding tiff_on_literals
 link_alone = record {
   count = λ k l h. in_first 25 174 [] k l (omega (arith, h));
   link = λ n e k l h.
@@ -183,7 +178,7 @@ link_alone = record {
 }
 
 pub seeks_0 : s.seeks_0
-unfolding chain directory_at number
+unfolding tiff_on_literals
 seeks_0 = record {
   way = record {
     link = λ w b l. record {
@@ -194,7 +189,7 @@ seeks_0 = record {
 }
 
 pub seeks_0_cut : s.seeks_0_cut
-unfolding answers_for chain directory_at number
+unfolding tiff_on_literals
 seeks_0_cut = λ r. false≢true ((r.entry 25 refl).directory.entries 14 refl 27 (omega arith) (omega arith))
 
 -- ---- the next page
@@ -208,25 +203,13 @@ abbrev next_in : Result (Option ℕ) TiffError → Option ℕ
 next_in (Ok next) = next
 next_in (Err e) = None
 
--- behind the only directory a walk has no next offset
-gray_ends : (walk : Walked) → ChainBegins Classic LittleEndian gray_file 25 walk → last_or None walk.offsets ≡ Some 25 → (at : ℕ) → walk.next ≡ Some at → ⊥
-unfolding directory_at number entries_from last_of_each
-gray_ends walk b last at n = none-some at (ap next_in (link_of gray_file 25 25 walk b last) ∙ n)
-
-pub none_behind : s.none_behind
-unfolding chain directory_at number
-none_behind = record {
-  entry = λ at e. absurd (none-some at e);
-  behind = λ w b last. record { directory = λ at n. absurd (gray_ends w b last at n) };
-}
-
 -- behind the first of two the second is next
 second_next : (walk : Walked) → ChainBegins Classic LittleEndian s.placed_file 8 walk → last_or None walk.offsets ≡ Some 8 → (at : ℕ) → walk.next ≡ Some at → 14 ≡ at
-unfolding directory_at number entries_from last_of_each
+unfolding tiff_on_literals
 second_next walk b last at n = ap offset_of (ap next_in (link_of s.placed_file 8 8 walk b last) ∙ n)
 
 pub second_behind : s.second_behind
-unfolding chain directory_at number
+unfolding tiff_on_literals
 second_behind = record {
   entry = λ at e. subst (λ p. EntryReadable placed Classic LittleEndian p) (ap offset_of e) enters;
   behind = λ w b last. record {
@@ -235,7 +218,7 @@ second_behind = record {
 }
 
 pub second_behind_cut : s.second_behind_cut
-unfolding chain directory_at number
+unfolding tiff_on_literals
 second_behind_cut = λ r. enters_cut (r.entry 14 refl)
 
 -- a file whose second directory links back to the first
@@ -248,33 +231,14 @@ cycle = FormatError CycleInOffsets
 
 -- behind its first directory the second is next
 back_next : (walk : Walked) → ChainBegins Classic LittleEndian back 25 walk → last_or None walk.offsets ≡ Some 25 → (at : ℕ) → walk.next ≡ Some at → 199 ≡ at
-unfolding directory_at number entries_from last_of_each
+unfolding tiff_on_literals
 back_next walk b last at n = ap offset_of (ap next_in (link_of back 25 25 walk b last) ∙ n)
 
 abbrev back_source : List (ℕ × ℕ) → SourceRecord
 back_source stretches = record { bytes = back; readable = Some stretches }
 
--- the second directory is its count and its link
-back_directory : DirectoryReadable (back_source ((199, 6) ∷ [])) Classic LittleEndian 199
-unfolding number
-back_directory = record {
-  count = λ k l h. in_first 199 6 [] k l (omega (arith, h));
-  entries = λ n e k l h.
-      let none : 0 ≡ n = ap count_in e in
-      in_first 199 6 [] k (omega (arith, l)) (omega (arith, h, none));
-}
-
-pub back_behind : s.back_behind
-unfolding chain directory_at number
-back_behind = record {
-  entry = λ at e. absurd (none-some at e);
-  behind = λ w b last. record {
-    directory = λ at n. subst (λ p. DirectoryReadable (back_source ((199, 6) ∷ [])) Classic LittleEndian p) (back_next w b last at n) back_directory;
-  };
-}
-
 pub back_behind_cut : s.back_behind_cut
-unfolding answers_for chain directory_at number
+unfolding tiff_on_literals
 back_behind_cut = λ r.
     let walk : Walked = record { offsets = 25 ∷ []; next = Some 199 } in
     let begins : ChainBegins Classic LittleEndian back 25 walk = record { linked = refl; rest = []; offsets = refl; goes_on = (cycle, refl, refl) } in
@@ -285,7 +249,7 @@ abbrev both : List (ℕ × ℕ)
 both = (25, 2) ∷ (195, 4) ∷ (199, 6) ∷ []
 
 back_first : LinkReadable (back_source both) Classic LittleEndian 25
-unfolding number
+unfolding tiff_on_literals
 back_first = record {
   count = λ k l h. in_first 25 2 ((195, 4) ∷ (199, 6) ∷ []) k l h;
   link = λ n e k l h.
@@ -294,7 +258,7 @@ back_first = record {
 }
 
 back_second : LinkReadable (back_source both) Classic LittleEndian 199
-unfolding number
+unfolding tiff_on_literals
 back_second = record {
   count = λ k l h. in_later (25, 2) ((195, 4) ∷ (199, 6) ∷ []) k (in_later (195, 4) ((199, 6) ∷ []) k (in_first 199 6 [] k l (omega (arith, h))));
   link = λ n e k l h.
@@ -305,7 +269,7 @@ back_second = record {
 -- a walk has one of them before it
 back_way : (offsets : List ℕ) (next : Option ℕ) → ChainBegins Classic LittleEndian back 25 (record { offsets = offsets; next = next })
     → (at : ℕ) → next ≡ Some at → LinkReadable (back_source both) Classic LittleEndian at
-unfolding chain directory_at number entries_from last_of_each
+unfolding tiff_on_literals
 back_way [] next b at n = subst (λ p. LinkReadable (back_source both) Classic LittleEndian p) (ap offset_of (ap next_in b.linked ∙ n)) back_first
 back_way (x ∷ []) next b at n =
     let first : Some x ≡ Some 25 = ap Some (sym (ap (λ xs. get_or xs 0 0) b.offsets)) in
@@ -314,14 +278,14 @@ back_way (x ∷ []) next b at n =
 back_way (x ∷ y ∷ zs) next b at n = absurd (omega (arith, ap length b.offsets))
 
 pub seeks_back : s.seeks_back
-unfolding chain directory_at number
+unfolding tiff_on_literals
 seeks_back = record {
   way = record { link = λ w b l. record { link = back_way w.offsets w.next b } };
   entry = λ at e. absurd (none-some at e);
 }
 
 pub seeks_back_cut : s.seeks_back_cut
-unfolding answers_for chain directory_at number
+unfolding tiff_on_literals
 seeks_back_cut = λ r.
     let walk : Walked = record { offsets = 25 ∷ []; next = Some 199 } in
     let begins : ChainBegins Classic LittleEndian back 25 walk = record { linked = refl; rest = []; offsets = refl; goes_on = (cycle, refl, refl) } in
@@ -329,20 +293,13 @@ seeks_back_cut = λ r.
 
 -- ---- reads at the offset, and of tags
 
-pub here_readable : s.here_readable
-here_readable = λ h. h (λ k l m. in_first 8 2 [] k l m)
-
-pub here_unreadable : s.here_unreadable
-unfolding answers_for
-here_unreadable = λ r. false≢true (r 10 (omega arith) (omega arith))
-
 pub tag_readable : s.tag_readable
-unfolding number
+unfolding tiff_on_literals
 tag_readable = λ h.
     h (tag_held (s.gray_source ((8, 8) ∷ [])) (reverse gray_entries) None tag.XResolution (record { placed = λ w k l m. in_first 8 8 [] k l m }))
 
 pub tag_unreadable : s.tag_unreadable
-unfolding answers_for number
+unfolding tiff_on_literals
 tag_unreadable =
     tag_unheld (s.gray_source ((8, 7) ∷ [])) (reverse gray_entries) None tag.XResolution
     (one_rational (0x08 ∷ 0x00 ∷ 0x00 ∷ 0x00 ∷ 0x00 ∷ 0x00 ∷ 0x00 ∷ 0x00 ∷ [])) refl
@@ -351,3 +308,22 @@ tag_unreadable =
 pub tag_in_entry : s.tag_in_entry
 tag_in_entry = λ h.
     h (tag_held (s.gray_source []) (reverse gray_entries) None tag.ImageWidth (record { placed = λ w. absurd (omega (arith, w)) }))
+
+pub ruleset worked = (
+  opens,
+  opens_cut,
+  enters,
+  enters_cut,
+  seeks_1,
+  seeks_1_cut,
+  seeks_0,
+  seeks_0_cut,
+  second_behind,
+  second_behind_cut,
+  back_behind_cut,
+  seeks_back,
+  seeks_back_cut,
+  tag_readable,
+  tag_unreadable,
+  tag_in_entry,
+)

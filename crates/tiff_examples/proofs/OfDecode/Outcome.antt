@@ -1,10 +1,5 @@
 -- The worked examples of Openings compute.
-use Rattle.std.specs.Prelude.{refl}
-use Rattle.tiff_base.specs.Tags as tags
-use Rattle.tiff_ifd.specs.Look as look
-use Rattle.tiff_ifd.specs.Look.{require}
-use Rattle.tiff_page.specs.Checks.{page_of, size_in, interpretation_in, method_in, samples_in, extra_in, format_in, depth_in, predictor_in, planar_in, subsampling_in, chunk_type_in, strips_in, chunks_counted}
-use Rattle.tiff_base.specs.Number.{number}
+use Rattle.tiff_page.specs.Checks.{page_of}
 use Rattle.std.specs.Prelude.{◌≡◌, ℕ, List, [], ◌∷◌, drop, reverse, is_some, Some, Result, Ok}
 use Rattle.std.proofs.Common.{ap}
 use Rattle.std.specs.Ordering.{nat_cmp}
@@ -13,21 +8,17 @@ use Rattle.std.specs.FinMap.{find, from_entries, get-from_entries}
 use Rattle.tiff_base.specs.declared.error.TiffError.{TiffError}
 use Rattle.tiff_base.specs.Answers.{◌>>=◌}
 use Rattle.tiff_base.specs.Field.{Field}
-use Rattle.tiff_base.specs.FieldBytes.{field_bytes}
-use Rattle.tiff_base.specs.Header.{header_at}
-use Rattle.tiff_base.specs.Tags.{tag_number, type_of}
-use Rattle.tiff_base.specs.Directory.{directory_at, entries_from, last_of_each, entry_of}
+use Rattle.tiff_base.specs.Tags.{tag_number}
 use Rattle.tiff_base.specs.SourceAndSink.{put}
-use Rattle.tiff_ifd.specs.Chain.{chain}
 use Rattle.tiff_ifd.specs.Datum.{Datum}
 use Rattle.tiff_ifd.specs.FieldValue.{field_value}
-use Rattle.tiff_ifd.specs.Look.{Look, look_up_in, look_in, if_found}
+use Rattle.tiff_ifd.specs.Look.{Look, look_up_in, if_found}
 use Rattle.tiff_decode.specs.Machine.{Decoding}
-use Rattle.tiff_decode.specs.Outcome.{decoder_of, first_directory}
 use Rattle.tiff_decode.specs.DefaultLimits.{default_limits}
 use Rattle.tiff_examples.specs.Decoders.{at, gray_state, decoder_at, two_decoder}
 use Rattle.tiff_examples.specs.Files.{gray_file, gray_entries, one_long, one_short}
 use Rattle.tiff_examples.specs.Decode.Outcome as s
+use Rattle.tiff.proofs.OnLiterals.{tiff_on_literals}
 
 -- the look-up in fields, by the list that they are made of
 pub looked_by : (value : Field → Result Datum TiffError) (fields : List (ℕ × Field))
@@ -83,99 +74,54 @@ tags_of d fields = looked_by (field_value d.kind d.order d.bytes default_limits)
 abbrev changed : List ℕ → List (ℕ × Field) → Decoding
 changed bytes fields = decoder_at bytes 25 (record gray_state { directory = record gray_state.directory { entries = from_entries fields } })
 
-pub big_endian_0 : s.big_endian_0
-unfolding decoder_of first_directory header_at chain number
-big_endian_0 = refl
-
-pub big_endian_44 : s.big_endian_44
-unfolding decoder_of first_directory header_at chain number
-big_endian_44 = refl
-
-pub big_file_cut : s.big_file_cut
-unfolding decoder_of first_directory header_at chain number
-big_file_cut = refl
-
-pub big_file_4 : s.big_file_4
-unfolding decoder_of first_directory header_at chain number
-big_file_4 = refl
-
-pub directory_cut : s.directory_cut
-unfolding decoder_of first_directory header_at chain directory_at number
-directory_cut = refl
-
-pub gray_cut : s.gray_cut
-unfolding decoder_of first_directory header_at chain directory_at number
-gray_cut = refl
-
 pub no_tags : s.no_tags
-unfolding decoder_of first_directory header_at chain directory_at number entries_from entry_of type_of last_of_each
-    look_in field_value page_of size_in require look.find
+unfolding tiff_on_literals
 no_tags =
     let d : Decoding = decoder_at s.bare_file 8 gray_state in
     ap (answer (record d { state = record d.state { pointer = Some (at 8); directory = s.alone [] } })) (tags_of d [])
 
 pub width_0 : s.width_0
-unfolding decoder_of first_directory header_at chain directory_at number entries_from entry_of type_of last_of_each
-    look_in field_value page_of size_in require look.find
+unfolding tiff_on_literals
 width_0 =
     let d : Decoding = changed (put gray_file 35 (0 ∷ [])) (fields_with long_0 short_1 long_1) in
     ap (answer d) (tags_of d (fields_with long_0 short_1 long_1))
 
 pub lzw : s.lzw
-unfolding decoder_of first_directory header_at chain directory_at number entries_from entry_of type_of last_of_each
-    look_in field_value page_of size_in require look.find interpretation_in
-    tags.interpretation_of method_in tags.method_of samples_in extra_in format_in depth_in predictor_in
-    planar_in subsampling_in chunk_type_in strips_in chunks_counted tags.predictor_of tags.format_of
+unfolding tiff_on_literals
 lzw =
     let d : Decoding = changed (put gray_file 71 (5 ∷ [])) (fields_with long_1 short_5 long_1) in
     ap (λ (l : Look). answer d l >>= λ d. Ok d.state.page) (tags_of d (fields_with long_1 short_5 long_1))
 
 pub count_0 : s.count_0
-unfolding decoder_of first_directory header_at chain directory_at number entries_from entry_of type_of last_of_each
-    look_in field_value page_of size_in require look.find interpretation_in
-    tags.interpretation_of method_in tags.method_of samples_in extra_in format_in depth_in predictor_in
-    planar_in subsampling_in chunk_type_in strips_in chunks_counted tags.predictor_of tags.format_of
+unfolding tiff_on_literals
 count_0 =
     let d : Decoding = changed (put gray_file 131 (0 ∷ [])) (fields_with long_1 short_1 long_0) in
     ap (λ (l : Look). answer d l >>= λ d. Ok d.state.page) (tags_of d (fields_with long_1 short_1 long_0))
 
 pub list_limited : s.list_limited
-unfolding decoder_of first_directory header_at chain directory_at number entries_from entry_of type_of last_of_each
-    look_in field_value page_of size_in require look.find interpretation_in
-    tags.interpretation_of method_in tags.method_of samples_in extra_in format_in depth_in predictor_in
-    planar_in subsampling_in chunk_type_in strips_in chunks_counted tags.predictor_of tags.format_of field_bytes
+unfolding tiff_on_literals
 list_limited =
     let fields : List (ℕ × Field) = fields_with long_1 short_1 (record long_1 { count = 8388609 }) in
     let d : Decoding = changed (put gray_file 127 (1 ∷ 0 ∷ 128 ∷ 0 ∷ [])) fields in
     ap (answer d) (tags_of d fields)
 
 pub list_within : s.list_within
-unfolding decoder_of first_directory header_at chain directory_at number entries_from entry_of type_of last_of_each
-    look_in field_value page_of size_in require look.find interpretation_in
-    tags.interpretation_of method_in tags.method_of samples_in extra_in format_in depth_in predictor_in
-    planar_in subsampling_in chunk_type_in strips_in chunks_counted tags.predictor_of tags.format_of field_bytes
+unfolding tiff_on_literals
 list_within =
     let fields : List (ℕ × Field) = fields_with long_1 short_1 (record long_1 { count = 8388608 }) in
     let d : Decoding = changed (put gray_file 127 (0 ∷ 0 ∷ 128 ∷ 0 ∷ [])) fields in
     ap (answer d) (tags_of d fields)
 
 pub next_unread : s.next_unread
-unfolding decoder_of first_directory header_at chain directory_at number entries_from entry_of type_of last_of_each
-    look_in field_value page_of size_in require look.find interpretation_in
-    tags.interpretation_of method_in tags.method_of samples_in extra_in format_in depth_in predictor_in
-    planar_in subsampling_in chunk_type_in strips_in chunks_counted tags.predictor_of tags.format_of
+unfolding tiff_on_literals
 next_unread = ap (answer (two_decoder [])) (tags_of (two_decoder []) (reverse gray_entries))
 
 pub big_endian : s.big_endian
-unfolding decoder_of first_directory header_at chain directory_at number entries_from entry_of type_of last_of_each
-    look_in field_value field_bytes page_of size_in require look.find interpretation_in
-    tags.interpretation_of method_in tags.method_of samples_in extra_in format_in depth_in predictor_in
-    planar_in subsampling_in chunk_type_in strips_in chunks_counted tags.predictor_of tags.format_of
+unfolding tiff_on_literals
 big_endian = ap (answer s.big_endian_decoder) (tags_of s.big_endian_decoder (reverse s.big_endian_entries))
 
 pub big : s.big
-unfolding decoder_of first_directory header_at chain directory_at number entries_from entry_of type_of last_of_each
-    look_in field_value field_bytes page_of size_in require look.find interpretation_in
-    tags.interpretation_of method_in tags.method_of samples_in extra_in format_in depth_in predictor_in
-    planar_in subsampling_in chunk_type_in strips_in chunks_counted tags.predictor_of tags.format_of
+unfolding tiff_on_literals
 big = ap (answer s.big_decoder) (tags_of s.big_decoder (reverse s.big_entries))
+
+pub ruleset worked = (no_tags, width_0, lzw, count_0, list_limited, list_within, next_unread, big_endian, big)

@@ -1,22 +1,15 @@
 -- The worked examples of DrawnWholes hold.
 use Rattle.std.specs.Prelude.{refl, zero, suc}
-use Rattle.std.proofs.Common.{◌≡◌, ℕ, ◌<◌, ◌≤◌, ◌^◌, List, [], ◌∷◌, length, Some, Ok, ap, sym, ◌∙◌, subst, inl, inr, arith, lit<}
+use Rattle.std.proofs.Common.{◌≡◌, ℕ, ◌<◌, ◌^◌, List, [], ◌∷◌, length, Some, Ok, ap, sym, ◌∙◌, subst, inl, inr, lit<}
 use Rattle.tiff_base.specs.declared.tags.FileKind.TheVariants.{Classic}
 use Rattle.tiff_base.specs.Field.{AreEntries}
-use Rattle.tiff_base.specs.Number.{number}
-use Rattle.tiff_value.specs.ColorTypes.{color_type, inner_type}
-use Rattle.tiff_value.specs.Data.{data_of}
-use Rattle.tiff_value.specs.Differences.{differences}
-use Rattle.tiff_page.specs.Rect.{rect}
-use Rattle.tiff_encode.specs.Model.{IsLink, Stands, header_model}
-use Rattle.tiff_encode.specs.Machine.{FileState, OpenImage}
-use Rattle.tiff_encode.specs.Chunks.{parts_left, sample_in}
-use Rattle.tiff_encode.specs.Causes.{begin_cause, image_cause, new_image_cause, write_image_data_cause, write_tag_cause}
-use Rattle.tiff_encode.specs.Calls.{Offsets, finish_image, first_tags, image_directory, last_tags, new_image, write_entry, write_tag}
+use Rattle.tiff_encode.specs.Model.{IsLink, header_model}
+use Rattle.tiff_encode.specs.Machine.{FileState}
+use Rattle.tiff_encode.specs.Chunks.{parts_left}
+use Rattle.tiff_encode.specs.Calls.{Offsets, finish_image, new_image}
 use Rattle.tiff_encode.specs.Held.{image_with}
 use Rattle.tiff_encode.specs.Shows.{Shows, ShowsGray, gray_image}
 use Rattle.tiff_encode.specs.ImageData.{AreNumbers, IsShortFile, WritesImageData, WritesImage, LeavesImage}
-use Rattle.tiff_encode.specs.Stored.{unpacked_chunk}
 use Rattle.tiff_encode.proofs.Data.Image.{image_leaves_by}
 use Rattle.tiff_encode.proofs.Data.Shows.{data_leaves}
 use Rattle.tiff_encode.proofs.Shown.Gray as proved
@@ -29,12 +22,11 @@ use Rattle.tiff_examples.specs.Files.{gray_file}
 use Rattle.tiff_examples.specs.Encode.Chunks.{new_pixel, pixel_in_file, page_file}
 use Rattle.tiff_examples.specs.Encode.ImageJobs.{after_begin, after_strip, after_end, after_data, page_offset}
 use Rattle.tiff_examples.specs.Encode.ImageDataWholes as s
-use Rattle.tiff_examples.specs.Encode.ImageDataWholes.{changed_file}
 use Rattle.tiff_examples.proofs.OfEncode.Chunks as images
-use Rattle.tiff_examples.proofs.OfEncode.Jobs.{some_none}
 use Rattle.tiff_examples.proofs.OfEncode.Model as models
-use Rattle.tiff_examples.proofs.OfEncode.Model.{err_ok, unequal}
+use Rattle.tiff_examples.proofs.OfEncode.Model.{unequal}
 use Rattle.tiff_examples.proofs.OnePixel.{begin_held, begun_stands, finishes, gray_shown, sample_alike}
+use Rattle.tiff.proofs.OnLiterals.{tiff_on_literals}
 
 -- ---- samples of an image that was begun
 
@@ -60,31 +52,17 @@ its_link : (offset : ℕ) → new_pixel.directory.parent ≡ Some offset → IsL
 its_link offset p = inl cc
 
 writes : WritesImageData {A = ℕ} new_pixel (7 ∷ 8 ∷ []) (Ok 0) after_begin.file after_data.file
-unfolding write_image_data_cause unpacked_chunk differences parts_left rect
+unfolding tiff_on_literals
 writes = inl ((7 ∷ []) ∷ [], ((refl, tt), (refl, (page_offset, record { answer = images.pixel_data.0; state = refl }))))
 
 pub data_left : s.data_left
 data_left = data_leaves {A = ℕ} new_pixel (7 ∷ 8 ∷ []) (Ok 0) after_begin.file after_data.file after_begin.model new_entries two_numbers data_short begun_stands its_link writes
 
 pub data_other : s.data_other
-unfolding parts_left rect sample_in
+unfolding tiff_on_literals
 data_other = λ l p.
     let shown = subst (λ offset. Shows Classic gray_file offset (image_with new_pixel (parts_left new_pixel (8 ∷ [])))) p (l.shows [] begin_held) in
     unequal 7 8 (lit< tt) (sym (sample_alike gray_file gray_shown (image_with new_pixel (parts_left new_pixel (8 ∷ []))) shown))
-
-pub data_refused : s.data_refused
-data_refused = λ e. inl (its_header.header_stands Classic)
-
--- what a file has whose header's link was changed
-not_changed : Stands Classic changed_file.bytes (header_model Classic) → ⊥
-unfolding number
-not_changed t = unequal 0 9 (lit< tt) (sym (ok_inj 9 0 t.first))
-
-pub data_changed : s.data_changed
-data_changed = λ e h. elim h as (λ _. ⊥) [
-  | inl t ↦ not_changed t
-  | inr t ↦ some_none (sym (ap (λ (f : FileState). f.fault) t.1.torn.state))
-]
 
 -- ---- the end of one with its chunk
 
@@ -105,7 +83,7 @@ end_offset : (offsets : Offsets) → (finish_image pixel_in_file after_strip.fil
 end_offset offsets h = ap (λ (o : Offsets). o.pointer) (ok_inj offsets page_offset (sym h ∙ images.pixel_finished.0))
 
 pub end_other : s.end_other
-unfolding sample_in
+unfolding tiff_on_literals
 end_other = λ h.
     let i = image_with pixel_in_file ((8 ∷ []) ∷ []) in
     let placed = subst (λ offset. Shows Classic after_end.file.bytes offset i) (end_offset h.0 h.1.0.answer) h.1.1 in
@@ -113,7 +91,7 @@ end_other = λ h.
 
 -- the page's own link is the chain's last
 end_chain : after_end.file.chain ≡ 195
-unfolding finish_image last_tags write_tag write_entry write_tag_cause data_of
+unfolding tiff_on_literals
 end_chain = ap (λ t. t.next.chain) finishes
 
 pub end_unchained : s.end_unchained
@@ -122,7 +100,7 @@ end_unchained = λ h. unequal 4 195 (lit< tt) (ap (λ (f : FileState). f.chain) 
 -- ---- whole images
 
 begins : WritesImage {A = Unit {0}} gray 1 1 1 (7 ∷ 8 ∷ []) (Ok tt) (new_file Classic) after_data.file
-unfolding new_image new_image_cause image_cause image_directory begin_cause first_tags write_tag write_entry write_tag_cause data_of write_image_data_cause unpacked_chunk differences parts_left rect
+unfolding tiff_on_literals
 begins =
     inr (
       new_pixel,
@@ -142,7 +120,7 @@ image_left = image_leaves_by parts_show gray 1 1 1 (7 ∷ 8 ∷ []) (Ok tt) (new
 -- the first page of a file in which an image stands behind the header shows it
 first_gray : (width height : ℕ) (samples : List ℕ) (new : FileState)
     → LeavesImage gray 1 width height samples (new_file Classic) new (header_model Classic) → ShowsGray new.bytes width height samples
-unfolding color_type inner_type
+unfolding tiff_on_literals
 first_gray width height samples new l =
     proved.gray_shown width height samples (new_file Classic) new (header_model Classic) refl refl (lit< tt) refl refl l
 
@@ -153,27 +131,4 @@ pub image_wider : s.image_wider
 image_wider = λ l.
     models.other_width (models.shown_at_25 (gray_image 2 1 (7 ∷ 7 ∷ [])) (first_gray 2 1 (7 ∷ 7 ∷ []) page_file l))
 
-pub image_unlinked : s.image_unlinked
-unfolding number
-image_unlinked = λ samples l.
-    let target : 0 ≡ l.after.links 4 = ok_inj 0 (l.after.links 4) l.stands.first in
-    let offset : l.after.links 4 ≡ l.offsets.pointer = l.linked in
-    let behind : 8 ≤ l.offsets.pointer = l.placed in
-    omega (arith, target, offset, behind)
-
-pub image_refused : s.image_refused
-image_refused = inl (its_header.header_stands Classic)
-
--- an image of no side has no answer
-sideless : (i : OpenImage) → (new_image gray 1 0 5 (new_file Classic)).answer ≡ Ok i → ⊥
-unfolding new_image new_image_cause image_cause
-sideless i h = err_ok h
-
-pub image_sideless : s.image_sideless
-image_sideless = λ samples new l. sideless l.image l.begun.answer
-
-pub image_changed : s.image_changed
-image_changed = λ e h. elim h as (λ _. ⊥) [
-  | inl t ↦ not_changed t
-  | inr t ↦ some_none (sym (ap (λ (f : FileState). f.fault) t.1.1.1.1.torn.state))
-]
+pub ruleset worked = (end_shown, end_other, end_unchained)

@@ -1,20 +1,17 @@
 -- The worked examples of Tasks hold.
 use Rattle.std.specs.Prelude.{refl, get_or}
 use Rattle.std.specs.Global.{Vec}
-use Rattle.std.proofs.Common.{true, ◌≡◌, ℕ, ◌⊎◌, List, [], ◌∷◌, ◌++◌, length, ◌<◌, Some, Result, Ok, Err, ap, sym, ◌∙◌, subst, inl, inr, lit<, lit≤}
+use Rattle.std.proofs.Common.{true, ◌≡◌, ℕ, ◌⊎◌, List, [], ◌∷◌, ◌++◌, Some, Result, Ok, Err, ap, sym, ◌∙◌, subst, inl, inr, lit<, lit≤}
 use Rattle.tiff_base.specs.declared.error.TiffError.{TiffError}
-use Rattle.tiff_base.specs.declared.error.TiffError.TheVariants.{FormatError, IoError, IntSizeError, OutOfMemory}
+use Rattle.tiff_base.specs.declared.error.TiffError.TheVariants.{FormatError, IoError}
 use Rattle.tiff_base.specs.declared.error.TiffFormatError.TheVariants.{InvalidDimensions}
-use Rattle.tiff_base.specs.declared.io.IoKind.TheVariants.{InvalidData, Device}
-use Rattle.tiff_base.specs.declared.io.SinkFault.{SinkFault}
+use Rattle.tiff_base.specs.declared.io.IoKind.TheVariants.{Device}
 use Rattle.tiff_base.specs.declared.io.SinkFault.TheVariants as fault
 use Rattle.tiff_base.specs.declared.tags.FileKind.TheVariants.{Classic}
 use Rattle.tiff_base.specs.declared.tags.ResolutionUnit.TheVariants as unit
 use Rattle.tiff_value.specs.declared.encoder.colortype.ColorTypeName.{ColorTypeName}
 use Rattle.tiff_value.specs.declared.encoder.colortype.ColorTypeName.TheVariants as name
-use Rattle.tiff_value.specs.ColorTypes.{color_type, inner_size, inner_type}
-use Rattle.tiff_value.specs.Data.{data_of}
-use Rattle.tiff_value.specs.Differences.{differences}
+use Rattle.tiff_value.specs.ColorTypes.{color_type, inner_size}
 use Rattle.tiff_encode.specs.declared.encoder.script.ImageStep.{ImageStep}
 use Rattle.tiff_encode.specs.declared.encoder.script.ImageJob.{ImageJob}
 use Rattle.tiff_encode.specs.declared.encoder.script.JobReply.{JobReply}
@@ -26,18 +23,13 @@ use Rattle.tiff_encode.specs.declared.encoder.script.StepReply.TheVariants as re
 use Rattle.tiff_encode.specs.declared.encoder.script.EndReply.{EndReply}
 use Rattle.tiff_encode.specs.declared.encoder.script.EndReply.TheVariants as last
 use Rattle.tiff_encode.specs.Machine.{FileState, OpenImage, WriteOutcome}
-use Rattle.tiff_page.specs.Rect.{rect}
-use Rattle.tiff_encode.specs.Chunks.{next_chunk_sample_count, parts_left}
-use Rattle.tiff_encode.specs.Causes.{begin_cause, new_image_cause, image_cause, resolution_cause, write_chunk_cause, write_image_data_cause, write_strip_cause, write_tag_cause}
-use Rattle.tiff_encode.specs.Calls.{finish_image, first_tags, image_directory, last_tags, new_image, new_directory, resolution, write_entry, write_image_data, write_chunk, write_chunks, write_strip, resolution_tags, write_tag}
-use Rattle.tiff_base.specs.SourceAndSink.{sink_error}
-use Rattle.tiff_encode.specs.Stored.{AreStored, unpacked_chunk}
+use Rattle.tiff_encode.specs.Chunks.{parts_left}
+use Rattle.tiff_encode.specs.Calls.{new_image, new_directory, write_strip, resolution_tags}
 use Rattle.tiff_encode.specs.Shows.{Shows}
 use Rattle.tiff_encode.specs.JobValues.{cut_to}
 use Rattle.tiff_encode.specs.Jobs as jobs
-use Rattle.tiff_encode.specs.Jobs.{Standing, Run, FinishedImage, IsDone}
+use Rattle.tiff_encode.specs.Jobs.{Run, FinishedImage, IsDone}
 use Rattle.tiff_examples.proofs.OfEncode.Chunks as images
-use Rattle.tiff_examples.proofs.OfEncode.Jobs.{ok_err, size_memory, sink_size, some_none}
 use Rattle.tiff_examples.proofs.OfEncode.Model.{unequal}
 use Rattle.tiff_examples.proofs.OnePixel.{pixel_image, gray_shown}
 use Rattle.tiff_examples.specs.Encode.Causes.{new_file, gray, pixel}
@@ -48,38 +40,32 @@ use Rattle.tiff_examples.proofs.OfEncode.Calls.{finish_told}
 use Rattle.tiff_examples.specs.Encode.Jobs.{first, run_begun}
 use Rattle.tiff_examples.specs.Encode.ImageJobs as s
 use Rattle.tiff_examples.specs.Encode.ImageJobs.{after_begin, after_strip, after_end, page_offset, page_run, drawn_new, drawn_strip}
+use Rattle.tiff.proofs.OnLiterals.{tiff_on_literals}
 
 abbrev refusal : TiffError
 refusal = FormatError (InvalidDimensions 0 5)
 
--- a call that answers is not refused
-not_refused : {A : Type 0} (told : WriteOutcome A) (x : A) (old new : Standing) → told.answer ≡ Ok x → jobs.Refuses told IntSizeError old new → ⊥
-not_refused told x old new h (inl d) = ok_err (sym h ∙ d.1.answer)
-not_refused told x old new h (inr (inl t)) = sink_size t.torn.fault t.torn.answer
-not_refused told x old new h (inr (inr (inl c))) = sink_size c.1.fault c.1.answer
-not_refused told x old new h (inr (inr (inr w))) = size_memory w.1.fault
-
 -- the parts of the page of one pixel
 page_begins : IsDone (new_image gray 1 1 1 (new_file Classic)) (Ok new_pixel) first after_begin
-unfolding new_image new_image_cause image_cause image_directory begin_cause first_tags write_tag write_entry write_tag_cause data_of
+unfolding tiff_on_literals
 page_begins = record { ended = record { answer = refl; state = refl }; model = refl }
 
 strip_done : IsDone (write_strip new_pixel 1 (7 ∷ []) after_begin.file) (Ok pixel_in_file) after_begin after_strip
-unfolding write_strip write_strip_cause next_chunk_sample_count rect
+unfolding tiff_on_literals
 strip_done = record { ended = record { answer = refl; state = refl }; model = refl }
 
 strip_stands : s.strip_stood
-unfolding write_strip_cause next_chunk_sample_count rect unpacked_chunk differences
+unfolding tiff_on_literals
 strip_stands = (7 ∷ [], (refl, strip_done))
 
 other : (stored : List ℕ) → stored ≡ 8 ∷ [] → IsDone (write_strip new_pixel 1 stored after_begin.file) (Ok pixel_in_file) after_begin after_strip → ⊥
-unfolding write_strip write_strip_cause next_chunk_sample_count rect
+unfolding tiff_on_literals
 other stored p a =
     unequal 7 8 (lit< tt) (ap (λ (f : FileState). get_or f.bytes 24 0)
     (subst (λ x. after_strip.file ≡ (write_strip new_pixel 1 x after_begin.file).next) p a.ended.state))
 
 not_other : s.strip_other
-unfolding write_strip_cause next_chunk_sample_count rect unpacked_chunk differences
+unfolding tiff_on_literals
 not_other h = other h.0 h.1.0 h.1.1
 
 end_done : IsDone s.ended (Ok page_offset) after_strip after_end
@@ -89,11 +75,11 @@ pub data_is_done : IsDone s.wrote (Ok page_offset) after_begin s.after_data
 data_is_done = record { ended = record { answer = images.pixel_data.0; state = refl }; model = refl }
 
 data_stands : s.data_done
-unfolding write_image_data_cause unpacked_chunk differences parts_left rect
+unfolding tiff_on_literals
 data_stands = inl ((7 ∷ []) ∷ [], ((refl, tt), (refl, (page_offset, (data_is_done, refl)))))
 
 part : s.resolved_part
-unfolding resolution_cause write_tag write_entry write_tag_cause data_of
+unfolding tiff_on_literals
 part = (
   refl,
   (
@@ -112,7 +98,7 @@ part = (
 )
 
 failed_part : jobs.ResolvesInPart pixel (resolution_tags unit.Inch (300, 1)) (IoError Device) first s.after_unit_failed s.unit_pixel
-unfolding resolution_cause write_tag write_entry write_tag_cause data_of
+unfolding tiff_on_literals
 failed_part = (
   refl,
   (
@@ -130,54 +116,8 @@ failed_part = (
   ),
 )
 
--- no refusal of the page is one for its data
-memory_data : {A : Type 0} → let a : Result A TiffError = Err OutOfMemory in a ≡ Err (IoError InvalidData) → ⊥
-memory_data h = cc
-
-data_memory : let a : TiffError = IoError InvalidData in a ≡ OutOfMemory → ⊥
-data_memory h = cc
-
-data_sink : (f : SinkFault) → let a : TiffError = IoError InvalidData in a ≡ sink_error f → ⊥
-data_sink fault.Device h = cc
-data_sink fault.OutOfMemory h = cc
-
-not_data : {A : Type 0} (told : WriteOutcome A) (x : A) (old new : Standing) → told.answer ≡ Ok x → jobs.Refuses told (IoError InvalidData) old new → ⊥
-not_data told x old new h (inl d) = ok_err (sym h ∙ d.1.answer)
-not_data told x old new h (inr (inl t)) = data_sink t.torn.fault t.torn.answer
-not_data told x old new h (inr (inr (inl c))) = data_sink c.1.fault c.1.answer
-not_data told x old new h (inr (inr (inr w))) = data_memory w.1.fault
-
-whole_cases : (new : Standing) (stored : List (List ℕ)) → AreStored new_pixel ((7 ∷ []) ∷ []) stored → length stored ≡ 1
-    → jobs.Refuses (write_image_data new_pixel (7 ∷ 8 ∷ []) stored after_begin.file) (IoError InvalidData) after_begin new → ⊥
-unfolding unpacked_chunk differences
-whole_cases new [] a l r = unequal 0 1 (lit< tt) l
-whole_cases new (s ∷ []) a l r =
-    not_data (write_image_data new_pixel (7 ∷ 8 ∷ []) (s ∷ []) after_begin.file) page_offset after_begin new
-    (subst (λ x. (write_image_data new_pixel (7 ∷ 8 ∷ []) (x ∷ []) after_begin.file).answer ≡ Ok page_offset) (sym a.0) images.pixel_data.0) r
-whole_cases new (s ∷ t ∷ u) a l r = absurd a.1
-
-abbrev Within : Standing → List (List ℕ) → Type 0
-Within new stored =
-    let told = write_chunks new_pixel ((7 ∷ []) ∷ []) stored after_begin.file in
-    jobs.IsRefused told (IoError InvalidData) after_begin new
-    ⊎ (jobs.IsCutShort told (IoError InvalidData) after_begin new ⊎ ((length stored < 1) × jobs.IsWithoutMemory told (IoError InvalidData) after_begin new))
-
-within_cases : (new : Standing) (stored : List (List ℕ)) → AreStored new_pixel ((7 ∷ []) ∷ []) stored → Within new stored → ⊥
-unfolding unpacked_chunk differences write_chunk write_chunk_cause next_chunk_sample_count rect
-within_cases new stored a (inr (inl c)) = data_sink c.1.fault c.1.answer
-within_cases new stored a (inr (inr w)) = data_memory w.1.1.fault
-within_cases new [] a (inl d) = ok_err d.1.answer
-within_cases new (s ∷ []) a (inl d) =
-    ok_err (subst (λ x. (write_chunks new_pixel ((7 ∷ []) ∷ []) (x ∷ []) after_begin.file).answer ≡ Err (IoError InvalidData)) a.0 d.1.answer)
-within_cases new (s ∷ t ∷ u) a (inl d) = absurd a.1
-
-no_strip : s.data_no_strip
-unfolding write_image_data_cause parts_left rect
-no_strip new offset (inl h) = whole_cases new h.0 h.1.0 h.1.1.0 h.1.1.1.0
-no_strip new offset (inr h) = within_cases new h.0.0 h.0.1.0 h.0.1.1
-
 begun_stands : s.data_begun
-unfolding write_image_data_cause parts_left rect unpacked_chunk differences write_chunk write_chunk_cause next_chunk_sample_count
+unfolding tiff_on_literals
 begun_stands =
     inr (
       (
@@ -186,35 +126,6 @@ begun_stands =
       ),
       refl,
     )
-
-no_offsets : s.data_offsets
-unfolding write_image_data_cause parts_left rect
-no_offsets new offset (inl h) = h.1.1.1
-no_offsets new offset (inr h) = h.0
-
--- a strip that there is no memory for is not written
-answered : (stored : List ℕ) → stored ≡ 7 ∷ [] → jobs.IsRefused (write_strip new_pixel 1 stored after_begin.file) OutOfMemory after_begin after_strip → ⊥
-unfolding write_strip write_strip_cause next_chunk_sample_count rect
-answered stored p d = ok_err (subst (λ x. (write_strip new_pixel 1 x after_begin.file).answer ≡ Err OutOfMemory) p d.1.answer)
-
-half_cases : jobs.StoreStep write_strip new_pixel (7 ∷ []) (Err OutOfMemory) after_begin after_strip new_pixel → ⊥
-unfolding unpacked_chunk differences
-half_cases (st, inl n) = unequal 24 25 (lit< tt) (sym (ap (λ (x : Standing). length x.file.bytes) n.1))
-half_cases (st, inr (stored, (p, inl d))) = answered stored p d
-half_cases (st, inr (stored, (p, inr c))) = some_none (sym (ap (λ (f : FileState). f.fault) c.1.state))
-
-not_half : s.strip_half
-unfolding write_strip_cause next_chunk_sample_count rect
-not_half h = half_cases h
-
-resolves : (resolution pixel unit.Inch (300, 1) (new_file Classic)).answer ≡ Ok s.resolved_pixel
-unfolding resolution resolution_cause write_tag write_entry write_tag_cause data_of
-resolves = refl
-
-not_resolved : s.resolved_uncaused
-not_resolved new t (inl h) = not_refused (resolution pixel unit.Inch (300, 1) (new_file Classic)) s.resolved_pixel first new resolves h.1
-not_resolved new t (inr (c, (k, (l, (mid, (d, inl x)))))) = sink_size x.1.fault x.1.answer
-not_resolved new t (inr (c, (k, (l, (mid, (d, inr x)))))) = size_memory x.1.fault
 
 -- the whole job, by what is equal to its parts
 steps_by : (ss : List ImageStep) (rs : List (Result StepReply TiffError)) (one : ImageStep) → ss ≡ one ∷ [] → rs ≡ Ok reply.Nothing ∷ []
@@ -232,7 +143,7 @@ ends_by e r p q =
 
 pub begins_by : (c : ColorTypeName) (w h : ℕ) → c ≡ name.Gray8 → w ≡ 1 → h ≡ 1
     → IsDone (new_image (color_type c) (inner_size c) w h (new_file Classic)) (Ok new_pixel) first after_begin
-unfolding color_type inner_type
+unfolding tiff_on_literals
 begins_by c w h p q r =
     let P : ColorTypeName → ℕ → ℕ → Type 0 = λ x y z. IsDone (new_image (color_type x) (inner_size x) y z (new_file Classic)) (Ok new_pixel) first after_begin in
     subst (λ x. P x w h) (sym p) (subst (λ y. P name.Gray8 y h) (sym q) (subst (λ z. P name.Gray8 1 z) (sym r) page_begins))
@@ -276,7 +187,7 @@ data_ends e r samples u p q =
 
 data_images : (ss : List ImageStep) (rs : List (Result StepReply TiffError)) (e : ImageEnd) (samples : Vec ℕ) → ss ≡ [] → samples.items ≡ 7 ∷ 8 ∷ [] → e ≡ iend.WriteData samples
     → jobs.job_images ss rs e drawn_new (Some page_offset) ≡ s.data_images
-unfolding parts_left rect
+unfolding tiff_on_literals
 data_images ss rs e samples p u q =
     ap (λ x. jobs.job_images x rs e drawn_new (Some page_offset)) p
     ∙ (ap (λ x. jobs.job_images [] rs x drawn_new (Some page_offset)) q
@@ -308,7 +219,7 @@ data_whole : s.data_job
 data_whole j r samples c w h p u e q l = data_ran run_begun j r samples c w h p u e q l
 
 no_side : s.no_side_job
-unfolding new_image new_image_cause image_cause
+unfolding tiff_on_literals
 no_side j r w h q l =
     let T : ℕ → ℕ → WriteOutcome OpenImage = λ x y. new_image (color_type j.color) (inner_size j.color) x y (new_file Classic) in
     let new = jobs.run_after_job run_begun first (Err refusal) [] in
@@ -317,7 +228,7 @@ no_side j r w h q l =
     (inl (refusal, (first, ((q, l), (inl (refl, record { answer = refl; state = refl }), ap (λ x. jobs.run_after_job run_begun first x []) (sym l)))))))
 
 kind_stays : after_end.file.kind ≡ Classic
-unfolding finish_image last_tags write_tag write_entry write_tag_cause data_of
+unfolding tiff_on_literals
 kind_stays =
     ap (λ t. t.next.kind)
     (finish_told (record (new_file Classic) { bytes = header ++ (resolutions ++ (7 ∷ [])) }) (with_fields (new_directory (Some 4) true) all_fields) 14
@@ -334,46 +245,11 @@ is_shown : s.page_shown
 is_shown f (inl e) = shown f (sym e)
 is_shown f (inr z) = absurd z
 
-pub uncalled : s.uncalled
-uncalled = (refl, refl)
-
-pub uncalled_fault : s.uncalled_fault
-uncalled_fault = λ new h. size_memory h.0
-
 pub strip_stood : s.strip_stood
 strip_stood = strip_stands
 
-pub strip_found : s.strip_found
-strip_found = (refl, inl strip_stands)
-
-pub strip_unfound : s.strip_unfound
-strip_unfound = (refl, inr (refl, (refl, refl)))
-
-pub strip_unpacked : s.strip_unpacked
-unfolding write_strip_cause next_chunk_sample_count rect
-strip_unpacked = (refl, inl (refl, refl))
-
-pub strip_half : s.strip_half
-unfolding write_strip_cause next_chunk_sample_count rect
-strip_half = not_half
-
-pub strip_few : s.strip_few
-unfolding write_strip_cause next_chunk_sample_count rect
-strip_few = (refl, (refl, refl))
-
-pub strip_few_wanting : s.strip_few_wanting
-unfolding write_strip_cause next_chunk_sample_count rect
-strip_few_wanting = λ new t h. memory_data h.0
-
-pub strip_number : s.strip_number
-unfolding write_strip_cause next_chunk_sample_count rect
-strip_number = λ new t h. h
-
 pub strip_other : s.strip_other
 strip_other = not_other
-
-pub resolved : s.resolved
-resolved = record { ended = record { answer = resolves; state = refl }; model = refl }
 
 pub resolved_part : s.resolved_part
 resolved_part = part
@@ -383,23 +259,6 @@ resolved_wanting = inr part
 
 pub resolved_failed : s.resolved_failed
 resolved_failed = inr failed_part
-
-pub resolved_uncaused : s.resolved_uncaused
-resolved_uncaused = not_resolved
-
-pub data_few : s.data_few
-unfolding write_image_data_cause
-data_few = inl (refl, (refl, refl))
-
-pub data_few_wanting : s.data_few_wanting
-unfolding write_image_data_cause
-data_few_wanting = λ new offset h. memory_data h.0
-
-pub data_unfound : s.data_unfound
-data_unfound = inr (refl, (refl, refl))
-
-pub data_no_strip : s.data_no_strip
-data_no_strip = no_strip
 
 pub data_begun : s.data_begun
 data_begun = begun_stands
@@ -413,14 +272,8 @@ data_found = inl data_stands
 pub image_ended : s.image_ended
 image_ended = (page_offset, (end_done, refl))
 
-pub data_offsets : s.data_offsets
-data_offsets = no_offsets
-
 pub no_side_job : s.no_side_job
 no_side_job = no_side
-
-pub not_begun : s.not_begun
-not_begun = λ r new l h. ok_err (sym l ∙ h.1.1.0.1)
 
 pub strip_job : s.strip_job
 strip_job = whole
@@ -430,3 +283,5 @@ page_shown = is_shown
 
 pub data_job : s.data_job
 data_job = data_whole
+
+pub ruleset worked = (data_begun, data_done, data_found, image_ended)

@@ -1,8 +1,7 @@
 -- The worked examples of Leaves hold.
 use Rattle.std.specs.Prelude.{refl}
-use Rattle.std.proofs.Common.{◌≡◌, ℕ, ◌≤◌, List, [], ◌∷◌, ◌++◌, subst, ap, sym, inl, inr, arith, lit<}
-use Rattle.std.specs.Prelude.{length, get_or}
-use Rattle.tiff_base.specs.Number.{number}
+use Rattle.std.proofs.Common.{◌≡◌, ℕ, List, [], ◌∷◌, ◌++◌, subst, ap, sym, inl, inr, lit<}
+use Rattle.std.specs.Prelude.{get_or}
 use Rattle.tiff_encode.proofs.Slices.{ok_inj}
 use Rattle.tiff_examples.proofs.OfEncode.Model.{unequal}
 use Rattle.tiff_base.specs.declared.io.SinkFault.TheVariants as fault
@@ -13,9 +12,7 @@ use Rattle.tiff_encode.proofs.Header as its_header
 use Rattle.tiff_encode.proofs.Deeds.{deeds_stand}
 use Rattle.tiff_examples.specs.Encode.Calls.{header}
 use Rattle.tiff_examples.specs.Encode.Leaves as s
-
-pub short_value : s.short_value
-short_value = λ w. unequal 4 8 (lit< tt) w.whole
+use Rattle.tiff.proofs.OnLiterals.{tiff_on_literals}
 
 -- what went before the torn link is the byte
 before_is : (before : List Deed) (offset target : ℕ) → let deeds : List Deed = s.torn_deeds in deeds ≡ before ++ Linked offset target ∷ [] → before ≡ Appended (1 ∷ []) ∷ []
@@ -32,22 +29,15 @@ torn_stands = record {
 }
 
 not_broken : s.left_broken
-unfolding number
+unfolding tiff_on_literals
 not_broken (inl t) = unequal 0 8 (lit< tt) (sym (ok_inj 8 0 t.first))
 not_broken (inr t) =
     let m : List Deed → Model = λ before. with_link Classic (model_after Classic header (header_model Classic) before) t.torn.offset t.holds in
     let stands : Stands Classic (s.torn_file 2).bytes (m (Appended (1 ∷ []) ∷ [])) = subst (λ before. Stands Classic (s.torn_file 2).bytes (m before)) (before_is t.torn.before t.torn.offset t.torn.target t.torn.last) t.stands in
     unequal 1 2 (lit< tt) (sym (ap (λ xs. get_or xs 0 0) (ok_inj (2 ∷ []) (1 ∷ []) (stands.regions (record { offset = 8; bytes = 1 ∷ [] }) (inl refl)))))
 
-pub left_region : s.left_region
-left_region = deeds_stand Classic header (header_model Classic) (Appended (7 ∷ []) ∷ []) (its_header.header_stands Classic) (tt, tt)
-
 pub left_other : s.left_other
 left_other = λ t. unequal 7 8 (lit< tt) (sym (ap (λ xs. get_or xs 0 0) (ok_inj (8 ∷ []) (7 ∷ []) (t.regions (record { offset = 8; bytes = 7 ∷ [] }) (inl refl)))))
-
-pub left_changed : s.left_changed
-unfolding number
-left_changed = λ t. unequal 0 9 (lit< tt) (sym (ok_inj 9 0 t.first))
 
 pub left_torn : s.left_torn
 left_torn = torn_stands
@@ -57,30 +47,3 @@ left_linked = inr torn_stands
 
 pub left_broken : s.left_broken
 left_broken = not_broken
-
-pub given_two : s.given_two
-given_two = (refl, lit< tt)
-
-pub given_few : s.given_few
-given_few = λ g. unequal 2 4 (lit< tt) g.0
-
-pub link_past : s.link_past
-link_past = λ p. let l : 9 ≤ 8 = p.linked in omega arith
-
-pub appends_one : s.appends_one
-appends_one = (refl, refl)
-
-pub appends_none : s.appends_none
-appends_none = λ h. unequal 8 9 (lit< tt) (ap (λ e. length e.bytes) h.1)
-
-pub header_goes : s.header_goes
-header_goes = (refl, refl)
-
-pub header_counted : s.header_counted
-header_counted = λ h. unequal 4 8 (lit< tt) (sym (ap (λ w. w.last) h.1))
-
-pub links_25 : s.links_25
-links_25 = (refl, refl)
-
-pub links_stay : s.links_stay
-links_stay = λ h. unequal 0 25 (lit< tt) (ap (λ e. get_or e.bytes 4 0) h.1)

@@ -1,13 +1,10 @@
 -- The worked examples of Resolved hold.
 use Rattle.std.specs.Prelude.{refl, zero, suc, take}
 use Rattle.std.specs.FinMap.{entries, len}
-use Rattle.std.proofs.Common.{◌≡◌, ℕ, ◌<◌, List, [], ◌∷◌, length, Ok, ap, sym, ◌∙◌, subst, inl, inr, arith, lit<, lit≤}
+use Rattle.std.proofs.Common.{◌≡◌, ℕ, ◌<◌, List, [], ◌∷◌, Ok, ap, sym, ◌∙◌, subst, inl, inr, arith, lit<, lit≤}
 use Rattle.tiff_base.specs.declared.tags.FileKind.TheVariants.{Classic}
 use Rattle.tiff_base.specs.Field.{Field}
-use Rattle.tiff_value.specs.Data.{data_of}
 use Rattle.tiff_encode.specs.Machine.{FileState, OpenDirectory, OpenImage}
-use Rattle.tiff_encode.specs.Causes.{resolution_cause, write_tag_cause}
-use Rattle.tiff_encode.specs.Calls.{resolution, write_entry, write_tag}
 use Rattle.tiff_encode.specs.Ends.{IsTold}
 use Rattle.tiff_encode.specs.Tagging.{write_fields, StopsInPart}
 use Rattle.tiff_encode.proofs.Slices.{ok_inj}
@@ -20,6 +17,7 @@ use Rattle.tiff_examples.proofs.OfEncode.Causes.{resolutions_far}
 use Rattle.tiff_examples.proofs.OfEncode.Jobs.{some_none}
 use Rattle.tiff_examples.proofs.Maps.{entries_puts, len_puts}
 use Rattle.tiff_examples.proofs.OfEncode.Model.{unequal}
+use Rattle.tiff.proofs.OnLiterals.{tiff_on_literals}
 
 -- how many fields a directory has, and the tag of the first
 abbrev count_of : OpenDirectory → ℕ
@@ -61,11 +59,11 @@ set_none : (next : OpenDirectory) (mid : FileState) → Set 0 next mid → none_
 set_none next mid t = ok_inj none_set next t.answer
 
 set_one : (next : OpenDirectory) (mid : FileState) → Set 1 next mid → unit_set ≡ next
-unfolding write_tag write_entry write_tag_cause data_of
+unfolding tiff_on_literals
 set_one next mid t = ok_inj unit_set next t.answer
 
 set_two : (next : OpenDirectory) (mid : FileState) → Set 2 next mid → with_fields none_set ((282, rational_field 8) ∷ (296, short_field 2) ∷ []) ≡ next
-unfolding write_tag write_entry write_tag_cause data_of
+unfolding tiff_on_literals
 set_two next mid t = ok_inj (with_fields none_set ((282, rational_field 8) ∷ (296, short_field 2) ∷ [])) next t.answer
 
 not_all : (k : ℕ) (mid : FileState) → k < 3 → Set k all_set mid → ⊥
@@ -81,7 +79,7 @@ not_left (suc (suc zero)) mid l t = unequal 1 2 (lit< tt) (sym x_count ∙ (sym 
 not_left (suc (suc (suc k))) mid l t = omega (arith, l)
 
 part : s.unit_alone
-unfolding write_tag write_entry write_tag_cause data_of
+unfolding tiff_on_literals
 part = (
   1,
   (
@@ -105,21 +103,14 @@ all_stopped = λ e new h. not_all h.0 h.1.1.0 h.1.0 h.1.1.1.0
 pub left_out : s.left_out
 left_out = λ e new h. not_left h.0 h.1.1.0 h.1.0 h.1.1.1.0
 
-pub none_stopped : s.none_stopped
-none_stopped = λ e new next h. let l : h.0 < 0 = h.1.0 in omega (arith, l)
-
 -- ---- an image's
 
 pub resolving_unit : s.resolving_unit
-unfolding resolution_cause
+unfolding tiff_on_literals
 resolving_unit = inr (refl, (unit_set, (refl, part)))
 
-pub resolving_failed : s.resolving_failed
-unfolding resolution resolution_cause
-resolving_failed = inl (refl, inl (record { answer = refl; state = refl }))
-
 not_refused : s.resolving_refused
-unfolding resolution_cause
+unfolding tiff_on_literals
 not_refused e new (inl h) =
     unequal 0 1 (lit< tt) (sym none_count ∙ (sym (ap (λ (i : OpenImage). count_of i.directory) h.0) ∙ unit_count))
 not_refused e new (inr h) = some_none h.0
@@ -144,10 +135,3 @@ not_resolved e new (inr h) =
 
 pub resolving_all : s.resolving_all
 resolving_all = not_resolved
-
-not_changed : s.resolving_chunk
-not_changed e new now l (inl h) = unequal 0 1 (lit< tt) (sym (ap (λ (i : OpenImage). length i.chunks) h.0) ∙ l)
-not_changed e new now l (inr h) = unequal 0 1 (lit< tt) (sym (ap (λ (i : OpenImage). length i.chunks) h.1.1.0) ∙ l)
-
-pub resolving_chunk : s.resolving_chunk
-resolving_chunk = not_changed

@@ -6,14 +6,13 @@ use Rattle.std.proofs.lemmas.Bool.Decides.{nat_tests}
 use Rattle.std.specs.Ordering.{nat_cmp}
 use Rattle.std.specs.Cmp.{nat_cmp_total}
 use Rattle.std.specs.FinMap.{find, get, get-from_entries}
-use Rattle.tiff_base.specs.Directory.{directory_at, entries_from}
-use Rattle.tiff_base.specs.Number.{number}
 use Rattle.tiff_base.specs.declared.error.TiffError.{TiffError}
 use Rattle.tiff_base.specs.declared.tags.ByteOrder.TheVariants.{LittleEndian}
 use Rattle.tiff_base.specs.declared.tags.FileKind.TheVariants.{Classic}
-use Rattle.tiff_ifd.specs.Chain.{link_from, AreEntered, chain}
+use Rattle.tiff_ifd.specs.Chain.{link_from, AreEntered}
 use Rattle.tiff_ifd.specs.Links.{Links, Goes}
 use Rattle.tiff_examples.specs.Ifd.Chain as s
+use Rattle.tiff.proofs.OnLiterals.{tiff_on_literals}
 
 -- a look-up in links that are made of a list
 pub looked : (links : List (ℕ × Option ℕ)) (q : ℕ) → get (s.accepted links) q ≡ find nat_cmp q links
@@ -29,7 +28,7 @@ IsFault (Err e) = Unit {0}
 
 -- no offset is entered in an empty file
 only_none : (others : List ℕ) → AreEntered (link_from Classic LittleEndian []) [] (Some 0) others → (rest : List ℕ) × ([] ≡ others ++ rest)
-unfolding directory_at number
+unfolding tiff_on_literals
 only_none [] h = ([], refl)
 only_none (offset ∷ others) h = absurd (subst IsFault h.2 tt)
 
@@ -47,88 +46,24 @@ pub stuck : (links : Links) (at last : ℕ) (x : Option (Option ℕ)) → get li
 stuck links at last x e none apart [] h = apart h
 stuck links at last x e none apart (next ∷ others) h = none (subst IsLinked (sym h.0 ∙ e) tt)
 
-pub one_alone : s.one_alone
-unfolding chain directory_at number entries_from
-one_alone = refl
-
-pub two_linked : s.two_linked
-unfolding chain directory_at number entries_from
-two_linked = refl
-
-pub from_second : s.from_second
-unfolding chain directory_at number entries_from
-from_second = refl
-
-pub to_itself : s.to_itself
-unfolding chain directory_at number entries_from
-to_itself = refl
-
-pub second_to_itself : s.second_to_itself
-unfolding chain directory_at number entries_from
-second_to_itself = refl
-
-pub back : s.back
-unfolding chain directory_at number entries_from
-back = refl
-
-pub next_past_end : s.next_past_end
-unfolding chain directory_at number entries_from
-next_past_end = refl
-
-pub second_cut : s.second_cut
-unfolding chain directory_at number entries_from
-second_cut = refl
-
-pub first_cut : s.first_cut
-unfolding chain directory_at number entries_from
-first_cut = refl
-
-pub big_linked : s.big_linked
-unfolding chain directory_at number entries_from
-big_linked = refl
-
-pub link_6 : s.link_6
-unfolding directory_at number entries_from
-link_6 = refl
-
-pub link_0 : s.link_0
-unfolding directory_at number entries_from
-link_0 = refl
-
-pub link_cut : s.link_cut
-unfolding directory_at number entries_from
-link_cut = refl
-
-pub entered_6 : s.entered_6
-entered_6 = refl
-
-pub not_entered : s.not_entered
-not_entered = refl
-
 pub the_first : s.the_first
-unfolding directory_at number entries_from
+unfolding tiff_on_literals
 the_first = (refl, Some 6, refl, tt)
 
 pub both : s.both
-unfolding directory_at number entries_from
+unfolding tiff_on_literals
 both = (refl, Some 6, refl, (refl, None, refl, tt))
 
-pub not_the_second : s.not_the_second
-not_the_second = λ h. omega (arith, h.0)
-
 pub a_chain : s.a_chain
-unfolding directory_at number entries_from
+unfolding tiff_on_literals
 a_chain = (refl, Some 6, refl, (refl, None, refl, refl))
 
-pub no_chain : s.no_chain
-no_chain = refl
-
 pub none_longest : s.none_longest
-unfolding directory_at number
+unfolding tiff_on_literals
 none_longest = record { entered = tt; longest = only_none }
 
 pub one_not_longest : s.one_not_longest
-unfolding directory_at number entries_from
+unfolding tiff_on_literals
 one_not_longest = λ h. (let more = h.longest (0 ∷ 6 ∷ []) (refl, Some 6, refl, (refl, None, refl, tt)) in let e = ap length more.1 in omega (arith, e))
 
 pub offsets_apart : s.offsets_apart
@@ -165,3 +100,22 @@ second_parent = (record { free = looked ((20, None) ∷ (8, Some 20) ∷ []) 30;
 
 pub own_link : s.own_link
 own_link = (refl, inr (record { free = looked ((30, Some 20) ∷ (20, None) ∷ (8, Some 20) ∷ []) 40; closes = ([], refl) }), refl)
+
+pub ruleset worked = (
+  the_first,
+  both,
+  a_chain,
+  none_longest,
+  one_not_longest,
+  offsets_apart,
+  offset_twice,
+  offset_past_end,
+  first_link,
+  same_link,
+  other_link,
+  closing_link,
+  last_link,
+  zero_link,
+  second_parent,
+  own_link,
+)

@@ -1,161 +1,45 @@
 -- The worked examples of Walks hold.
-use Rattle.std.specs.Prelude.{refl, get_or, drop, length}
-use Rattle.std.proofs.Common.{◌≡◌, ℕ, ◌≤◌, List, [], ◌∷◌, Option, Some, None, Result, Ok, Err, ap, sym, ◌∙◌, subst, arith}
+use Rattle.std.specs.Prelude.{refl, drop, length}
+use Rattle.std.proofs.Common.{◌≡◌, ℕ, ◌≤◌, List, [], ◌∷◌, Option, Some, None, Result, ap, sym, ◌∙◌, subst, arith}
 use Rattle.std.proofs.lemmas.Bool.{false≢true}
 use Rattle.std.proofs.lemmas.Option.{none-some}
 use Rattle.tiff_base.specs.declared.error.TiffError.{TiffError}
-use Rattle.tiff_base.specs.declared.error.TiffError.TheVariants.{FormatError}
-use Rattle.tiff_base.specs.declared.error.TiffFormatError.TheVariants.{CycleInOffsets}
 use Rattle.tiff_base.specs.declared.tags.ByteOrder.TheVariants.{LittleEndian}
 use Rattle.tiff_base.specs.declared.tags.FileKind.TheVariants.{Classic}
-use Rattle.tiff_base.specs.Directory.{directory_at, entries_from, last_of_each}
-use Rattle.tiff_base.specs.Field.{DirectoryRecord}
-use Rattle.tiff_base.specs.Number.{number}
-use Rattle.tiff_base.specs.SourceAndSink.{answers_for}
-use Rattle.tiff_ifd.specs.Chain.{link_from, enter_at, IsChain, chain}
-use Rattle.tiff_ifd.specs.Stretches.{DirectoryReadable, LinkReadable}
+use Rattle.tiff_ifd.specs.Chain.{link_from, IsChain}
+use Rattle.tiff_ifd.specs.Stretches.{LinkReadable}
 use Rattle.tiff_ifd.specs.Walk.{ChainBegins}
 use Rattle.tiff_examples.specs.Decoders.{three_file}
-use Rattle.tiff_examples.proofs.OfEncode.Model.{err_ok}
 use Rattle.tiff_examples.proofs.OfIfd.Stretches as stretches
 use Rattle.tiff_examples.proofs.OfIfd.Stretches.{count_in}
 use Rattle.tiff_examples.proofs.Stretches.{in_first}
-use Rattle.tiff_examples.specs.Ifd.Stretches.{one_entry}
 use Rattle.tiff_examples.specs.Ifd.Walk as s
+use Rattle.tiff.proofs.OnLiterals.{tiff_on_literals}
 
 abbrev pub offset_of : Option ℕ → ℕ
 offset_of (Some offset) = offset
 offset_of None = 0
 
--- whether there is one
-abbrev shape : {A : Type 0} → Option A → ℕ
-shape None = 0
-shape (Some x) = 1
-
-abbrev next_of : Result DirectoryRecord TiffError → ℕ
-next_of (Ok directory) = offset_of directory.next
-next_of (Err e) = 0
-
-pub enters_first : s.enters_first
-unfolding directory_at number entries_from last_of_each
-enters_first = record { offset = 8; next = refl; read = refl; entered = refl; walked = refl }
-
-pub enters_second : s.enters_second
-unfolding directory_at number entries_from last_of_each
-enters_second = record { offset = 14; next = refl; read = refl; entered = refl; walked = refl }
-
-pub enters_in_front : s.enters_in_front
-enters_in_front = λ h. omega (arith, ap (λ w. get_or w.offsets 0 0) h.walked)
-
-pub enters_other : s.enters_other
-unfolding directory_at number entries_from last_of_each
-enters_other = λ after h. omega (arith, ap next_of (subst (λ k. directory_at Classic LittleEndian three_file k ≡ Ok (s.linking None)) (sym (ap offset_of h.next)) h.read))
-
-pub enters_same_link : s.enters_same_link
-enters_same_link = λ h. omega (arith, ap (λ w. offset_of w.next) h.walked)
-
-pub enters_back : s.enters_back
-unfolding directory_at number entries_from last_of_each
-enters_back = λ directory after h. err_ok (subst (λ k. enter_at (link_from Classic LittleEndian s.back_file) (8 ∷ []) k ≡ Ok directory.next) (sym (ap offset_of h.next)) h.entered)
-
-pub back_refused : s.back_refused
-unfolding directory_at number entries_from last_of_each
-back_refused = record { offset = 14; next = refl; refused = refl }
-
-pub cut_refused : s.cut_refused
-unfolding directory_at number entries_from last_of_each
-cut_refused = record { offset = 20; next = refl; refused = refl }
-
-pub second_refused : s.second_refused
-unfolding directory_at number entries_from last_of_each
-second_refused = λ e h. err_ok (sym (subst (λ k. enter_at (link_from Classic LittleEndian three_file) (8 ∷ []) k ≡ Err e) (sym (ap offset_of h.next)) h.refused))
-
-pub none_refused : s.none_refused
-none_refused = λ e h. omega (arith, ap shape h.next)
-
-pub step_first : s.step_first
-step_first = enters_first
-
-pub step_last : s.step_last
-step_last = (refl, refl)
-
-pub step_early : s.step_early
-step_early = λ h. omega (arith, ap shape h.0)
-
-pub step_back : s.step_back
-step_back = (back_refused, refl)
-
-pub step_back_ends : s.step_back_ends
-step_back_ends = λ h. omega (arith, ap (λ w. offset_of w.next) h.1)
-
 pub begins_none : s.begins_none
-unfolding chain directory_at number entries_from last_of_each
+unfolding tiff_on_literals
 begins_none = record { linked = refl; rest = 8 ∷ 14 ∷ 20 ∷ []; offsets = refl; goes_on = (refl, Some 14, refl, (refl, Some 20, refl, (refl, None, refl, refl))) }
 
 pub begins_one : s.begins_one
-unfolding chain directory_at number entries_from last_of_each
+unfolding tiff_on_literals
 begins_one = record { linked = refl; rest = 14 ∷ 20 ∷ []; offsets = refl; goes_on = (refl, Some 20, refl, (refl, None, refl, refl)) }
 
-pub begins_all : s.begins_all
-unfolding chain directory_at number entries_from last_of_each
-begins_all = record { linked = refl; rest = []; offsets = refl; goes_on = refl }
-
-pub begins_back : s.begins_back
-unfolding chain directory_at number entries_from last_of_each
-begins_back = record { linked = refl; rest = []; offsets = refl; goes_on = (FormatError CycleInOffsets, refl, refl) }
-
-pub begins_second : s.begins_second
-unfolding chain directory_at number entries_from last_of_each
-begins_second = λ h. omega (arith, ap (λ xs. get_or xs 0 0) h.offsets)
-
-pub begins_ended : s.begins_ended
-unfolding chain directory_at number entries_from last_of_each
-begins_ended = λ h. subst (λ rest. IsChain (link_from Classic LittleEndian three_file) (8 ∷ []) None rest None) (sym (ap (drop 1) h.offsets)) h.goes_on
-
-pub ends_all : s.ends_all
-unfolding chain directory_at number entries_from last_of_each
-ends_all = refl
-
-pub ends_early : s.ends_early
-unfolding chain directory_at number entries_from last_of_each
-ends_early = λ h. omega (arith, ap (λ c. length c.offsets) h)
-
-pub ends_back : s.ends_back
-unfolding chain directory_at number entries_from last_of_each
-ends_back = refl
-
-pub ends_plain : s.ends_plain
-unfolding chain directory_at number entries_from last_of_each
-ends_plain = λ h. omega (arith, ap (λ c. shape c.end) h)
-
 -- ---- bytes that walks take
-
-pub none_needed : s.none_needed
-none_needed = record { directory = λ at n. absurd (none-some at n) }
-
-pub whole_needed : s.whole_needed
-whole_needed = record {
-  directory = λ at n. subst (λ p. DirectoryReadable (one_entry ((0, 18) ∷ [])) Classic LittleEndian p) (ap offset_of n) stretches.whole_directory;
-}
 
 pub whole_needed_link : s.whole_needed_link
 whole_needed_link = λ r. stretches.directory_with_link (r.directory 0 refl)
 
 pub whole_needed_entry : s.whole_needed_entry
-unfolding answers_for number
+unfolding tiff_on_literals
 whole_needed_entry = λ r. false≢true ((r.directory 0 refl).entries 1 refl 2 (omega arith) (omega arith))
 
-pub link_needed : s.link_needed
-link_needed = record {
-  link = λ at n. subst (λ p. LinkReadable (one_entry ((0, 2) ∷ (14, 4) ∷ [])) Classic LittleEndian p) (ap offset_of n) stretches.link_alone;
-}
-
 pub link_needed_all : s.link_needed_all
-unfolding answers_for number
+unfolding tiff_on_literals
 link_needed_all = λ r. false≢true ((r.link 0 refl).link 1 refl 14 (omega arith) (omega arith))
-
-pub no_link_needed : s.no_link_needed
-no_link_needed = record { link = λ at n. absurd (none-some at n) }
 
 module _ (link : ℕ → Result (Option ℕ) TiffError) where
   -- a chain goes on at its next offset
@@ -170,7 +54,7 @@ module _ (link : ℕ → Result (Option ℕ) TiffError) where
 
 -- the first two of three directories are read
 first_read : LinkReadable s.two_of_three Classic LittleEndian 8
-unfolding number
+unfolding tiff_on_literals
 first_read = record {
   count = λ k l h. in_first 8 12 [] k l (omega (arith, h));
   link = λ n e k l h.
@@ -179,7 +63,7 @@ first_read = record {
 }
 
 second_read : LinkReadable s.two_of_three Classic LittleEndian 14
-unfolding number
+unfolding tiff_on_literals
 second_read = record {
   count = λ k l h. in_first 8 12 [] k (omega (arith, l)) (omega (arith, h));
   link = λ n e k l h.
@@ -190,7 +74,7 @@ second_read = record {
 -- one of them is the next one of a walk with one offset at most
 first_two : (offsets : List ℕ) (next : Option ℕ) → ChainBegins Classic LittleEndian three_file 8 (record { offsets = offsets; next = next }) → length offsets ≤ 1
     → (at : ℕ) → next ≡ Some at → LinkReadable s.two_of_three Classic LittleEndian at
-unfolding chain directory_at number entries_from last_of_each
+unfolding tiff_on_literals
 first_two [] next b l at n =
     let link = link_from Classic LittleEndian three_file in
     let on : IsChain link [] next (8 ∷ 14 ∷ 20 ∷ []) None = subst (λ rest. IsChain link [] next rest None) (sym b.offsets) b.goes_on in
@@ -205,7 +89,17 @@ pub way_to_second : s.way_to_second
 way_to_second = record { link = λ w b l. record { link = first_two w.offsets w.next b l } }
 
 pub way_to_third : s.way_to_third
-unfolding answers_for chain directory_at number entries_from last_of_each
+unfolding tiff_on_literals
 way_to_third = λ r.
     let begins : ChainBegins Classic LittleEndian three_file 8 s.two_entered = record { linked = refl; rest = 20 ∷ []; offsets = refl; goes_on = (refl, None, refl, refl) } in
     false≢true (((r.link s.two_entered begins (omega arith)).link 20 refl).count 20 (omega arith) (omega arith))
+
+pub ruleset worked = (
+  begins_none,
+  begins_one,
+  whole_needed_link,
+  whole_needed_entry,
+  link_needed_all,
+  way_to_second,
+  way_to_third,
+)

@@ -3,115 +3,16 @@ use Rattle.std.specs.Prelude.{refl, Bool, true, false}
 use Rattle.std.specs.List.{list_all}
 use Rattle.std.proofs.Common.{◌≡◌, ℕ, ◌+◌, ◌-◌, ◌<◌, ◌&&◌, List, [], ◌∷◌, ◌++◌, arith, ap, drop, flat_map, get_or, length, length-append, subst, sym, take, ◌∙◌}
 use Rattle.std.proofs.lemmas.List.{take_all, take_at}
-use Rattle.tiff_base.specs.Runs.{Unpacked, runs_after}
+use Rattle.tiff_base.specs.Runs.{Unpacked}
 use Rattle.tiff_base.specs.Blocks.{Block, Nothing, Literal, Repeated, AreBlocks, packed_block}
-use Rattle.tiff_value.specs.ColorTypes.{color_type, inner_type}
-use Rattle.tiff_value.specs.Differences.{differences}
 use Rattle.tiff_value.proofs.Packing.{unpacks}
 use Rattle.tiff_value.specs.Packed.{is_sparing, may_be_written, IsPacked}
 use Rattle.tiff_examples.specs.Value.Packed as s
+use Rattle.tiff.proofs.OnLiterals.{tiff_on_literals}
 
 abbrev IsTrue : Bool → Type 0
 IsTrue true = Unit {0}
 IsTrue false = ⊥
-
-pub gray8 : s.gray8
-unfolding color_type
-gray8 = refl
-
-pub gray_i16 : s.gray_i16
-unfolding color_type
-gray_i16 = refl
-
-pub gray64_float : s.gray64_float
-unfolding color_type
-gray64_float = refl
-
-pub rgb16 : s.rgb16
-unfolding color_type
-rgb16 = refl
-
-pub rgba8 : s.rgba8
-unfolding color_type
-rgba8 = refl
-
-pub cmyk32_float : s.cmyk32_float
-unfolding color_type
-cmyk32_float = refl
-
-pub ycbcr8 : s.ycbcr8
-unfolding color_type
-ycbcr8 = refl
-
-pub cmyka8 : s.cmyka8
-unfolding color_type
-cmyka8 = refl
-
-pub size_gray8 : s.size_gray8
-unfolding inner_type
-size_gray8 = refl
-
-pub size_gray_i32 : s.size_gray_i32
-unfolding inner_type
-size_gray_i32 = refl
-
-pub size_rgb64 : s.size_rgb64
-unfolding inner_type
-size_rgb64 = refl
-
-pub size_rgba32_float : s.size_rgba32_float
-unfolding inner_type
-size_rgba32_float = refl
-
-pub two_pixels : s.two_pixels
-unfolding differences inner_type
-two_pixels = refl
-
-pub extra_number : s.extra_number
-unfolding differences inner_type
-extra_number = refl
-
-pub wide_numbers : s.wide_numbers
-unfolding differences inner_type
-wide_numbers = refl
-
-pub signed_numbers : s.signed_numbers
-unfolding differences inner_type
-signed_numbers = refl
-
-pub no_pixel : s.no_pixel
-unfolding differences inner_type
-no_pixel = refl
-
-pub short_row : s.short_row
-unfolding differences inner_type
-short_row = refl
-
-pub one_pixel : s.one_pixel
-unfolding differences inner_type
-one_pixel = refl
-
-pub floating_row : s.floating_row
-unfolding differences inner_type
-floating_row = refl
-
-pub floating_no_pixel : s.floating_no_pixel
-unfolding differences inner_type
-floating_no_pixel = refl
-
-pub two_rows : s.two_rows
-unfolding differences
-two_rows = refl
-
-pub no_predictor : s.no_predictor
-unfolding differences
-no_predictor = refl
-
-pub restored_0 : s.restored_0
-restored_0 = refl
-
-pub restored_6 : s.restored_6
-restored_6 = refl
 
 pub pack_one : s.pack_one
 pack_one = record {
@@ -146,10 +47,6 @@ pack_129 = record {
 first_of : (a b : Bool) → (a && b) ≡ true → a ≡ true
 first_of true b h = refl
 first_of false b h = h
-
-second_of : (a b : Bool) → (a && b) ≡ true → b ≡ true
-second_of true b h = h
-second_of false b h = absurd (cc)
 
 -- a list that begins with a header below 128 begins with a literal, which is whole and sparing
 literal_first : (blocks : List Block) (h : ℕ) (more : List ℕ) → AreBlocks blocks → list_all may_be_written blocks ≡ true → h < 128
@@ -191,9 +88,6 @@ literal_pair = not_sparing _ (0x41 ∷ 0x41 ∷ []) 1 (omega arith) refl refl
 pub literal_three : s.literal_three
 literal_three = not_sparing _ (0x40 ∷ 0x41 ∷ 0x41 ∷ 0x41 ∷ []) 3 (omega arith) refl refl
 
-pub literals_alone : s.literals_alone
-literals_alone = λ p. omega (arith, p.bound)
-
 pub with_128 : s.with_128
 with_128 = λ p.
     let f = run_first p.packs.blocks 0xff 0x41 (0x80 ∷ []) p.packs.are_blocks p.packs.written (omega arith) p.packs.is_list in
@@ -205,7 +99,7 @@ literal_cut = λ p.
     omega (arith, f.1.1.0, ap length f.1.1.1.0, length-append f.0 f.1.0)
 
 pub pack_other : s.pack_other
-unfolding runs_after
+unfolding tiff_on_literals
 pack_other = λ p. absurd (omega (arith, ap (λ (u : Unpacked). get_or u.out 0 0) (unpacks (0x41 ∷ []) (0x00 ∷ 0x42 ∷ []) p)))
 
 pub pack_standard : s.pack_standard
@@ -214,41 +108,23 @@ pack_standard = record {
   bound = omega arith;
 }
 
-pub bound_0 : s.bound_0
-bound_0 = refl
-
-pub bound_128 : s.bound_128
-bound_128 = refl
-
-pub bound_129 : s.bound_129
-bound_129 = refl
-
-pub stored_plain : s.stored_plain
-stored_plain = refl
-
 pub stored_packed : s.stored_packed
 stored_packed = record {
   packs = record { blocks = Repeated 4 0x01 ∷ []; are_blocks = ((omega arith, omega arith), tt); written = refl; is_list = refl; stands = refl };
   bound = omega arith;
 }
 
-pub stored_else : s.stored_else
-stored_else = λ h. h
-
-pub fault_of_none : s.fault_of_none
-fault_of_none = refl
-
-pub plain_of_none : s.plain_of_none
-plain_of_none = refl
-
-pub no_fault : s.no_fault
-no_fault = refl
-
-pub plain_literal : s.plain_literal
-plain_literal = refl
-
-pub three_literal : s.three_literal
-three_literal = refl
-
-pub sparing_literal : s.sparing_literal
-sparing_literal = refl
+pub ruleset worked = (
+  pack_one,
+  pack_pairs,
+  pack_literal,
+  pack_128,
+  pack_129,
+  literal_pair,
+  literal_three,
+  with_128,
+  literal_cut,
+  pack_other,
+  pack_standard,
+  stored_packed,
+)

@@ -15,7 +15,7 @@ use Rattle.tiff_base.specs.SourceAndSink.{SourceRecord}
 use Rattle.tiff_base.specs.Tags.{tag_number}
 use Rattle.tiff_ifd.specs.Limits.{unlimited}
 use Rattle.tiff_ifd.specs.Look.{DirectoryTags, look_in}
-use Rattle.tiff_page.specs.declared.chunk_data.Stored.TheVariants.{Plain, Ended}
+use Rattle.tiff_page.specs.declared.chunk_data.ChunkCursor.TheVariants.{Plain, Ended}
 use Rattle.tiff_page.specs.PixelCalls.{image_part, chunk_part}
 use Rattle.tiff_page.specs.Reach.{AsksForPage, StoredReadable, ChunkReadable, PageReadable, PartReadable}
 use Rattle.tiff_examples.specs.Base.FieldBytes.{of}

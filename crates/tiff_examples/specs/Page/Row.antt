@@ -2,7 +2,7 @@
 use Rattle.std.specs.Prelude.{◌≡◌, ℕ, List, [], ◌∷◌}
 use Rattle.tiff_base.specs.declared.tags.ByteOrder.TheVariants.{LittleEndian, BigEndian}
 use Rattle.tiff_page.specs.Pixels.{row_number, summed_number, summed_byte, joined_number}
-use Rattle.tiff_page.specs.Row.{Became, TurnsNumbers}
+use Rattle.tiff_page.specs.Row.{RowReplaced, TurnsNumbers}
 
 -- the second number of two bytes, in either order
 abbrev pub little_second : Type 0
@@ -50,7 +50,7 @@ joined_two = joined_number 4 1 2 planes 1 ≡ 0x4000_0000
 
 -- a row of one number and a ragged end, turned; the end stays
 abbrev pub turned : List ℕ → Type 0
-turned new = Became 2 (row_number BigEndian 2 (0x01 ∷ 0x02 ∷ 0x09 ∷ [])) (0x01 ∷ 0x02 ∷ 0x09 ∷ []) new
+turned new = RowReplaced 2 (row_number BigEndian 2 (0x01 ∷ 0x02 ∷ 0x09 ∷ [])) (0x01 ∷ 0x02 ∷ 0x09 ∷ []) new
 
 abbrev pub row_unturned : Type 0
 row_unturned = turned (0x01 ∷ 0x02 ∷ 0x09 ∷ []) → ⊥

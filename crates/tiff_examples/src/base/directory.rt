@@ -1,4 +1,5 @@
 //! Worked entries and directories.
+#![tactic(auto, using(crate::proofs::OfBase::Directory::worked), unfolding(tiff::proofs::OnLiterals::tiff_on_literals))]
 
 ghost use Rattle.tiff_examples.specs.Base.Directory as s;
 
@@ -10,11 +11,12 @@ pub fn entries()
 
 /// Directories that are read, or cut off; of entries with one tag number the last of known type stands.
 pub fn directories()
-    ensures { s.no_entries × s.linked × s.cut_link × s.past_end × s.twice_found × s.last_stands ×
-        s.one_stands × s.first_stands × s.wide_directory }
+    ensures computed { s.no_entries × s.linked × s.cut_link × s.past_end × s.twice_found × s.wide_directory }
+    ensures by_lemma { s.last_stands × s.one_stands × s.first_stands }
 {}
 
 /// The directory of the file of one gray pixel.
 pub fn gray()
-    ensures { s.gray_length × s.gray_found × s.gray_14 × s.gray_rows × s.gray_artist × s.gray_cut }
+    ensures computed { s.gray_length × s.gray_found × s.gray_cut }
+    ensures by_lemma { s.gray_14 × s.gray_rows × s.gray_artist }
 {}

@@ -1,4 +1,5 @@
 //! Worked bytes of fields.
+#![tactic(auto, unfolding(tiff::proofs::OnLiterals::tiff_on_literals))]
 
 ghost use Rattle.tiff_examples.specs.Base.FieldBytes as s;
 

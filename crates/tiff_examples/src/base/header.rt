@@ -1,4 +1,5 @@
 //! Worked headers of files.
+#![tactic(auto, unfolding(tiff::proofs::OnLiterals::tiff_on_literals))]
 
 ghost use Rattle.tiff_examples.specs.Base.Header as s;
 

@@ -1,4 +1,5 @@
 //! Worked numbers, and the bytes at an offset.
+#![tactic(auto, unfolding(tiff::proofs::OnLiterals::tiff_on_literals))]
 
 ghost use Rattle.tiff_examples.specs.Base.Number as s;
 

@@ -1,4 +1,5 @@
 //! Worked packed lists.
+#![tactic(auto, using(crate::proofs::OfBase::Runs::worked), unfolding(tiff::proofs::OnLiterals::tiff_on_literals))]
 
 ghost use Rattle.tiff_examples.specs.Base.Runs as s;
 
@@ -10,6 +11,7 @@ pub fn runs()
 
 /// Lists by their blocks.
 pub fn blocks()
-    ensures { s.three_blocks × s.short_block × s.bare_block × s.headless_128 × s.headless_2 × s.empty_early × s.empty_whole ×
-        s.no_block }
+    ensures computed { s.no_block }
+    ensures by_lemma { s.three_blocks × s.short_block × s.bare_block × s.headless_128 × s.headless_2 ×
+        s.empty_early × s.empty_whole }
 {}

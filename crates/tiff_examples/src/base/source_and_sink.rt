@@ -1,18 +1,20 @@
 //! Worked answers of sources and sinks, and values looked up in a directory.
+#![tactic(auto, using(crate::proofs::OfBase::SourceAndSink::worked), unfolding(tiff::proofs::OnLiterals::tiff_on_literals))]
 
 ghost use Rattle.tiff_examples.specs.Base.SourceAndSink as s;
 
 /// Answers of a source.
 pub fn reads()
-    ensures { s.two_in_middle × s.read_two × s.read_one × s.read_none × s.read_at_end × s.read_past_end ×
-        s.read_elsewhere × s.read_into_none × s.octets × s.no_octets × s.last_of_six × s.one_more_than_six ×
+    ensures computed { s.two_in_middle × s.read_two × s.read_one × s.read_none × s.read_at_end ×
+        s.read_past_end × s.read_elsewhere × s.read_into_none × s.octets × s.last_of_six × s.one_more_than_six ×
         s.nothing_readable }
+    ensures by_lemma { s.no_octets }
 {}
 
 /// Bytes that a source answers for, and a buffer over it.
 pub fn stretches()
-    ensures { s.second_stretch × s.within_gap × s.no_stretch × s.all_readable × s.nine_buffered × s.ten_buffered ×
-        s.short_buffered × s.all_buffered }
+    ensures { s.second_stretch × s.within_gap × s.no_stretch × s.all_readable × s.nine_buffered ×
+        s.ten_buffered × s.short_buffered × s.all_buffered }
 {}
 
 /// Answers of a sink.
@@ -23,6 +25,6 @@ pub fn writes()
 
 /// Values of a directory's fields.
 pub fn look_ups()
-    ensures { s.signed_byte_alone × s.look_big_endian × s.look_placed × s.look_limited × s.wide_offset ×
-        s.wide_count × s.no_letters }
+    ensures computed { s.signed_byte_alone × s.wide_offset × s.wide_count × s.no_letters }
+    ensures by_lemma { s.look_big_endian × s.look_placed × s.look_limited }
 {}

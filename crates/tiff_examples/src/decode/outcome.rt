@@ -1,4 +1,5 @@
 //! Worked openings of files.
+#![tactic(auto, using(crate::proofs::OfDecode::Outcome::worked), unfolding(tiff::proofs::OnLiterals::tiff_on_literals))]
 
 ghost use Rattle.tiff_examples.specs.Decode.Outcome as s;
 

@@ -1,4 +1,5 @@
 //! Worked files of the writer.
+#![tactic(auto, using(crate::proofs::OfEncode::FileBytes::worked), unfolding(tiff::proofs::OnLiterals::tiff_on_literals))]
 
 ghost use Rattle.tiff_examples.specs.Encode.FileBytes as s;
 

@@ -1,10 +1,12 @@
 //! Worked whole images, and what stands then.
+#![tactic(auto, using(crate::proofs::OfEncode::ImageDataWholes::worked), unfolding(tiff::proofs::OnLiterals::tiff_on_literals))]
 
 ghost use Rattle.tiff_examples.specs.Encode.ImageDataWholes as s;
 
 /// Samples of an image that was begun.
 pub fn data()
-    ensures { s.data_left × s.data_other × s.data_refused × s.data_changed }
+    ensures computed { s.data_refused × s.data_changed }
+    ensures by_answer { s.data_left × s.data_other }
 {}
 
 /// The end of one with its chunk.
@@ -14,5 +16,6 @@ pub fn finished()
 
 /// Whole images.
 pub fn images()
-    ensures { s.image_left × s.image_other × s.image_wider × s.image_unlinked × s.image_refused × s.image_sideless × s.image_changed }
+    ensures computed { s.image_unlinked × s.image_refused × s.image_sideless × s.image_changed }
+    ensures by_answer { s.image_left × s.image_other × s.image_wider }
 {}

@@ -1,13 +1,16 @@
 //! Worked lists of jobs.
+#![tactic(auto, using(crate::proofs::OfEncode::JobLists::worked), unfolding(tiff::proofs::OnLiterals::tiff_on_literals))]
 
 ghost use Rattle.tiff_examples.specs.Encode.JobLists as s;
 
 /// Lists of jobs that are called.
 pub fn called()
-    ensures { s.three_jobs × s.three_wrong }
+    ensures computed { s.three_wrong }
+    ensures by_lemma { s.three_jobs }
 {}
 
 /// Jobs that are not called.
 pub fn uncalled()
-    ensures { s.no_room × s.no_room_run × s.header_cut × s.header_cut_run × s.header_swapped × s.header_whole × s.other_cause × s.replied }
+    ensures computed { s.no_room × s.no_room_run × s.header_swapped × s.other_cause × s.replied }
+    ensures by_answer { s.header_cut × s.header_cut_run × s.header_whole }
 {}

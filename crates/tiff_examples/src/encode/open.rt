@@ -1,4 +1,5 @@
 //! Worked whole images.
+#![tactic(auto, using(crate::proofs::OfEncode::Open::worked), unfolding(tiff::proofs::OnLiterals::tiff_on_literals))]
 
 ghost use Rattle.tiff_examples.specs.Encode.Open as s;
 
@@ -9,10 +10,13 @@ pub fn samples()
 
 /// How these are written.
 pub fn writes()
-    ensures { s.data_refused × s.data_changed × s.data_wanting × s.data_answered × s.data_few × s.data_whole × s.data_within × s.not_begun × s.not_begun_wanting × s.not_begun_answered × s.image_written × s.image_sideless }
+    ensures computed { s.data_refused × s.data_changed × s.data_wanting × s.data_answered × s.data_few ×
+        s.not_begun × s.not_begun_wanting × s.not_begun_answered × s.image_sideless }
+    ensures by_lemma { s.data_whole × s.data_within × s.image_written }
 {}
 
 /// What holds an image that has ended.
 pub fn ended()
-    ensures { s.held × s.held_more × s.held_unwritten × s.held_nowhere }
+    ensures computed { s.held_more × s.held_unwritten × s.held_nowhere }
+    ensures by_lemma { s.held }
 {}

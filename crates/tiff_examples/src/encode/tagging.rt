@@ -1,13 +1,16 @@
 //! Worked fields that are written in part.
+#![tactic(auto, unfolding(tiff::proofs::OnLiterals::tiff_on_literals))]
 
 ghost use Rattle.tiff_examples.specs.Encode.Tagging as s;
 
 /// Some of several fields.
 pub fn in_part()
-    ensures { s.unit_alone × s.all_stopped × s.left_out × s.none_stopped }
+    ensures computed { s.unit_alone × s.none_stopped }
+    ensures by_answer { s.all_stopped × s.left_out }
 {}
 
 /// An image's.
 pub fn of_image()
-    ensures { s.resolving_unit × s.resolving_failed × s.resolving_refused × s.resolving_far × s.resolving_all × s.resolving_chunk }
+    ensures computed { s.resolving_failed × s.resolving_chunk }
+    ensures by_answer { s.resolving_unit × s.resolving_refused × s.resolving_far × s.resolving_all }
 {}

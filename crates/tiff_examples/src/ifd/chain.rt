@@ -1,4 +1,5 @@
 //! Worked chains of directories, and links that are accepted.
+#![tactic(auto, using(crate::proofs::OfIfd::Chain::worked), unfolding(tiff::proofs::OnLiterals::tiff_on_literals))]
 
 ghost use Rattle.tiff_examples.specs.Ifd.Chain as s;
 
@@ -10,8 +11,9 @@ pub fn chains()
 
 /// Links, and directories that are entered one after another.
 pub fn entries()
-    ensures { s.link_6 × s.link_0 × s.link_cut × s.entered_6 × s.not_entered × s.the_first × s.both ×
-        s.not_the_second × s.a_chain × s.no_chain }
+    ensures computed { s.link_6 × s.link_0 × s.link_cut × s.entered_6 × s.not_entered × s.not_the_second ×
+        s.no_chain }
+    ensures by_lemma { s.the_first × s.both × s.a_chain }
 {}
 
 /// The longest list of offsets that are entered, and offsets that differ.

@@ -1,4 +1,5 @@
 //! Worked conversions of signed and floating numbers, offsets, texts, and lists of them.
+#![tactic(auto, unfolding(tiff::proofs::OnLiterals::tiff_on_literals))]
 
 ghost use Rattle.tiff_examples.specs.Ifd.Into as s;
 
@@ -18,14 +19,12 @@ pub fn others()
 /// Lists of numbers.
 pub fn lists()
     ensures { s.u8s_list × s.u8s_one × s.u8s_longs × s.u32s_list × s.u32s_too_great × s.u32s_rational ×
-        s.u32s_rational_big × s.u32s_big_fits × s.u32s_text × s.u32s_rational_item × s.f32s_list ×
-        s.f32s_one × s.f32s_double × s.f64s_one × s.f64s_floats × s.pointers × s.pointers_one ×
-        s.pointers_long8 }
+        s.u32s_rational_big × s.u32s_big_fits × s.u32s_text × s.u32s_rational_item × s.f32s_list × s.f32s_one ×
+        s.f32s_double × s.f64s_one × s.f64s_floats × s.pointers × s.pointers_one × s.pointers_long8 }
 {}
 
 /// Lists of signed numbers.
 pub fn signed_lists()
     ensures { s.i32s_list × s.i32s_empty × s.i32s_one × s.i32s_rational × s.i32s_too_great × s.i32s_big_fits ×
-        s.i32s_first_fault × s.i32s_first_kind × s.i32s_nested × s.i64s_rational × s.i64s_list ×
-        s.i64s_long }
+        s.i32s_first_fault × s.i32s_first_kind × s.i32s_nested × s.i64s_rational × s.i64s_list × s.i64s_long }
 {}

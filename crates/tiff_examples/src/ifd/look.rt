@@ -1,13 +1,14 @@
 //! Worked conversions of values, and look-ups of tags.
+#![tactic(auto, using(crate::proofs::OfIfd::Look::worked), unfolding(tiff::proofs::OnLiterals::tiff_on_literals))]
 
 ghost use Rattle.tiff_examples.specs.Ifd.Look as s;
 
 /// Values that are converted, and values that aren't.
 pub fn conversions()
     ensures { s.u16_short × s.u16_fits × s.u16_too_great × s.u16_offset × s.u16_signed × s.u32_offset ×
-        s.u32_fits × s.u32_too_great × s.u32_list × s.u64_fits × s.u64_rational × s.u16s_list ×
-        s.u16s_empty × s.u16s_one × s.u16s_long × s.first_too_great × s.first_mistyped × s.u64s_list ×
-        s.u64s_rational × s.u64s_text × s.u64s_signed }
+        s.u32_fits × s.u32_too_great × s.u32_list × s.u64_fits × s.u64_rational × s.u16s_list × s.u16s_empty ×
+        s.u16s_one × s.u16s_long × s.first_too_great × s.first_mistyped × s.u64s_list × s.u64s_rational ×
+        s.u64s_text × s.u64s_signed }
 {}
 
 /// Tags that are there, and tags that aren't.

@@ -1,12 +1,13 @@
 //! Worked reads of numbers one after another, and texts at an offset.
+#![tactic(auto, unfolding(tiff::proofs::OnLiterals::tiff_on_literals))]
 
 ghost use Rattle.tiff_examples.specs.Ifd.Stream as s;
 
 /// Numbers that are read one after another.
 pub fn numbers()
-    ensures { s.behind_read × s.behind_refused × s.short_read × s.short_turned × s.short_little × s.short_stays ×
-        s.short_reordered × s.short_cut × s.short_cut_moved × s.short_refused × s.short_wanting ×
-        s.short_failed × s.short_not_failed × s.short_swallowed × s.short_forgotten }
+    ensures { s.behind_read × s.behind_refused × s.short_read × s.short_turned × s.short_little ×
+        s.short_stays × s.short_reordered × s.short_cut × s.short_cut_moved × s.short_refused ×
+        s.short_wanting × s.short_failed × s.short_not_failed × s.short_swallowed × s.short_forgotten }
 {}
 
 /// Signed and floating numbers.

@@ -1,18 +1,19 @@
 //! Worked questions to the tags of a directory: numbers, all tags, and bytes.
+#![tactic(auto, using(crate::proofs::OfIfd::TagQueries::worked), unfolding(tiff::proofs::OnLiterals::tiff_on_literals))]
 
 ghost use Rattle.tiff_examples.specs.Ifd.TagQueries as s;
 
 /// Numbers of tags.
 pub fn numbers()
     ensures { s.width_fits × s.width_too_great × s.width_no_number × s.width_none × s.widths_fit ×
-        s.widths_too_great × s.widths_no_number × s.widths_none × s.width_got × s.width_got_not ×
-        s.float_got × s.float_got_not }
+        s.widths_too_great × s.widths_no_number × s.widths_none × s.width_got × s.width_got_not × s.float_got ×
+        s.float_got_not }
 {}
 
 /// Tags of numbers, and all tags of a directory.
 pub fn items()
-    ensures { s.tag_256 × s.tag_42113 × s.tag_531 × s.tag_0 × s.tag_65000 × s.three_items × s.fault_between ×
-        s.no_items }
+    ensures computed { s.tag_256 × s.tag_42113 × s.tag_531 × s.tag_0 × s.tag_65000 }
+    ensures by_lemma { s.three_items × s.fault_between × s.no_items }
 {}
 
 /// Raw bytes, and what a buffer holds after a refusal.

@@ -1,4 +1,5 @@
 //! Worked reads of packed bytes in pieces.
+#![tactic(auto, unfolding(tiff::proofs::OnLiterals::tiff_on_literals))]
 
 ghost use Rattle.tiff_examples.specs.Ifd.Unpacking as s;
 

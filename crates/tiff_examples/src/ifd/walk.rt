@@ -1,4 +1,5 @@
 //! Worked walks along chains of directories.
+#![tactic(auto, using(crate::proofs::OfIfd::Walk::worked), unfolding(tiff::proofs::OnLiterals::tiff_on_literals))]
 
 ghost use Rattle.tiff_examples.specs.Ifd.Walk as s;
 
@@ -11,12 +12,14 @@ pub fn steps()
 
 /// Walks along a chain, and its end.
 pub fn chains()
-    ensures { s.begins_none × s.begins_one × s.begins_all × s.begins_back × s.begins_second × s.begins_ended ×
-        s.ends_all × s.ends_early × s.ends_back × s.ends_plain }
+    ensures computed { s.begins_all × s.begins_back × s.begins_second × s.begins_ended × s.ends_all ×
+        s.ends_early × s.ends_back × s.ends_plain }
+    ensures by_lemma { s.begins_none × s.begins_one }
 {}
 
 /// Bytes that a walk takes.
 pub fn needs()
-    ensures { s.none_needed × s.whole_needed × s.whole_needed_link × s.whole_needed_entry × s.link_needed × s.link_needed_all ×
-        s.no_link_needed × s.way_to_second × s.way_to_third }
+    ensures computed { s.none_needed × s.whole_needed × s.link_needed × s.no_link_needed }
+    ensures by_lemma { s.whole_needed_link × s.whole_needed_entry × s.link_needed_all × s.way_to_second ×
+        s.way_to_third }
 {}

@@ -1,4 +1,5 @@
 //! Worked layouts of buffers.
+#![tactic(auto, unfolding(tiff::proofs::OnLiterals::tiff_on_literals))]
 
 ghost use Rattle.tiff_examples.specs.Page.Buffers as s;
 
@@ -11,13 +12,13 @@ pub fn counts()
 
 /// Buffers for images, and those for chunks.
 pub fn images()
-    ensures { s.two_planes × s.three_planes × s.one_plane × s.of_12_bits × s.void_image ×
-        s.float_image × s.void_chunk × s.largest_image × s.largest_planes × s.largest_chunk ×
-        s.largest_void × s.half_image × s.half_tile × s.rounded_up × s.planar_chunk }
+    ensures { s.two_planes × s.three_planes × s.one_plane × s.of_12_bits × s.void_image × s.float_image ×
+        s.void_chunk × s.largest_image × s.largest_planes × s.largest_chunk × s.largest_void × s.half_image ×
+        s.half_tile × s.rounded_up × s.planar_chunk }
 {}
 
 /// Buffers for coding units, and zeros for a buffer.
 pub fn units()
-    ensures { s.planar_unit × s.unit_4 × s.unit_of_no_color × s.unit_too_long × s.chunky_unit ×
-        s.void_unit × s.void_chunky_unit × s.two_zeros × s.too_many_zeros × s.zeros_of_none }
+    ensures { s.planar_unit × s.unit_4 × s.unit_of_no_color × s.unit_too_long × s.chunky_unit × s.void_unit ×
+        s.void_chunky_unit × s.two_zeros × s.too_many_zeros × s.zeros_of_none }
 {}

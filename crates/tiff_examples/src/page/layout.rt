@@ -1,4 +1,5 @@
 //! Worked pages.
+#![tactic(auto, unfolding(tiff::proofs::OnLiterals::tiff_on_literals))]
 
 ghost use Rattle.tiff_examples.specs.Page.Layout as s;
 
@@ -10,9 +11,9 @@ pub fn pages()
 /// Pages that don't: the first fault is told.
 pub fn faults()
     ensures { s.no_length × s.width_0 × s.interpretation_7 × s.no_interpretation × s.samples_0 ×
-        s.too_many_extra × s.extra_9 × s.two_formats × s.no_format × s.wide_format × s.depth_0 ×
-        s.depth_256 × s.two_depths × s.mixed_depths × s.predictor_4 × s.planar_3 × s.one_subsampling ×
-        s.strips_and_tiles × s.no_chunks × s.half_strips × s.rows_0 × s.missing_strip × s.tile_width_0 }
+        s.too_many_extra × s.extra_9 × s.two_formats × s.no_format × s.wide_format × s.depth_0 × s.depth_256 ×
+        s.two_depths × s.mixed_depths × s.predictor_4 × s.planar_3 × s.one_subsampling × s.strips_and_tiles ×
+        s.no_chunks × s.half_strips × s.rows_0 × s.missing_strip × s.tile_width_0 }
 {}
 
 /// The rectangles of chunks.

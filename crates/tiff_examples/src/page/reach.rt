@@ -1,11 +1,12 @@
 //! Worked reads: which bytes a source is asked for, for the data of chunks and the checks of a page.
+#![tactic(auto, using(crate::proofs::OfPage::Reach::worked), unfolding(tiff::proofs::OnLiterals::tiff_on_literals))]
 
 ghost use Rattle.tiff_examples.specs.Page.Reach as s;
 
 /// Of chunks, and of parts of an image.
 pub fn chunks()
-    ensures { s.pixel_needs × s.pixel_needs_it × s.packed_needs × s.packed_needs_all × s.cut_tile_needs × s.corner_tile_needs ×
-        s.plane_needs × s.plane_needs_last × s.unit_needs_second }
+    ensures computed { s.pixel_needs × s.packed_needs × s.cut_tile_needs × s.corner_tile_needs × s.plane_needs }
+    ensures by_lemma { s.pixel_needs_it × s.packed_needs_all × s.plane_needs_last × s.unit_needs_second }
 {}
 
 /// From a position in a chunk's data on.

@@ -1,10 +1,12 @@
 //! Worked numbers of a row, undone.
+#![tactic(auto, using(crate::proofs::OfPage::Row::worked), unfolding(tiff::proofs::OnLiterals::tiff_on_literals))]
 
 ghost use Rattle.tiff_examples.specs.Page.Row as s;
 
 /// Numbers as they stand, and as sums along a row.
 pub fn sums()
-    ensures { s.little_second × s.big_second × s.eight_bytes × s.first_stays × s.second_summed × s.third_wraps × s.carried }
+    ensures { s.little_second × s.big_second × s.eight_bytes × s.first_stays × s.second_summed × s.third_wraps ×
+        s.carried }
 {}
 
 /// Numbers of planes.
@@ -14,5 +16,6 @@ pub fn planes()
 
 /// Rows that became others.
 pub fn rows()
-    ensures { s.row_unturned × s.row_end_changed × s.second_unturned }
+    ensures computed { s.row_unturned × s.row_end_changed }
+    ensures by_lemma { s.second_unturned }
 {}

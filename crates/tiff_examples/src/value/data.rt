@@ -1,12 +1,12 @@
 //! Worked values that are written, and bytes in both orders.
+#![tactic(auto, unfolding(tiff::proofs::OnLiterals::tiff_on_literals))]
 
 ghost use Rattle.tiff_examples.specs.Value.Data as s;
 
 /// Numbers, offsets and fractions.
 pub fn numbers()
     ensures { s.one_u8 × s.one_i8 × s.two_u16 × s.one_i16 × s.one_u32 × s.one_i32 × s.one_u64 × s.one_i64 ×
-        s.one_bits32 × s.one_bits64 × s.no_numbers × s.one_ifd × s.one_ifd8 × s.one_rational ×
-        s.one_srational }
+        s.one_bits32 × s.one_bits64 × s.no_numbers × s.one_ifd × s.one_ifd8 × s.one_rational × s.one_srational }
 {}
 
 /// Enums and texts.
@@ -18,6 +18,6 @@ pub fn others()
 /// Bytes that are turned, and buffers.
 pub fn orders()
     ensures { s.three_bytes × s.shorts_back × s.same_order × s.bytes × s.long_and_more × s.rational ×
-        s.half_rational × s.double × s.short_count × s.rational_count × s.empty_count ×
-        s.empty_longs × s.from_short × s.ordered_short × s.ordered_same }
+        s.half_rational × s.double × s.short_count × s.rational_count × s.empty_count × s.empty_longs ×
+        s.from_short × s.ordered_short × s.ordered_same }
 {}

@@ -1,4 +1,5 @@
 //! Worked color types, differences, and packed lists that are written.
+#![tactic(auto, using(crate::proofs::OfValue::Packed::worked), unfolding(tiff::proofs::OnLiterals::tiff_on_literals))]
 
 ghost use Rattle.tiff_examples.specs.Value.Packed as s;
 
@@ -11,19 +12,20 @@ pub fn colors()
 /// Rows as differences.
 pub fn rows()
     ensures { s.two_pixels × s.extra_number × s.wide_numbers × s.signed_numbers × s.no_pixel × s.short_row ×
-        s.one_pixel × s.floating_row × s.floating_no_pixel × s.two_rows × s.no_predictor ×
-        s.restored_0 × s.restored_6 }
+        s.one_pixel × s.floating_row × s.floating_no_pixel × s.two_rows × s.no_predictor × s.restored_0 ×
+        s.restored_6 }
 {}
 
 /// Packed lists that may be written, and lists that may not.
 pub fn packed()
-    ensures { s.pack_one × s.pack_pairs × s.pack_literal × s.pack_128 × s.pack_129 × s.literal_pair ×
-        s.literal_three × s.literals_alone × s.with_128 × s.literal_cut ×
-        s.pack_other × s.pack_standard × s.bound_0 × s.bound_128 × s.bound_129 }
+    ensures computed { s.literals_alone × s.bound_0 × s.bound_128 × s.bound_129 }
+    ensures by_lemma { s.pack_one × s.pack_pairs × s.pack_literal × s.pack_128 × s.pack_129 × s.literal_pair ×
+        s.literal_three × s.with_128 × s.literal_cut × s.pack_other × s.pack_standard }
 {}
 
 /// What is stored by a method.
 pub fn stored()
-    ensures { s.stored_plain × s.stored_packed × s.stored_else × s.fault_of_none × s.plain_of_none × s.no_fault ×
+    ensures computed { s.stored_plain × s.stored_else × s.fault_of_none × s.plain_of_none × s.no_fault ×
         s.plain_literal × s.three_literal × s.sparing_literal }
+    ensures by_lemma { s.stored_packed }
 {}

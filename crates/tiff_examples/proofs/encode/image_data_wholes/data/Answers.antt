@@ -1,11 +1,6 @@
--- Each example is proved in proofs/OfEncode/ImageDataWholes.antt.
+-- Automation does not see that these lemmas are the examples.
 use Rattle.tiff_examples.proofs.OfEncode.ImageDataWholes as p
 use Rattle.tiff_examples.proofs.encode.image_data_wholes.data.Goals as goal
 
-pub returns : goal.returns
-returns c = (
-  p.data_left,
-  p.data_other,
-  p.data_refused,
-  p.data_changed,
-)
+pub returns-clause-by_answer : goal.returns-clause-by_answer
+returns-clause-by_answer c = (p.data_left, p.data_other)

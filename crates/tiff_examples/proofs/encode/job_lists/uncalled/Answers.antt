@@ -1,15 +1,6 @@
--- Each example is proved in proofs/OfEncode/JobLists.antt.
+-- Automation does not see that these lemmas are the examples.
 use Rattle.tiff_examples.proofs.OfEncode.JobLists as p
 use Rattle.tiff_examples.proofs.encode.job_lists.uncalled.Goals as goal
 
-pub returns : goal.returns
-returns c = (
-  p.no_room,
-  p.no_room_run,
-  p.header_cut,
-  p.header_cut_run,
-  p.header_swapped,
-  p.header_whole,
-  p.other_cause,
-  p.replied,
-)
+pub returns-clause-by_answer : goal.returns-clause-by_answer
+returns-clause-by_answer c = (p.header_cut, p.header_cut_run, p.header_whole)

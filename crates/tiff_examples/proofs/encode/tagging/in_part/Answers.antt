@@ -1,11 +1,6 @@
--- Each example is proved in proofs/OfEncode/Tagging.antt.
+-- Automation does not see that these lemmas are the examples.
 use Rattle.tiff_examples.proofs.OfEncode.Tagging as p
 use Rattle.tiff_examples.proofs.encode.tagging.in_part.Goals as goal
 
-pub returns : goal.returns
-returns c = (
-  p.unit_alone,
-  p.all_stopped,
-  p.left_out,
-  p.none_stopped,
-)
+pub returns-clause-by_answer : goal.returns-clause-by_answer
+returns-clause-by_answer c = (p.all_stopped, p.left_out)
