@@ -5,7 +5,7 @@ use Rattle.tiff_decode.specs.declared.script.Reply.{Reply}
 use Rattle.tiff_decode.specs.Machine.{Decoding}
 use Rattle.tiff_decode.specs.Steps.{Steps, Ran}
 
--- Calls whose replies stand behind none.
+-- Replies to calls stand behind no earlier ones.
 pub steps_made : (old new : Decoding) (calls : List Call) (earlier all : List Reply) → earlier ≡ [] → Ran old calls earlier all new → Steps old calls all new
 steps_made old new calls earlier all none r =
     let P : List Reply → Type 0 = λ xs. Steps old calls xs new in

@@ -11,7 +11,7 @@ use Rattle.tiff_base.specs.declared.tags.IfdPointer.{IfdPointer}
 use Rattle.tiff.specs.Answers.{◌>>=◌, Answers, AnswersWithoutSource, IsCause}
 use Rattle.tiff_base.specs.Directory.{directory_at}
 use Rattle.tiff_base.specs.Field.{DirectoryRecord}
-use Rattle.tiff_base.proofs.Causes.{cause_along}
+use Rattle.tiff.proofs.Causes.{cause_along}
 use Rattle.tiff_page.specs.Page.{PageRecord}
 use Rattle.tiff.specs.Machine.{Decoding, Outcome, Follows, GivesOutcome, StandsAt, keeps_state, stays}
 use Rattle.tiff.specs.Outcome.{chain_of, page_in, seek_to_image}
@@ -28,7 +28,7 @@ Answer = Result (Unit {0}) TiffError
 
 -- ---- reads of a page
 
--- What a call that reads pixels follows.
+-- What a call that reads pixels follows is a read of the page.
 pub reads_page : {X Y : Type 0} (view : X → Y) (a : Result Y TiffError) (r : Result X TiffError) (d new : Decoding) → Follows view (stays d a) r d new → ReadsPage view a r d new
 reads_page view a (Ok x) d new h = record { answer = h.answer; stays = λ k. h.at }
 reads_page view a (Err OutOfMemory) d new h = record { answer = tt; stays = λ k. absurd (cc) }
@@ -43,7 +43,7 @@ reads_page view a (Err LimitsExceeded) d new h = record { answer = h.answer; sta
 reads_page view a (Err IntSizeError) d new h = record { answer = h.answer; stays = λ k. h.at }
 reads_page view a (Err (UsageError x)) d new h = record { answer = h.answer; stays = λ k. h.at }
 
--- A refusal is that of what follows.
+-- An error of a read is the error of what follows it.
 pub read_refused : {X X' Y Y' : Type 0} (view : X → Y) (view' : X' → Y') (a : Result Y TiffError) (f : Y → Result Y' TiffError) (e : TiffError) (d new : Decoding)
     → ReadsPage {X = X} view a (Err e) d new → ReadsPage {X = X'} view' (a >>= f) (Err e) d new
 read_refused view view' a f e d new h = record {
@@ -55,7 +55,7 @@ then_answers : {X Y : Type 0} (view : X → Y) (r : Result X TiffError) (given g
 then_answers view (Ok x) given given' m n e h = e ∙ h
 then_answers view (Err x) given given' m n e h = cause_along x (λ w. w) (λ f. absurd f) (λ g. e ∙ g) h
 
--- What follows a read reads nothing.
+-- A read, and behind it a result that reads nothing more.
 pub read_then : {X X' Y Y' : Type 0} (view : X → Y) (view' : X' → Y') (a : Result Y TiffError) (f : Y → Result Y' TiffError) (x : X) (r : Result X' TiffError) (d new : Decoding)
     → ReadsPage view a (Ok x) d new → AnswersWithoutSource view' r (f (view x)) → ReadsPage view' (a >>= f) r d new
 read_then view view' a f x r d new h t = record {
@@ -79,7 +79,7 @@ of_file o (Err LimitsExceeded) old new k h = h
 of_file o (Err IntSizeError) old new k h = h
 of_file o (Err (UsageError x)) old new k h = h
 
--- The decoder came to the page of a number.
+-- The decoder is at the page with this number.
 pub came_to : WalkSeeks → (d new : Decoding) (number : ℕ) (answer entered : Answer) → number < length (chain_of d).offsets → (entered ≡ answer) × IsOfFile answer
     → Follows (λ x. x) (seek_to_image d number) answer d new → Arrives d number entered new × (new.failures ≡ d.failures)
 came_to seeks d new number answer entered some told h =
@@ -89,7 +89,7 @@ came_to seeks d new number answer entered some told h =
       ap (λ (x : Decoding). x.failures) gives.at,
     )
 
--- the sum of a page that was entered, or the fault that was answered in its place
+-- the sum of a page that was entered, or the error of the call that entered it
 abbrev pub sum_told : Answer → Decoding → Result ImageSum TiffError
 sum_told (Ok u) d = image_sum d d.state.page
 sum_told (Err e) d = Err e
@@ -107,7 +107,7 @@ sum_by d new offset (Err e) s p = sym (ap (λ (r : Result PageRecord TiffError).
 place_is : (o : Option IfdPointer) (p q : IfdPointer) → o ≡ Some p → o ≡ Some q → p ≡ q
 place_is o p q h k = ap (λ (x : Option IfdPointer). unwrap_or x p) (sym h ∙ k)
 
--- It is the page's check.
+-- The result is the check of the page.
 pub check_made : (d new : Decoding) (number : ℕ) (answer : Answer) (place : IfdPointer) (image : Result ImageSum TiffError) → Arrives d number answer new
     → new.state.pointer ≡ Some place → image ≡ sum_told answer new → IsCheckOf d number (record { place = place; image = image })
 check_made d new number answer place image a pointer is =
@@ -115,7 +115,7 @@ check_made d new number answer place image a pointer is =
     let sum = is ∙ sum_by d new a.along.offset answer a.along.same a.page in
     (a.along.offset, a.along.is_offset, λ i. record { place = at i; image = sum i })
 
--- an answer of the file is the one that is given
+-- A result that comes from the file is the given one.
 given_is : {X : Type 0} (r given : Result X TiffError) (m n : ℕ) → IsOfFile r → Answers (λ x. x) r given m n → given ≡ r
 given_is (Ok x) given m n k h = h
 given_is (Err OutOfMemory) given m n k h = absurd (cc)
@@ -130,18 +130,18 @@ given_is (Err LimitsExceeded) given m n k h = h
 given_is (Err IntSizeError) given m n k h = h
 given_is (Err (UsageError x)) given m n k h = h
 
--- Its image was read.
+-- The image of a page was read.
 pub image_told : (new mid last : Decoding) (u : Unit {0}) (entered : Answer) (r image : Result ImageSum TiffError) → mid ≡ new → entered ≡ Ok u
     → ReadsPage (λ s. s) (image_sum mid mid.state.page) r mid last → (image ≡ r) × IsOfFile r → image ≡ sum_told entered new
 image_told new mid last u entered r image s e h told =
     told.0 ∙ sym (given_is r (image_sum mid mid.state.page) mid.failures last.failures told.1 h.answer)
     ∙ ap (λ (d : Decoding). image_sum d d.state.page) s ∙ sym (ap (λ (a : Answer). sum_told a new) e)
 
--- It has a fault.
+-- The page has an error.
 pub fault_told : (new : Decoding) (e : TiffError) (entered : Answer) (image : Result ImageSum TiffError) → entered ≡ Err e → image ≡ Err e → image ≡ sum_told entered new
 fault_told new e entered image h k = k ∙ sym (ap (λ (a : Answer). sum_told a new) h)
 
--- The file is the same where the decoder is.
+-- The file is the same if the decoder is the same.
 pub same_then : (d new last : Decoding) (number : ℕ) (entered : Answer) → Arrives d number entered new × (new.failures ≡ d.failures) → last ≡ new
     → SameFile d last × (last.failures ≡ d.failures)
 same_then d new last number entered a e =
@@ -177,11 +177,11 @@ none_checked d checks h = record {
   checked = h;
 }
 
--- There is a page of the number.
+-- There is a page with this number.
 pub some_left : (start d : Decoding) (count : ℕ) (checks : List PageCheck) → ChecksAlong start d count checks → count < length (chain_of start).offsets → count < length (chain_of d).offsets
 some_left start d count checks c l = subst (λ (n : ℕ). count < n) (ap (λ x. length x.offsets) (sym (same_chain start d c.same))) l
 
--- One more was checked.
+-- One more page was checked.
 pub one_checked : (start old new : Decoding) (count : ℕ) (check : PageCheck) (before checks : List PageCheck) → ChecksAlong start old count before → IsCheckOf old count check
     → SameFile old new × (new.failures ≡ old.failures) → checks ≡ before ++ check ∷ [] → ChecksAlong start new (count + 1) checks
 one_checked start old new count check before checks c is same e =
@@ -196,7 +196,7 @@ one_checked start old new count check before checks c is same e =
           ∙ ap (map (check_at start)) (sym (ap (λ (k : ℕ). take k (chain_of start).offsets) n ∙ take_next (chain_of start).offsets count is.0 there));
     }
 
--- All were checked.
+-- All pages were checked.
 pub all_checked : (start d : Decoding) (count all : ℕ) (checks : List PageCheck) → ChecksAlong start d count checks → all ≡ length (chain_of start).offsets → count ≡ all
     → checks ≡ map (check_at start) (chain_of start).offsets
 all_checked start d count all checks c h e =
@@ -208,7 +208,7 @@ answered pages = Ok pages
 abbrev checks_answered : Checks → Result Checks TiffError
 checks_answered checks = Ok checks
 
--- how the chain ends, by an answer
+-- how the chain ends, by a list of pages
 abbrev end_told : Result Pages TiffError → Option TiffError
 end_told (Ok pages) = pages.end
 end_told (Err e) = None

@@ -1,4 +1,4 @@
--- Facts on lines.
+-- The digits of bytes in a line.
 use Rattle.std.proofs.Common.{◌≡◌, ◌++◌, ◌+◌, ◌<◌, ℕ, List, take, length, get_or, flat_map}
 use Rattle.std.proofs.lemmas.List.{flat_map_more, take_more}
 use Rattle.tiff_program.specs.Listing.{two_digits}

@@ -15,18 +15,18 @@ use Rattle.tiff_program.proofs.Lines.{next_and_rest}
 use Rattle.tiff_program.proofs.Replied.{found_step}
 use Rattle.tiff_program.proofs.CallsMade.{steps_length}
 
--- The same decoder, of which no more than the count of failed reads changed.
+-- The decoder is the same, except for its count of failed reads, which doesn't fall.
 pub record Keeps (old new : Decoding) : Type 0 where
   pub kept : new ≡ record old { failures = new.failures }
   pub failures : old.failures ≤ new.failures
 
--- The replies that are left, from a decoder in which no more changed.
+-- Some replies are left, from a decoder that is the same except for its count of failed reads.
 pub record Between (old : Decoding) (numbers : List ℕ) (replies : List Reply) (new : Decoding) : Type 0 where
   pub mid : Decoding
   pub keeps : Keeps old mid
   pub steps : Steps mid (finds numbers) replies new
 
--- The next of them, and those that are left then.
+-- The next reply, and the replies that are left behind it.
 pub record Next (old : Decoding) (number : ℕ) (numbers : List ℕ) (reply : Reply) (replies : List Reply) (new : Decoding) : Type 0 where
   pub mid : Decoding
   pub keeps : Keeps old mid
@@ -51,7 +51,7 @@ found_keeps : (old new : Decoding) (tag : Tag) (r : Reply) → Step old (call.Fi
 found_keeps old new tag (reply.FindTagBuf x b) s = record { kept = s.0.state; failures = s.0.failures }
 found_keeps old new tag r s = absurd s
 
--- All of them keep the decoder.
+-- All replies keep the decoder.
 pub all_keep : (old new : Decoding) (numbers : List ℕ) (replies : List Reply) → Steps old (finds numbers) replies new → Keeps old new
 all_keep old new [] [] s = keeps_none old new s
 all_keep old new [] (r ∷ replies) s = absurd s
@@ -59,20 +59,20 @@ all_keep old new (n ∷ numbers) [] s = absurd s
 all_keep old new (n ∷ numbers) (r ∷ replies) s =
     keeps_on old s.0 new (found_keeps old s.0 (tag_of n) r s.1) (all_keep s.0 new numbers replies s.2)
 
--- None was taken yet.
+-- Before the first reply is taken, all replies are left.
 pub between_all : (old new : Decoding) (numbers : List ℕ) (replies rest : List Reply) → rest ≡ replies → Steps old (finds numbers) replies new → Between old numbers rest new
 between_all old new numbers replies rest e s =
     let P : List Reply → Type 0 = λ rs. Steps old (finds numbers) rs new in
     record { mid = old; keeps = keeps_none old old refl; steps = subst P (sym e) s }
 
--- Some are left.
+-- Some replies are left.
 pub between_some : (old new : Decoding) (numbers : List ℕ) (i : ℕ) (replies : List Reply) → i < length numbers → Between old (drop i numbers) replies new → 0 < length replies
 between_some old new numbers i replies h b =
     let l : length replies ≡ length (finds (drop i numbers)) = steps_length b.mid new (finds (drop i numbers)) replies b.steps in
     let m : length (finds (drop i numbers)) ≡ length (drop i numbers) = length-map (drop i numbers) (λ n. call.FindTagBuf (tag_of n)) in
     omega (arith, h, l, m, length-drop i numbers)
 
--- The next one is taken.
+-- The next reply is taken.
 pub between_next : (old new : Decoding) (numbers : List ℕ) (i x : ℕ) (replies rest : List Reply) (r : Reply) → i < length numbers
     → Between old (drop i numbers) replies new → replies ≡ r ∷ rest → Next old (get_or numbers i x) (drop (i + 1) numbers) r rest new
 between_next old new numbers i x replies rest r h b e =
@@ -89,6 +89,6 @@ between_next old new numbers i x replies rest r h b e =
       grows = (all_keep s.0 new (drop (i + 1) numbers) rest s.2).failures;
     }
 
--- It is of a call that finds a field.
+-- The next reply belongs to a call that finds a field.
 pub next_found : (old new : Decoding) (number : ℕ) (numbers : List ℕ) (r : Reply) (rest : List Reply) → Next old number numbers r rest new → IsFound r
 next_found old new number numbers r rest n = found_step n.mid n.next (tag_of number) r n.step

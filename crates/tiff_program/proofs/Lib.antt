@@ -1,6 +1,7 @@
 mod Digits
 mod Found
 mod Lines
+mod SampleBytes
 mod Pieces
 mod Remainders
 mod Replied

@@ -1,4 +1,4 @@
--- Which call a reply is of.
+-- The call that a reply belongs to.
 use Rattle.std.proofs.Common.{[], ◌∷◌}
 use Rattle.tiff_base.specs.declared.tags.IfdPointer.{IfdPointer}
 use Rattle.tiff_base.specs.declared.tags.Tag.{Tag}
@@ -19,7 +19,7 @@ pointer_step : (old new : Decoding) (r : Reply) → Step old call.IfdPointer r n
 pointer_step old new (reply.IfdPointer x) s = tt
 pointer_step old new r s = absurd s
 
--- The reply of a call that finds a field.
+-- The reply to a call that finds a field.
 pub found_step : (old new : Decoding) (tag : Tag) (r : Reply) → Step old (call.FindTagBuf tag) r new → IsFound r
 found_step old new tag (reply.FindTagBuf x b) s = tt
 found_step old new tag r s = absurd s

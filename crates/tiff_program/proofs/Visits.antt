@@ -5,7 +5,7 @@ use Rattle.tiff_base.specs.declared.error.TiffError.{TiffError}
 use Rattle.tiff_base.specs.declared.error.TiffError.TheVariants.{FormatError, UnsupportedError, IoError, LimitsExceeded, IntSizeError, UsageError, OutOfMemory}
 use Rattle.tiff_base.specs.declared.io.IoKind.TheVariants.{UnexpectedEof, InvalidData, InvalidInput, WriteZero, Device}
 use Rattle.tiff_base.specs.declared.tags.IfdPointer.{IfdPointer}
-use Rattle.tiff_base.proofs.Causes.{cause_along}
+use Rattle.tiff.proofs.Causes.{cause_along}
 use Rattle.tiff_base.specs.Sparing.{IsOkOrList}
 use Rattle.tiff_base.specs.Field.{DirectoryRecord}
 use Rattle.tiff_page.specs.EarlyFaults.{image_early}
@@ -20,15 +20,15 @@ use Rattle.tiff_decode.specs.Outcome as outcome
 use Rattle.tiff_decode.specs.Result.{decoded_as}
 use Rattle.tiff_decode.specs.Step.{Step}
 use Rattle.tiff_decode.specs.Steps.{Steps}
-use Rattle.tiff_decode.proofs.NextState.{IsTold, told}
+use Rattle.tiff.proofs.NextState.{IsTold, told}
 use Rattle.tiff.specs.Answers.{Answers, IsCause, ◌>>=◌}
 use Rattle.tiff_program.specs.AtPage.{VisitsPage, at_page, page_decoder}
 use Rattle.tiff_program.specs.Listing.{listing, listing_at, page_pointer}
 use Rattle.tiff_program.specs.Samples.{page_image}
 
--- ---- answers
+-- ---- results
 
--- a fault that is given where it is named
+-- An error that is given is returned where it is named.
 pub fault_cause : {G : Type 0} (e : TiffError) (before after : ℕ) → (IsNamedFault (Some e) → G) → before + device_count (Some e) ≤ after
     → IsCause (Unit {0}) (before < after) e G
 fault_cause (FormatError e) before after g l = g tt
@@ -43,7 +43,7 @@ fault_cause IntSizeError before after g l = g tt
 fault_cause (UsageError e) before after g l = g tt
 fault_cause OutOfMemory before after g l = tt
 
--- a fault is named or it isn't
+-- An error is named or it isn't.
 named_or_not : (f : Option TiffError) → IsNamedFault f ⊎ (IsNamedFault f → ⊥)
 named_or_not (Some (FormatError e)) = inl tt
 named_or_not (Some (UnsupportedError e)) = inl tt
@@ -58,14 +58,14 @@ named_or_not (Some (UsageError e)) = inl tt
 named_or_not (Some OutOfMemory) = inr (λ n. n)
 named_or_not f = inl tt
 
--- the same answer, over a count from before
+-- The same result, over an earlier count of failed reads.
 pub answers_along : {X Y : Type 0} (view : X → Y) (r : Result X TiffError) (given given' : Result Y TiffError) (earlier before after : ℕ)
     → given ≡ given' → earlier ≤ before → Answers view r given before after → Answers view r given' earlier after
 answers_along view (Ok x) given given' earlier before after e l a = sym e ∙ a
 answers_along view (Err f) given given' earlier before after e l a =
     cause_along f (λ w. w) (λ g. omega (arith, l, g)) (λ h. sym e ∙ h) a
 
--- What a call says that moves nothing.
+-- A call that moves nothing: what it returns, and what it keeps.
 pub record Moves {X Y : Type 0} (view : X → Y) (given : Result Y TiffError) (r : Result X TiffError) (old new : Decoding) : Type 0 where
   pub answer : Answers view r given old.failures new.failures
   pub kept : new ≡ record old { failures = new.failures }
@@ -81,7 +81,7 @@ state_told : {X Y : Type 0} (view : X → Y) (o : Outcome Y) (r : Result X TiffE
 state_told view o r old new same t =
     elim (named_or_not (fault_of r)) [ inl n ↦ (t.next n).1 ∙ same | inr n ↦ t.stays n ]
 
--- a call that leaves the decoder where it stands
+-- A call leaves the decoder where it is.
 pub stays_there : {X Y : Type 0} (wanting : Type 0) (view : X → Y) (o : Outcome Y) (r : Result X TiffError) (old new : Decoding)
     → o.next ≡ old.state → FollowsBut wanting view o r old new → Moves view o.answer r old new
 stays_there wanting view o r old new same f =
@@ -94,13 +94,13 @@ stays_there wanting view o r old new same f =
 
 -- ---- a seek, and what follows it
 
--- the file of a decoder that moved, and then stayed
+-- The file of a decoder that moved, and then stayed, is the same.
 file_along : (old mid new : Decoding) → mid ≡ record old { failures = mid.failures; state = mid.state } → new ≡ record mid { failures = new.failures }
     → new ≡ record old { failures = new.failures; state = new.state }
 file_along old mid new e f =
     f ∙ (λ i. record (e i) { failures = new.failures }) ∙ ap (λ (s : State). record old { failures = new.failures; state = s }) (sym (ap (λ (d : Decoding). d.state) f))
 
--- what a decoder gives that was moved to a page
+-- What a decoder returns that was moved to a page.
 given_there : {Y : Type 0} (given : Decoding → Result Y TiffError) (old mid : Decoding) (k : ℕ)
     → ((d : Decoding) (n : ℕ) → given (record d { failures = n }) ≡ given d)
     → mid ≡ record old { failures = mid.failures; state = mid.state } → mid.state ≡ (outcome.seek_to_image old k).next
@@ -163,13 +163,13 @@ pointer_visit old new k a b x p s e f =
 
 -- ---- a visit, and what follows it
 
--- a seek that is answered
+-- A seek that is not refused.
 answered : {Y : Type 0} (given : Decoding → Result Y TiffError) (old : Decoding) (k : ℕ) (y : Y) (a : Result (Unit {0}) TiffError)
     → (a >>= λ _. given (page_decoder old k)) ≡ Ok y → given (page_decoder old k) ≡ Ok y
 answered given old k y (Ok u) e = e
 answered given old k y (Err f) e = cc
 
--- where it is answered, the whole follows it
+-- Behind a seek that is not refused, the whole is what the decoder returns at the page.
 answered_on : {Y Z : Type 0} (given : Decoding → Result Y TiffError) (whole : Decoding → Result Z TiffError) (old : Decoding) (k : ℕ) (y : Y) (a : Result (Unit {0}) TiffError)
     → (a >>= λ _. given (page_decoder old k)) ≡ Ok y → whole (page_decoder old k) ≡ (a >>= λ _. whole (page_decoder old k))
 answered_on given whole old k y (Ok u) e = refl
@@ -215,7 +215,7 @@ listing_visit view old mid new k p r same v m =
     let q : mid.state.pointer ≡ p = cc e in subst P (sym q) m))
     (λ d n. refl)
 
--- A seek that is answered, and an answer at the page.
+-- A seek that is not refused, and a result at the page.
 pub seek_then : {X Y : Type 0} (view : X → Y) (given : Decoding → Result Y TiffError) (old mid : Decoding) (k : ℕ) (u : Unit {0}) (r : Result X TiffError) (failures : ℕ)
     → ((d : Decoding) (n : ℕ) → given (record d { failures = n }) ≡ given d)
     → Follows (λ u. u) (outcome.seek_to_image old k) (Ok u) old mid → Answers view r (given mid) mid.failures failures

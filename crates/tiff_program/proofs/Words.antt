@@ -6,14 +6,14 @@ use Rattle.tiff_program.specs.declared.command.Command.{Command}
 use Rattle.tiff_program.specs.declared.command.Command.TheVariants as command
 use Rattle.tiff_program.specs.Words.{AskForLimit, IsAsked, IsCheck, IsExact, IsJobs, IsNumber, IsRaw, IsView}
 
--- The bytes of the words, where there is one of them.
+-- The bytes of the words, if there is one word.
 pub one_word : (words : List (String Global)) (word : String Global) (text : List ℕ) → 1 ≤ length words → length words < 2 → word ≡ slice_index_or words 0 word
     → string_bytes word ≡ text → map string_bytes words ≡ text ∷ []
 one_word [] word text some one at told = absurd (omega (arith, some))
 one_word (w ∷ []) word text some one at told = ap (λ (x : List ℕ). x ∷ []) (ap string_bytes (sym at) ∙ told)
 one_word (w ∷ v ∷ words) word text some one at told = absurd (omega (arith, one))
 
--- The bytes of the words, where there are two of them.
+-- The bytes of the words, if there are two words.
 pub two_words : (words : List (String Global)) (first second : String Global) → 2 ≤ length words → length words < 3 → first ≡ slice_index_or words 0 first
     → second ≡ slice_index_or words 1 second → map string_bytes words ≡ string_bytes first ∷ string_bytes second ∷ []
 two_words [] first second some two at then = absurd (omega (arith, some))
@@ -29,7 +29,7 @@ no_limit words name count (Some n) e h a =
     let P : List ℕ → Type 0 = λ text. IsNumber 64 text n in
     h n (subst P same a.2)
 
--- Where none is answered, none is asked for.
+-- If words ask for no command, they ask for no exact one.
 pub none_by : (P Q : Command → Type 0) → ((c : Command) → IsExact c → Q c → P c) → (r : Option Command) → IfNone r ((c : Command) → ¬ P c)
     → IfNone r ((c : Command) → IsExact c → ¬ Q c)
 none_by P Q f None h = λ c x q. h c (f c x q)

@@ -1,4 +1,4 @@
--- What reading each page of a file whole gives (this project's).
+-- The result of reading each page of a file whole (this project's).
 use Rattle.std.specs.Prelude.{◌≡◌, ℕ, Bool, List, length, map, nat_lt, is_ok, Option, Some, Result, Ok, Err, if◌then◌else◌}
 use Rattle.std.specs.List.{list_all, slice_get}
 use Rattle.tiff_base.specs.declared.error.TiffError.{TiffError}
@@ -20,19 +20,20 @@ use Rattle.tiff_program.specs.declared.check.ImageSum.{ImageSum}
 use Rattle.tiff_program.specs.declared.check.PageCheck.{PageCheck}
 use Rattle.tiff_program.specs.declared.check.FileCheck.{FileCheck}
 
--- the bytes of samples, of which there have to be so many
+-- the samples as bytes; an error if there are fewer than `len`
 abbrev pub all_bytes : ℕ → Decoded → Result (List ℕ) TiffError
 all_bytes len samples = if nat_lt (length (bytes_of samples)) len then Err LimitsExceeded else Ok (bytes_of samples)
 
--- how many bytes they are, and their sum
+-- how many bytes there are, and their sum
 abbrev pub sum_of : List ℕ → ImageSum
 sum_of bytes = record { bytes = length bytes; adler = adler_32 bytes }
 
--- the planes of a page's image, as many as the limit lets through, with the layout of all
+-- the planes of a page's image, as many as the limit allows, with the layout of all planes
 abbrev pub planes_read : Decoding → PageRecord → Result (BufferLayoutPreference × Decoded) TiffError
 planes_read d page = pixels.read_image_to_buffer d.bytes d.order page d.state.limits
 
--- the bytes of a page's image, of all its planes, or its first fault; `LimitsExceeded` where the limit doesn't let all planes through
+-- the bytes of a page's image, in all its planes, or its first error; `LimitsExceeded` if the limit
+-- doesn't allow all planes
 abbrev pub whole_image : Decoding → PageRecord → Result (List ℕ) TiffError
 whole_image d page = do
   image ← planes_read d page
@@ -43,11 +44,11 @@ image_sum d page = do
   bytes ← whole_image d page
   Ok (sum_of bytes)
 
--- the page at an offset of the chain, read whole; or its first fault
+-- the page at an offset of the chain, read whole; or its first error
 abbrev pub check_at : Decoding → ℕ → PageCheck
 check_at d offset = record { place = record { 0 = offset }; image = page_at d offset >>= image_sum d }
 
--- this is the page of a number in the chain
+-- this is the check of the page with this number in the chain
 abbrev pub IsCheckOf : Decoding → ℕ → PageCheck → Type 0
 IsCheckOf d number check = (offset : ℕ) × (slice_get (chain_of d).offsets number ≡ Some offset) × (check ≡ check_at d offset)
 
@@ -62,7 +63,8 @@ checks_in check = record { items = check.pages.items; end = check.end }
 abbrev pub checks_of : Decoding → Checks
 checks_of d = record { items = map (check_at d) (chain_of d).offsets; end = (chain_of d).end }
 
--- the checks under limits of the pages of a file, which is opened under the limits by default; or the first fault
+-- the checks of the pages of a file under limits, or the first error; the file is opened under the
+-- default limits
 abbrev pub checks_under : Limits → List ℕ → Result Checks TiffError
 checks_under limits file = do
   d ← decoder_of file 0
@@ -72,7 +74,7 @@ checks_under limits file = do
 abbrev pub are_well : List PageCheck → Bool
 are_well checks = list_all (λ check. is_ok check.image) checks
 
--- that, and how the chain ends
+-- whether the image of each page was read, and how the chain ends
 abbrev pub told_under : Limits → List ℕ → Result (Bool × Option TiffError) TiffError
 told_under limits file = do
   checks ← checks_under limits file
@@ -80,7 +82,8 @@ told_under limits file = do
 
 -- ---- a read of the decoder's page
 
--- It answers what is given, seen by view, but for want of memory and a fault of the device, and but for these all is as it was.
+-- A read returns the given result, seen by `view`, unless memory is out or the device fails; except
+-- for these two, it leaves all as it was.
 pub record ReadsPage {X Y : Type 0} (view : X → Y) (given : Result Y TiffError) (result : Result X TiffError) (old new : Decoding) : Type 0 where
   pub answer : Answers view result given old.failures new.failures
   pub stays : IsOfFile result → new ≡ old

@@ -1,4 +1,4 @@
--- Which call a reply is of.
+-- The call that a reply belongs to.
 use Rattle.tiff_decode.specs.declared.script.Reply.{Reply}
 use Rattle.tiff_decode.specs.declared.script.Reply.TheVariants as reply
 

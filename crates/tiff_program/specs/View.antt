@@ -21,32 +21,32 @@ use Rattle.tiff_program.specs.declared.view.Shape.{Shape}
 
 -- ---- what samples become
 
--- so many bits are whole bytes, of a number
+-- whether samples of so many bits are numbers of whole bytes
 abbrev pub is_whole : ℕ → Bool
 is_whole depth = depth == 8 || depth == 16 || depth == 32 || depth == 64
 
--- gray samples of so many bits
+-- what gray samples of so many bits become
 abbrev pub gray_kind : ℕ → Option PngKind
 gray_kind depth =
     if depth == 1 then Some Gray1 else if depth == 2 then Some Gray2 else if depth == 4 then Some Gray4 else then_some (is_whole depth) Gray8
 
--- samples of a color
+-- what samples of a color become
 abbrev pub color_kind : ColorType → Option PngKind
 color_kind (Gray depth) = gray_kind depth
 color_kind (RGB depth) = then_some (is_whole depth) Rgb8
 color_kind (RGBA depth) = then_some (is_whole depth) Rgba8
 color_kind color = None
 
--- or why the color has no picture
+-- what samples of a color become, or the error of a color without a picture
 abbrev pub kind_or_fault : ColorType → Option PngKind → Result PngKind TiffError
 kind_or_fault color None = Err (UnsupportedError (UnsupportedColorType color))
 kind_or_fault color (Some kind) = Ok kind
 
--- all samples of a pixel stand in one plane
+-- all samples of a pixel lie in one plane, else an error
 abbrev pub one_plane : ℕ → Result (Unit {0}) TiffError
 one_plane planes = if nat_lt 1 planes then Err (UnsupportedError (UnsupportedPlanarConfig (Some Planar))) else Ok tt
 
--- the sides of a picture, and what its samples become; or the first fault
+-- the shape of a picture: its width, its height, and what its samples become; or the first error
 abbrev pub shape_of : ℕ × ℕ → ColorType → ℕ → Result Shape TiffError
 shape_of sides color planes = do
   kind ← kind_or_fault color (color_kind color)
@@ -55,12 +55,12 @@ shape_of sides color planes = do
 
 -- ---- the picture
 
--- numbers without so many of their lowest bits
+-- numbers without their `bits` lowest bits
 abbrev pub without_low : ℕ → List ℕ → List ℕ
 without_low bits numbers = map (λ n. n / 2 ^ bits) numbers
 
--- the bytes that are shown: of numbers of 8 bits and below as the reader gives them, of wider ones the highest byte of each; none of
--- floats and of numbers with a sign
+-- the bytes that a picture shows: of numbers of at most 8 bits as the reader returns them; of wider
+-- numbers the highest byte of each; an error for floats and for signed numbers
 abbrev pub shown_as : DecodingSampleType → List ℕ → Result (List ℕ) TiffError
 shown_as type.U8 numbers = Ok numbers
 shown_as type.U16 numbers = Ok (without_low 8 numbers)
@@ -68,20 +68,20 @@ shown_as type.U32 numbers = Ok (without_low 24 numbers)
 shown_as type.U64 numbers = Ok (without_low 56 numbers)
 shown_as _ numbers = Err (UnsupportedError UnsupportedDataType)
 
--- the file of a picture of this shape; or its first fault
+-- the file of a picture with this shape, or its first error
 abbrev pub drawn : Shape → Decoded → Result (List ℕ) TiffError
 drawn shape samples = do
   rows ← shown_as samples.sample_type samples.numbers
   png_of shape.width shape.height shape.kind rows
 
--- the shape of a decoder's page
+-- the shape of the picture of a decoder's page
 abbrev pub shape_here : Decoding → Result Shape TiffError
 shape_here d = do
   color ← (colortype d).answer
   layout ← (image_buffer_layout d).answer
   shape_of (d.state.page.width, d.state.page.height) color layout.planes
 
--- the picture of a decoder's page as a PNG file, or its first fault
+-- the picture of a decoder's page as a PNG file, or its first error
 abbrev pub picture : Decoding → Result (List ℕ) TiffError
 picture d = do
   shape ← shape_here d

@@ -1,4 +1,4 @@
--- What words of a command line ask for.
+-- What the words of a command line ask for.
 use Rattle.std.specs.Prelude.{◌≡◌, ◌⊎◌, ℕ, ◌<◌, ◌^◌, Bool, true, false, List, [], ◌∷◌, Option, None, Some, codes, ⊤}
 use Rattle.std.specs.Str.Parse.{IsNumeral, digits_value, without_leading_plus}
 use Rattle.tiff_base.specs.declared.tags.FileKind.{FileKind}
@@ -6,7 +6,8 @@ use Rattle.tiff_base.specs.declared.tags.FileKind.TheVariants.{Classic, Big}
 use Rattle.tiff_program.specs.declared.command.Command.{Command}
 use Rattle.tiff_program.specs.declared.command.Command.TheVariants as command
 
--- This text is a number of so many bits, in decimal digits, of which the first may stand behind a plus.
+-- This text is a number of so many bits, in decimal digits; a plus may stand before the first
+-- digit.
 abbrev pub IsNumber : ℕ → List ℕ → ℕ → Type 0
 IsNumber bits text n =
     IsNumeral 10 (without_leading_plus text) × (digits_value 10 (without_leading_plus text) < 2 ^ bits) × (n ≡ digits_value 10 (without_leading_plus text))
@@ -16,7 +17,8 @@ abbrev pub AskForLimit : List (List ℕ) → Option ℕ → Type 0
 AskForLimit words None = words ≡ []
 AskForLimit words (Some limit) = (count : List ℕ) × (words ≡ codes "--limit" ∷ count ∷ []) × IsNumber 64 count limit
 
--- These words ask for the samples of the page of this number of a file, for an output, and for a limit, or for none.
+-- These words ask for the samples of the page with this number of a file, for an output, and for a
+-- limit or none.
 abbrev pub AskForSamples : List (List ℕ) → List ℕ → ℕ → List ℕ → Option ℕ → Type 0
 AskForSamples (input ∷ page ∷ output ∷ options) from number to limit = (from ≡ input) × IsNumber 32 page number × (to ≡ output) × AskForLimit options limit
 AskForSamples _ from number to limit = ⊥
@@ -26,7 +28,7 @@ abbrev pub IsRaw : List (List ℕ) → Command → Type 0
 IsRaw words (command.Raw input page output limit) = AskForSamples words input.now page output.now limit
 IsRaw words _ = ⊥
 
--- These words ask for the picture of the page of this number of a file, and for an output.
+-- These words ask for the picture of the page with this number of a file, and for an output.
 abbrev pub AskForPicture : List (List ℕ) → List ℕ → ℕ → List ℕ → Type 0
 AskForPicture (input ∷ page ∷ output ∷ options) from number to = (from ≡ input) × IsNumber 32 page number × (to ≡ output) × (options ≡ [])
 AskForPicture _ from number to = ⊥
@@ -36,7 +38,7 @@ abbrev pub IsView : List (List ℕ) → Command → Type 0
 IsView words (command.View input page output) = AskForPicture words input.now page output.now
 IsView words _ = ⊥
 
--- These words ask for the check of a file, and for a limit, or for none.
+-- These words ask for the check of a file, and for a limit or none.
 abbrev pub AskForCheck : List (List ℕ) → List ℕ → Option ℕ → Type 0
 AskForCheck (input ∷ options) from limit = (from ≡ input) × AskForLimit options limit
 AskForCheck [] from limit = ⊥
@@ -46,15 +48,15 @@ abbrev pub IsCheck : List (List ℕ) → Command → Type 0
 IsCheck words (command.Check input limit) = AskForCheck words input.now limit
 IsCheck words _ = ⊥
 
--- These words, behind the output of `jobs`, ask for a file of this kind, and for keeping going or not: each at most once, in
--- any order.
+-- These words, behind the output of `jobs`, ask for a file of this kind, and for keeping going or
+-- not. Each word stands at most once, in any order.
 abbrev pub AskForJobs : List (List ℕ) → FileKind → Bool → Type 0
 AskForJobs words Classic false = words ≡ []
 AskForJobs words Classic true = words ≡ codes "--keep-going" ∷ []
 AskForJobs words Big false = words ≡ codes "big" ∷ []
 AskForJobs words Big true = (words ≡ codes "big" ∷ codes "--keep-going" ∷ []) ⊎ (words ≡ codes "--keep-going" ∷ codes "big" ∷ [])
 
--- These words ask for jobs, whose file has this name: the first is its output.
+-- These words ask for jobs whose file has this name: the first word is the name.
 abbrev pub AskForFile : List (List ℕ) → List ℕ → FileKind → Bool → Type 0
 AskForFile (output ∷ options) name kind keep_going = (name ≡ output) × AskForJobs options kind keep_going
 AskForFile [] name kind keep_going = ⊥
@@ -68,7 +70,8 @@ IsJobs words _ = ⊥
 abbrev pub IsHelp : List ℕ → Type 0
 IsHelp name = (name ≡ codes "help") ⊎ (name ≡ codes "--help")
 
--- This name, with these words behind it, asks for this command, which takes no options: of the help and of the version.
+-- This name, with these words behind it, asks for this command, which takes no options. For the
+-- help and the version, no words follow.
 abbrev pub IsPlain : List ℕ → List (List ℕ) → Command → Type 0
 IsPlain name words command.Help = IsHelp name × (words ≡ [])
 IsPlain name words command.Version = (name ≡ codes "--version") × (words ≡ [])
@@ -91,7 +94,7 @@ abbrev pub AskFor : List (List ℕ) → Command → Type 0
 AskFor [] command = ⊥
 AskFor (name ∷ words) command = IsAsked name words command
 
--- It is told exactly which words ask for this command.
+-- For this command, the contracts specify exactly which words ask for it.
 abbrev pub IsExact : Command → Type 0
 IsExact (command.Raw input page output limit) = Unit {0}
 IsExact (command.View input page output) = Unit {0}

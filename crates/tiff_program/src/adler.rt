@@ -1,4 +1,4 @@
-//! A sum by which bytes are told apart.
+//! Adler-32, a checksum of bytes.
 
 ghost use Rattle.std.specs.Prelude.{◌≡◌};
 ghost use Rattle.tiff_program.specs.Adler.{adler_32};
@@ -6,8 +6,8 @@ ghost use Rattle.tiff_program.specs.Adler.{adler_32};
 // The largest prime number below 2^16.
 const BASE: u32 = 65521;
 
-/// The Adler-32 of bytes (RFC 1950 section 8.2): their sum and 1, and in the upper half the sum of these sums behind each byte, both
-/// without the multiples of 65521.
+/// The Adler-32 of bytes (RFC 1950 section 8.2). The lower half is the sum of the bytes plus 1; the
+/// upper half is the sum of what the lower half is after each byte; both modulo 65521.
 pub fn adler_32(bytes: &[u8]) -> u32
     ensures { result ≡ adler_32 bytes.now }
 {

@@ -1,4 +1,4 @@
-//! Calls of a decoder, and their replies.
+//! Calls of a decoder, and the replies to them.
 
 ghost use Rattle.std.specs.Prelude.{◌≡◌, ◌<◌, ◌∷◌, [], length, MatchResult};
 ghost use Rattle.std.specs.Vec.Iter.{into_iter_items};
@@ -12,16 +12,18 @@ use tiff::io::{MemorySource, Source};
 use tiff::{TiffError, TiffResult};
 use tiff_lists::replies::lines_of_calls;
 
-/// Makes the calls one after another of a decoder of the file, and answers the text of each reply, a refusal too, a line for each.
+/// Opens the file, makes the calls one after another, and returns a line for the reply to each,
+/// also to one that is refused. Its errors are those of opening the file, and `OutOfMemory`.
 pub fn replies_to(alloc: Global, file: Vec<u8>, calls: &[Call]) -> TiffResult<String> {
     let mut decoder = Decoder::new(alloc, MemorySource::new(file))?;
     lines_of_calls(alloc, &mut decoder, calls)
 }
 
-/// Lets a value go. A list of replies is let go here: where a function isn't generic, that is long to prove.
+/// Drops a value. A list of replies is dropped here, since a proof about that is long in a function
+/// that isn't generic.
 pub fn let_go<T: Drop>(_value: T) {}
 
-/// The next item, where there is one.
+/// The next item of a list that has one.
 pub(crate) fn next_of<T: Drop>(rest: &mut IntoIter<T>) -> T
     requires { 0 < length (into_iter_items rest.old) }
     ensures { into_iter_items rest.old ≡ result ∷ into_iter_items rest.new }
@@ -32,7 +34,7 @@ pub(crate) fn next_of<T: Drop>(rest: &mut IntoIter<T>) -> T
     }
 }
 
-/// The one item of a list.
+/// The item of a list of one item.
 pub(crate) fn only<T: Drop>(items: Vec<T>) -> T
     requires { length items.items ≡ 1 }
     ensures { items.items ≡ result ∷ [] }
@@ -41,7 +43,7 @@ pub(crate) fn only<T: Drop>(items: Vec<T>) -> T
     next_of(&mut rest)
 }
 
-// Both items of a list.
+// The items of a list of two items.
 fn both<T: Drop>(items: Vec<T>) -> (T, T)
     requires { length items.items ≡ 2 }
     ensures { items.items ≡ result.0 ∷ result.1 ∷ [] }
@@ -51,8 +53,8 @@ fn both<T: Drop>(items: Vec<T>) -> (T, T)
     (first, next_of(&mut rest))
 }
 
-/// Makes calls of a decoder one after another, and answers what each is answered. Want of memory for the replies:
-/// `OutOfMemory`, and nothing is called.
+/// Makes calls of a decoder one after another, and returns the reply to each. Its only error is
+/// `OutOfMemory` for the replies; then it makes no call.
 #[tactic(auto, using(crate::proofs::CallsMade::steps_made))]
 pub fn replies_to_calls<R: Source>(
     alloc: Global,
@@ -72,7 +74,7 @@ pub fn replies_to_calls<R: Source>(
     }
 }
 
-/// Makes one call, and answers its reply.
+/// Makes one call, and returns the reply. Its only error is `OutOfMemory` for the reply.
 #[tactic(auto, using(crate::proofs::CallsMade::steps_length))]
 pub fn reply_to_one<R: Source>(
     alloc: Global,
@@ -87,7 +89,7 @@ pub fn reply_to_one<R: Source>(
     Ok(only(replies))
 }
 
-/// Makes two calls, and answers both replies.
+/// Makes two calls, and returns both replies. Its only error is `OutOfMemory` for the replies.
 #[tactic(auto, using(crate::proofs::CallsMade::steps_length))]
 pub fn replies_to_both<R: Source>(
     alloc: Global,

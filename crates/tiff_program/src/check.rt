@@ -1,4 +1,4 @@
-//! Every page of a file is read whole.
+//! The check of a file: it reads every page whole.
 
 ghost use Rattle.std.specs.Prelude.{◌≡◌, ◌<◌, [], IfErr, IfOk, IsSome, OnOk, Ok, Some, length, map};
 ghost use Rattle.tiff.specs.Answers.{Answers, AnswersBut, AnswersWithoutSource, IsCause};
@@ -16,21 +16,23 @@ use tiff::{TiffError, TiffResult};
 use tiff_laws::pages::walk_seeks;
 use tiff_pages::pages::{file_answer, pages};
 
-/// The bytes of an image, of all its planes, as `raw` gives those of one: how many they are, and their Adler-32.
+/// The bytes of an image, in all its planes, as `raw` writes those of one plane: how many there
+/// are, and their Adler-32.
 #[derive(Clone, Copy, Debug, Drop)]
 pub struct ImageSum {
     pub bytes: usize,
     pub adler: u32,
 }
 
-/// A page of a file: the offset of its directory, and the sum of its image, or its first fault.
+/// A page of a file: the offset of its directory, and the sum of its image, or its first error.
 #[derive(Debug, Drop)]
 pub struct PageCheck {
     pub place: IfdPointer,
     pub image: TiffResult<ImageSum>,
 }
 
-/// The pages of a file in the order of their chain, each read whole, and the fault by which the chain ends, if it ends by one.
+/// The pages of a file in the order of their chain, each read whole, and the error by which the
+/// chain ends, if it ends by one.
 #[derive(Debug, Drop)]
 pub struct FileCheck {
     pub pages: Vec<PageCheck>,
@@ -47,7 +49,7 @@ fn read_planes<R: Source>(
     decoder.read_image_to_buffer(samples)
 }
 
-// The bytes of samples, of which there have to be so many.
+// The samples as bytes. Fewer than `len` bytes: `LimitsExceeded`.
 fn all_bytes(alloc: Global, samples: &mut DecodingResult, len: usize) -> TiffResult<Vec<u8>>
     ensures { AnswersWithoutSource (λ v. v.items) result (all_bytes len (decoded_as samples.old)) }
 {
@@ -58,7 +60,7 @@ fn all_bytes(alloc: Global, samples: &mut DecodingResult, len: usize) -> TiffRes
     Ok(bytes)
 }
 
-// The bytes of the image of a decoder's page, of all its planes.
+// The bytes of the image of a decoder's page, in all its planes.
 fn whole_image<R: Source>(alloc: Global, decoder: &mut Decoder<R>) -> TiffResult<Vec<u8>>
     ensures { ReadsPage (λ v. v.items) (whole_image decoder.old decoder.old.state.page) result decoder.old decoder.new }
 {
@@ -97,7 +99,7 @@ fn place_of<R: Source>(decoder: &mut Decoder<R>) -> IfdPointer
     }
 }
 
-// The page of a number in the chain, read whole.
+// The page with this number in the chain, read whole.
 fn check_page<R: Source>(
     alloc: Global,
     decoder: &mut Decoder<R>,
@@ -118,7 +120,8 @@ fn check_page<R: Source>(
     Ok(PageCheck { place, image })
 }
 
-// The pages of a decoder's file, of which there are so many, each read whole, behind none.
+// The pages of a decoder's file, each read whole, put into an empty list. The file has `count` of
+// them.
 fn check_each<R: Source>(
     alloc: Global,
     decoder: &mut Decoder<R>,
@@ -136,9 +139,11 @@ fn check_each<R: Source>(
     Ok(())
 }
 
-/// The pages of a decoder's file, from the first one to the end of the chain, wherever the decoder stands: each read whole, all its
-/// planes, with the sum of its bytes, or its first fault under the decoder's limits; and the fault by which the chain ends, if it
-/// ends by one. One image at a time is held. Only want of memory and a fault of the device refuse all.
+/// Checks the pages of a decoder's file, from the first one to the end of the chain, wherever the
+/// decoder is. Each page is read whole, in all its planes; it has the sum of its bytes, or its
+/// first error under the decoder's limits. The result also has the error by which the chain ends,
+/// if it ends by one. The check holds one image at a time. Its only errors are `OutOfMemory` and an
+/// error of the device, `IoError(Device)`.
 pub fn check_pages<R: Source>(alloc: Global, decoder: &mut Decoder<R>) -> TiffResult<FileCheck>
     ensures { Answers checks_in result (Ok (checks_of decoder.old)) decoder.old.failures decoder.new.failures }
 {
@@ -151,8 +156,8 @@ pub fn check_pages<R: Source>(alloc: Global, decoder: &mut Decoder<R>) -> TiffRe
     })
 }
 
-/// The pages of a file, as [`check_pages`] checks them under limits; or the fault of the file's header, or of its first page, first.
-/// The file is opened under the limits by default.
+/// Checks the pages of a file under limits, as [`check_pages`] does; or returns the error of the
+/// file's header, or of its first page. The file is opened under the default limits.
 #[tactic(auto, unfolding(tiff_decode::specs::Outcome::set_limits))]
 pub fn check_file(alloc: Global, file: Vec<u8>, limits: Limits) -> TiffResult<FileCheck>
     ensures { AnswersBut (Unit {0}) (Unit {0}) checks_in result (checks_under limits file.items) }

@@ -8,58 +8,61 @@ use tiff::tags::FileKind;
 /// What the words of a command line ask for.
 #[derive(Clone, Copy, Debug)]
 pub enum Command<'a> {
-    /// The bytes of a file as one gray page.
+    /// To write the bytes of a file as one gray page.
     Gray {
         output: &'a str,
         width: u32,
         height: u32,
         input: &'a str,
     },
-    /// The samples of a page as bytes; no buffer is larger than the limit, where there is one.
+    /// To write the samples of a page as bytes; no buffer is larger than the limit, if there is
+    /// one.
     Raw {
         input: &'a str,
         page: u32,
         output: &'a str,
         limit: Option<usize>,
     },
-    /// A page as a PNG file.
+    /// To write a page as a PNG file.
     View {
         input: &'a str,
         page: u32,
         output: &'a str,
     },
-    /// A line for each entry of a page.
+    /// To print a line for each entry of a page.
     Tags {
         input: &'a str,
         page: u32,
     },
-    /// A line for each page.
+    /// To print a line for each page.
     List {
         input: &'a str,
     },
-    /// A line for each page, which is read whole; no buffer is larger than the limit, where there is one.
+    /// To read each page whole, and print a line for it; no buffer is larger than the limit, if
+    /// there is one.
     Check {
         input: &'a str,
         limit: Option<usize>,
     },
-    /// What the commands are.
+    /// To print what the commands are.
     Help,
-    /// The replies to the calls of a decoder that standard input lists.
+    /// To make the calls of a decoder that standard input lists, and print the replies.
     Calls {
         input: &'a str,
     },
-    /// The file that the jobs write that standard input lists; it is kept in each case where the command keeps going, and else where
-    /// none of their replies is a fault.
+    /// To run the jobs that standard input lists, print the replies, and write their file: if none
+    /// of the replies is an error, or in each case if the command keeps going.
     Jobs {
         output: &'a str,
         kind: FileKind,
         keep_going: bool,
     },
-    /// Which version this is.
+    /// To print the version.
     Version,
 }
 
-// The kind of a file, and whether the command keeps going, as the words behind the output of jobs tell, each of them once at most.
+// The kind of the file, and whether the command keeps going, by the words behind the output of
+// `jobs`; each of these words stands at most once.
 fn job_words(words: &[String]) -> Option<(FileKind, bool)>
     ensures some { IfSome result (λ asked. AskForJobs (map string_bytes words.now) asked.0 asked.1) }
     ensures none { IfNone result ((kind : _) → (keep_going : _) → ¬ AskForJobs (map string_bytes words.now) kind keep_going) }
@@ -76,7 +79,7 @@ fn job_words(words: &[String]) -> Option<(FileKind, bool)>
     }
 }
 
-// The jobs that the words behind the command's name ask for.
+// The command `jobs`, by the words behind its name.
 fn parse_jobs(words: &[String]) -> Option<Command<'_>>
     ensures some { IfSome result (IsJobs (map string_bytes words.now)) }
     ensures none { IfNone result ((command : _) → ¬ IsJobs (map string_bytes words.now) command) }
@@ -106,7 +109,7 @@ fn byte_count(word: &str) -> Option<usize>
     word.parse::<usize>().ok()
 }
 
-// The limit, if there is one, as the words behind those of a command tell.
+// The limit, if there is one, by the words behind those of a command.
 fn limit_words(words: &[String]) -> Option<Option<usize>>
     ensures some { IfSome result (AskForLimit (map string_bytes words.now)) }
     ensures none { IfNone result ((limit : _) → ¬ AskForLimit (map string_bytes words.now) limit) }
@@ -118,7 +121,7 @@ fn limit_words(words: &[String]) -> Option<Option<usize>>
     }
 }
 
-// The samples that the words behind the command's name ask for.
+// The command `raw`, by the words behind its name.
 fn parse_raw(words: &[String]) -> Option<Command<'_>>
     ensures some { IfSome result (IsRaw (map string_bytes words.now)) }
     ensures none { IfNone result ((command : _) → ¬ IsRaw (map string_bytes words.now) command) }
@@ -136,7 +139,7 @@ fn parse_raw(words: &[String]) -> Option<Command<'_>>
     })
 }
 
-// The picture that the words behind the command's name ask for.
+// The command `view`, by the words behind its name.
 fn parse_view(words: &[String]) -> Option<Command<'_>>
     ensures some { IfSome result (IsView (map string_bytes words.now)) }
     ensures none { IfNone result ((command : _) → ¬ IsView (map string_bytes words.now) command) }
@@ -155,7 +158,7 @@ fn parse_view(words: &[String]) -> Option<Command<'_>>
     })
 }
 
-// The check that the words behind the command's name ask for.
+// The command `check`, by the words behind its name.
 fn parse_check(words: &[String]) -> Option<Command<'_>>
     ensures some { IfSome result (IsCheck (map string_bytes words.now)) }
     ensures none { IfNone result ((command : _) → ¬ IsCheck (map string_bytes words.now) command) }
@@ -168,7 +171,7 @@ fn parse_check(words: &[String]) -> Option<Command<'_>>
     })
 }
 
-// The command of a name that takes no options.
+// The command with this name that takes no options, by the words behind the name.
 fn parse_plain<'a>(name: &str, words: &'a [String]) -> Option<Command<'a>>
     ensures asked { IfSome result (IsPlain name.now (map string_bytes words.now)) }
     ensures help { IsHelp name.now → words.now ≡ [] → result ≡ Some Command.Help }
@@ -197,7 +200,7 @@ fn parse_plain<'a>(name: &str, words: &'a [String]) -> Option<Command<'a>>
     }
 }
 
-// The command of a name, as the words behind it ask for it.
+// The command with this name, by the words behind the name.
 fn parse_named<'a>(name: &str, words: &'a [String]) -> Option<Command<'a>>
     ensures asked { IfSome result (IsAsked name.now (map string_bytes words.now)) }
     ensures none { IfNone result ((command : _) → IsExact command → ¬ IsAsked name.now (map string_bytes words.now) command) }
@@ -213,7 +216,7 @@ fn parse_named<'a>(name: &str, words: &'a [String]) -> Option<Command<'a>>
     }
 }
 
-/// The command that the words are, if they are one.
+/// The command that the words of a command line ask for; `None` if they ask for none.
 pub fn parse(words: &[String]) -> Option<Command<'_>>
     ensures asked { IfSome result (AskFor (map string_bytes words.now)) }
     ensures none { IfNone result ((command : _) → IsExact command → ¬ AskFor (map string_bytes words.now) command) }

@@ -1,12 +1,13 @@
-//! The sum by which the chunks of a PNG file are checked.
+//! CRC-32, the checksum of the chunks of a PNG file.
 
 ghost use Rattle.std.specs.Prelude.{◌≡◌, ◌++◌};
 ghost use Rattle.tiff_program.specs.Png.{IsTable, crc_32, crc_bit, crc_bits, crc_byte, crc_over};
 
-// CRC-32's polynomial, its highest power left out, the lowest bit for the one below that.
+// The polynomial of CRC-32 without its highest power; the lowest bit stands for the power below
+// that.
 const POLYNOMIAL: u32 = 0xedb8_8320;
 
-// One bit.
+// The CRC after one bit.
 fn crc_bit(crc: u32) -> u32
     ensures { result ≡ crc_bit crc }
 {
@@ -17,7 +18,7 @@ fn crc_bit(crc: u32) -> u32
     }
 }
 
-// Eight bits.
+// The CRC after eight bits.
 fn crc_bits(crc: u32) -> u32
     ensures { result ≡ crc_bits 8 crc }
 {
@@ -28,7 +29,7 @@ fn crc_bits(crc: u32) -> u32
     left
 }
 
-// What eight bits make of each byte.
+// The table of what eight bits make of each byte.
 fn crc_table() -> [u32; 256]
     ensures { IsTable result }
 {
@@ -39,7 +40,7 @@ fn crc_table() -> [u32; 256]
     table
 }
 
-// One byte.
+// The CRC after one byte.
 fn crc_byte(table: &[u32; 256], crc: u32, byte: u8) -> u32
     requires { IsTable table.now }
     ensures { result ≡ crc_byte crc byte }
@@ -48,7 +49,7 @@ fn crc_byte(table: &[u32; 256], crc: u32, byte: u8) -> u32
     (mixed / 256) ^ table[(mixed % 256) as usize]
 }
 
-// One byte after another.
+// The CRC after bytes, one after another.
 fn crc_over(table: &[u32; 256], crc: u32, bytes: &[u8]) -> u32
     requires { IsTable table.now }
     ensures { result ≡ crc_over crc bytes.now }

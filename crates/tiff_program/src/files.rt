@@ -2,9 +2,10 @@
 
 use tiff::TiffResult;
 
-/// Files by their names. `OutOfMemory` is want of memory for the bytes; any other fault is the file's.
+/// Files by their names. `OutOfMemory` says that there is no memory for the bytes; any other error
+/// is one of the file.
 pub trait Files {
-    /// All bytes of a file; of the name `-` those of standard input.
+    /// All bytes of a file; for the name `-` those of standard input.
     fn read(&mut self, name: &str) -> TiffResult<Vec<u8>>;
 
     /// Makes a file of these bytes.

@@ -1,4 +1,4 @@
-//! What the program's commands are, and its version.
+//! The help of the program, and its version.
 
 /// Each command with its words, and what it does.
 pub const HELP: &str = "tiffpage: TIFF and BigTIFF pages
@@ -20,5 +20,6 @@ pub const HELP: &str = "tiffpage: TIFF and BigTIFF pages
   --version              prints the version
 ";
 
-/// The line of the version, which is that of the calls for C, `MANGOHATCH_TIFF_VERSION` of their header.
+/// The line of the version, which is the version of the calls for C: `MANGOHATCH_TIFF_VERSION` of
+/// their header.
 pub const VERSION: &str = "tiffpage 2\n";

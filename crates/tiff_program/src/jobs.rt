@@ -14,8 +14,8 @@ use tiff::tags::FileKind;
 use tiff::{TiffError, TiffResult};
 use tiff_lists::replies::lines_of_jobs;
 
-/// What jobs left: their file, where it is to be written, and the lines of what they were answered, which are well where no step and
-/// no end of a job was refused.
+/// What jobs left: their file, if it is to be written, and the lines of the replies. The lines are
+/// well if no step and no end of a job was refused.
 #[derive(Drop)]
 pub struct Written {
     pub file: Option<Vec<u8>>,
@@ -29,21 +29,21 @@ fn are_answered(steps: &[TiffResult<StepReply>]) -> bool
     steps.iter().all(|step| step.is_ok())
 }
 
-// Whether no reply of a job is a fault.
+// Whether no reply of a job is an error.
 fn is_well(reply: &JobReply) -> bool
     ensures { result ≡ is_well reply.now }
 {
     are_answered(&reply.steps) && reply.last.is_ok()
 }
 
-// Whether no reply of all jobs is a fault.
+// Whether no reply of any job is an error.
 fn are_well(replies: &[JobReply]) -> bool
     ensures { result ≡ list_all is_well replies.now }
 {
     replies.iter().all(|reply| is_well(reply))
 }
 
-// The lines of what jobs were answered.
+// The lines of the replies to jobs.
 fn told(alloc: Global, replies: Vec<JobReply>) -> TiffResult<PageLines>
     ensures { MatchResult result (λ lines. (lines.well ≡ list_all is_well replies.items) × (lines.end ≡ None)) (λ e. e ≡ TiffError.OutOfMemory) }
 {
@@ -57,7 +57,7 @@ fn told(alloc: Global, replies: Vec<JobReply>) -> TiffResult<PageLines>
     })
 }
 
-// Runs jobs over a sink that holds nothing.
+// Runs jobs over an empty sink.
 #[tactic(auto, using(tiff_base::proofs::MemoryFaults::header_refused))]
 fn run_kind<K: TiffKind>(alloc: Global, keep_going: bool, jobs: &[Job]) -> TiffResult<Written>
     ensures { MatchResult result
@@ -72,9 +72,10 @@ fn run_kind<K: TiffKind>(alloc: Global, keep_going: bool, jobs: &[Job]) -> TiffR
     Ok(Written { file, lines })
 }
 
-/// Runs jobs one after another, and answers the file of this kind that they write, with the text of their replies, a refusal
-/// too, a line for each. There is a file where no reply is a fault, and in each case where it is to keep going. Its only error is
-/// `OutOfMemory`: for the replies, the header or the lines.
+/// Runs jobs one after another, and returns the file of this kind that they write, with a line for
+/// each reply, also to a job that is refused. It returns a file if no reply is an error, and in
+/// each case if it keeps going. Its only error is `OutOfMemory`: for the replies, the header or the
+/// lines.
 pub fn write_by(
     alloc: Global,
     kind: FileKind,

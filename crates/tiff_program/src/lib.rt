@@ -1,5 +1,6 @@
-//! What the program `tiffpage` does: pages of files in memory as bytes and as lines, the replies to lists of calls and of jobs, and the
-//! command line over files by their names.
+//! What the program `tiffpage` does: it returns pages of files in memory as bytes and as lines, and
+//! the replies to lists of calls and of jobs; and it runs the command line over files by their
+//! names.
 #![tactic(auto)]
 
 pub mod adler;

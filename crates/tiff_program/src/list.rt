@@ -12,8 +12,9 @@ use tiff::io::{MemorySource, Source};
 use tiff::{ColorType, TiffError, TiffResult};
 use tiff_pages::pages::{PageFacts, PageItem, PageList, pages};
 
-/// What a command tells of the pages of a file: a line for each, the fault by which their chain ends, if it ends by one, and whether
-/// each of them is well. Or what it tells of jobs: a line for each reply, and whether none of them is a fault.
+/// What a command prints. For the pages of a file: a line for each, the error by which their chain
+/// ends, if it ends by one, and whether each of them is well. For jobs: a line for each reply, and
+/// whether none of them is an error.
 #[derive(Debug, Drop)]
 pub struct PageLines {
     pub text: String,
@@ -38,7 +39,8 @@ fn color_name(color: ColorType) -> &'static str {
     }
 }
 
-// Appends a color, its name and its bits, and of several bands how many they are; or a question mark where there is none.
+// Appends a color: its name, its bits, and for several bands how many they are; or a question mark
+// for an error.
 fn push_color(text: &mut String, color: &TiffResult<ColorType>) -> Result<(), AllocError> {
     let Ok(color) = color else {
         return text.push_str("?");
@@ -51,7 +53,7 @@ fn push_color(text: &mut String, color: &TiffResult<ColorType>) -> Result<(), Al
     }
 }
 
-// Appends how many chunks there are, or a question mark where they aren't counted.
+// Appends how many chunks there are, or a question mark if they aren't counted.
 fn push_count(text: &mut String, count: &TiffResult<u32>) -> Result<(), AllocError> {
     match count {
         Ok(count) => write!(text, "{count}"),
@@ -59,7 +61,8 @@ fn push_count(text: &mut String, count: &TiffResult<u32>) -> Result<(), AllocErr
     }
 }
 
-// Appends the facts of a page: its sides, its color, the number of its method, and the kind and the number of its chunks.
+// Appends the facts of a page: its width and height, its color, the number of its method, and the
+// kind and the count of its chunks.
 fn push_facts(text: &mut String, facts: &PageFacts) -> Result<(), AllocError> {
     let (width, height) = (facts.width, facts.height);
     write!(text, "{width}x{height} ")?;
@@ -73,7 +76,8 @@ fn push_facts(text: &mut String, facts: &PageFacts) -> Result<(), AllocError> {
     push_count(text, &facts.chunks)
 }
 
-// Appends the line of a page: its number from 0, the offset of its directory, and its facts, or the text of its fault.
+// Appends the line of a page: its number from 0, the offset of its directory, and its facts, or the
+// text of its error.
 fn push_item(text: &mut String, number: usize, item: &PageItem) -> Result<(), AllocError> {
     let place = item.place.0;
     write!(text, "{number} {place} ")?;
@@ -84,7 +88,8 @@ fn push_item(text: &mut String, number: usize, item: &PageItem) -> Result<(), Al
     text.push_str("\n")
 }
 
-/// The pages of a decoder's file, a line for each.
+/// Lists the pages of a decoder's file, one line for each. Its errors are those of `pages`:
+/// `OutOfMemory`, and `IoError(Device)`.
 pub fn list_lines<R: Source>(alloc: Global, decoder: &mut Decoder<R>) -> TiffResult<PageLines> {
     let PageList { pages, end } = pages(decoder)?;
     let mut text = String::new(alloc);
@@ -104,8 +109,8 @@ fn push_sum(text: &mut String, sum: &ImageSum) -> Result<(), AllocError> {
     write!(text, "ok {bytes} {adler:08x}")
 }
 
-// Appends the line of a page that was read whole: its number from 0, the offset of its directory, and the sum of its image, or the
-// text of its fault.
+// Appends the line of a page that was read whole: its number from 0, the offset of its directory,
+// and the sum of its image, or the text of its error.
 fn push_check(text: &mut String, number: usize, check: &PageCheck) -> Result<(), AllocError> {
     let place = check.place.0;
     write!(text, "{number} {place} ")?;
@@ -123,7 +128,7 @@ fn are_well(checks: &[PageCheck]) -> bool
     checks.iter().all(|check| check.image.is_ok())
 }
 
-// A line for each page that was read whole.
+// The lines of pages that were read whole, one for each.
 fn check_text(alloc: Global, checks: &[PageCheck]) -> Result<String, AllocError> {
     let mut text = String::new(alloc);
     for (number, check) in checks.iter().enumerate() {
@@ -132,7 +137,7 @@ fn check_text(alloc: Global, checks: &[PageCheck]) -> Result<String, AllocError>
     Ok(text)
 }
 
-// What is told of pages that were read whole.
+// What the command `check` prints for pages that were read whole.
 fn told(alloc: Global, checked: FileCheck) -> TiffResult<PageLines>
     ensures { MatchResult result (λ lines. (lines.well ≡ are_well checked.pages.items) × (lines.end ≡ checked.end)) (λ e. e ≡ TiffError.OutOfMemory) }
 {
@@ -145,19 +150,21 @@ fn told(alloc: Global, checked: FileCheck) -> TiffResult<PageLines>
     })
 }
 
-/// The pages of a decoder's file, each read whole, a line for each.
+/// Reads each page of a decoder's file whole, and returns a line for each. Its errors are those of
+/// [`check_pages`].
 pub fn check_lines<R: Source>(alloc: Global, decoder: &mut Decoder<R>) -> TiffResult<PageLines> {
     told(alloc, check_pages(alloc, decoder)?)
 }
 
-/// The pages of a file, as [`list_lines`] tells them; or the fault of the file's header, or of its first page, first.
+/// Lists the pages of a file, as [`list_lines`] does; or returns the error of the file's header, or
+/// of its first page.
 pub fn file_list(alloc: Global, file: Vec<u8>) -> TiffResult<PageLines> {
     let mut decoder = Decoder::new(alloc, MemorySource::new(file))?;
     list_lines(alloc, &mut decoder)
 }
 
-/// The pages of a file, as [`check_lines`] tells them under limits; or the fault of the file's header, or of its first page, first. It
-/// is well where each page was read.
+/// Reads each page of a file whole under limits, as [`check_lines`] does; or returns the error of
+/// the file's header, or of its first page. The lines are well if each page was read.
 pub fn file_check(alloc: Global, file: Vec<u8>, limits: Limits) -> TiffResult<PageLines>
     ensures { AnswersBut (Unit {0}) (Unit {0}) (λ lines. (lines.well, lines.end)) result (told_under limits file.items) }
 {

@@ -41,7 +41,7 @@ fn push_digits(text: &mut String, bytes: &[u8]) -> Result<(), AllocError>
     Ok(())
 }
 
-// Appends bytes as two hexadecimal digits each, or `-` for none.
+// Appends each byte as two hexadecimal digits, or `-` if there is none.
 fn push_bytes(text: &mut String, bytes: &[u8]) -> Result<(), AllocError>
     ensures { OnOk result (string_bytes text.new ≡ string_bytes text.old ++ shown_bytes bytes.now) }
 {
@@ -51,7 +51,8 @@ fn push_bytes(text: &mut String, bytes: &[u8]) -> Result<(), AllocError>
     push_digits(text, bytes)
 }
 
-// Appends the line of a field: the number of its tag and of its type, how many values it has, and their bytes.
+// Appends the line of a field: the number of its tag, the number of its type, how many values it
+// has, and their bytes.
 fn push_line(text: &mut String, tag: u16, entry: &Entry, bytes: &[u8]) -> Result<(), AllocError>
     ensures { OnOk result (string_bytes text.new ≡ string_bytes text.old ++ line tag entry.now bytes.now) }
 {
@@ -62,7 +63,7 @@ fn push_line(text: &mut String, tag: u16, entry: &Entry, bytes: &[u8]) -> Result
     text.push_str("\n")
 }
 
-// Appends the line of a field that was found, or nothing where there is none.
+// Appends the line of a field that was found, or nothing if there is none.
 #[tactic(auto, unfolding(tiff_decode::specs::Outcome::find_tag_buf))]
 fn push_found(
     text: &mut String,
@@ -79,7 +80,7 @@ fn push_found(
     Ok(())
 }
 
-// The calls that find the fields of tag numbers.
+// The calls that find the fields with these tag numbers.
 fn calls_to_find(alloc: Global, numbers: &[u16]) -> Result<Vec<Call>, AllocError>
     ensures { IfOk result (λ calls. calls.items ≡ finds numbers.now) }
 {
@@ -90,7 +91,7 @@ fn calls_to_find(alloc: Global, numbers: &[u16]) -> Result<Vec<Call>, AllocError
     Ok(calls)
 }
 
-// What is answered of the fields of tag numbers.
+// The replies to the calls that find the fields with these tag numbers.
 fn find_all<R: Source>(
     alloc: Global,
     decoder: &mut Decoder<R>,
@@ -105,7 +106,7 @@ fn find_all<R: Source>(
     }
 }
 
-// A line for the field of each tag number.
+// A line for the field with each tag number.
 #[tactic(auto, using(crate::proofs::Lines::lines_all))]
 fn list_tags<R: Source>(
     alloc: Global,
@@ -171,7 +172,7 @@ fn numbers_at<R: Source>(
     Ok(tag_numbers(alloc, &directory)?)
 }
 
-// A line for each entry of the directory at a pointer; none where there is no pointer.
+// A line for each entry of the directory at a pointer; none if there is no pointer.
 fn list_directory<R: Source>(
     alloc: Global,
     decoder: &mut Decoder<R>,
@@ -205,9 +206,11 @@ fn page_pointer<R: Source>(
     sought(seek).and(Ok(pointer_told(pointer)))
 }
 
-/// A line for each entry of a page's directory, in ascending tag number: the numbers of its tag and its type, how many values it
-/// has, and their bytes in the file's order; or the fault of the seek to the page. More bytes than `decoding_buffer_size`:
-/// `LimitsExceeded`; bytes past the end of the source: `IoError(UnexpectedEof)`.
+/// Lists the entries of a page's directory, one line for each, in ascending order of the tag
+/// number: the number of the tag, the number of the type, how many values the entry has, and their
+/// bytes in the file's order. The first error: of the seek to the page; more bytes of an entry than
+/// `decoding_buffer_size`, `LimitsExceeded`; bytes behind the end of the source,
+/// `IoError(UnexpectedEof)`.
 pub fn list_entries<R: Source>(
     alloc: Global,
     decoder: &mut Decoder<R>,
@@ -219,7 +222,8 @@ pub fn list_entries<R: Source>(
     list_directory(alloc, decoder, pointer)
 }
 
-/// A line for each entry of the directory of a page of a file, as [`list_entries`] tells them; or the fault of the file's header first.
+/// Lists the entries of the directory of a page of a file, as [`list_entries`] does; or returns the
+/// error of opening the file.
 pub fn page_tags(alloc: Global, file: Vec<u8>, page: u32) -> TiffResult<String>
     ensures { AnswersIn string_bytes listing result file.items page }
 {

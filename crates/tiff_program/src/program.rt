@@ -1,4 +1,4 @@
-//! What the program does.
+//! The program: it does what a command line asks for.
 
 ghost use Rattle.std.specs.Prelude.{◌≡◌, ◌≤◌, IfOk, MatchOption, None, Ok, true};
 ghost use Rattle.tiff_program.specs.AtPage.{limits_for};
@@ -24,17 +24,17 @@ use tiff_lists::call::calls_of;
 use tiff_lists::jobs::jobs_of;
 use tiff_uses::gray_file;
 
-/// Why a command was not done.
+/// Why a command failed.
 #[derive(Drop)]
 enum Failure<'a> {
     Read(&'a str),
     Write(&'a str),
     Tiff(TiffError),
 
-    /// The line of this number tells of no call.
+    /// The line with this number is no call.
     NoCall(usize),
 
-    /// The line of this number tells of no job.
+    /// The line with this number is no job.
     NoJob(usize),
 }
 
@@ -61,7 +61,7 @@ impl<'a> From<TiffError> for Failure<'a> {
 }
 
 impl Failure<'_> {
-    // The status that it ends with.
+    // The status with which the program ends after a failure.
     fn status(&self) -> u8
         ensures { result ≤ 2 }
     {
@@ -112,7 +112,7 @@ fn listed_jobs<'a, F: Files>(alloc: Global, files: &mut F) -> Result<Vec<Job>, F
     }
 }
 
-// The replies to the calls that standard input lists, a line for each.
+// The replies to the calls that standard input lists, one line for each.
 fn call_replies<'a, F: Files>(
     alloc: Global,
     input: &'a str,
@@ -123,7 +123,7 @@ fn call_replies<'a, F: Files>(
     Ok(replies_to(alloc, file, &calls)?)
 }
 
-// Writes the file that jobs left, where there is one, and answers their lines.
+// Writes the file that jobs left, if there is one, and returns the lines of their replies.
 fn write_kept<'a, F: Files>(
     output: &'a str,
     written: Written,
@@ -140,7 +140,8 @@ fn write_kept<'a, F: Files>(
     Ok(lines)
 }
 
-// Runs the jobs that standard input lists, writes their file, where it is to be written, and answers their replies, a line for each.
+// Runs the jobs that standard input lists, writes their file, if it is to be written, and returns a
+// line for each reply.
 fn job_replies<'a, F: Files>(
     alloc: Global,
     output: &'a str,
@@ -152,7 +153,7 @@ fn job_replies<'a, F: Files>(
     write_kept(output, written, files)
 }
 
-// Writes bytes, and tells nothing.
+// Writes bytes into a file, and returns no lines.
 fn write_alone<'a, F: Files>(
     alloc: Global,
     files: &mut F,
@@ -214,7 +215,7 @@ fn write_picture<'a, F: Files>(
     write_alone(alloc, files, output, &picture)
 }
 
-// The entries of a page of a file, a line for each.
+// The entries of a page of a file, one line for each.
 fn list_page<'a, F: Files>(
     alloc: Global,
     input: &'a str,
@@ -225,7 +226,7 @@ fn list_page<'a, F: Files>(
     Ok(page_tags(alloc, file, page)?)
 }
 
-// The pages of a file, a line for each.
+// The pages of a file, one line for each.
 fn list_pages<'a, F: Files>(
     alloc: Global,
     input: &'a str,
@@ -235,7 +236,7 @@ fn list_pages<'a, F: Files>(
     Ok(file_list(alloc, file)?)
 }
 
-// The pages of a file, each read whole, a line for each.
+// The pages of a file, each read whole, one line for each.
 fn check_pages<'a, F: Files>(
     alloc: Global,
     input: &'a str,
@@ -246,7 +247,7 @@ fn check_pages<'a, F: Files>(
     Ok(file_check(alloc, file, limits_for(limit))?)
 }
 
-// Lines that are well.
+// Lines without an error.
 fn told(text: String) -> PageLines {
     PageLines {
         text,
@@ -255,12 +256,12 @@ fn told(text: String) -> PageLines {
     }
 }
 
-// The lines of a text.
+// Lines without an error, copied from a text.
 fn told_text<'a>(alloc: Global, text: &str) -> Result<PageLines, Failure<'a>> {
     Ok(told(String::from_str(alloc, text).map_err(TiffError::from)?))
 }
 
-// Does what a command asks for, and answers what is to be printed.
+// Does what a command asks for, and returns what to print.
 fn execute<'a, F: Files>(
     alloc: Global,
     command: Command<'a>,
@@ -300,7 +301,7 @@ fn execute<'a, F: Files>(
 
 const USAGE: &str = "usage: tiffpage gray|raw|tags|list ..";
 
-// Prints the line of a failure: by one write, but where there is no memory for its text.
+// Prints the line of a failure: by one write, or piece by piece if there is no memory for its text.
 fn print_failure<E: Write>(alloc: Global, failure: &Failure<'_>, err: &mut E) {
     let _ = match format!(in alloc; "error: {failure}\n") {
         Ok(line) => err.write_all(line.as_bytes()),
@@ -308,7 +309,8 @@ fn print_failure<E: Write>(alloc: Global, failure: &Failure<'_>, err: &mut E) {
     };
 }
 
-// Prints lines, and the line of the fault behind them, if there is one; and answers the status.
+// Prints lines, and behind them the line of the error by which the chain ends, if there is one.
+// Returns the status.
 fn print_lines<O: Write, E: Write>(alloc: Global, lines: PageLines, out: &mut O, err: &mut E) -> u8
     ensures status { result ≤ 1 }
     ensures well { result ≡ 0 → (lines.well ≡ true) × (lines.end ≡ None) }
@@ -326,13 +328,20 @@ fn print_lines<O: Write, E: Write>(alloc: Global, lines: PageLines, out: &mut O,
     }
 }
 
-/// Does what the words of a command line ask for, and answers the status: 0; 1 for a fault, with a line `error: ..` on `err`, where a
-/// write to `out` or `err` fails, where a page that is checked has a fault, and where a job or a step of one is refused; 2 for a wrong
-/// command line, with the usage line on `err`, and for a line of standard input that is no call or no job, with a line `error: ..` that
-/// has its number, before any is called. No words give the usage line on `out`. Faults are found in this order: the command line,
-/// reading the input, reading standard input, its lines, the decoder's or the encoder's, writing the output. On a fault nothing is
-/// written to `out`, but where the chain of a file whose pages are listed or checked ends by it: then their lines are. The replies to
-/// all jobs are written there, also where one is refused; their file is made where none is, or where the words have `--keep-going`.
+/// Does what the words of a command line ask for, and returns the status.
+///
+/// 0: all is done. 1: an error, with a line `error: ..` on `err`; or a write to `out` or `err` that
+/// fails, a page with an error in a check, or a job or a step of one that is refused. 2: a wrong
+/// command line, with the usage line on `err`; or a line of standard input that is no call or no
+/// job, with a line `error: ..` on `err` that has the number of that line, before any call is made.
+/// Without words, the usage line is printed on `out`.
+///
+/// Errors are found in this order: of the command line; of reading the input; of reading standard
+/// input; of its lines; of the decoder or the encoder; of writing the output. After an error
+/// nothing is printed on `out`, with two exceptions. If the chain of a file whose pages are listed
+/// or checked ends by an error, the lines of the pages are printed. The replies to all jobs are
+/// printed, also if a job is refused; the file of the jobs is made if none is refused, or if the
+/// words have `--keep-going`.
 pub fn run<F: Files, O: Write, E: Write>(
     alloc: Global,
     words: &[String],

@@ -1,4 +1,4 @@
-//! Replies to calls that are known, taken apart.
+//! The values in replies to calls that are known.
 
 ghost use Rattle.std.specs.Prelude.{◌≡◌};
 ghost use Rattle.tiff_program.specs.Replied.{IsDirectory, IsFound, IsImage, IsPointer, IsSeek};
@@ -9,7 +9,7 @@ use tiff::decoder::script::Reply;
 use tiff::tags::{IfdPointer, ValueBuffer};
 use tiff::{Directory, TiffResult};
 
-/// What a seek is answered.
+/// The result of a seek.
 pub(crate) fn sought(reply: Reply) -> TiffResult<()>
     requires { IsSeek reply }
     ensures { reply ≡ Reply.SeekToImage result }
@@ -20,7 +20,7 @@ pub(crate) fn sought(reply: Reply) -> TiffResult<()>
     }
 }
 
-/// The image that is read.
+/// The image that was read.
 pub(crate) fn image_read(reply: Reply) -> TiffResult<DecodingResult>
     requires { IsImage reply }
     ensures { reply ≡ Reply.ReadImage result }
@@ -31,7 +31,7 @@ pub(crate) fn image_read(reply: Reply) -> TiffResult<DecodingResult>
     }
 }
 
-/// The pointer that is told.
+/// The pointer of a directory.
 pub(crate) fn pointer_told(reply: Reply) -> Option<IfdPointer>
     requires { IsPointer reply }
     ensures { reply ≡ Reply.IfdPointer result }
@@ -42,7 +42,7 @@ pub(crate) fn pointer_told(reply: Reply) -> Option<IfdPointer>
     }
 }
 
-/// The directory that is read.
+/// The directory that was read.
 pub(crate) fn directory_read(reply: Reply) -> TiffResult<Directory>
     requires { IsDirectory reply }
     ensures { reply ≡ Reply.ReadDirectory result }
@@ -53,7 +53,7 @@ pub(crate) fn directory_read(reply: Reply) -> TiffResult<Directory>
     }
 }
 
-/// The field of a tag that is found, with the buffer of its values.
+/// The field of a tag that was found, with the buffer of its values.
 pub(crate) fn field_found(reply: Reply) -> (TiffResult<Option<Entry>>, ValueBuffer)
     requires { IsFound reply }
     ensures { reply ≡ Reply.FindTagBuf result.0 result.1 }

@@ -1,6 +1,10 @@
 //! The samples of a page.
 
-ghost use Rattle.tiff.specs.Result.{decoded_as};
+ghost use Rattle.std.specs.List.{flat_map};
+ghost use Rattle.std.specs.Prelude.{◌≡◌, Ok};
+ghost use Rattle.tiff_base.specs.Number.{le};
+ghost use Rattle.tiff.specs.Answers.{AnswersWithoutSource};
+ghost use Rattle.tiff.specs.Result.{bytes_of, decoded_as};
 ghost use Rattle.tiff_program.specs.AtPage.{AnswersUnder, VisitsPage};
 ghost use Rattle.tiff_program.specs.Samples.{page_image, sample_bytes};
 
@@ -25,7 +29,28 @@ fn read_page<R: Source>(
     sought(seek).and(image_read(image))
 }
 
-/// The samples of the image of a page as bytes, the lowest of each first; or the fault of the seek to the page, or of the image.
+// A fact: bytes are the lowest bytes of themselves.
+#[tactic(auto, using(crate::proofs::SampleBytes::octets_are))]
+fn fact_octets(bytes: &[u8])
+    ensures { flat_map (le 1) bytes.now ≡ bytes.now }
+{}
+
+// Samples as bytes, with the lowest byte of each first. Samples of one byte are the bytes, and
+// aren't copied.
+fn to_bytes(alloc: Global, samples: DecodingResult) -> TiffResult<Vec<u8>>
+    ensures { AnswersWithoutSource (λ v. v.items) result (Ok (bytes_of (decoded_as samples))) }
+{
+    match samples {
+        DecodingResult::U8(bytes) => {
+            fact_octets(&bytes);
+            Ok(bytes)
+        }
+        mut others => others.as_buffer(0).as_bytes(alloc),
+    }
+}
+
+/// The samples of the image of a page as bytes, with the lowest byte of each first; or the error of
+/// the seek to the page, or of the image.
 pub fn image_bytes<R: Source>(
     alloc: Global,
     decoder: &mut Decoder<R>,
@@ -33,16 +58,26 @@ pub fn image_bytes<R: Source>(
 ) -> TiffResult<Vec<u8>>
     ensures { VisitsPage (λ v. v.items) sample_bytes result page decoder.old decoder.new }
 {
-    let mut samples = read_page(alloc, decoder, page)?;
-    samples.as_buffer(0).as_bytes(alloc)
+    let samples = read_page(alloc, decoder, page)?;
+    to_bytes(alloc, samples)
 }
 
-/// The samples of the image of a page of a file as bytes, the lowest of each first, under limits; or the fault of the file's header,
-/// or of its first page, of the seek to the page, or of the image. The file is opened under the limits by default.
+// The image of a page of a file, under limits. The file is dropped before the image is returned.
 #[tactic(auto, unfolding(tiff_decode::specs::Outcome::set_limits))]
+fn image_in(alloc: Global, file: Vec<u8>, page: u32, limits: Limits) -> TiffResult<DecodingResult>
+    ensures { AnswersUnder decoded_as page_image limits result file.items page }
+{
+    let mut decoder = Decoder::new(alloc, MemorySource::new(file))?.with_limits(limits);
+    read_page(alloc, &mut decoder, page as usize)
+}
+
+/// The samples of the image of a page of a file as bytes, with the lowest byte of each first, under
+/// limits; or the first error: of the file's header or its first page; of the seek to the page; of
+/// the image. The file is opened under the default limits.
+#[tactic(auto, using(crate::proofs::SampleBytes::bytes_under))]
 pub fn page_samples(alloc: Global, file: Vec<u8>, page: u32, limits: Limits) -> TiffResult<Vec<u8>>
     ensures { AnswersUnder (λ v. v.items) sample_bytes limits result file.items page }
 {
-    let mut decoder = Decoder::new(alloc, MemorySource::new(file))?.with_limits(limits);
-    image_bytes(alloc, &mut decoder, page as usize)
+    let image = image_in(alloc, file, page, limits)?;
+    to_bytes(alloc, image)
 }

@@ -16,7 +16,7 @@ use tiff::io::{MemorySource, Source};
 use tiff::tags::PlanarConfiguration;
 use tiff::{ColorType, TiffError, TiffResult, TiffUnsupportedError};
 
-/// The sides of a picture, and what its samples become.
+/// The width and the height of a picture, and what its samples become.
 #[derive(Clone, Copy, Debug)]
 pub struct Shape {
     pub width: u32,
@@ -24,7 +24,7 @@ pub struct Shape {
     pub kind: PngKind,
 }
 
-// Whether so many bits are whole bytes, of a number.
+// Whether samples of so many bits are numbers of whole bytes.
 fn is_whole(depth: u8) -> bool
     ensures { result ≡ is_whole depth }
 {
@@ -55,7 +55,7 @@ fn color_kind(color: ColorType) -> Option<PngKind>
     }
 }
 
-// The shape of a picture of samples of a color, which stand in so many planes.
+// The shape of a picture whose samples have this color and lie in so many planes.
 fn shape_of(sides: (u32, u32), color: ColorType, planes: usize) -> TiffResult<Shape>
     ensures { AnswersWithoutSource (λ s. s) result (shape_of sides color planes) }
 {
@@ -107,7 +107,7 @@ fn top_of_64(alloc: Global, numbers: &[u64]) -> Result<Vec<u8>, AllocError>
     Ok(top)
 }
 
-// The bytes that are shown of samples.
+// The bytes that the picture shows of samples.
 fn shown(alloc: Global, samples: DecodingResult) -> TiffResult<Vec<u8>>
     ensures { AnswersWithoutSource (λ v. v.items) result (shown_as (decoded_as samples).sample_type (decoded_as samples).numbers) }
 {
@@ -120,7 +120,7 @@ fn shown(alloc: Global, samples: DecodingResult) -> TiffResult<Vec<u8>>
     }
 }
 
-// The file of a picture of a shape.
+// The PNG file of a picture with this shape and these samples.
 fn draw(alloc: Global, shape: Shape, samples: DecodingResult) -> TiffResult<Vec<u8>>
     ensures { AnswersWithoutSource (λ v. v.items) result (drawn shape (decoded_as samples)) }
 {
@@ -149,14 +149,14 @@ fn samples_here<R: Source>(decoder: &mut Decoder<R>) -> TiffResult<DecodingResul
     decoder.read_image()
 }
 
-// The sides of a decoder's page.
+// The width and the height of a decoder's page.
 fn sides_here<R: Source>(decoder: &mut Decoder<R>) -> TiffResult<(u32, u32)>
     ensures { ReadsPage (λ s. s) (outcome.dimensions decoder.old).answer result decoder.old decoder.new }
 {
     decoder.dimensions()
 }
 
-// The shape of a decoder's page.
+// The shape of the picture of a decoder's page.
 fn shape_here<R: Source>(decoder: &mut Decoder<R>) -> TiffResult<Shape>
     ensures { ReadsPage (λ s. s) (shape_here decoder.old) result decoder.old decoder.new }
 {
@@ -175,9 +175,10 @@ fn picture_here<R: Source>(alloc: Global, decoder: &mut Decoder<R>) -> TiffResul
     draw(alloc, shape, samples)
 }
 
-/// The picture of a page as a PNG file, or its first fault: of the seek to the page; of its color, also where this has no picture,
-/// `UnsupportedColorType`; of its layout; more planes than one, `UnsupportedPlanarConfig`; of its image; floats and numbers with a
-/// sign, `UnsupportedDataType`; a picture that no PNG file holds, as [`png_file`] tells.
+/// The picture of a page as a PNG file, or the first error: of the seek to the page; of the page's
+/// color, also `UnsupportedColorType` for a color without a picture; of its layout; for more than
+/// one plane, `UnsupportedPlanarConfig`; of its image; for floats and signed numbers,
+/// `UnsupportedDataType`; for a picture that no PNG file holds, as [`png_file`] returns it.
 pub fn page_view<R: Source>(
     alloc: Global,
     decoder: &mut Decoder<R>,
@@ -189,7 +190,7 @@ pub fn page_view<R: Source>(
     picture_here(alloc, decoder)
 }
 
-/// The picture of a page of a file, as [`page_view`] tells it; or the fault of the file's header first.
+/// The picture of a page of a file, as [`page_view`] returns it; or the error of opening the file.
 pub fn page_picture(alloc: Global, file: Vec<u8>, page: u32) -> TiffResult<Vec<u8>>
     ensures { AnswersIn (λ v. v.items) picture result file.items page }
 {

@@ -13,7 +13,7 @@ use Rattle.tiff_program.proofs.Checked.{read_refused, read_then}
 use Rattle.tiff_program.proofs.Shown.{reads_more}
 use Rattle.tiff_program.proofs.view.picture_here.Goals as goal
 
--- what follows the shape
+-- What follows the shape of the picture.
 abbrev with_shape : Decoding → Shape → Result (List ℕ) TiffError
 with_shape d shape = page_image d >>= drawn shape
 

@@ -11,7 +11,7 @@ use Rattle.tiff_program.proofs.Checked.{read_refused, read_then}
 use Rattle.tiff_program.proofs.Shown.{reads_more}
 use Rattle.tiff_program.proofs.view.shape_here.Goals as goal
 
--- what follows the color, and the layout
+-- What follows the color and the layout.
 abbrev with_layout : ColorType → Decoding → BufferLayoutPreference → Result Shape TiffError
 with_layout color d layout = (outcome.dimensions d).answer >>= λ sides. shape_of sides color layout.planes
 
