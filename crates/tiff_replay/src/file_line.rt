@@ -21,8 +21,11 @@ pub struct File {
     failure: Failure,
 }
 
-// The bytes of the file of a name, if there is one.
-fn bytes_read(rt: &(impl Files + AllocGlobal), name: &str) -> Result<Option<Vec<u8>>, AllocError> {
+/// The bytes of the file of a name, if there is one.
+pub fn bytes_read(
+    rt: &(impl Files + AllocGlobal),
+    name: &str,
+) -> Result<Option<Vec<u8>>, AllocError> {
     match fs::read(rt, name) {
         Ok(bytes) => Ok(Some(bytes)),
         Err(fault) => match fault.kind() {

@@ -1,4 +1,5 @@
-//! Makes the calls of decoders and runs the jobs of writers that standard input lists, and prints each line with its reply.
+//! Makes the calls of decoders and runs the jobs of writers that standard input lists, and prints each line with its reply; or
+//! compares the replies of the lists that it names with those that stand there.
 #![tactic(auto)]
 
 mod asked;
@@ -20,11 +21,13 @@ mod sink_trial;
 mod source;
 mod source_trial;
 mod sums;
+mod theme;
 mod writer;
 
 use session::Session;
 use std::io;
 use std::io::{BufRead, BufReader};
+use theme::theme_text;
 
 fn main(rt: HostRuntime) -> io::Result<()> {
     let mut session = Session::new(rt.alloc());
@@ -32,6 +35,15 @@ fn main(rt: HostRuntime) -> io::Result<()> {
         let line = line?;
         if let Some(tried) = session.tried_before(line.as_str())? {
             println!(rt; "{tried}")?;
+        }
+        if !session.is_listing()
+            && let Some(name) = line.as_str().strip_prefix("lists ")
+        {
+            match theme_text(&rt, &mut session, name)? {
+                Some(told) => println!(rt; "{line} -> {told}")?,
+                None => println!(rt; "{line} -> no such lists")?,
+            }
+            continue;
         }
         match session.reply(&rt, line.as_str())? {
             Some(reply) => println!(rt; "{line} -> {reply}")?,

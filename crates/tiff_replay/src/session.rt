@@ -25,8 +25,8 @@ pub struct Session {
     sums: Sums,
 }
 
-// Whether a line has no reply.
-fn is_comment(line: &str) -> bool {
+/// Whether a line has no reply.
+pub fn is_comment(line: &str) -> bool {
     line.is_empty() || line.starts_with('#')
 }
 
@@ -34,9 +34,10 @@ fn is_comment(line: &str) -> bool {
 const WITHOUT_FAILURES: &str = "without failures";
 
 // How lines begin that are no calls.
-const OTHER_LINES: [&str; 7] = [
+const OTHER_LINES: [&str; 8] = [
     "file ",
     "cuts ",
+    "lists ",
     "jobs",
     "again",
     "written",
@@ -60,6 +61,23 @@ impl Session {
             trying: true,
             sums: Sums::none(),
         }
+    }
+
+    /// No file yet, and no list: what this one tries is tried there.
+    pub fn another(&self, alloc: Global) -> Self {
+        let mut session = Session::new(alloc);
+        session.trying = self.trying;
+        session
+    }
+
+    /// Counts what another one tried.
+    pub fn count(&mut self, other: &Session) {
+        self.sums.add(&other.sums);
+    }
+
+    /// Whether a list of jobs has begun.
+    pub fn is_listing(&self) -> bool {
+        self.listing
     }
 
     // Opens a file in the place of the former one.

@@ -22,6 +22,14 @@ impl Sums {
         }
     }
 
+    /// Counts what was tried elsewhere.
+    pub fn add(&mut self, other: &Sums) {
+        self.scripts = self.scripts.saturating_add(other.scripts);
+        self.reads = self.reads.saturating_add(other.reads);
+        self.lists = self.lists.saturating_add(other.lists);
+        self.writes = self.writes.saturating_add(other.writes);
+    }
+
     /// The sums in words.
     pub fn text(&self, alloc: Global) -> Result<String, AllocError> {
         let Sums {
