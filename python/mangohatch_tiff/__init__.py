@@ -5,7 +5,7 @@
             print(page.shape, page.dtype, page.tags["XResolution"])
         image = tif.pages[0].asarray()
 
-Names follow tifffile's where the thing is the same.
+Where this package offers what tifffile offers, it uses tifffile's names.
 """
 from ._file import TiffFile, TiffPage, imread, imwrite
 from ._jobs import write_jobs

@@ -21,7 +21,7 @@ if TYPE_CHECKING:
     Source = Union[str, os.PathLike[str], ReadableBuffer]
 
 BITS_PER_SAMPLE, SAMPLES_PER_PIXEL, SAMPLE_FORMAT = 258, 277, 339
-# The kinds of numbers by the value of the tag SampleFormat, each with the bits that it can have.
+# The kinds of numbers by the value of the tag SampleFormat, each with the bits that it may have.
 NUMBER_TYPES = {1: ("u", (8, 16, 32, 64)), 2: ("i", (8, 16, 32, 64)), 3: ("f", (16, 32, 64))}
 BYTE = "u1"
 
@@ -29,14 +29,15 @@ BYTE = "u1"
 class TiffPage:
     """A page of a file.
 
-    A page that the library refuses has the fault in `status`; its properties and calls raise it.
+    For a page that the library refuses, `status` is the error; the properties and calls that need
+    the facts of the page raise it.
     """
 
     def __init__(self, file: ReadableBuffer, index: int, listed: ListedPage, order: str) -> None:
         self._file = file
         self._listed = listed
         self._order = order
-        # Calls on the directory's offset don't go along the pages before it.
+        # Calls with the directory's offset don't walk along the pages before it.
         self._at = _library.at(listed.offset)
         self.index = index
 
@@ -50,12 +51,12 @@ class TiffPage:
 
     @property
     def status(self) -> Status:
-        """`Status.DONE`, or the fault by which the page is refused."""
+        """`Status.DONE`, or the error by which the page is refused."""
         return Status(self._listed.status)
 
     @property
     def _facts(self) -> ListedPage:
-        """What the list of pages tells of a page that isn't refused."""
+        """The facts of the page in the list of pages; raises the error of a refused page."""
         _library.check(self._listed.status)
         return self._listed
 
@@ -67,7 +68,7 @@ class TiffPage:
 
     @cached_property
     def _layout(self) -> Layout:
-        """The bytes of the image, of one plane and of all planes."""
+        """How many bytes the image has, in one plane and in all planes."""
         return _library.ask(_library.PAGE_LAYOUT, Layout, self._file, self._at)
 
     @cached_property
@@ -77,7 +78,7 @@ class TiffPage:
 
     @cached_property
     def _samples(self) -> Samples:
-        """What the samples of the page are, and how they lie."""
+        """What the samples of the page are, and how they are laid out."""
         return _library.ask(_library.PAGE_SAMPLES, Samples, self._file, self._at)
 
     @cached_property
@@ -87,12 +88,12 @@ class TiffPage:
 
     @property
     def imagewidth(self) -> int:
-        """The columns of the image."""
+        """The number of columns of the image."""
         return self._facts.width
 
     @property
     def imagelength(self) -> int:
-        """The rows of the image."""
+        """The number of rows of the image."""
         return self._facts.height
 
     @property
@@ -107,22 +108,22 @@ class TiffPage:
 
     @property
     def samplesperpixel(self) -> int:
-        """The samples of a pixel, as the page's tags tell them."""
+        """The number of samples of a pixel, from the page's tags."""
         return self.tags.first(SAMPLES_PER_PIXEL, 1)
 
     @property
     def bitspersample(self) -> int:
-        """The bits of a sample, as the page's tags tell them."""
+        """The number of bits of a sample, from the page's tags."""
         return self.tags.first(BITS_PER_SAMPLE, 1)
 
     @cached_property
     def sampleformat(self) -> int:
-        """What the bits of a sample are: 1 unsigned, 2 signed, 3 a floating number."""
+        """What the bits of a sample are: 1 unsigned, 2 signed, 3 floating-point."""
         return self.tags.first(SAMPLE_FORMAT, 1)
 
     @property
     def is_inverted(self) -> bool:
-        """Whether zero is white in the file: `asarray` gives the samples with zero as black."""
+        """Whether zero is white in the file. `asarray` then returns samples whose zero is black."""
         return self._samples.inverted == 1
 
     @property
@@ -132,17 +133,17 @@ class TiffPage:
 
     @property
     def tilewidth(self) -> int:
-        """The columns of a tile, 0 for strips."""
+        """The number of columns of a tile, 0 for strips."""
         return self._chunks.width if self.is_tiled else 0
 
     @property
     def tilelength(self) -> int:
-        """The rows of a tile, 0 for strips."""
+        """The number of rows of a tile, 0 for strips."""
         return self._chunks.height if self.is_tiled else 0
 
     @property
     def rowsperstrip(self) -> int:
-        """The rows of a strip, 0 for tiles."""
+        """The number of rows of a strip, 0 for tiles."""
         return 0 if self.is_tiled else self._chunks.height
 
     @property
@@ -153,24 +154,24 @@ class TiffPage:
 
     @property
     def nbytes(self) -> int:
-        """The bytes of the array that `asarray` gives. A file may claim any number of them."""
+        """How many bytes the array has that `asarray` returns. A file may claim any number."""
         return self._layout.complete_len
 
     @property
     def _planes(self) -> int:
-        """The planes of the image."""
+        """The number of planes of the image."""
         return self._samples.planes
 
     @cached_property
     def _number_type(self) -> str | None:
-        """The number type of the samples by numpy's name, or none where rows of bytes are given."""
+        """The number type of the samples by numpy's name, or None if rows stay packed as bytes."""
         kind, depths = NUMBER_TYPES.get(self.sampleformat, ("", ()))
         bits = self._color.bits
         return f"<{kind}{bits // 8}" if bits in depths else None
 
     @property
     def dtype(self) -> numpy.dtype[Any]:
-        """The number type of the array that `asarray` gives."""
+        """The number type of the array that `asarray` returns."""
         import numpy
 
         return numpy.dtype(self._number_type or BYTE)
@@ -184,17 +185,17 @@ class TiffPage:
 
     @property
     def shape(self) -> tuple[int, ...]:
-        """The shape of the array that `asarray` gives."""
+        """The shape of the array that `asarray` returns."""
         plane = self._plane_shape(self.imagelength, self.imagewidth)
         return plane if self._planes == 1 else (self._planes, *plane)
 
     @property
     def ndim(self) -> int:
-        """How many dimensions the array has that `asarray` gives."""
+        """How many dimensions the array has that `asarray` returns."""
         return len(self.shape)
 
     def _read(self, call: Any, shape: tuple[int, ...], *place: int) -> NDArray[Any]:
-        """Reads samples straight into a new array."""
+        """Reads samples into a new array, and returns the array."""
         import numpy
 
         array = numpy.empty(shape, self.dtype)
@@ -207,11 +208,12 @@ class TiffPage:
     def asarray(self, chunk: int | None = None) -> NDArray[Any]:
         """Reads the image, or one chunk of it, as an array.
 
-        It has the shape (rows, columns), with several samples (rows, columns, samples), and with
-        separate planes (samples, rows, columns). Samples of 8, 16, 32 and 64 bits are numbers of
-        the page's own type. Those of any other depth (as 1, 4 or 12 bits) stay packed: the array
-        then holds bytes, each row of the image padded to whole ones, and its last dimension counts
-        them. Samples of a page whose zero is white are inverted, so that zero is black.
+        The array has the shape (rows, columns); with several samples a pixel, it has the shape
+        (rows, columns, samples), and with separate planes (samples, rows, columns). Samples of 8,
+        16, 32 and 64 bits are numbers of the page's own type. Samples of any other depth (as 1, 4
+        or 12 bits) stay packed: the array then holds bytes, each row of the image is padded to
+        whole bytes, and the last dimension counts the bytes of a row. Samples of a page whose zero
+        is white are inverted, so that zero is black.
         """
         if chunk is not None:
             return self.read_chunk(chunk)
@@ -229,8 +231,8 @@ class TiffPage:
     def read_chunk(self, chunk: int) -> NDArray[Any]:
         """Reads a strip or a tile as an array, cut at the edges of the image.
 
-        Chunks are numbered from 0, by rows from the top; with separate planes, the chunks of the
-        first plane come first, and each is of one plane.
+        Chunks are numbered from 0, by rows from the top. With separate planes, each chunk belongs
+        to one plane, and the chunks of the first plane come first.
         """
         row, column = self._place(chunk)
         rows = min(self._chunks.height, self.imagelength - row)
@@ -238,19 +240,19 @@ class TiffPage:
         return self._read(_library.READ_CHUNK, self._plane_shape(rows, columns), chunk)
 
     def chunks(self) -> Iterator[tuple[int, tuple[int, int], NDArray[Any]]]:
-        """Reads all chunks, one by one: each with its number, and its place by row and column."""
+        """Reads all chunks, one by one. Yields the number, (row, column) and the array of each."""
         for chunk in range(self.chunk_count):
             yield chunk, self._place(chunk), self.read_chunk(chunk)
 
 
 class TiffFile:
-    """A TIFF file: at a path, which is mapped into memory, or the bytes of a buffer.
+    """A TIFF file: a file at a path, which is mapped into memory, or the bytes of a buffer.
 
-    A buffer is read where it lies: keep its bytes unchanged during a call. A path's file must not
-    be shortened before `close`.
+    A buffer isn't copied: keep its bytes unchanged during a call. Don't shorten the file at a path
+    before `close`.
 
     `pages` are the file's pages, `byteorder` is `<` or `>`, and `end` is `Status.DONE`, or the
-    fault by which the chain of pages ends. A file without a page raises the fault.
+    error by which the chain of pages ends. A file without a page raises the error.
     """
 
     def __init__(self, source: Source) -> None:
@@ -281,7 +283,7 @@ class TiffFile:
             return self._map
 
     def close(self) -> None:
-        """Unmaps a path's file, whose pages can't be read then. A buffer stays as it is."""
+        """Unmaps the file at a path; its pages can't be read then. A buffer stays as it is."""
         if self._map is not None:
             self._map.close()
 
@@ -312,14 +314,14 @@ class TiffFile:
     def page_at(self, offset: int) -> TiffPage:
         """Returns the page whose directory lies at an offset of the file, in the chain or not.
 
-        Such offsets stand in the tag SubIFDs (330). Its `index` is -1.
+        The tag SubIFDs (330) has such offsets. The `index` of the page is -1.
         """
         return TiffPage(self._file, -1, _library.page_at(self._file, offset), self.byteorder)
 
     def tags_at(self, offset: int) -> Tags:
-        """Returns the tags of the directory at an offset of the file, also of one that is no page.
+        """Returns the tags of the directory at an offset of the file, even if it is no page.
 
-        Such offsets stand in the tags SubIFDs (330), ExifTag (34665) and GPSTag (34853).
+        The tags SubIFDs (330), ExifTag (34665) and GPSTag (34853) have such offsets.
         """
         return Tags(self._file, _library.at(offset), self.byteorder)
 
@@ -342,12 +344,13 @@ def imwrite(
     compression: str | None = None,
     predictor: bool = False,
 ) -> bytes | None:
-    """Writes an array as a file of one page, or returns the file's bytes where the path is None.
+    """Writes an array as a file of one page, or returns the file's bytes if the path is None.
 
-    The array has the shape (rows, columns), or (rows, columns, samples) of 1, 3 or 4 samples: gray,
-    RGB or RGBA. It is of 8, 16, 32 or 64 bits: unsigned, or floating of 32 and 64, and for gray
-    also signed. `big` makes it a BigTIFF file. `compression` is None or "packbits". `predictor`
-    stores differences of the samples, which many readers don't undo without LZW or Deflate.
+    The array has the shape (rows, columns), or (rows, columns, samples) with 1, 3 or 4 samples:
+    gray, RGB or RGBA. Its numbers have 8, 16, 32 or 64 bits and are unsigned; or they have 32 or 64
+    bits and are floating-point; for gray they may also be signed. With `big`, the file is a BigTIFF
+    file. `compression` is None or "packbits". With `predictor`, the file stores differences of the
+    samples, which many readers don't undo without LZW or Deflate.
     """
     from ._write import file_of
 

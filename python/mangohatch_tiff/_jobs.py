@@ -1,4 +1,4 @@
-"""Files that are made by lists of jobs: pages with tags of one's own, tiles, planes, SubIFDs."""
+"""Files that lists of jobs write: pages with the caller's tags, tiles, planes, SubIFDs."""
 from __future__ import annotations
 
 import ctypes
@@ -16,7 +16,7 @@ CLASSIC, BIG = 42, 43
 
 
 def _write_into(size: int, version: int, text: bytes) -> tuple[int, bytes, int, JobsEnd]:
-    """Writes a file into a new buffer: its status, its bytes, its length, and where it was refused."""
+    """Writes a file into a new buffer. Returns the status, the bytes, the length and the end."""
     buffer, length, end = ctypes.create_string_buffer(size), c_size_t(), JobsEnd()
     status = _library.WRITE_JOBS(
         version, text, len(text), buffer, size, byref(length), byref(end)
@@ -27,11 +27,11 @@ def _write_into(size: int, version: int, text: bytes) -> tuple[int, bytes, int, 
 def write_jobs(
     path: str | os.PathLike[str] | None, jobs: str, *, big: bool = False
 ) -> bytes | None:
-    """Writes the file that a list of jobs leaves, or returns its bytes where the path is None.
+    """Writes the file that a list of jobs leaves, or returns its bytes if the path is None.
 
-    `jobs` is text, a line for each step: `mangohatch_tiff.h` tells the lines at tiff_write_jobs. A
-    list that is refused raises `JobsError`, which tells the line or the job, and nothing is
-    written. `big` makes it a BigTIFF file.
+    `jobs` is text, one line for each step; `mangohatch_tiff.h` describes the lines at
+    tiff_write_jobs. A list that is refused raises `JobsError` with the line or the job, and nothing
+    is written. With `big`, the file is a BigTIFF file.
     """
     version, text = BIG if big else CLASSIC, jobs.encode()
     status, file, length, end = _write_into(1, version, text)

@@ -1,4 +1,4 @@
-"""The calls of the C library, declared for ctypes, and the bytes that they are handed."""
+"""The calls of the C library, declared for ctypes, and the buffers that are passed to them."""
 from __future__ import annotations
 
 import ctypes
@@ -33,7 +33,7 @@ VARIABLE = "MANGOHATCH_TIFF_LIBRARY"
 
 
 class Status(IntEnum):
-    """What a call answers: `DONE`, or the number of a fault."""
+    """What a call returns: `DONE`, or the number of an error."""
 
     DONE = 0
     LIMITS_EXCEEDED = 1
@@ -95,7 +95,7 @@ class Status(IntEnum):
 
     @classmethod
     def _missing_(cls, value: object) -> Status:
-        """Gives `LATER_FAULT` for a number that only a later library has."""
+        """Returns `LATER_FAULT` for a number that only a later library has."""
         return cls.LATER_FAULT
 
 
@@ -117,15 +117,15 @@ class ColorKind(IntEnum):
 COMPRESSION, UNCOMPRESSED = 259, 1
 TILES = 1
 BIG_ENDIAN = 1
-# The bytes of a page of a few tags, and how many pages are listed at first.
+# How many bytes a page of a few tags has, and the room for pages in the first list.
 SHORT_PAGE = 64
 FIRST_ROOM = 1 << 14
-# How many values of a tag are asked for at first.
+# The room for the values of a tag in the first call.
 FEW = 16
 
 
 class Layout(Structure):
-    """The bytes of an image: of one plane, and of all planes."""
+    """How many bytes an image has: in one plane, and in all planes."""
 
     _fields_ = [("len", c_size_t), ("complete_len", c_size_t)]
 
@@ -137,10 +137,11 @@ class Color(Structure):
 
 
 class Samples(Structure):
-    """The samples of a page: what their bits are, how many those are, and how they lie.
+    """The samples of a page: what their bits are, how many bits, and how the samples lie.
 
-    `kind` is that of the tag SampleFormat. `samples` counts those that a pixel shows, `planes` is 1
-    where they lie side by side, and `inverted` is 1 where zero is white in the file.
+    `kind` is the value of the tag SampleFormat. `samples` is how many samples a pixel shows.
+    `planes` is 1 if the samples of a pixel lie side by side. `inverted` is 1 if zero is white in
+    the file.
     """
 
     _fields_ = [
@@ -153,7 +154,7 @@ class Samples(Structure):
 
 
 class Chunks(Structure):
-    """The kind of a page's chunks, how many there are, and the sides of one."""
+    """The kind of a page's chunks, how many there are, and the width and the height of one."""
 
     _fields_ = [
         ("kind", c_uint32),
@@ -193,7 +194,7 @@ class Field(Structure):
 
 
 class Image(Structure):
-    """What an image is written as."""
+    """How an image is written: its color type, its sides, and the settings of the file."""
 
     _fields_ = [
         ("color", c_uint32),
@@ -206,7 +207,7 @@ class Image(Structure):
 
 
 class JobsEnd(Structure):
-    """Where a list of jobs was refused: a line or a job, counted from 1; 0 is none."""
+    """Where a list of jobs was refused: the number of a line or a job, from 1; 0 is none."""
 
     _fields_ = [("line", c_size_t), ("job", c_size_t)]
 
@@ -236,7 +237,7 @@ class _PyBuffer(Structure):
 
 
 def _path() -> str:
-    """Finds the shared library: beside this module, by the environment, or on the system."""
+    """Returns the shared library: beside this module, by the environment, or on the system."""
     beside = Path(__file__).with_name(f"lib{NAME}.so")
     found = str(beside) if beside.is_file() else os.environ.get(VARIABLE)
     found = found or ctypes.util.find_library(NAME)
@@ -252,7 +253,7 @@ _LIBRARY = ctypes.CDLL(_path())
 
 
 def _declare(name: str, *parameters: Any, answer: Any = c_uint32) -> Any:
-    """Declares a call of the library."""
+    """Declares a call of the library, and returns it."""
     call = getattr(_LIBRARY, name)
     call.argtypes = parameters
     call.restype = answer
@@ -293,7 +294,7 @@ WRITE_JOBS = _declare(
 )
 FAULT_TEXT = _declare("tiff_fault_text", c_uint32, *_BYTES, answer=c_size_t)
 
-# Prototypes of our own: the attributes of `ctypes.pythonapi` are shared with other modules.
+# Prototypes of this module, since other modules share the attributes of `ctypes.pythonapi`.
 _GET_BUFFER = ctypes.PYFUNCTYPE(c_int, py_object, POINTER(_PyBuffer), c_int)(
     ("PyObject_GetBuffer", ctypes.pythonapi)
 )
@@ -312,7 +313,7 @@ def fault_text(status: int) -> str:
 
 
 class TiffError(Exception):
-    """A file or a call that the library refuses, by its `status`."""
+    """An error of a file or a call; `status` is its number."""
 
     def __init__(self, status: int) -> None:
         self.status = Status(status)
@@ -323,9 +324,9 @@ class TiffError(Exception):
 
 
 class JobsError(TiffError):
-    """A list of jobs that is refused: at a `line` that is no job, or at a `job` that had a fault.
+    """A list of jobs that is refused: at a `line` that is no job, or at a `job` with an error.
 
-    Both are counted from 1, and 0 is none.
+    Both are counted from 1; 0 is none.
     """
 
     def __init__(self, status: int, line: int, job: int) -> None:
@@ -339,14 +340,14 @@ class JobsError(TiffError):
 
 
 def check(status: int) -> None:
-    """Raises the fault of a status, if it is one."""
+    """Raises the error of a status, unless the status is `DONE`."""
     if status:
         raise TiffError(status)
 
 
 @contextmanager
 def locked(owner: ReadableBuffer) -> Iterator[tuple[int, int]]:
-    """Gives the address and the length of an object's own bytes, and locks them meanwhile.
+    """Yields the address and the length of an object's own bytes, which are locked meanwhile.
 
     Nothing is copied. The object can be neither resized nor closed while the block runs.
     """
@@ -362,7 +363,7 @@ Answer = TypeVar("Answer", bound=Structure)
 
 
 def ask(call: Any, kind: type[Answer], file: ReadableBuffer, *place: int) -> Answer:
-    """Returns what a call tells of a place in a file: of a page, or of a tag of a page."""
+    """Returns the result of a call on a page of a file, or on a tag of a page."""
     answer = kind()
     with locked(file) as (address, length):
         check(call(address, length, *place, byref(answer)))
@@ -370,14 +371,14 @@ def ask(call: Any, kind: type[Answer], file: ReadableBuffer, *place: int) -> Ans
 
 
 def at(offset: int) -> int:
-    """Returns what stands for the page whose directory lies at an offset, as TIFF_AT of the header."""
+    """Returns the number for the page at an offset, as TIFF_AT of the header does."""
     return 1 << 63 | offset
 
 
 def list_pages(file: ReadableBuffer) -> tuple[Sequence[ListedPage], Status]:
-    """Lists the pages of a file, and tells how their chain ends.
+    """Returns the pages of a file, and the status with which their chain ends.
 
-    One call does where there is room for all pages. Else a second has the room that is wanted.
+    One call is enough if it has room for all pages. Else a second call has the room that it needs.
     """
     count = c_size_t()
     with locked(file) as (address, length):
@@ -392,7 +393,7 @@ def list_pages(file: ReadableBuffer) -> tuple[Sequence[ListedPage], Status]:
 
 
 def _told(call: Any, kind: type[Answer], file: ReadableBuffer, *place: int) -> tuple[Answer, int]:
-    """Returns what a call tells of a place in a file, with its status; zeros behind a fault."""
+    """Returns the result of a call on a file, with its status; after an error zeros."""
     try:
         return ask(call, kind, file, *place), Status.DONE
     except TiffError as fault:
@@ -400,7 +401,7 @@ def _told(call: Any, kind: type[Answer], file: ReadableBuffer, *place: int) -> t
 
 
 def page_at(file: ReadableBuffer, offset: int) -> ListedPage:
-    """Tells of the directory at an offset what a list of pages tells of a page."""
+    """Returns the facts of the page at an offset, as a list of pages has them."""
     place = at(offset)
     sides = ask(PAGE_SIDES, Sides, file, place)
     color, color_status = _told(PAGE_COLOR, Color, file, place)
@@ -420,7 +421,7 @@ def page_at(file: ReadableBuffer, offset: int) -> ListedPage:
 
 
 def _values(call: Any, kind: Any, file: ReadableBuffer, *place: int) -> Any:
-    """Returns the values of a tag of a page. A second call has the room that many want."""
+    """Returns the values of a tag of a page. For many, a second call has the room for them."""
     count = c_size_t()
     room = FEW
     with locked(file) as (address, length):
@@ -439,7 +440,7 @@ def tag_numbers(file: ReadableBuffer, page: int, number: int) -> tuple[int, ...]
 
 
 def tag_floats(file: ReadableBuffer, page: int, number: int) -> tuple[float, ...]:
-    """Returns the values of a tag of a page as floating numbers."""
+    """Returns the values of a tag of a page as floating-point numbers."""
     return tuple(_values(TAG_FLOATS, c_double, file, page, number))
 
 
@@ -449,7 +450,7 @@ def tag_text(file: ReadableBuffer, page: int, number: int) -> str:
 
 
 def byte_order(file: ReadableBuffer) -> str:
-    """Returns the byte order of a file as `struct` has it: `<` or `>`."""
+    """Returns the byte order of a file as `struct` writes it: `<` or `>`."""
     order = c_uint32()
     with locked(file) as (address, length):
         check(BYTE_ORDER(address, length, byref(order)))

@@ -96,7 +96,7 @@ NUMBERS = {name: number for number, name in NAMES.items()}
 
 ASCII, UNDEFINED = 2, 7
 RATIONALS = (5, 10)
-# The numbers of a value by its type, as `struct` has them.
+# The format of a value by its type, as `struct` writes it.
 FORMATS = {
     1: "B",
     2: "s",
@@ -122,18 +122,18 @@ TagValue = Union[str, bytes, Number, Rational, tuple[Number, ...], tuple[Rationa
 
 
 def value_size(kind: int) -> int:
-    """Returns the bytes of a value of a type."""
+    """Returns how many bytes a value of a type has."""
     return struct.calcsize("=" + FORMATS[kind])
 
 
 def number_of(key: object) -> int | None:
-    """Returns the number of a tag by its number or its name, or none where there is no such tag."""
+    """Returns the number of a tag, given its number or its name, or None if it is no tag."""
     number = NUMBERS.get(key) if isinstance(key, str) else key
     return number if isinstance(number, int) and 0 <= number < 1 << 16 else None
 
 
 def text_of(data: bytes) -> str:
-    """Returns a text without the zeros at its end: of UTF-8, else of Latin-1."""
+    """Returns a text, as UTF-8 or else as Latin-1, without the zeros at its end."""
     data = data.rstrip(b"\0")
     try:
         return data.decode()
@@ -154,10 +154,10 @@ def decode(kind: int, data: bytes, order: str) -> TagValue:
 
 
 class Tags(Mapping[Union[int, str], TagValue]):
-    """The tags of a page, by number and by name; each is read when it is asked for.
+    """The tags of a page, by number and by name; each is read when the caller asks for it.
 
-    The tag of any number can be asked for. To go through them gives the numbers of those that
-    have a name here, as far as the page has them.
+    The caller may ask for the tag of any number. An iteration yields the numbers of the tags that
+    the page has and that have a name in this module.
     """
 
     def __init__(self, file: ReadableBuffer, page: int, order: str) -> None:
@@ -166,7 +166,7 @@ class Tags(Mapping[Union[int, str], TagValue]):
         self._order = order
 
     def _field(self, key: object) -> Field | None:
-        """Returns the type and the count of a tag, or none where the page hasn't this tag."""
+        """Returns the type and the count of a tag, or None if the page doesn't have the tag."""
         number = number_of(key)
         if number is None:
             return None
@@ -181,7 +181,7 @@ class Tags(Mapping[Union[int, str], TagValue]):
         """Returns the bytes of the values of a tag."""
         written = c_size_t()
         with _library.locked(self._file) as (address, length):
-            # Values that are longer than the file don't lie in it: the call says so.
+            # Values that are longer than the file don't lie in it; the call returns that error.
             buffer = ctypes.create_string_buffer(min(size, length + 1) or 1)
             _library.check(
                 _library.TAG_BYTES(
@@ -207,7 +207,7 @@ class Tags(Mapping[Union[int, str], TagValue]):
         return sum(1 for _ in self)
 
     def _number(self, key: int | str) -> int:
-        """Returns the number of a tag that can be asked for."""
+        """Returns the number of a tag; raises KeyError if it is no tag."""
         number = number_of(key)
         if number is None:
             raise KeyError(key)
@@ -216,20 +216,20 @@ class Tags(Mapping[Union[int, str], TagValue]):
     def numbers(self, key: int | str) -> tuple[int, ...]:
         """Returns the values of a tag of unsigned numbers, one or several.
 
-        Values of another type, and no such tag, raise the library's fault.
+        Values of another type raise the library's error, and so does a tag that the page lacks.
         """
         return _library.tag_numbers(self._file, self._page, self._number(key))
 
     def floats(self, key: int | str) -> tuple[float, ...]:
-        """Returns the values of a tag of floating numbers of 64 bits, as `numbers` those of its."""
+        """Returns the values of a tag of floating-point numbers of 64 bits; else as `numbers`."""
         return _library.tag_floats(self._file, self._page, self._number(key))
 
     def text(self, key: int | str) -> str:
-        """Returns the text of a tag up to its first zero, which has to be UTF-8."""
+        """Returns the text of a tag up to its first zero; the text has to be UTF-8."""
         return _library.tag_text(self._file, self._page, self._number(key))
 
     def first(self, number: int, default: int) -> Any:
-        """Returns the first value of a tag, or another where the page hasn't this tag."""
+        """Returns the first value of a tag, or `default` if the page doesn't have the tag."""
         value = self.get(number, default)
         if not isinstance(value, tuple):
             return value

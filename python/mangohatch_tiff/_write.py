@@ -1,4 +1,4 @@
-"""Files that are made of arrays. It needs numpy, so it is imported where a file is written."""
+"""Files that are made of arrays. This module needs numpy: import it to write a file."""
 from __future__ import annotations
 
 from ctypes import byref, c_size_t
@@ -34,7 +34,7 @@ CLASSIC, BIG = 42, 43
 METHODS = {None: 1, "packbits": 32773}
 NO_PREDICTOR, HORIZONTAL = 1, 2
 LONGEST_SIDE = (1 << 32) - 1
-# What a file has besides its samples, in most cases.
+# Room for what a file has besides its samples, in most cases.
 AROUND_SAMPLES = 4096
 
 
@@ -51,7 +51,7 @@ def color_of(array: NDArray[Any]) -> int:
 
 
 def image_of(array: NDArray[Any], big: bool, compression: str | None, predictor: bool) -> Image:
-    """Returns what an array is written as."""
+    """Returns how an array is written: its color type, its sides, and the settings."""
     color = color_of(array)
     height, width = array.shape[:2]
     if max(height, width) > LONGEST_SIDE:
@@ -71,7 +71,7 @@ def image_of(array: NDArray[Any], big: bool, compression: str | None, predictor:
 def write_into(
     size: int, image: Image, samples: NDArray[Any]
 ) -> tuple[int, NDArray[numpy.uint8], int]:
-    """Writes a file into a new buffer: answers the status, the buffer, and the file's length."""
+    """Writes a file into a new buffer. Returns the status, the buffer and the file's length."""
     file, length = numpy.empty(size, numpy.uint8), c_size_t()
     status = _library.WRITE_IMAGE(
         byref(image), samples.ctypes.data, samples.nbytes, file.ctypes.data, size, byref(length)
